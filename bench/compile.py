@@ -54,7 +54,8 @@ class Parser:
         return reducers, functions
 
     def param(self):
-        self.next()
+        if self.next() == "const":
+            self.next()
         name = self.next()
         if self.peek() == "[":
             self.at += 2

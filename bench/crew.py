@@ -5,7 +5,7 @@
                                            modes run, scale and sites with 2, 3, 4 and 64 workers, each within another limit,
                                            which none reaches: the bytes, both streams and the status of one worker. On a
                                            program of `unproved.py OUT stumbling` the limit says where workers are held
-    crew.py PROGRAM limits                 each limit from 1 to the cost of a run and one more, on six programs: the same
+    crew.py PROGRAM limits                 each limit from 1 to the cost of a run and one more, on seven programs: the same
     crew.py PROGRAM deep                   rests out at each depth, past the cells of a worker and down to the greatest depth
     crew.py PROGRAM refusals               each single allocation refused in turn with 1, 2 and 4 workers: the answer, or
                                            `memory` with nothing written; wants gcc, which compiles bench/refuse.c
@@ -14,6 +14,11 @@
                                            four runs with one worker each take at once, which share nothing: what the machine
                                            can give. Too little is told where one worker by four is below what is wanted and
                                            its share of what the machine gives is, too
+    crew.py PROGRAM shares [ROUNDS]        100,000 spawns of a product with two `const` factors (programs/shares.cilk) beside
+                                           matrices of 1,000,000 elements and beside matrices of 4: its value, then seconds by
+                                           1, 2 and 4 workers, the median of so many interleaved rounds (9) less that of the
+                                           same run without a spawn, and their ratio, which is to be about 1, since no element
+                                           is copied at a spawn
 
 Random programs are those of bench/reference. Each run has a minute; one that takes longer is told as wrong.
 """
@@ -45,7 +50,10 @@ LOOP = "int main() { int a[12]; cilk_for (int i = 0; i < 12; i++) grain 2 over (
 TRAP = """int bad(int z) { int q = 0; q = 1 / z; return q; }
 int main(int z) { print(1); cilk_spawn bad(z); print(7); cilk_sync; return 0; }"""
 LINES = "void p(int v) { print(v); } int main() { cilk_spawn p(1); cilk_spawn p(2); print(3); cilk_sync; return 0; }"
-SMALL = [("fib", FIB, ["7"]), ("chain", CHAIN, ["20"]), ("arrays", ARRAYS, []), ("loop", LOOP, []), ("trap", TRAP, ["0"]), ("lines", LINES, [])]
+READS = """int sum(const int a[], int from, int to) { if (to - from < 2) { return a[from]; } int x = 0; int y = 0; int m = (from + to) / 2;
+x = cilk_spawn sum(a, from, m); y = sum(a, m, to); cilk_sync; return x + y; }
+int main() { int a[5]; int x = 0; a[0] = 2; a[4] = 7; x = cilk_spawn sum(a, 0, 5); print(len(a)); cilk_sync; a[0] = x; return a[0]; }"""
+SMALL = [("fib", FIB, ["7"]), ("chain", CHAIN, ["20"]), ("arrays", ARRAYS, []), ("loop", LOOP, []), ("trap", TRAP, ["0"]), ("lines", LINES, []), ("reads", READS, [])]
 
 # programs whose speed is asked, with their arguments, and what one worker's time by four workers' is to be at least
 SPEED = [("mergesort_parallel", ["400000"], 3.3), ("matrix_large", ["160"], 3.3), ("fib_cutoff", ["32"], 3.3), ("fib", ["29"], 1.8)]
@@ -55,6 +63,10 @@ void rows(int n, int seed, int c[]) { int a[n]; int b[n * n]; int i = 0; while (
 void product(int n, int from, int to, int c[]) { int m = 0; if (to - from == 1) { rows(n, from, c); return; } m = (from + to) / 2; cut c at (m - from) * n as l, r { cilk_spawn product(n, from, m, l); product(n, m, to, r); } }
 int main(int n) { int c[n * n]; product(n, 0, n, c); return c[n * n - 1]; }
 """
+
+# how often programs/shares.cilk spawns, by how many workers, the numbers in a row of its matrices, and what a run beside the
+# greater ones may take at most of that beside the smaller ones
+SPAWNS, SHARERS, SIDES, MOST_RATIO = "100000", (1, 2, 4), ("1000", "2"), 1.25
 
 
 def asked(program, words, environment=None):
@@ -78,7 +90,7 @@ def random_programs(folder, count):
     from gen import Generator
 
     for seed in range(count):
-        source = Generator(seed, True).program()
+        source = Generator(seed, True, True).program()
         path = folder / f"{seed}.cilk"
         path.write_text(source)
         params = re.search(r"int main\(([^)]*)\)", source).group(1)
@@ -194,8 +206,27 @@ def speed(program, rounds="9"):
     return short
 
 
+def shares(program, rounds="9"):
+    path, wrong = str(HERE / "programs" / "shares.cilk"), 0
+    for workers in map(str, SHARERS):
+        run = {(side, spawns): ["run", path, side, spawns, "--workers", workers] for side in SIDES for spawns in ("0", SPAWNS)}
+        found = [asked(program, run[side, SPAWNS]) for side in SIDES]
+        if found != [(0, f"return {2 * (int(SPAWNS) - 1)}\n", "")] * len(SIDES):
+            print("BAD shares with", workers, "workers:", found)
+            wrong += 1
+            continue
+        took = {it: [] for it in run}
+        for _ in range(int(rounds)):
+            for it in run:
+                took[it].append(seconds([[program, *run[it]]]))
+        large, small = (statistics.median(took[side, SPAWNS]) - statistics.median(took[side, "0"]) for side in SIDES)
+        wrong += large > MOST_RATIO * small
+        print(f"shares, workers {workers}: beside 1,000,000 elements {large:.3f} s, beside 4 {small:.3f} s, ratio {large / small:.2f} (wanted: {MOST_RATIO})", flush=True)
+    return wrong
+
+
 if __name__ == "__main__":
-    parts = {"same": same, "limits": limits, "deep": deep, "refusals": refusals, "speed": speed}
+    parts = {"same": same, "limits": limits, "deep": deep, "refusals": refusals, "speed": speed, "shares": shares}
     if len(sys.argv) < 3 or sys.argv[2] not in parts:
         sys.exit(__doc__)
     bad = parts[sys.argv[2]](str(pathlib.Path(sys.argv[1]).resolve()), *sys.argv[3:])

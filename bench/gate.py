@@ -24,7 +24,7 @@ BEFORE = [
     ["bench/turned/turn.py", "--every", "100", "--jobs", "4"],
 ]
 AFTER = "bench/reference/fuzz.py"
-SEEDS = ["1", "40"]
+SEEDS = ["1", "40", "consts"]
 
 
 def passes(words):

@@ -1,7 +1,7 @@
 """Hostile sources, limits and surroundings, against the built program.
 
     python3 bench/hostile.py PROGRAM rows      rows of hostile sources, each with its answer, on 1 MiB of stack
-    python3 bench/hostile.py PROGRAM limits    every limit from 1 to 400 on five programs that use every instruction
+    python3 bench/hostile.py PROGRAM limits    every limit from 1 to 400 on six programs that use every instruction
     python3 bench/hostile.py PROGRAM sources   the worst source of about 1 MiB of each kind: time and memory of a check
     python3 bench/hostile.py PROGRAM verifier  sources of 1 MiB on which the verifier has most to do: time and memory of a check
     python3 bench/hostile.py PROGRAM cuts      100,000 cuts and passes of an array of 16,777,216 elements
@@ -134,6 +134,12 @@ PROGRAMS = [
         "void p(int v) { print(v); } int main() { cilk_spawn p(1); cilk_spawn p(2); print(3); cilk_sync;"
         " int n = 3; while (n >= 1) { n = n - 1; } return n; }",
         "1\n2\n3\nreturn 0\n",
+    ),
+    (
+        "int get(const int a[], int i) { return a[i] + len(a); } int both(const int a[], const int b[]) { int x = 0;"
+        " x = cilk_spawn get(a, 0); cilk_sync; return x + b[1]; } int main() { int a[2]; int x = 0; a[1] = 5;"
+        " x = cilk_spawn both(a, a); print(a[1]); cilk_sync; cut a at 1 as l, r { l[0] = x; } return a[0]; }",
+        "5\nreturn 7\n",
     ),
 ]
 

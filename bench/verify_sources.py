@@ -10,7 +10,7 @@ import sys
 SIZE = 1 << 20
 MOST_INSTRUCTIONS = 1 << 20
 NAMES = 190
-CALLED = "int f(){return 0;}void g(int a[]){}\n"
+CALLED = "int f(){return 0;}void g(int a[]){}void r(const int a[]){}\n"
 
 
 def declared(count):
@@ -32,6 +32,7 @@ STATEMENTS = {
     "turned": ("while(x1){cilk_sync;x0=cilk_spawn f();}cilk_sync;", 6),
     "scopes": ("cilk_scope{x0=cilk_spawn f();}", 3),
     "passed": ("cilk_spawn g(a);cilk_sync;", 2),
+    "lent": ("cilk_spawn r(a);cilk_sync;", 2),
 }
 
 
@@ -82,7 +83,7 @@ def source(around, statement, cost):
 
     room = SIZE - len(whole(""))
     calls = whole("").count("f()") - 1
-    each = statement.count("f()") + statement.count("g(a)")
+    each = sum(map(statement.count, ("f()", "g(a)", "r(a)")))
     count = min(room // len(statement), (MOST_INSTRUCTIONS - 20000) // cost, (65535 - calls) // each if each else SIZE)
     return whole(statement * count)
 
@@ -94,9 +95,9 @@ def many_functions():
     return body[: SIZE - 100].rsplit("void", 1)[0] + "int main(){return 0;}\n"
 
 
-def wide_calls():
-    """Calls that take 16 arrays each, spawned."""
-    params = ",".join(f"int p{i}[]" for i in range(16))
+def wide_calls(kind="int"):
+    """Calls that take 16 arrays each, or only read them, spawned."""
+    params = ",".join(f"{kind} p{i}[]" for i in range(16))
     arrays = "".join(f"int a{i}[1];" for i in range(16))
     call = f"cilk_spawn h({','.join(f'a{i}' for i in range(16))});cilk_sync;"
     head = f"void h({params}){{}}int main(){{{declared(NAMES)}{arrays}"
@@ -112,7 +113,7 @@ def main():
     for around, put in AROUND.items():
         for name, (statement, cost) in STATEMENTS.items():
             texts[f"{around}_{name}"] = source(put, statement, cost)
-    texts |= {"many_functions": many_functions(), "wide_calls": wide_calls()}
+    texts |= {"many_functions": many_functions(), "wide_calls": wide_calls(), "wide_loans": wide_calls("const int")}
     for name, text in texts.items():
         (folder / f"{name}.cilk").write_text(text)
 

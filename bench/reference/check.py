@@ -48,6 +48,8 @@ CHAIN = ("int f(int n) { if (n < 1) { return 0; } int x = 0; x = cilk_spawn f(n 
          "int main(int n) { int r = 0; r = f(n); return r; }")
 SIZE = "int main() { int a[%s]; return 0; }"
 EDGE = "int main() { cilk_for (int i = %s; i < 9223372036854775807; i++) { } return 0; }"
+READ = ("int get(const int a[], int i) { return a[i]; } int main() { int a[2]; int x = 0; a[1] = 5; "
+        "x = cilk_spawn get(a, 1); print(a[1]); cilk_sync; a[0] = x; return a[0]; }")
 CALLS = "int f(){return 0;}int main(){" + 65535 * "f();" + "return 0;}"
 
 SCALE = "tag,work,span,parallelism,burdened_span,burdened_parallelism\n"
@@ -127,11 +129,19 @@ CASES = [
     (EDGE % "9223372036854775806", [], "run", 29, 0, (4, "", "over limit\n")),
     (CALLS, [], "run", 196607, 0, "return 0\n"),
     (CALLS, [], "run", 196606, 0, (4, "", "over limit\n")),
+    (READ, [], "run", BILLION, 0, "5\nreturn 5\n"),
+    (READ, [], "scale", BILLION, 0, SCALE + ",22,19,1.157,19,1.157\n"),
 ]
 
 SPAWN = "int f(int v) { return v; } int main() { int x = 0; %s return x; }"
 LOOPS = "int main() { int a[4]; int b[4]; int t = 0; cilk_for (int i = 0; i < 4; i++) over (a) { %s } return t; }"
 TWO = "void g(int a[], int b[]) { } int main() { int a[4]; int b[4]; %s return 0; }"
+
+READS = ("int f(const int a[]) { return len(a); } int g(int a[]) { return 0; } void h(int a[], const int b[]) { } "
+         "int q(const int a[], const int b[]) { return a[0] + b[0]; } "
+         "int main() { int a[4]; int b[4]; int x = 0; %s return 0; }")
+CONST = ("int f(const int a[]) { return len(a); } int g(int a[]) { return 0; } "
+         "int n(const int a[], int x) { %s return 0; } int main() { return 0; }")
 
 TOLD = "reducer sum s; reducer max m; int main() { %s return 0; }"
 
@@ -144,6 +154,17 @@ KEPT = [
     LOOPS % "a[i] = a[i] + t;",
     LOOPS % "int c[2]; c[0] = i; a[i] = c[0];",
     TWO % "cut a at 1 as l, r { cilk_spawn g(l, r); } g(a, b);",
+    READ,
+    READS % "cilk_spawn f(a); print(a[0]); print(len(a)); x = f(a); cilk_spawn f(a); cilk_sync; a[0] = 1;",
+    READS % "f(a); a[0] = 1;",
+    READS % "q(a, a); cilk_spawn q(a, a);",
+    READS % "cilk_spawn h(a, b); print(b[0]);",
+    READS % "if (x) { cilk_spawn f(a); } print(a[0]);",
+    READS % "while (x) { print(a[0]); cilk_spawn f(a); }",
+    READS % "cilk_scope { int z[1]; cilk_spawn f(z); cilk_spawn f(a); } a[0] = 1;",
+    READS % "cut a at 1 as l, r { cilk_spawn f(l); cilk_spawn g(r); print(l[0]); }",
+    READS % "cilk_for (int i = 0; i < 4; i++) over (a) { int z[1]; cilk_spawn f(z); print(z[0]); }",
+    CONST % "print(a[x]); print(len(a)); x = f(a); cilk_spawn f(a);",
 ]
 
 BROKEN = [
@@ -176,6 +197,33 @@ BROKEN = [
     TWO % "cilk_spawn g(a, b); print(a[0]);",
     TWO % "a = 1;",
     TWO % "g(a, 1);",
+    READ.replace("print", "a[0] = 1; print"),
+    READ.replace("return a[i]", "a[i] = 0; return a[i]"),
+    READS % "cilk_spawn f(a); a[0] = 1;",
+    READS % "cilk_spawn f(a); g(a);",
+    READS % "cilk_spawn f(a); cilk_spawn g(a);",
+    READS % "cilk_spawn g(a); cilk_spawn f(a);",
+    READS % "cilk_spawn g(a); f(a);",
+    READS % "cilk_spawn f(a); cut a at 1 as l, r { }",
+    READS % "cilk_spawn f(a); cilk_for (int i = 0; i < 4; i++) over (a) { }",
+    READS % "if (x) { int z[1]; cilk_spawn f(z); }",
+    READS % "if (x) { cilk_spawn f(a); } a[0] = 1;",
+    READS % "if (x) { cilk_spawn f(a); } else { cilk_spawn g(a); } print(a[0]);",
+    READS % "while (x) { a[0] = 1; cilk_spawn f(a); }",
+    READS % "cilk_spawn f(a); cilk_scope { cilk_sync; } a[0] = 1;",
+    READS % "x = cilk_spawn f(a); print(x);",
+    READS % "h(a, a);",
+    READS % "cilk_for (int i = 0; i < 4; i++) over (a) { f(a); }",
+    READS % "cilk_for (int i = 0; i < 4; i++) over (a) { f(b); }",
+    READS % "cut a at 1 as l, r { f(a); }",
+    CONST % "a[0] = 1;",
+    CONST % "g(a);",
+    CONST % "cut a at 1 as l, r { }",
+    CONST % "cilk_for (int i = 0; i < 4; i++) over (a) { }",
+    CONST % "print(a);",
+    CONST % "f(x);",
+    CONST % "int a[1];",
+    "int main(const int a[]) { return 0; }",
     "int f() { if (1) { return 1; } } int main() { return 0; }",
     "int f() { return 1; } int f() { return 2; } int main() { return 0; }",
     "void main() { }",

@@ -1,9 +1,10 @@
 #!/usr/bin/env python3
 """Compares the other implementation with a third one, the switch loop of C: value, printed lines, sums, trap, cost.
 
-    cross.py SWITCH START END
+    cross.py SWITCH START END [consts]
 
-SWITCH is `bench/switch.c`, built; programs of seeds from START to before END without arguments are run by both.
+SWITCH is `bench/switch.c`, built; programs of seeds from START to before END without arguments are run by both, with
+`consts` those whose functions have `const` parameters, too.
 """
 import collections
 import os
@@ -44,7 +45,7 @@ def cross():
     seen, bad = collections.Counter(), 0
     with tempfile.TemporaryDirectory() as folder:
         for seed in range(int(sys.argv[2]), int(sys.argv[3])):
-            source = Generator(seed).program()
+            source = Generator(seed, with_consts="consts" in sys.argv[4:]).program()
             if not re.search(r"int main\(int", source):
                 status, agrees = compare(sys.argv[1], source, folder)
                 seen[status] += 1

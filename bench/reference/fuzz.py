@@ -1,12 +1,12 @@
 #!/usr/bin/env python3
 """Compares the built program with the other implementation, byte for byte, on random programs.
 
-    fuzz.py EXE START COUNT [no-loops]
+    fuzz.py EXE START COUNT [no-loops] [consts]
 
 For each seed from START on, the program of that seed is checked, and run in the modes run, scale, sites and greedy: within a
 wide limit, within just what it costs, and within one instruction less. Exit status and both streams must be those that
 `ref.py` gives. Then three programs that differ from it in one statement are checked: each must be accepted, or refused
-in its line, as `rules.py` says.
+in its line, as `rules.py` says. With `consts` functions have `const` parameters, too.
 """
 import collections
 import os
@@ -54,9 +54,9 @@ def asked(exe, path, words, arguments, burden, processors):
     return done.returncode, done.stdout, done.stderr
 
 
-def compare(exe, seed, with_loops, path, seen):
+def compare(exe, seed, generator, path, seen):
     """Counts the answers of one program by mode and exit status; gives how many of them are wrong."""
-    source, bad = Generator(seed, with_loops).program(), 0
+    source, bad = generator.program(), 0
     write(path, source)
     arguments = arguments_of(source, seed)
     burden = Burden([0, 1, 10, 100, 15000, 1000000000][seed % 6], ["spawn", "both"][seed // 6 % 2])
@@ -90,11 +90,12 @@ def write(path, source):
 
 def fuzz():
     exe, start, count = sys.argv[1], int(sys.argv[2]), int(sys.argv[3])
-    with_loops = sys.argv[4:] != ["no-loops"]
+    with_loops, with_consts = "no-loops" not in sys.argv[4:], "consts" in sys.argv[4:]
     seen, bad = collections.Counter(), 0
     with tempfile.TemporaryDirectory() as folder:
         for seed in range(start, start + count):
-            bad += compare(exe, seed, with_loops, os.path.join(folder, "program.cilk"), seen)
+            generator = Generator(seed, with_loops, with_consts)
+            bad += compare(exe, seed, generator, os.path.join(folder, "program.cilk"), seen)
     print(dict(seen), bad, "wrong")
     return 1 if bad else 0
 

@@ -2,7 +2,7 @@
 """Random programs of the profile that keep its rules, by a seed: functions that call themselves and others, arrays,
 cuts, loops, regions and reducers. Most of them end; some trap, and few run long.
 
-    gen.py SEED [no-loops]
+    gen.py SEED [no-loops] [consts]
 """
 import random
 import re
@@ -23,7 +23,8 @@ def indented(lines):
 
 
 class Function:
-    """Parameters by kind: i an integer, a an array, d a count by which a function that calls itself counts down."""
+    """Parameters by kind: i an integer, a an array, c an array that is only read, d a count by which a function that
+    calls itself counts down."""
 
     def __init__(self, name, gives_value, params):
         self.name, self.gives_value, self.params = name, gives_value, params
@@ -31,14 +32,17 @@ class Function:
 
 class Names:
     """What is known at a place: integers and arrays, those never to be written, the arrays of cuts and loops around,
-    and for each sync block around what its spawns have taken."""
+    and for each sync block around what its spawns hold: each name with whether it is taken or only frozen."""
 
     def __init__(self):
         self.known, self.arrays, self.fixed = [], set(), set()
-        self.cut, self.loop_arrays, self.loop_variable, self.taken = [], [], None, [set()]
+        self.cut, self.loop_arrays, self.loop_variable, self.held = [], [], None, [set()]
 
     def is_free(self, name):
-        return name not in self.cut and not any(name in block for block in self.taken)
+        return name not in self.cut and not any((name, True) in block for block in self.held)
+
+    def is_loose(self, name):
+        return self.is_free(name) and not any((name, False) in block for block in self.held)
 
     def integers(self):
         return [name for name in self.known if name not in self.arrays and self.is_free(name)]
@@ -48,6 +52,9 @@ class Names:
 
     def free_arrays(self):
         return [name for name in self.known if name in self.arrays and self.is_free(name)]
+
+    def written_arrays(self):
+        return [name for name in self.free_arrays() if self.is_loose(name) and name not in self.fixed]
 
     def add(self, name, is_array=False, is_fixed=False):
         self.known.append(name)
@@ -66,8 +73,8 @@ class Names:
 
 
 class Generator:
-    def __init__(self, seed, with_loops=True):
-        self.random, self.with_loops = random.Random(seed), with_loops
+    def __init__(self, seed, with_loops=True, with_consts=False):
+        self.random, self.with_loops, self.with_consts = random.Random(seed), with_loops, with_consts
         self.made, self.lines, self.functions, self.reducers = 0, [], [], []
         self.names, self.itself, self.count = Names(), None, None
 
@@ -122,19 +129,19 @@ class Generator:
         return getattr(self, "a_" + self.pick(kinds))(depth)
 
     def block(self, depth):
-        """Some statements; what they declare ends with them, so what is taken of it is joined first."""
+        """Some statements; what they declare ends with them, so what is held of it is joined first."""
         outside, lines = len(self.names.known), []
         for _ in range(self.random.randint(1, 4)):
             lines += self.statement(depth)
-        if not all(self.names.is_free(name) for name in self.names.known[outside:]):
+        if not all(self.names.is_loose(name) for name in self.names.known[outside:]):
             lines += self.a_sync(depth)
         del self.names.known[outside:]
         return lines
 
     def sync_block(self, depth):
-        self.names.taken.append(set())
+        self.names.held.append(set())
         lines = self.block(depth)
-        self.names.taken.pop()
+        self.names.held.pop()
         return lines
 
     def a_declare(self, depth):
@@ -155,7 +162,7 @@ class Generator:
     def a_put(self, depth):
         if self.names.loop_arrays and self.chance(0.5):
             return ["%s[%s] = %s;" % (self.pick(self.names.loop_arrays), self.names.loop_variable, self.expr())]
-        arrays = self.names.free_arrays()
+        arrays = self.names.written_arrays()
         return ["%s[%s] = %s;" % (self.pick(arrays), self.index(1), self.expr())] if arrays else []
 
     def a_show(self, depth):
@@ -168,27 +175,27 @@ class Generator:
         return ["%s %s %s;" % (name, SIGNS[kind], self.expr())]
 
     def a_sync(self, depth):
-        self.names.taken[-1].clear()
+        self.names.held[-1].clear()
         return ["cilk_sync;"]
 
     def a_branch(self, depth):
-        test, before = self.expr(), [set(block) for block in self.names.taken]
+        test, before = self.expr(), [set(block) for block in self.names.held]
         lines = ["if (%s) {" % test] + indented(self.block(depth + 1)) + ["}"]
         if self.chance(0.5):
-            after, self.names.taken = self.names.taken, before
+            after, self.names.held = self.names.held, before
             lines[-1:] = ["} else {"] + indented(self.block(depth + 1)) + ["}"]
             before = after
-        self.names.taken = [one | other for one, other in zip(before, self.names.taken)]
+        self.names.held = [one | other for one, other in zip(before, self.names.held)]
         return lines
 
     def a_turns(self, depth):
         """A `while` of a few turns; what a turn takes is joined at its end, so that the next one finds it free."""
-        count, before = self.new("w"), [set(block) for block in self.names.taken]
+        count, before = self.new("w"), [set(block) for block in self.names.held]
         self.names.add(count, is_fixed=True)
         body = self.block(depth + 1)
-        if self.names.taken[-1]:
+        if self.names.held[-1]:
             body += self.a_sync(depth)
-        self.names.taken = before
+        self.names.held = before
         body.append("%s = %s + 1;" % (count, count))
         head = "while (%s < %d) {" % (count, self.random.randint(1, 3))
         return ["int %s = 0;" % count, head] + indented(body) + ["}"]
@@ -200,9 +207,9 @@ class Generator:
         return ["region %s {" % self.pick(TAGS)] + indented(self.sync_block(depth + 1)) + ["}"]
 
     def a_cut(self, depth):
-        if not self.names.free_arrays():
+        if not self.names.written_arrays():
             return []
-        array, left, right = self.pick(self.names.free_arrays()), self.new("l"), self.new("r")
+        array, left, right = self.pick(self.names.written_arrays()), self.new("l"), self.new("r")
         place = self.pick(["len(%s) / 2" % array, "0", "1", "len(%s)" % array]) if self.chance(0.97) else self.expr()
         self.names.cut.append(array)
         self.names.add(left, is_array=True)
@@ -213,7 +220,7 @@ class Generator:
         return ["cut %s at %s as %s, %s {" % (array, place, left, right)] + indented(body) + ["}"]
 
     def a_loop(self, depth):
-        arrays = self.names.free_arrays()
+        arrays = self.names.written_arrays()
         over = self.random.sample(arrays, min(len(arrays), self.random.randint(0, 2)))
         variable = self.new("i")
         first = self.pick("001") if over else self.pick(["0", "0", "1", "-2", "3"])
@@ -235,14 +242,15 @@ class Generator:
 
     def called(self, function):
         """A call or spawn of this function, where there are arrays enough for it."""
-        given, arguments = [], []
+        given, read, arguments = [], [], []
         for kind in function.params:
-            arrays = [name for name in self.names.free_arrays() if name not in given]
-            if kind == "a" and not arrays:
+            there = self.names.free_arrays() if kind == "c" else self.names.written_arrays()
+            arrays = [name for name in there if name not in (given if kind == "c" else given + read)]
+            if kind in "ac" and not arrays:
                 return []
-            if kind == "a":
-                given.append(self.pick(arrays))
-                arguments.append(given[-1])
+            if kind in "ac":
+                arguments.append(self.pick(arrays))
+                (given if kind == "a" else read).append(arguments[-1])
             elif kind == "i":
                 arguments.append(self.expr(1))
             else:
@@ -251,7 +259,8 @@ class Generator:
         target = self.pick(targets) if function.gives_value and targets and self.chance(0.7) else None
         spawns = self.chance(0.6)
         if spawns:
-            self.names.taken[-1].update(given + [target] * (target is not None))
+            self.names.held[-1].update((name, True) for name in given + [target] * (target is not None))
+            self.names.held[-1].update((name, False) for name in read)
         words = (target + " = " if target else "") + ("cilk_spawn " if spawns else "")
         return ["%s%s(%s);" % (words, function.name, ", ".join(arguments))]
 
@@ -261,9 +270,9 @@ class Generator:
         function = Function(name, gives_value, params)
         self.names, self.itself, self.count, heads = Names(), None, None, []
         for kind in params:
-            param = self.new("q" if kind == "a" else "p")
-            self.names.add(param, is_array=kind == "a", is_fixed=kind == "d")
-            heads.append("int %s%s" % (param, "[]" if kind == "a" else ""))
+            param = self.new("q" if kind in "ac" else "p")
+            self.names.add(param, is_array=kind in "ac", is_fixed=kind in "cd")
+            heads.append("%sint %s%s" % ("const " if kind == "c" else "", param, "[]" if kind in "ac" else ""))
             if kind == "d":
                 self.itself, self.count = function, param
         body = []
@@ -281,7 +290,7 @@ class Generator:
         self.reducers = [("s%d" % number, self.pick(["sum", "max"])) for number in range(self.random.randint(0, 3))]
         self.lines = ["reducer %s %s;" % (kind, name) for name, kind in self.reducers]
         for number in range(self.random.randint(1, 4)):
-            params = ["d"] * self.chance(0.5) + [self.pick("iia") for _ in range(self.random.randint(0, 3))]
+            params = ["d"] * self.chance(0.5) + [self.pick("iiac" if self.with_consts else "iia") for _ in range(self.random.randint(0, 3))]
             self.functions.append(self.function("f%d" % number, self.chance(0.5), params))
         self.function("main", True, ["i"] * self.random.randint(0, 2))
         return "\n".join(self.lines) + "\n"
@@ -289,8 +298,15 @@ class Generator:
 
 def mutant(source, seed):
     """The source with a sync dropped, a call made a spawn, a reducer told by the other sign, or a statement doubled or
-    exchanged: it may break a rule."""
+    exchanged, or a parameter that is no longer const, or is from now on: it may break a rule."""
     lines, chosen = source.splitlines(), random.Random(seed)
+    heads = [place for place, line in enumerate(lines) if "[]" in line]
+    if "const " in source and chosen.random() < 0.25:
+        one = chosen.choice(heads)
+        arrays = re.findall(r"(?:const )?int q\d+\[\]", lines[one])
+        found = chosen.choice(arrays)
+        lines[one] = lines[one].replace(found, found[6:] if found.startswith("const ") else "const " + found)
+        return "\n".join(lines) + "\n"
     places = [place for place, line in enumerate(lines) if line.startswith("  ") and line.endswith(";")]
     syncs = [place for place in places if lines[place].strip() == "cilk_sync;"]
     calls = [place for place in places if CALL.fullmatch(lines[place])]
@@ -313,4 +329,4 @@ def mutant(source, seed):
 
 
 if __name__ == "__main__":
-    print(Generator(int(sys.argv[1]), len(sys.argv) == 2).program(), end="")
+    print(Generator(int(sys.argv[1]), "no-loops" not in sys.argv, "consts" in sys.argv).program(), end="")

@@ -250,8 +250,8 @@ class Run:
 
     def do_call(self, line, frame, depth, spawns, site, target, callee, arguments):
         function = self.program.functions[callee]
-        values = [frame[e[1]] if is_array else self.evaluate(e, frame, line)
-                  for (_, is_array), e in zip(function.params, arguments)]
+        values = [self.evaluate(e, frame, line) if kind == "int" else frame[e[1]]
+                  for (_, kind), e in zip(function.params, arguments)]
         self.tick()
         if depth == 10000:
             raise Trap(TOO_DEEP, line)

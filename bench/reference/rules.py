@@ -48,28 +48,28 @@ class Types(Faults):
 
     def function(self, function):
         self.known, self.line, self.gives_value = {}, function.line, function.gives_value
-        for name, is_array in function.params:
-            self.declare(name, is_array)
+        for name, kind in function.params:
+            self.declare(name, kind)
         self.want(not self.gives_value or surely_returns(function.body), "may not return")
-        arrays = any(is_array for _, is_array in function.params)
+        arrays = any(kind != "int" for _, kind in function.params)
         self.want(function.name != "main" or self.gives_value and not arrays, "another main")
         self.block(function.body, True)
 
-    def declare(self, name, is_array):
+    def declare(self, name, kind):
         self.want(name not in self.known and name not in self.globals, name + " is known")
-        self.known[name] = is_array
+        self.known[name] = kind
 
-    def use(self, name, is_array):
-        self.want(self.known.get(name) == is_array, name + " is not known so")
+    def use(self, name, *kinds):
+        self.want(self.known.get(name) in kinds, name + " is not known so")
 
     def expr(self, e):
         for name, is_array in names_in(e):
-            self.use(name, is_array)
+            self.use(name, *(("array", "const") if is_array else ("int",)))
 
     def block(self, body, may_return, declared=()):
         outside = dict(self.known)
-        for name, is_array in declared:
-            self.declare(name, is_array)
+        for name, kind in declared:
+            self.declare(name, kind)
         for place, (line, kind, *rest) in enumerate(body):
             self.line = line
             self.want(place + 1 == len(body) or not surely_returns([body[place]]), "what follows is never reached")
@@ -78,18 +78,18 @@ class Types(Faults):
 
     def of_declare(self, may_return, name, e):
         self.expr(e)
-        self.declare(name, False)
+        self.declare(name, "int")
 
     def of_array(self, may_return, name, e):
         self.expr(e)
-        self.declare(name, True)
+        self.declare(name, "array")
 
     def of_assign(self, may_return, name, e):
-        self.use(name, False)
+        self.use(name, "int")
         self.expr(e)
 
     def of_put(self, may_return, name, index, e):
-        self.use(name, True)
+        self.use(name, "array")
         self.expr(index)
         self.expr(e)
 
@@ -124,17 +124,17 @@ class Types(Faults):
         self.block(body, False)
 
     def of_cut(self, may_return, name, e, left, right, body):
-        self.use(name, True)
+        self.use(name, "array")
         self.expr(e)
-        self.block(body, False, [(left, True), (right, True)])
+        self.block(body, False, [(left, "array"), (right, "array")])
 
     def of_loop(self, may_return, name, first, end, grain, over, body):
         self.expr(first)
         self.expr(end)
         for array in over:
-            self.use(array, True)
+            self.use(array, "array")
         self.want(1 <= grain <= 1000000, "no such grain")
-        self.block(body, False, [(name, False)])
+        self.block(body, False, [(name, "int")])
 
     def of_call(self, may_return, spawns, site, target, callee, arguments):
         function = self.program.functions.get(callee)
@@ -142,13 +142,14 @@ class Types(Faults):
         if function is None:
             return
         self.want(len(arguments) == len(function.params), "another count of arguments")
-        for (_, is_array), e in zip(function.params, arguments):
-            if is_array:
-                self.want(e[0] == "name" and self.known.get(e[1]), "no array")
-            else:
+        for (_, kind), e in zip(function.params, arguments):
+            if kind == "int":
                 self.expr(e)
+            else:
+                wanted = ("array", "const") if kind == "const" else ("array",)
+                self.want(e[0] == "name" and self.known.get(e[1]) in wanted, "no such array")
         if target is not None:
-            self.use(target, False)
+            self.use(target, "int")
             self.want(function.gives_value, "a call that gives nothing")
 
 
@@ -160,7 +161,8 @@ def surely_returns(body):
 
 
 class Ownership(Faults):
-    """The rules of ownership. What is taken is a set of names, each with the depth of the sync block that took it."""
+    """The rules of ownership. What is held is a set of names, each with the depth of the sync block whose spawn holds it
+    and whether it is taken or only frozen."""
 
     def __init__(self, program):
         super().__init__()
@@ -171,7 +173,11 @@ class Ownership(Faults):
 
     def free(self, taken, *names):
         for name in names:
-            self.want(all(name != other for other, _ in taken), name + " is taken")
+            self.want(all(name != other for other, _, takes in taken if takes), name + " is taken")
+
+    def loose(self, taken, *names):
+        for name in names:
+            self.want(all(name != other for other, _, _ in taken), name + " is taken or frozen")
 
     def expr(self, taken, e):
         self.free(taken, *(name for name, _ in names_in(e)))
@@ -207,7 +213,7 @@ class Ownership(Faults):
             taken = self.joined(taken)
             self.depth -= 1
         for name, self.line in own.items():
-            self.free(taken, name)
+            self.loose(taken, name)
         return frozenset(pair for pair in taken if pair[0] not in own)
 
     def of_declare(self, taken, name, e):
@@ -218,13 +224,14 @@ class Ownership(Faults):
 
     def of_assign(self, taken, name, e):
         self.expr(taken, e)
-        self.free(taken, name)
+        self.loose(taken, name)
         self.inner(name)
         return taken
 
     def of_put(self, taken, name, index, e):
         self.expr(taken, ("element", name, index))
         self.expr(taken, e)
+        self.loose(taken, name)
         return taken
 
     def of_reduce(self, taken, kind, name, e):
@@ -266,15 +273,15 @@ class Ownership(Faults):
 
     def of_cut(self, taken, name, e, left, right, body):
         self.expr(taken, e)
-        self.free(taken, name)
+        self.loose(taken, name)
         self.inner(name)
-        return self.block(body, taken | {(name, None)}, joins=True) - {(name, None)}
+        return self.block(body, taken | {(name, None, True)}, joins=True) - {(name, None, True)}
 
     def of_loop(self, taken, name, first, end, grain, over, body):
         self.expr(taken, first)
         self.expr(taken, end)
         self.inner(*(array for array, is_array in names_in(first) + names_in(end) if is_array))
-        self.free(taken, *over)
+        self.loose(taken, *over)
         self.inner(*over)
         self.want(len(set(over)) == len(over), "one array twice")
         outside = self.outer, self.loop_arrays, self.variable
@@ -291,18 +298,21 @@ class Ownership(Faults):
 
     def of_call(self, taken, spawns, site, target, callee, arguments):
         params = self.program.functions[callee].params
-        arrays = [e[1] for (_, is_array), e in zip(params, arguments) if is_array]
-        for (_, is_array), e in zip(params, arguments):
-            if not is_array:
+        given, read = ([e[1] for (_, kind), e in zip(params, arguments) if kind == wanted] for wanted in ("array", "const"))
+        for (_, kind), e in zip(params, arguments):
+            if kind == "int":
                 self.expr(taken, e)
-        self.free(taken, *arrays)
-        self.inner(*arrays)
-        self.want(len(set(arrays)) == len(arrays), "one array twice")
+        self.loose(taken, *given)
+        self.free(taken, *read)
+        self.inner(*given, *read)
+        self.want(len(set(given)) == len(given) and not set(given) & set(read), "one array twice")
         if target is not None:
-            self.free(taken, target)
+            self.loose(taken, target)
             self.inner(target)
-        given = arrays + [target] * (target is not None)
-        return taken | {(name, self.depth) for name in given} if spawns else taken
+            given.append(target)
+        if not spawns:
+            return taken
+        return taken | {(name, self.depth, True) for name in given} | {(name, self.depth, False) for name in read}
 
 
 def names_of(body):

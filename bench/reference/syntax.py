@@ -85,12 +85,16 @@ class Reader:
         return Function(gives_value, line, self.next(), self.list(self.param), self.block())
 
     def param(self):
+        """A parameter's name and its kind: an integer, an array, or an array that is only read."""
+        is_const = self.take("const")
         self.want("int")
         name = self.next()
-        is_array = self.take("[")
-        if is_array:
-            self.want("]")
-        return name, is_array
+        if not is_const and not self.take("["):
+            return name, "int"
+        if is_const:
+            self.want("[")
+        self.want("]")
+        return name, "const" if is_const else "array"
 
     def block(self):
         self.want("{")

@@ -17,9 +17,10 @@ use Rattle.cw_code.specs.declared.code.Callee.{Callee}
 use Rattle.cw_code.specs.declared.code.Func.{Func}
 use Rattle.cw_code.specs.declared.code.Halves.{Halves}
 use Rattle.cw_code.specs.declared.code.Instr.{Instr}
+use Rattle.cw_code.specs.declared.code.Loan.{Loan}
 use Rattle.cw_code.specs.declared.code.Instr.TheVariants as instr
 use Rattle.cw_code.specs.Code.{Code, reducer_names}
-use Rattle.cw_code.specs.Run.{Slots, Results, Waiting, Around, Caller, Block, Opened, Whole, State, Transition, On, Ends, Stops, Stuck, on_top, on_two, on_slot, is_full, stored, operated, set_array, apply_unary, adds, prints, put_in, Entering, arguments_of, may_begin, waiting_at, begun, begins, call_of, arrays_in, on_arrays, enter, recur, parts_of, looped, on_range, start, given, given_back, awaited, result_of, going_on, returns_to, back, opened, opened_region, opens, may_cut, cuts, resumes, closed, resumes_uncut, cut_ends, passed_by, jumped, onto, act, step}
+use Rattle.cw_code.specs.Run.{Slots, Results, Waiting, Around, Caller, Block, Opened, Whole, State, Transition, On, Ends, Stops, Stuck, on_top, on_two, on_slot, is_full, stored, operated, set_array, apply_unary, adds, prints, put_in, Entering, arguments_of, may_begin, waiting_at, begun, begins, call_of, arrays_in, moved_out, reader, lent_in, on_arrays, enter, recur, parts_of, looped, on_range, start, given, given_back, awaited, result_of, going_on, returns_to, back, opened, opened_region, opens, may_cut, cuts, resumes, closed, resumes_uncut, cut_ends, passed_by, lent_by, jumped, onto, act, step}
 use Rattle.cw_code.specs.Fits.{leaves, nexts, Shape, Table, FlowsInto, FlowsIntoEach, Fits, LieFrom}
 use Rattle.cw_code.specs.Good.{Seat, GoodState}
 use Rattle.cw_code.specs.Staying.{IsInside, outermost, FitStays, SeatsLie}
@@ -138,11 +139,12 @@ module _ (code : Code) (fits : Fits code) where
         arrays_keep None go h = tt
         arrays_keep (Some given) go h = h given
 
-        enter_keeps : (kind : CallKind) (c : Callee) (passed : List ℕ) (o : Option Func) → Keeps (enter s kind c passed o)
-        enter_keeps kind c passed None = tt
-        enter_keeps kind c passed (Some g) =
+        enter_keeps : (kind : CallKind) (c : Callee) (passed : List ℕ) (loans : List Loan) (o : Option Func) → Keeps (enter s kind c passed loans o)
+        enter_keeps kind c passed loans None = tt
+        enter_keeps kind c passed loans (Some g) =
             if_keeps (nat_lt MOST_DEPTH (s.depth + 1)) (Stops trap.TooDeep c.line s.trace.lines) _ tt
-            (arrays_keep (arrays_in passed s.arrays) _ (λ given. begins_keeps (call_of s kind c passed g given)))
+            (arrays_keep (arrays_in passed s.arrays) _ (λ given.
+            arrays_keep (lent_in loans (moved_out passed s.arrays) s.readers) _ (λ lent. begins_keeps (call_of s kind c passed g given lent))))
 
         recur_keeps : (kind : CallKind) (passed : List ℕ) (o : Option Func) → Keeps (recur s kind passed o)
         recur_keeps kind passed None = tt
@@ -155,6 +157,7 @@ module _ (code : Code) (fits : Fits code) where
           arguments = arguments_of g s.operands;
           given = given;
           taken = map (λ a. Whole a) passed;
+          lent = [];
         }))
 
         looped_keeps : (line : ℕ) (passed : List ℕ) (g : Func) (given : List (List ℤ)) (low : ℤ) (captured : List ℤ) (r : Result) → Keeps (looped s line passed g given low captured r)
@@ -169,6 +172,7 @@ module _ (code : Code) (fits : Fits code) where
               arguments = low ∷ (low +ℤ n) ∷ captured;
               given = map (λ xs. take (natural n) (drop (natural low) xs)) given;
               taken = parts_of (natural low) passed given;
+              lent = [];
             })
 
         range_keeps : (ops : List ℤ) (go : ℤ → ℤ → List ℤ → Transition) → ((low high : ℤ) (captured : List ℤ) → Keeps (go low high captured)) → Keeps (on_range ops go)
@@ -238,7 +242,7 @@ module _ (code : Code) (fits : Fits code) where
           either true rest = jump_keeps _ (leads _ _ l.1.0)
           either false rest = jump_keeps _ (leads _ _ l.0)
       acts_keep (instr.GoBack n) l = jump_keeps _ (leads _ _ l.0)
-      acts_keep (instr.Call kind c) l = enter_keeps (leads _ _ l.0) kind c (passed_by code c.passed) (slice_get code.funcs c.function)
+      acts_keep (instr.Call kind c) l = enter_keeps (leads _ _ l.0) kind c (passed_by code c.passed) (lent_by code c.lent) (slice_get code.funcs c.function)
       acts_keep (instr.Recur kind c) l = recur_keeps (leads _ _ l.0) kind (passed_by code c.passed) (slice_get code.funcs c.function)
       acts_keep (instr.Start c line) l = start_keeps (leads _ _ l.0) line (passed_by code c.passed) (slice_get code.funcs c.function)
       acts_keep (instr.NewArray a line) l =
@@ -248,6 +252,9 @@ module _ (code : Code) (fits : Fits code) where
           slot_keeps (slice_get s.arrays a) _ (λ xs. top_keeps s _ (λ v rest. operated_keeps (leads _ _ l.0) line rest (in_bounds (element xs v))))
       acts_keep (instr.SetElement a line) l =
           slot_keeps (slice_get s.arrays a) _ (λ xs. two_keep s _ (λ i v rest. set_keeps (leads _ _ l.0) a line rest _ (written xs i v)))
+      acts_keep (instr.ReadLength r) l = slot_keeps (reader s.readers r) _ (λ xs. goes_on (leads _ _ l.0))
+      acts_keep (instr.ReadElement r line) l =
+          slot_keeps (reader s.readers r) _ (λ xs. top_keeps s _ (λ v rest. operated_keeps (leads _ _ l.0) line rest (in_bounds (element xs v))))
       acts_keep (instr.Cut h line) l =
           slot_keeps (slice_get s.arrays h.array) _ (λ xs. top_keeps s _ (λ v rest. cuts_keeps (leads _ _ l.0) h line xs rest (cut_place xs v)))
       acts_keep instr.EndCut l = cut_ends_keeps (leads _ _ l.0) s.around here

@@ -2,8 +2,9 @@
 use Rattle.std.proofs.Common.{◌≡◌, ℕ, zero, suc, ◌<◌, ◌≤◌, ℤ, true, false, Option, Some, None, List, [], ◌∷◌, length, refl, ap, ◌∙◌, subst, arith}
 use Rattle.std.specs.Prelude.{map, slice_get}
 use Rattle.cw_code.specs.declared.code.Func.{Func}
-use Rattle.cw_code.specs.Run.{Slots, Results, Taken, Whole, State, is_full, put_in, slot_taken, moved_out, and_array, arrays_in, parts_of, restored, and_result, given_back, given}
-use Rattle.cw_code.specs.Fits.{Shape, empty_rows, gone_rows, none_empty, CoversEach, LieFrom}
+use Rattle.cw_code.specs.declared.code.Loan.{Loan}
+use Rattle.cw_code.specs.Run.{Slots, Results, Readers, Taken, Whole, State, is_full, put_in, slot_taken, moved_out, and_array, arrays_in, reader, loaned, lent_in, parts_of, restored, and_result, given_back, given}
+use Rattle.cw_code.specs.Fits.{Shape, empty_rows, gone_rows, cleared, CoversEach, LieFrom}
 use Rattle.cw_code.specs.Good.{slots_in, ints_round, arrays_round, Holds, Good, FitSettles}
 use Rattle.cw_code.proofs.Tests.{taken}
 use Rattle.cw_code.proofs.Slots.{covered_row, covered_empty, covered_gone, covered_cuts, slots_in_both}
@@ -59,6 +60,31 @@ there_arrays (a ∷ passed) arrays h =
     cases given e n (Some (Some xs)) f k =
         (xs ∷ given, ap (λ o. and_array o (arrays_in passed arrays)) f ∙ ap (and_array (Some (Some xs))) e, ap suc n)
 
+-- what was lent to a call is there
+pub reader_full : (readers : Readers) (r : ℕ) → r < length readers → is_full (reader readers r) ≡ true
+reader_full [] r lt = absurd (omega (arith, lt))
+reader_full (xs ∷ readers) zero lt = refl
+reader_full (xs ∷ readers) (suc r) lt = reader_full readers r (omega (arith, lt))
+
+-- each loan names what is full
+abbrev pub AllLoaned : List Loan → Slots (List ℤ) → Readers → Type 0
+AllLoaned [] arrays readers = Unit {0}
+AllLoaned (loan ∷ loans) arrays readers = (is_full (loaned loan arrays readers) ≡ true) × AllLoaned loans arrays readers
+
+-- such loans can be made
+pub there_lent : (loans : List Loan) (arrays : Slots (List ℤ)) (readers : Readers) → AllLoaned loans arrays readers → (lent : Readers) × (lent_in loans arrays readers ≡ Some lent) × (length lent ≡ length loans)
+there_lent [] arrays readers h = ([], refl, refl)
+there_lent (loan ∷ loans) arrays readers h =
+    let r = there_lent loans arrays readers h.1 in
+    cases r.0 r.1 r.2 (loaned loan arrays readers) refl h.0
+  where
+    cases : (lent : Readers) → lent_in loans arrays readers ≡ Some lent → length lent ≡ length loans → (o : Option (Option (List ℤ))) → loaned loan arrays readers ≡ o → is_full o ≡ true
+        → (more : Readers) × (lent_in (loan ∷ loans) arrays readers ≡ Some more) × (length more ≡ suc (length loans))
+    cases lent e n None f k = cc
+    cases lent e n (Some None) f k = cc
+    cases lent e n (Some (Some xs)) f k =
+        (xs ∷ lent, ap (λ o. and_array o (lent_in loans arrays readers)) f ∙ ap (and_array (Some (Some xs))) e, ap suc n)
+
 pub whole_slots : (passed : List ℕ) → map slot_taken (map (λ a. Whole a) passed) ≡ passed
 whole_slots [] = refl
 whole_slots (a ∷ passed) = ap (λ ks. a ∷ ks) (whole_slots passed)
@@ -71,22 +97,24 @@ part_slots from (a ∷ passed) (xs ∷ given) e = ap (λ ks. a ∷ ks) (part_slo
 
 -- a good call of another state with the same slots
 module _ (f : Func) where
-  pub covered : (there out : Shape) (s : State) → there.operands ≡ out.operands → CoversEach (record { empty = there.empty; gone = there.gone; cut = None } ∷ there.outer) (record { empty = out.empty; gone = out.gone; cut = None } ∷ out.outer) → Good f out s → Good f there s
+  pub covered : (there out : Shape) (s : State) → there.operands ≡ out.operands → CoversEach (record { empty = there.empty; gone = there.gone; frozen = there.frozen; cut = None } ∷ there.outer) (record { empty = out.empty; gone = out.gone; frozen = out.frozen; cut = None } ∷ out.outer) → Good f out s → Good f there s
   covered there out s e c g = record {
     as_many = e ∙ g.as_many;
     ints = with_rows f.slots out.empty there.empty (empty_rows out.outer) (empty_rows there.outer) s.slots (slots_in s.results) (ints_round s.around)
-        (covered_row f.slots there.empty out.empty (slots_in s.results) c.0 g.ints.row_holds) (covered_empty f.slots there.outer out.outer (ints_round s.around) c.3 g.ints.rows_hold) g.ints;
+        (covered_row f.slots there.empty out.empty (slots_in s.results) c.0 g.ints.row_holds) (covered_empty f.slots there.outer out.outer (ints_round s.around) c.4 g.ints.rows_hold) g.ints;
     arrays = with_rows f.arrays out.gone there.gone (gone_rows out.outer) (gone_rows there.outer) s.arrays (slots_in s.arrived) (arrays_round s.around)
-        (covered_row f.arrays there.gone out.gone (slots_in s.arrived) c.1 g.arrays.row_holds) (covered_gone f.arrays there.outer out.outer (arrays_round s.around) c.3 g.arrays.rows_hold) g.arrays;
-    cuts = covered_cuts there.outer out.outer s.around c.3 g.cuts;
+        (covered_row f.arrays there.gone out.gone (slots_in s.arrived) c.1 g.arrays.row_holds) (covered_gone f.arrays there.outer out.outer (arrays_round s.around) c.4 g.arrays.rows_hold) g.arrays;
+    readers = g.readers;
+    cuts = covered_cuts there.outer out.outer s.around c.4 g.cuts;
   }
 
   -- a join: all that waits in the innermost block has gone back
-  pub joined : (shape : Shape) (s : State) → Good f shape s → Good f (record shape { empty = none_empty (length shape.empty); gone = none_empty (length shape.gone) }) (put_in s)
+  pub joined : (shape : Shape) (s : State) → Good f shape s → Good f (cleared shape) (put_in s)
   joined shape s g = record {
     as_many = g.as_many;
     ints = with_joined f.slots shape.empty (empty_rows shape.outer) s.slots s.results (ints_round s.around) (length shape.empty) g.ints.row_holds.as_wide g.ints;
     arrays = with_joined f.arrays shape.gone (gone_rows shape.outer) s.arrays s.arrived (arrays_round s.around) (length shape.gone) g.arrays.row_holds.as_wide g.arrays;
+    readers = g.readers;
     cuts = g.cuts;
   }
 
@@ -97,5 +125,6 @@ settles f shape s newest others newest' others' g = record {
       (subst (λ ws. Holds f.slots shape.empty (empty_rows shape.outer) s.slots ws (ints_round s.around)) (slots_in_both newest others) g.ints);
   arrays = with_settled f.arrays shape.gone (gone_rows shape.outer) s.arrays newest' (slots_in others') (arrays_round s.around)
       (subst (λ ws. Holds f.arrays shape.gone (gone_rows shape.outer) s.arrays ws (arrays_round s.around)) (slots_in_both newest' others') g.arrays);
+  readers = g.readers;
   cuts = g.cuts;
 }

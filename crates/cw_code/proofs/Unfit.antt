@@ -1,11 +1,12 @@
 -- The unruly codes do not fit.
-use Rattle.std.proofs.Common.{◌≡◌, pos, true, false, None, refl, arith}
-use Rattle.std.specs.Prelude.{nat_eq}
-use Rattle.cw_model.specs.declared.syntax.CallKind.TheVariants.{Spawned}
-use Rattle.cw_code.specs.declared.code.Instr.TheVariants.{Push, Call, Sync}
-use Rattle.cw_code.specs.Fits.{has_target, Fits}
-use Rattle.cw_code.specs.Unruly.{nameless, call_it, falling, crowded, littered, mistaken}
+use Rattle.std.proofs.Common.{◌≡◌, ◌&&◌, pos, true, false, None, ◌∷◌, refl, arith}
+use Rattle.std.specs.Prelude.{nat_eq, slice_get}
+use Rattle.cw_model.specs.declared.syntax.CallKind.TheVariants.{Plain, Spawned}
+use Rattle.cw_code.specs.declared.code.Instr.TheVariants.{Push, Call, SetElement, Sync}
+use Rattle.cw_code.specs.Fits.{has_target, frozen_rows, full_in_all, is_full_in, Fits}
+use Rattle.cw_code.specs.Unruly.{nameless, call_it, falling, crowded, littered, mistaken, overwritten, overlent}
 use Rattle.cw_code.proofs.Tests.{first_true, eq_of}
+use Rattle.cw_code.proofs.Slots.{covers_full, row_apart}
 
 pub falling_unfit : Fits falling → ⊥
 falling_unfit fits =
@@ -19,7 +20,7 @@ crowded_unfit fits =
     let h = fits.each 0 (nameless 0 5) refl in
     let first = h.is_table.starts in
     let next = (h.is_table.goes 0 first.there (Push (pos 7)) first.found refl).0 in
-    let none = eq_of 0 next.there.operands (first_true (nat_eq 0 next.there.operands) (has_target next.there None) (h.is_table.ready 1 next.there (Call Spawned call_it) next.found refl)) in
+    let none = eq_of 0 next.there.operands (first_true (nat_eq 0 next.there.operands) (has_target next.there None) (first_true (nat_eq 0 next.there.operands && has_target next.there None) true (h.is_table.ready 1 next.there (Call Spawned call_it) next.found refl))) in
     omega (arith, none, next.as_many, first.as_many)
 
 pub littered_unfit : Fits littered → ⊥
@@ -34,6 +35,27 @@ pub mistaken_unfit : Fits mistaken → ⊥
 mistaken_unfit fits =
     let h = fits.each 0 (nameless 0 4) refl in
     never (h.names 0 (Call Spawned call_it) (omega arith) (omega arith) refl)
+  where
+    never : false ≡ true → ⊥
+    never k = cc
+
+pub overwritten_unfit : Fits overwritten → ⊥
+overwritten_unfit fits =
+    let h = fits.each 0 (record (nameless 0 7) { arrays = 1 }) refl in
+    let first = h.is_table.starts in
+    let one = (h.is_table.goes 0 first.there (Call Spawned call_it) first.found refl).0 in
+    let two = (h.is_table.goes 1 one.there (Push (pos 0)) one.found refl).0 in
+    let three = (h.is_table.goes 2 two.there (Push (pos 1)) two.found refl).0 in
+    let rows = three.there.frozen ∷ frozen_rows three.there.outer in
+    let thawed = first_true (full_in_all rows 0) true (h.is_table.thawed 3 three.there (SetElement 0 1) three.found refl) in
+    let own = first_true (is_full_in (slice_get three.there.frozen 0)) (full_in_all (frozen_rows three.there.outer) 0) thawed in
+    let before = covers_full two.there.frozen one.there.frozen 0 two.covers_frozen (covers_full three.there.frozen two.there.frozen 0 three.covers_frozen own) in
+    (row_apart first.there.frozen 0 0 (covers_full one.there.frozen _ 0 one.covers_frozen before)).0 refl
+
+pub overlent_unfit : Fits overlent → ⊥
+overlent_unfit fits =
+    let h = fits.each 0 (record (nameless 0 2) { arrays = 1 }) refl in
+    never (h.names 0 (Call Plain call_it) (omega arith) (omega arith) refl)
   where
     never : false ≡ true → ⊥
     never k = cc

@@ -18,17 +18,19 @@ use Rattle.cw_code.specs.declared.code.Callee.{Callee}
 use Rattle.cw_code.specs.declared.code.Func.{Func}
 use Rattle.cw_code.specs.declared.code.Halves.{Halves}
 use Rattle.cw_code.specs.declared.code.Inner.{Inner}
+use Rattle.cw_code.specs.declared.code.Loan.{Loan}
+use Rattle.cw_code.specs.declared.code.Loan.TheVariants.{Array, Reader}
 use Rattle.cw_code.specs.declared.code.Instr.{Instr}
 use Rattle.cw_code.specs.declared.code.Instr.TheVariants as instr
 use Rattle.cw_code.specs.Code.{Code, reducer_names}
-use Rattle.cw_code.specs.Run.{Slots, Results, Whole, Waiting, Around, Caller, Block, State, Transition, On, Ends, Stops, Stuck, RunOutcome, ticked, synced, inside, on_top, on_two, on_slot, is_full, operated, set_array, apply_unary, adds, settled, put_in, slots_of, arrays_of, may_take, slot_taken, moved_out, Entering, arguments_of, has_room, may_keep, may_begin, waiting_at, begun, begins, call_of, on_arrays, enter, recur, parts_of, looped, on_range, start, given, going_on, returns_to, back, opened_at, opened, opened_region, cut_arrays, may_cut, cuts, resumes, closed, resumes_uncut, cut_ends, passed_by, jumped, act, step, go_on, steps, first_state, first_transition, reducers_of, code_serial}
-use Rattle.cw_code.specs.Fits.{params_of, array_params_of, gives_value, NeverStuck, is_site, names_target, names_callee, is_none_of, names_arrays, names_passed, names_well, Outer, Shape, empty_rows, gone_rows, full_in_all, is_full_in, has_slot, has_array, has_arrays, has_target, has_arguments, none_open, can_close, has_parts, can_uncut, is_no_part, are_no_parts, is_ready, with_target, with_gone, with_passed, none_empty, first_shape, closed_shape, with_uncut, uncut_shape, opened_shape, outer_of, cut_outer, popped, leaves, nexts, Table, FlowsInto, FlowsIntoEach, Fits}
+use Rattle.cw_code.specs.Run.{Slots, Results, Readers, reader, loaned, lent_in, has_readers, lent_by, Whole, Waiting, Around, Caller, Block, State, Transition, On, Ends, Stops, Stuck, RunOutcome, ticked, synced, inside, on_top, on_two, on_slot, is_full, operated, set_array, apply_unary, adds, settled, put_in, slots_of, arrays_of, may_take, slot_taken, moved_out, Entering, arguments_of, has_room, may_keep, may_begin, waiting_at, begun, begins, call_of, on_arrays, enter, recur, parts_of, looped, on_range, start, given, going_on, returns_to, back, opened_at, opened, opened_region, cut_arrays, may_cut, cuts, resumes, closed, resumes_uncut, cut_ends, passed_by, jumped, act, step, go_on, steps, first_state, first_transition, reducers_of, code_serial}
+use Rattle.cw_code.specs.Fits.{params_of, array_params_of, readers_of, gives_value, NeverStuck, is_site, names_target, names_callee, is_none_of, names_arrays, names_passed, names_loan, names_loans, names_lent, names_inner, names_well, Row, Outer, Shape, empty_rows, gone_rows, full_in_all, is_full_in, has_slot, has_array, has_arrays, has_loan, has_loans, has_target, has_arguments, none_open, can_close, has_parts, can_uncut, is_no_part, are_no_parts, is_ready, with_target, with_gone, with_passed, with_lent, none_empty, cleared, first_shape, closed_shape, with_uncut, uncut_shape, opened_shape, outer_of, cut_outer, popped, leaves, nexts, Table, FlowsInto, FlowsIntoEach, Fits}
 use Rattle.cw_code.specs.Good.{IsNotAmong, slots_in, slot_cut, ints_round, arrays_round, all_of, Holds, CutsAgree, Seat, Good, IsGiven, Resumed, Resumes, AllResume, GoodState, GoodTransition, Facts, FitBegins, FitFacts, FitSteps, NeverStuckFrom}
 use Rattle.cw_code.specs.lemmas.Slots.{set_other}
 use Rattle.cw_code.proofs.Tests.{taken, both_true, first_true, second_true, at_most, equal, le_of, lt_of, eq_of}
 use Rattle.cw_code.proofs.Slots.{set_full, full_there, row_there, slots_in_both, none_waits}
-use Rattle.cw_code.proofs.Keeps.{none_of, AllThere, finds, with_rows, with_slot, with_taken, with_all_taken, with_block, with_outer, with_settled, with_filled, begins_full}
-use Rattle.cw_code.proofs.Taken.{lie_within, missing, there, gives_back, there_arrays, whole_slots, part_slots, covered, joined}
+use Rattle.cw_code.proofs.Keeps.{none_of, AllThere, still_full, finds, with_rows, with_slot, with_taken, with_all_taken, with_block, with_outer, with_settled, with_filled, begins_full}
+use Rattle.cw_code.proofs.Taken.{lie_within, missing, there, gives_back, there_arrays, reader_full, AllLoaned, there_lent, whole_slots, part_slots, covered, joined}
 
 module _ (code : Code) (fits : Fits code) where
   goes_back : (callee : Func) (around : List Around) (v : Option ℤ) (arrays : Slots (List ℤ)) (t : Trace) → IsGiven callee.gives_int v → CutsAgree [] around → callee.arrays ≡ length arrays → ((a : ℕ) → a < length arrays → is_full (slice_get arrays a) ≡ true)
@@ -49,29 +51,30 @@ module _ (code : Code) (fits : Fits code) where
   next_seat place seat next out l = record { index = seat.index; func = seat.func; is_func = seat.is_func; shape = l.there; at = l.found }
 
   takes : (place : ℕ) (seat : Seat code fits place) (out : Shape) (s : State) (next : ℕ) (l : FlowsInto (table_at place seat) next out) → Good seat.func out s → Good seat.func l.there s
-  takes place seat out s next l g = covered seat.func l.there out s l.as_many (l.covers, l.covers_gone, refl, l.covers_outer) g
+  takes place seat out s next l g = covered seat.func l.there out s l.as_many (l.covers, l.covers_gone, l.covers_frozen, refl, l.covers_outer) g
 
   arrives : (place : ℕ) (seat : Seat code fits place) (out : Shape) (s : State) (l : FlowsInto (table_at place seat) s.place out) → Good seat.func out s → AllResume code fits seat.func s.around → GoodState code fits s
   arrives place seat out s l g others = record { seat = next_seat place seat s.place out l; call = takes place seat out s s.place l g; others = others }
 
   -- a function begins
-  starts_well : (k : ℕ) (f : Func) → slice_get code.funcs k ≡ Some f → (arguments : List ℤ) (given : List (List ℤ)) (depth : ℕ) (around : List Around) (t : Trace) → length arguments ≡ f.params → length given ≡ f.array_params
+  starts_well : (k : ℕ) (f : Func) → slice_get code.funcs k ≡ Some f → (arguments : List ℤ) (given : List (List ℤ)) (lent : Readers) (depth : ℕ) (around : List Around) (t : Trace) → length arguments ≡ f.params → length given ≡ f.array_params → length lent ≡ f.readers
       → ints_round around ≡ [] → arrays_round around ≡ [] → CutsAgree [] around → AllResume code fits f around
-      → GoodState code fits (record { place = f.start; operands = []; slots = slots_of f arguments; arrays = arrays_of f given; results = []; arrived = []; depth = depth; around = around; trace = t })
-  starts_well k f is arguments given depth around t n n' e e' c others =
+      → GoodState code fits (record { place = f.start; operands = []; slots = slots_of f arguments; arrays = arrays_of f given; readers = lent; results = []; arrived = []; depth = depth; around = around; trace = t })
+  starts_well k f is arguments given lent depth around t n n' n'' e e' c others =
       let h = fits.each k f is in
       let l = h.is_table.starts in
       let room = h.room in
       let room' = h.array_room in
-      let s : State = record { place = f.start; operands = []; slots = slots_of f arguments; arrays = arrays_of f given; results = []; arrived = []; depth = depth; around = around; trace = t } in
+      let s : State = record { place = f.start; operands = []; slots = slots_of f arguments; arrays = arrays_of f given; readers = lent; results = []; arrived = []; depth = depth; around = around; trace = t } in
       let ints = begins_full f.slots (arguments ++ replicate (f.slots - f.params) (pos 0)) (length-append arguments (replicate (f.slots - f.params) (pos 0)) ∙ omega (arith, n, room, length-replicate (f.slots - f.params) (pos 0))) in
       let arrays = begins_full f.arrays (given ++ replicate (f.arrays - f.array_params) []) (length-append given (replicate (f.arrays - f.array_params) []) ∙ (let m : length {A = List ℤ} (replicate (f.arrays - f.array_params) []) ≡ f.arrays - f.array_params = length-replicate (f.arrays - f.array_params) [] in omega (arith, n', room', m))) in
       record {
         seat = record { index = k; func = f; is_func = is; shape = l.there; at = l.found };
-        call = covered f l.there (first_shape f) s l.as_many (l.covers, l.covers_gone, refl, l.covers_outer) (record {
+        call = covered f l.there (first_shape f) s l.as_many (l.covers, l.covers_gone, l.covers_frozen, refl, l.covers_outer) (record {
           as_many = refl;
           ints = subst (λ os. Holds f.slots (none_empty f.slots) [] (slots_of f arguments) [] os) (sym e) ints;
           arrays = subst (λ os. Holds f.arrays (none_empty f.arrays) [] (arrays_of f given) [] os) (sym e') arrays;
+          readers = sym n'';
           cuts = c;
         });
         others = others;
@@ -111,14 +114,17 @@ module _ (code : Code) (fits : Fits code) where
       pub arguments : length e.arguments ≡ e.func.params
       pub given : length e.given ≡ e.func.array_params
       pub many : length e.taken ≡ e.func.array_params
+      pub lent : length e.lent ≡ e.func.readers
       pub there : AllThere (map slot_taken e.taken) s.arrays
       pub target : has_target shape e.target ≡ true
       pub gives : (a : ℕ) → e.target ≡ Some a → e.func.gives_int ≡ true
       pub keeps : has_arguments e.kind e.func.params shape.operands ≡ true
+      pub frozen : Row
       pub leads : FlowsInto table (s.place + 1) (record shape {
         operands = shape.operands - e.func.params;
         empty = with_target e.kind e.target shape.empty;
         gone = with_passed e.kind (map slot_taken e.taken) shape.gone;
+        frozen = frozen;
       })
 
     module _ (e : Entering) (h : Enters e) where
@@ -143,6 +149,7 @@ module _ (code : Code) (fits : Fits code) where
         operands = shape.operands - e.func.params;
         empty = with_target kind target shape.empty;
         gone = with_passed kind (map slot_taken e.taken) shape.gone;
+        frozen = h.frozen;
       }
 
       abbrev called_by : CallKind → Option ℕ → Waiting
@@ -163,7 +170,7 @@ module _ (code : Code) (fits : Fits code) where
         arrived = s.arrived;
         went = refl;
         good = takes s.place seat (left_by Plain None) (record (going_on (called_by Plain None) s.around t) { arrays = settled results (moved_out (map slot_taken e.taken) s.arrays) }) (s.place + 1) l
-            (record { as_many = plain_count; ints = g.ints; arrays = arrays_back results same; cuts = g.cuts });
+            (record { as_many = plain_count; ints = g.ints; arrays = arrays_back results same; readers = g.readers; cuts = g.cuts });
       }
       waits Plain (Some a) k there gives l None i results same t = absurd (subst (λ b. IsGiven b None) (gives a refl) i)
       waits Plain (Some a) k there gives l (Some v) i results same t = record {
@@ -177,6 +184,7 @@ module _ (code : Code) (fits : Fits code) where
               as_many = plain_count;
               ints = with_slot seat.func.slots shape.empty (empty_rows shape.outer) s.slots (slots_in s.results) (ints_round s.around) a v (full_slot a there) g.ints;
               arrays = arrays_back results same;
+              readers = g.readers;
               cuts = g.cuts;
             });
       }
@@ -187,7 +195,7 @@ module _ (code : Code) (fits : Fits code) where
         arrived = results ++ s.arrived;
         went = refl;
         good = takes s.place seat (left_by Spawned None) (record (going_on (called_by Spawned None) s.around t) { arrived = results ++ s.arrived }) (s.place + 1) l
-            (record { as_many = spawned_count k; ints = g.ints; arrays = arrays_wait results same; cuts = g.cuts });
+            (record { as_many = spawned_count k; ints = g.ints; arrays = arrays_wait results same; readers = g.readers; cuts = g.cuts });
       }
       waits Spawned (Some a) k there gives l None i results same t = absurd (subst (λ b. IsGiven b None) (gives a refl) i)
       waits Spawned (Some a) k there gives l (Some v) i results same t = record {
@@ -201,6 +209,7 @@ module _ (code : Code) (fits : Fits code) where
               as_many = spawned_count k;
               ints = with_taken seat.func.slots shape.empty (empty_rows shape.outer) s.slots (slots_in s.results) (ints_round s.around) a (full_slot a there) g.ints;
               arrays = arrays_wait results same;
+              readers = g.readers;
               cuts = g.cuts;
             });
       }
@@ -228,15 +237,16 @@ module _ (code : Code) (fits : Fits code) where
           let some = both_true (nat_eq (length e.given) e.func.array_params) (nat_le e.func.array_params e.func.arrays) (equal (length e.given) e.func.array_params h.given) (at_most e.func.array_params e.func.arrays room') in
           let room = both_true (nat_le e.func.params (length s.operands)) (nat_le e.func.params e.func.slots && (nat_eq (length e.given) e.func.array_params && nat_le e.func.array_params e.func.arrays)) (at_most e.func.params (length s.operands) enough)
           (both_true (nat_le e.func.params e.func.slots) (nat_eq (length e.given) e.func.array_params && nat_le e.func.array_params e.func.arrays) (at_most e.func.params e.func.slots f.room) some) in
-          let may = both_true (has_room e.func s.operands e.given) (may_take e.kind e.target s.slots && may_keep e.kind (drop e.func.params s.operands)) room
-          (both_true (may_take e.kind e.target s.slots) (may_keep e.kind (drop e.func.params s.operands)) (may_take_it e.kind e.target h.target) (may_keep_it e.kind h.keeps)) in
+          let keeps = both_true (may_take e.kind e.target s.slots) (may_keep e.kind (drop e.func.params s.operands)) (may_take_it e.kind e.target h.target) (may_keep_it e.kind h.keeps) in
+          let may = both_true (has_room e.func s.operands e.given) (has_readers e.func e.lent && (may_take e.kind e.target s.slots && may_keep e.kind (drop e.func.params s.operands))) room
+          (both_true (has_readers e.func e.lent) (may_take e.kind e.target s.slots && may_keep e.kind (drop e.func.params s.operands)) (equal (length e.lent) e.func.readers h.lent) keeps) in
           let resumes : Resumes code fits e.func (waiting_at s e) s.around = record {
             seat = next_seat s.place seat (s.place + 1) (left_by e.kind e.target) h.leads;
             enough = omega (arith, many, room');
             on = waits e.kind e.target h.keeps h.target h.gives h.leads;
           } in
           subst (GoodTransition code fits) (sym (taken (may_begin s e) (On (begun s e)) Stuck may))
-          (starts_well h.index e.func h.is e.arguments e.given e.depth (Caller (waiting_at s e) ∷ s.around) (inside (ticked s.trace)) h.arguments h.given refl refl tt (resumes, good.others))
+          (starts_well h.index e.func h.is e.arguments e.given e.lent e.depth (Caller (waiting_at s e) ∷ s.around) (inside (ticked s.trace)) h.arguments h.given h.lent refl refl tt (resumes, good.others))
 
     -- the function that a call names, and the slots of the arrays that it takes
     record Named (function : ℕ) (passed : List ℕ) : Type 0 where
@@ -256,6 +266,26 @@ module _ (code : Code) (fits : Fits code) where
           slots = second_true (nat_eq (length passed) (array_params_of (slice_get code.funcs function))) (names_arrays seat.func.arrays passed) rest;
         }
 
+    -- as many arrays are lent as its function reads
+    lent_many : (function : ℕ) (passed : List ℕ) (loans : List Loan) (n : Named function passed) → names_lent code seat.func function passed loans ≡ true → length loans ≡ n.func.readers
+    lent_many function passed loans n h = eq_of (length loans) (readers_of (slice_get code.funcs function)) (first_true _ _ h) ∙ ap readers_of n.is
+
+    -- what a call was lent is there
+    reader_there : (r : ℕ) → nat_lt r seat.func.readers ≡ true → is_full (reader s.readers r) ≡ true
+    reader_there r n = let e = g.readers in reader_full s.readers r (omega (arith, lt_of r seat.func.readers n, e))
+
+    -- what a call lends is there, and not among the arrays that it takes
+    loan_there : (passed : List ℕ) (loan : Loan) → names_loan seat.func passed loan ≡ true → has_loan shape loan ≡ true → is_full (loaned loan (moved_out passed s.arrays) s.readers) ≡ true
+    loan_there passed (Array a) n h = still_full passed s.arrays a (none_of a passed (second_true (nat_lt a seat.func.arrays) (is_none_of a passed) n)) (full_array a h)
+    loan_there passed (Reader r) n h = reader_there r n
+
+    all_loaned : (passed : List ℕ) (loans : List Loan) → names_loans seat.func passed loans ≡ true → has_loans shape loans ≡ true → AllLoaned loans (moved_out passed s.arrays) s.readers
+    all_loaned passed [] n h = tt
+    all_loaned passed (loan ∷ loans) n h = (
+      loan_there passed loan (first_true (names_loan seat.func passed loan) (names_loans seat.func passed loans) n) (first_true (has_loan shape loan) (has_loans shape loans) h),
+      all_loaned passed loans (second_true (names_loan seat.func passed loan) (names_loans seat.func passed loans) n) (second_true (has_loan shape loan) (has_loans shape loans) h),
+    )
+
     arguments_count : (f : Func) → f.params ≤ length s.operands → length (arguments_of f s.operands) ≡ f.params
     arguments_count f le = length-reverse (take f.params s.operands) ∙ omega (arith, length-take f.params s.operands, le)
 
@@ -264,46 +294,56 @@ module _ (code : Code) (fits : Fits code) where
     enough_so Spawned params k = let n = g.as_many in omega (arith, n, eq_of params shape.operands k)
 
     -- a call with the arrays in these slots, whole
-    whole_enters : (kind : CallKind) (site target : Option ℕ) (depth : ℕ) (function : ℕ) (passed : List ℕ) (n : Named function passed) (given : List (List ℤ)) → length given ≡ length passed → AllThere passed s.arrays
+    whole_enters : (kind : CallKind) (site target : Option ℕ) (depth : ℕ) (function : ℕ) (passed : List ℕ) (n : Named function passed) (given : List (List ℤ)) (lent : Readers) (frozen : Row) → length given ≡ length passed → length lent ≡ n.func.readers → AllThere passed s.arrays
         → has_arguments kind n.func.params shape.operands ≡ true → has_target shape target ≡ true → ((a : ℕ) → target ≡ Some a → n.func.gives_int ≡ true)
-        → FlowsInto table (s.place + 1) (record shape { operands = shape.operands - n.func.params; empty = with_target kind target shape.empty; gone = with_passed kind passed shape.gone })
-        → Enters (record { kind = kind; site = site; target = target; depth = depth; func = n.func; arguments = arguments_of n.func s.operands; given = given; taken = map (λ a. Whole a) passed })
-    whole_enters kind site target depth function passed n given e there keeps has gives l = record {
+        → FlowsInto table (s.place + 1) (record shape { operands = shape.operands - n.func.params; empty = with_target kind target shape.empty; gone = with_passed kind passed shape.gone; frozen = frozen })
+        → Enters (record { kind = kind; site = site; target = target; depth = depth; func = n.func; arguments = arguments_of n.func s.operands; given = given; taken = map (λ a. Whole a) passed; lent = lent })
+    whole_enters kind site target depth function passed n given lent frozen e e' there keeps has gives l = record {
       index = function;
       is = n.is;
       enough = enough_so kind n.func.params keeps;
       arguments = arguments_count n.func (enough_so kind n.func.params keeps);
       given = e ∙ n.many;
       many = length-map passed (λ a. Whole a) ∙ n.many;
+      lent = e';
       there = subst (λ p. AllThere p s.arrays) (sym (whole_slots passed)) there;
       target = has;
       gives = gives;
       keeps = keeps;
-      leads = subst (λ p. FlowsInto table (s.place + 1) (record shape { operands = shape.operands - n.func.params; empty = with_target kind target shape.empty; gone = with_passed kind p shape.gone })) (sym (whole_slots passed)) l;
+      frozen = frozen;
+      leads = subst (λ p. FlowsInto table (s.place + 1) (record shape { operands = shape.operands - n.func.params; empty = with_target kind target shape.empty; gone = with_passed kind p shape.gone; frozen = frozen })) (sym (whole_slots passed)) l;
     }
 
     -- the same, by the name of its function
     params_are : (function : ℕ) (passed : List ℕ) (n : Named function passed) → params_of (slice_get code.funcs function) ≡ n.func.params
     params_are function passed n = ap params_of n.is
 
-    enters_well : (kind : CallKind) (c : Callee) → names_callee code seat.func kind c ≡ true
-        → (has_arguments kind (params_of (slice_get code.funcs c.function)) shape.operands && (has_target shape c.target && has_arrays shape (passed_by code c.passed))) ≡ true
-        → FlowsInto table (s.place + 1) (record shape { operands = shape.operands - params_of (slice_get code.funcs c.function); empty = with_target kind c.target shape.empty; gone = with_passed kind (passed_by code c.passed) shape.gone })
-        → GoodTransition code fits (enter s kind c (passed_by code c.passed) (slice_get code.funcs c.function))
-    enters_well kind c n r l =
+    enters_well : (kind : CallKind) (c : Callee) → (names_callee code seat.func kind c && names_lent code seat.func c.function (passed_by code c.passed) (lent_by code c.lent)) ≡ true
+        → ((has_arguments kind (params_of (slice_get code.funcs c.function)) shape.operands && (has_target shape c.target && has_arrays shape (passed_by code c.passed))) && has_loans shape (lent_by code c.lent)) ≡ true
+        → FlowsInto table (s.place + 1) (record shape { operands = shape.operands - params_of (slice_get code.funcs c.function); empty = with_target kind c.target shape.empty; gone = with_passed kind (passed_by code c.passed) shape.gone; frozen = with_lent kind (lent_by code c.lent) shape.frozen })
+        → GoodTransition code fits (enter s kind c (passed_by code c.passed) (lent_by code c.lent) (slice_get code.funcs c.function))
+    enters_well kind c names found l =
         let passed = passed_by code c.passed in
+        let loans = lent_by code c.lent in
         let params = params_of (slice_get code.funcs c.function) in
+        let n = first_true (names_callee code seat.func kind c) (names_lent code seat.func c.function passed loans) names in
+        let named_lent = second_true (names_callee code seat.func kind c) (names_lent code seat.func c.function passed loans) names in
+        let r = first_true (has_arguments kind params shape.operands && (has_target shape c.target && has_arrays shape passed)) (has_loans shape loans) found in
         let f = named c.function passed (first_true (names_passed code seat.func c.function passed) _ n) in
         let target = second_true (is_site kind c (slice_get code.sites (c.site - 1))) (names_target code seat.func c c.target) (second_true (nat_lt 0 c.site) (is_site kind c (slice_get code.sites (c.site - 1)) && names_target code seat.func c c.target) (second_true (names_passed code seat.func c.function passed) _ n)) in
         let keeps = subst (λ k. has_arguments kind k shape.operands ≡ true) (params_are c.function passed f) (first_true (has_arguments kind params shape.operands) (has_target shape c.target && has_arrays shape passed) r) in
         let rest = second_true (has_arguments kind params shape.operands) (has_target shape c.target && has_arrays shape passed) r in
         let there = all_there seat.func.arrays passed f.slots (second_true (has_target shape c.target) (has_arrays shape passed) rest) in
         let given = there_arrays passed s.arrays there in
-        let lead = subst (λ k. FlowsInto table (s.place + 1) (record shape { operands = shape.operands - k; empty = with_target kind c.target shape.empty; gone = with_passed kind passed shape.gone })) (params_are c.function passed f) l in
-        let enters = whole_enters kind (Some c.site) c.target (s.depth + 1) c.function passed f given.0 given.2 there keeps (first_true (has_target shape c.target) (has_arrays shape passed) rest) (λ a e. gives f.func f.is a (subst (λ o. names_target code seat.func c o ≡ true) e target)) lead in
-        subst (λ o. GoodTransition code fits (enter s kind c passed o)) (sym f.is)
-        (subst (λ o. GoodTransition code fits (if nat_lt MOST_DEPTH (s.depth + 1) then Stops trap.TooDeep c.line s.trace.lines else on_arrays o (λ xs. begins s (call_of s kind c passed f.func xs)))) (sym given.1)
-        (either (nat_lt MOST_DEPTH (s.depth + 1)) _ (begins_well _ enters)))
+        let loaned_all = all_loaned passed loans (second_true (nat_eq (length loans) (readers_of (slice_get code.funcs c.function))) (names_loans seat.func passed loans) named_lent) (second_true (has_arguments kind params shape.operands && (has_target shape c.target && has_arrays shape passed)) (has_loans shape loans) found) in
+        let lent = there_lent loans (moved_out passed s.arrays) s.readers loaned_all in
+        let frozen = with_lent kind loans shape.frozen in
+        let lead = subst (λ k. FlowsInto table (s.place + 1) (record shape { operands = shape.operands - k; empty = with_target kind c.target shape.empty; gone = with_passed kind passed shape.gone; frozen = frozen })) (params_are c.function passed f) l in
+        let enters = whole_enters kind (Some c.site) c.target (s.depth + 1) c.function passed f given.0 lent.0 frozen given.2 (lent.2 ∙ lent_many c.function passed loans f named_lent) there keeps (first_true (has_target shape c.target) (has_arrays shape passed) rest) (λ a e. gives f.func f.is a (subst (λ o. names_target code seat.func c o ≡ true) e target)) lead in
+        subst (λ o. GoodTransition code fits (enter s kind c passed loans o)) (sym f.is)
+        (subst (λ o. GoodTransition code fits (if nat_lt MOST_DEPTH (s.depth + 1) then Stops trap.TooDeep c.line s.trace.lines else on_arrays o (λ xs. on_arrays (lent_in loans (moved_out passed s.arrays) s.readers) (λ ys. begins s (call_of s kind c passed f.func xs ys))))) (sym given.1)
+        (subst (λ o. GoodTransition code fits (if nat_lt MOST_DEPTH (s.depth + 1) then Stops trap.TooDeep c.line s.trace.lines else on_arrays o (λ ys. begins s (call_of s kind c passed f.func given.0 ys)))) (sym lent.1)
+        (either (nat_lt MOST_DEPTH (s.depth + 1)) _ (begins_well _ enters))))
       where
         gives : (f : Func) → slice_get code.funcs c.function ≡ Some f → (a : ℕ) → names_target code seat.func c (Some a) ≡ true → f.gives_int ≡ true
         gives f is a h = sym (ap gives_value is) ∙ second_true (nat_lt a seat.func.slots) (gives_value (slice_get code.funcs c.function)) h
@@ -312,34 +352,38 @@ module _ (code : Code) (fits : Fits code) where
         either true w h = tt
         either false w h = h
 
-    recurs_well : (kind : CallKind) (c : Inner) → names_passed code seat.func c.function (passed_by code c.passed) ≡ true → (has_arguments kind (params_of (slice_get code.funcs c.function)) shape.operands && has_arrays shape (passed_by code c.passed)) ≡ true
+    recurs_well : (kind : CallKind) (c : Inner) → names_inner code seat.func c ≡ true → (has_arguments kind (params_of (slice_get code.funcs c.function)) shape.operands && has_arrays shape (passed_by code c.passed)) ≡ true
         → FlowsInto table (s.place + 1) (record shape { operands = shape.operands - params_of (slice_get code.funcs c.function); empty = with_target kind None shape.empty; gone = with_passed kind (passed_by code c.passed) shape.gone })
         → GoodTransition code fits (recur s kind (passed_by code c.passed) (slice_get code.funcs c.function))
-    recurs_well kind c n r l =
+    recurs_well kind c names r l =
         let passed = passed_by code c.passed in
         let params = params_of (slice_get code.funcs c.function) in
+        let n = first_true (names_passed code seat.func c.function passed) (names_lent code seat.func c.function passed []) names in
         let f = named c.function passed n in
         let keeps = subst (λ k. has_arguments kind k shape.operands ≡ true) (params_are c.function passed f) (first_true (has_arguments kind params shape.operands) (has_arrays shape passed) r) in
         let there = all_there seat.func.arrays passed f.slots (second_true (has_arguments kind params shape.operands) (has_arrays shape passed) r) in
         let given = there_arrays passed s.arrays there in
         let lead = subst (λ k. FlowsInto table (s.place + 1) (record shape { operands = shape.operands - k; empty = with_target kind None shape.empty; gone = with_passed kind passed shape.gone })) (params_are c.function passed f) l in
-        let enters = whole_enters kind None None s.depth c.function passed f given.0 given.2 there keeps refl (λ a e. absurd (none a e)) lead in
+        let none_lent = lent_many c.function passed [] f (second_true (names_passed code seat.func c.function passed) (names_lent code seat.func c.function passed []) names) in
+        let enters = whole_enters kind None None s.depth c.function passed f given.0 [] shape.frozen given.2 none_lent there keeps refl (λ a e. absurd (none a e)) lead in
         subst (λ o. GoodTransition code fits (recur s kind passed o)) (sym f.is)
-        (subst (λ o. GoodTransition code fits (on_arrays o (λ xs. begins s (record { kind = kind; site = None; target = None; depth = s.depth; func = f.func; arguments = arguments_of f.func s.operands; given = xs; taken = map (λ a. Whole a) passed })))) (sym given.1)
+        (subst (λ o. GoodTransition code fits (on_arrays o (λ xs. begins s (record { kind = kind; site = None; target = None; depth = s.depth; func = f.func; arguments = arguments_of f.func s.operands; given = xs; taken = map (λ a. Whole a) passed; lent = [] })))) (sym given.1)
         (begins_well _ enters))
       where
         none : (a : ℕ) → None ≡ Some a → ⊥
         none a e = cc
 
-    starts_loop : (c : Inner) (line : ℕ) → (names_passed code seat.func c.function (passed_by code c.passed) && nat_le 2 (params_of (slice_get code.funcs c.function))) ≡ true
+    starts_loop : (c : Inner) (line : ℕ) → (names_inner code seat.func c && nat_le 2 (params_of (slice_get code.funcs c.function))) ≡ true
         → (nat_le (params_of (slice_get code.funcs c.function)) shape.operands && has_arrays shape (passed_by code c.passed)) ≡ true
         → FlowsInto table (s.place + 1) (record shape { operands = shape.operands - params_of (slice_get code.funcs c.function) })
         → GoodTransition code fits (start s line (passed_by code c.passed) (slice_get code.funcs c.function))
     starts_loop c line n r l =
         let passed = passed_by code c.passed in
         let params = params_of (slice_get code.funcs c.function) in
-        let f = named c.function passed (first_true (names_passed code seat.func c.function passed) (nat_le 2 params) n) in
-        let two = le_of 2 params (second_true (names_passed code seat.func c.function passed) (nat_le 2 params) n) in
+        let names = first_true (names_inner code seat.func c) (nat_le 2 params) n in
+        let f = named c.function passed (first_true (names_passed code seat.func c.function passed) (names_lent code seat.func c.function passed []) names) in
+        let none_lent = lent_many c.function passed [] f (second_true (names_passed code seat.func c.function passed) (names_lent code seat.func c.function passed []) names) in
+        let two = le_of 2 params (second_true (names_inner code seat.func c) (nat_le 2 params) n) in
         let same = params_are c.function passed f in
         let keeps = subst (λ k. nat_le k shape.operands ≡ true) same (first_true (nat_le params shape.operands) (has_arrays shape passed) r) in
         let there = all_there seat.func.arrays passed f.slots (second_true (nat_le params shape.operands) (has_arrays shape passed) r) in
@@ -347,15 +391,15 @@ module _ (code : Code) (fits : Fits code) where
         let lead = subst (λ k. FlowsInto table (s.place + 1) (record shape { operands = shape.operands - k })) same l in
         subst (λ o. GoodTransition code fits (start s line passed o)) (sym f.is)
         (subst (λ o. GoodTransition code fits (on_arrays o (λ xs. on_range (arguments_of f.func s.operands) (λ low high captured. looped s line passed f.func xs low captured (loop_turns low high xs))))) (sym given.1)
-        (ranges f.func f.is f.many keeps given.0 given.2 there lead (arguments_of f.func s.operands) (arguments_count f.func (enough_so Plain f.func.params keeps)) (omega (arith, two, same))))
+        (ranges f.func f.is f.many none_lent keeps given.0 given.2 there lead (arguments_of f.func s.operands) (arguments_count f.func (enough_so Plain f.func.params keeps)) (omega (arith, two, same))))
       where
         none : (a : ℕ) → None ≡ Some a → ⊥
         none a e = cc
 
-        loops : (f : Func) → slice_get code.funcs c.function ≡ Some f → length (passed_by code c.passed) ≡ f.array_params → nat_le f.params shape.operands ≡ true → (given : List (List ℤ)) → length given ≡ length (passed_by code c.passed) → AllThere (passed_by code c.passed) s.arrays
+        loops : (f : Func) → slice_get code.funcs c.function ≡ Some f → length (passed_by code c.passed) ≡ f.array_params → 0 ≡ f.readers → nat_le f.params shape.operands ≡ true → (given : List (List ℤ)) → length given ≡ length (passed_by code c.passed) → AllThere (passed_by code c.passed) s.arrays
             → FlowsInto table (s.place + 1) (record shape { operands = shape.operands - f.params }) → (low : ℤ) (captured : List ℤ) → length captured + 2 ≡ f.params → (turns : Result) → GoodTransition code fits (looped s line (passed_by code c.passed) f given low captured turns)
-        loops f is many keeps given e there lead low captured count (Fails trap) = tt
-        loops f is many keeps given e there lead low captured count (Value m) =
+        loops f is many none_lent keeps given e there lead low captured count (Fails trap) = tt
+        loops f is many none_lent keeps given e there lead low captured count (Value m) =
             let same = part_slots (natural low) (passed_by code c.passed) given e in
             let n : length (low ∷ (low +ℤ m) ∷ captured) ≡ f.params = omega (arith, count) in
             let enter : Entering = record {
@@ -367,6 +411,7 @@ module _ (code : Code) (fits : Fits code) where
               arguments = low ∷ (low +ℤ m) ∷ captured;
               given = map (λ xs. take (natural m) (drop (natural low) xs)) given;
               taken = parts_of (natural low) (passed_by code c.passed) given;
+              lent = [];
             } in
             begins_well enter (record {
               index = c.function;
@@ -375,24 +420,26 @@ module _ (code : Code) (fits : Fits code) where
               arguments = n;
               given = length-map given (λ xs. take (natural m) (drop (natural low) xs)) ∙ e ∙ many;
               many = sym (length-map (parts_of (natural low) (passed_by code c.passed) given) slot_taken) ∙ ap length same ∙ many;
+              lent = none_lent;
               there = subst (λ p. AllThere p s.arrays) (sym same) there;
               target = refl;
               gives = λ a k. absurd (none a k);
               keeps = keeps;
+              frozen = shape.frozen;
               leads = lead;
             })
 
-        ranges : (f : Func) → slice_get code.funcs c.function ≡ Some f → length (passed_by code c.passed) ≡ f.array_params → nat_le f.params shape.operands ≡ true → (given : List (List ℤ)) → length given ≡ length (passed_by code c.passed) → AllThere (passed_by code c.passed) s.arrays
+        ranges : (f : Func) → slice_get code.funcs c.function ≡ Some f → length (passed_by code c.passed) ≡ f.array_params → 0 ≡ f.readers → nat_le f.params shape.operands ≡ true → (given : List (List ℤ)) → length given ≡ length (passed_by code c.passed) → AllThere (passed_by code c.passed) s.arrays
             → FlowsInto table (s.place + 1) (record shape { operands = shape.operands - f.params }) → (arguments : List ℤ) → length arguments ≡ f.params → 2 ≤ f.params
             → GoodTransition code fits (on_range arguments (λ low high captured. looped s line (passed_by code c.passed) f given low captured (loop_turns low high given)))
-        ranges f is many keeps given e there lead [] n two = absurd (omega (arith, n, two))
-        ranges f is many keeps given e there lead (low ∷ []) n two = absurd (omega (arith, n, two))
-        ranges f is many keeps given e there lead (low ∷ high ∷ captured) n two = loops f is many keeps given e there lead low captured (omega (arith, n)) (loop_turns low high given)
+        ranges f is many none_lent keeps given e there lead [] n two = absurd (omega (arith, n, two))
+        ranges f is many none_lent keeps given e there lead (low ∷ []) n two = absurd (omega (arith, n, two))
+        ranges f is many none_lent keeps given e there lead (low ∷ high ∷ captured) n two = loops f is many none_lent keeps given e there lead low captured (omega (arith, n)) (loop_turns low high given)
 
     -- the same call goes on, with so many operands
     more : (n : ℕ) (to : State) → to ≡ record s { place = to.place; operands = to.operands; trace = to.trace } → n ≡ length to.operands → FlowsInto table to.place (record shape { operands = n }) → GoodState code fits to
     more n to same e l = subst (GoodState code fits) (sym same)
-        (arrives s.place seat (record shape { operands = n }) (record s { place = to.place; operands = to.operands; trace = to.trace }) l (record { as_many = e; ints = g.ints; arrays = g.arrays; cuts = g.cuts }) good.others)
+        (arrives s.place seat (record shape { operands = n }) (record s { place = to.place; operands = to.operands; trace = to.trace }) l (record { as_many = e; ints = g.ints; arrays = g.arrays; readers = g.readers; cuts = g.cuts }) good.others)
 
     -- a full array slot is written
     more_array : (n a : ℕ) (xs : List ℤ) (rest : List ℤ) → is_full (slice_get s.arrays a) ≡ true → n ≡ length rest → FlowsInto table (s.place + 1) (record shape { operands = n })
@@ -403,6 +450,7 @@ module _ (code : Code) (fits : Fits code) where
           as_many = e;
           ints = g.ints;
           arrays = with_slot seat.func.arrays shape.gone (gone_rows shape.outer) s.arrays (slots_in s.arrived) (arrays_round s.around) a xs there g.arrays;
+          readers = g.readers;
           cuts = g.cuts;
         }) good.others
 
@@ -448,6 +496,7 @@ module _ (code : Code) (fits : Fits code) where
           as_many = g.as_many;
           ints = with_block seat.func.slots shape.empty (empty_rows shape.outer) s.slots (slots_in s.results) (ints_round s.around) (length shape.empty) g.ints.row_holds.as_wide g.ints;
           arrays = with_block seat.func.arrays shape.gone (gone_rows shape.outer) s.arrays (slots_in s.arrived) (arrays_round s.around) (length shape.gone) g.arrays.row_holds.as_wide g.arrays;
+          readers = g.readers;
           cuts = (refl, g.cuts);
         }) good.others
 
@@ -460,7 +509,7 @@ module _ (code : Code) (fits : Fits code) where
 
     -- the state after a join
     abbrev after_join : Shape
-    after_join = record shape { empty = none_empty (length shape.empty); gone = none_empty (length shape.gone) }
+    after_join = cleared shape
 
     joined_here : Good seat.func after_join (put_in s)
     joined_here = joined seat.func shape s g
@@ -478,6 +527,7 @@ module _ (code : Code) (fits : Fits code) where
           ints = with_outer seat.func.slots (none_empty (length shape.empty)) o.empty (empty_rows outer) (settled s.results s.slots) (slots_in b.results) (ints_round around) k.ints;
           arrays = subst (λ c. Holds seat.func.arrays o.gone (gone_rows outer) (settled s.arrived s.arrays) (slot_cut c ++ slots_in b.arrived) (arrays_round around)) resumes_uncut
               (with_outer seat.func.arrays (none_empty (length shape.gone)) o.gone (gone_rows outer) (settled s.arrived s.arrays) (slot_cut b.cut ++ slots_in b.arrived) (arrays_round around) k.arrays);
+          readers = k.readers;
           cuts = k.cuts.1;
         }) others)
       where
@@ -517,6 +567,7 @@ module _ (code : Code) (fits : Fits code) where
           as_many = omega (arith, e);
           ints = with_block seat.func.slots shape.empty (empty_rows shape.outer) s.slots (slots_in s.results) (ints_round s.around) (length shape.empty) g.ints.row_holds.as_wide g.ints;
           arrays = with_block seat.func.arrays row rows (cut_arrays h xs (natural v) s.arrays) waits round (length shape.gone) g.arrays.row_holds.as_wide both;
+          readers = g.readers;
           cuts = (refl, g.cuts);
         }) good.others)
 
@@ -537,7 +588,7 @@ module _ (code : Code) (fits : Fits code) where
             k.arrays.awaited a (omega (arith, row_there o.gone a own, k.arrays.rows_hold.0.as_wide, k.arrays.as_wide))
             (none_waits seat.func.arrays (gone_rows (o ∷ outer)) (arrays_round (Block b ∷ around)) a k.arrays.rows_hold all)
 
-        ends : (c : Halves) → (full_in_all (gone_rows (o ∷ outer)) c.left && full_in_all (gone_rows (o ∷ outer)) c.right) ≡ true → b.cut ≡ Some c → FlowsInto table (s.place + 1) (record shape { empty = o.empty; gone = slice_set o.gone c.array false; outer = outer })
+        ends : (c : Halves) → (full_in_all (gone_rows (o ∷ outer)) c.left && full_in_all (gone_rows (o ∷ outer)) c.right) ≡ true → b.cut ≡ Some c → FlowsInto table (s.place + 1) (record shape { empty = o.empty; gone = slice_set o.gone c.array false; frozen = o.frozen; outer = outer })
             → GoodTransition code fits (resumes_uncut (put_in s) b around (Some c))
         ends c there is lead =
             let all = gone_rows (o ∷ outer) in
@@ -552,17 +603,18 @@ module _ (code : Code) (fits : Fits code) where
             let two = with_slot seat.func.arrays row rows (slice_set (settled s.arrived s.arrays) c.left (Some [])) [] round c.right [] (still_right c.left c.right right_there) one in
             let outside = subst (λ x. Holds seat.func.arrays o.gone (gone_rows outer) (slice_set (slice_set (settled s.arrived s.arrays) c.left (Some [])) c.right (Some [])) (slot_cut x ++ slots_in b.arrived) (arrays_round around)) is
             (with_outer seat.func.arrays row o.gone (gone_rows outer) (slice_set (slice_set (settled s.arrived s.arrays) c.left (Some [])) c.right (Some [])) (slot_cut b.cut ++ slots_in b.arrived) (arrays_round around) two) in
-            arrives s.place seat (record shape { empty = o.empty; gone = slice_set o.gone c.array false; outer = outer }) _ lead (record {
+            arrives s.place seat (record shape { empty = o.empty; gone = slice_set o.gone c.array false; frozen = o.frozen; outer = outer }) _ lead (record {
               as_many = k.as_many;
               ints = with_outer seat.func.slots (none_empty (length shape.empty)) o.empty (empty_rows outer) (settled s.results s.slots) (slots_in b.results) (ints_round around) k.ints;
               arrays = with_filled seat.func.arrays o.gone (gone_rows outer) (slice_set (slice_set (settled s.arrived s.arrays) c.left (Some [])) c.right (Some [])) c.array (left ++ right) (slots_in b.arrived) (arrays_round around) outside;
+              readers = k.readers;
               cuts = k.cuts.1;
             }) others))
           where
             still_right : (a c' : ℕ) → is_full (slice_get (settled s.arrived s.arrays) c') ≡ true → is_full (slice_get (slice_set (settled s.arrived s.arrays) a (Some [])) c') ≡ true
             still_right a c' h' = set_full (settled s.arrived s.arrays) a c' [] (full_there (settled s.arrived s.arrays) c' h') (λ n. h')
 
-        by_cut : (c : Option Halves) → has_parts (gone_rows (o ∷ outer)) c ≡ true → c ≡ b.cut → FlowsInto table (s.place + 1) (record shape { empty = o.empty; gone = with_uncut c o.gone; outer = outer }) → GoodTransition code fits (resumes_uncut (put_in s) b around b.cut)
+        by_cut : (c : Option Halves) → has_parts (gone_rows (o ∷ outer)) c ≡ true → c ≡ b.cut → FlowsInto table (s.place + 1) (record shape { empty = o.empty; gone = with_uncut c o.gone; frozen = o.frozen; outer = outer }) → GoodTransition code fits (resumes_uncut (put_in s) b around b.cut)
         by_cut None p is lead = cc
         by_cut (Some c) p is lead = subst (λ x. GoodTransition code fits (resumes_uncut (put_in s) b around x)) is (ends c p (sym is) lead)
 
@@ -591,6 +643,7 @@ module _ (code : Code) (fits : Fits code) where
           as_many = omega (arith, e);
           ints = with_slot seat.func.slots shape.empty (empty_rows shape.outer) s.slots (slots_in s.results) (ints_round s.around) a v there g.ints;
           arrays = g.arrays;
+          readers = g.readers;
           cuts = g.cuts;
         }) good.others))
     acts_well (instr.Unary operator line) n r l = top_well _ r (λ v rest e. operates_well line rest (apply_unary operator v) shape.operands l.0 e)
@@ -617,13 +670,16 @@ module _ (code : Code) (fits : Fits code) where
     acts_well (instr.SetElement a line) n r l =
         let there = full_array a (first_true (has_array shape a) (nat_le 2 shape.operands) r) in
         slot_well (slice_get s.arrays a) _ there (λ xs. two_well _ (second_true (has_array shape a) (nat_le 2 shape.operands) r) (λ i v rest e. sets_well a line rest _ (written xs i v) (shape.operands - 2) there l.0 (omega (arith, e))))
+    acts_well (instr.ReadLength a) n r l = slot_well (reader s.readers a) _ (reader_there a n) (λ xs. more (shape.operands + 1) _ refl (omega (arith, g.as_many)) l.0)
+    acts_well (instr.ReadElement a line) n r l =
+        slot_well (reader s.readers a) _ (reader_there a n) (λ xs. top_well _ r (λ v rest e. operates_well line rest (in_bounds (element xs v)) shape.operands l.0 e))
     acts_well (instr.Cut h line) n found l =
         let r = first_true (has_arrays shape (cut_slots h) && nat_le 1 shape.operands) (are_no_parts h shape.outer) found in
         let named = first_true (names_arrays seat.func.arrays (cut_slots h)) (nat_le seat.func.array_params h.left && nat_le seat.func.array_params h.right) n in
         let there = all_there seat.func.arrays (cut_slots h) named (first_true (has_arrays shape (cut_slots h)) (nat_le 1 shape.operands) r) in
         slot_well (slice_get s.arrays h.array) _ there.1 (λ xs. top_well _ (second_true (has_arrays shape (cut_slots h)) (nat_le 1 shape.operands) r) (λ v rest e. cuts_well h line xs rest (cut_place xs v) there e l.0))
     acts_well instr.EndCut n r l = uncuts_well shape.outer s.around (second_true (nat_eq 0 shape.operands) (can_uncut shape.outer) r) joined_here good.others l.0
-    acts_well instr.Sync n r l = arrives s.place seat after_join (record (put_in s) { place = s.place + 1; trace = synced s.trace }) l.0 (record { as_many = joined_here.as_many; ints = joined_here.ints; arrays = joined_here.arrays; cuts = joined_here.cuts }) good.others
+    acts_well instr.Sync n r l = arrives s.place seat after_join (record (put_in s) { place = s.place + 1; trace = synced s.trace }) l.0 (record { as_many = joined_here.as_many; ints = joined_here.ints; arrays = joined_here.arrays; readers = joined_here.readers; cuts = joined_here.cuts }) good.others
     acts_well (instr.Open Scope) n r l = opens_well None l.0
     acts_well (instr.Open (Region k)) n r l = region_well (slice_get code.tags k) (there code.tags k (lt_of k (length code.tags) n)) l.0
     acts_well instr.Close n r l = closes_well shape.outer s.around (second_true (nat_eq 0 shape.operands) (can_close shape.outer) r) joined_here good.others l.0
@@ -648,7 +704,7 @@ module _ (code : Code) (fits : Fits code) where
         cases (Some i) e =
             let h = fits.each seat.index seat.func seat.is_func in
             let w = h.is_table.within s.place shape seat.at in
-            record { instr = i; is = e; named = h.names s.place i w.0 w.1 e; ready = h.is_table.ready s.place shape i seat.at e; leads = h.is_table.goes s.place shape i seat.at e; full = full_slot; full_array = full_array }
+            record { instr = i; is = e; named = h.names s.place i w.0 w.1 e; ready = h.is_table.ready s.place shape i seat.at e; thawed = h.is_table.thawed s.place shape i seat.at e; leads = h.is_table.goes s.place shape i seat.at e; full = full_slot; full_array = full_array }
 
     pub steps_well : GoodTransition code fits (step code s)
     steps_well = subst (λ o. GoodTransition code fits (act code s o)) (sym facts.is) (acts_well facts.instr facts.named facts.ready facts.leads)
@@ -665,7 +721,7 @@ module _ (code : Code) (fits : Fits code) where
 
   -- a run begins
   pub first_good : FitBegins code fits
-  first_good k f args given e m m' = starts_well k f e args given 1 [] _ m m' refl refl tt tt
+  first_good k f args given lent e m m' m'' = starts_well k f e args given lent 1 [] _ m m' m'' refl refl tt tt
 
   answered : (r : RunOutcome) → is_none r ≡ false → is_none (option_map (λ o. answer_of (reducers_of code) o) r) ≡ false
   answered None h = h
@@ -678,18 +734,20 @@ module _ (code : Code) (fits : Fits code) where
       none k = cc
   found_main (Some f) e args m n =
       let none : f.array_params ≡ 0 = sym (ap array_params_of e) ∙ fits.of_integers in
-      let begins = both_true (nat_eq (length args) f.params) (nat_le f.params f.slots && nat_eq f.array_params 0) (equal (length args) f.params m)
-      (both_true (nat_le f.params f.slots) (nat_eq f.array_params 0) (at_most f.params f.slots (fits.each code.main f e).room) (equal f.array_params 0 none)) in
-      let state = first_state f args [] in
+      let none_lent : f.readers ≡ 0 = sym (ap readers_of e) ∙ fits.reads_none in
+      let takes_none = both_true (nat_eq f.array_params 0) (nat_eq f.readers 0) (equal f.array_params 0 none) (equal f.readers 0 none_lent) in
+      let begins = both_true (nat_eq (length args) f.params) (nat_le f.params f.slots && (nat_eq f.array_params 0 && nat_eq f.readers 0)) (equal (length args) f.params m)
+      (both_true (nat_le f.params f.slots) (nat_eq f.array_params 0 && nat_eq f.readers 0) (at_most f.params f.slots (fits.each code.main f e).room) takes_none) in
+      let state = first_state f args [] [] in
       subst (λ b. is_none (option_map (λ r. answer_of (reducers_of code) r) (go_on (if b then On state else Stuck) n (λ s. steps code n s))) ≡ false) (sym begins)
-      (answered (steps code n state) (runs_well n state (first_good code.main f args [] e m (sym none))))
+      (answered (steps code n state) (runs_well n state (first_good code.main f args [] [] e m (sym none) (sym none_lent))))
 
 pub fits_never_stuck : (code : Code) → Fits code → NeverStuck code
 unfolding code_serial
 fits_never_stuck code fits args m n = found_main code fits (slice_get code.funcs code.main) refl args m n
 
 pub fits_never_stuck_from : (code : Code) → Fits code → NeverStuckFrom code
-fits_never_stuck_from code fits k f args given e m m' n = runs_well code fits n (first_state f args given) (first_good code fits k f args given e m m')
+fits_never_stuck_from code fits k f args given lent e m m' m'' n = runs_well code fits n (first_state f args given lent) (first_good code fits k f args given lent e m m' m'')
 
 pub fit_facts : (code : Code) (fits : Fits code) → FitFacts code fits
 fit_facts code fits s good = facts code fits s good

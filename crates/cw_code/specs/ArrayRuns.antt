@@ -1,6 +1,7 @@
 -- Small codes with arrays, cuts and loops, written by hand, and the sources that they are of.
 use Rattle.std.specs.Prelude.{◌≡◌, ℕ, pos, true, false, [], ◌∷◌, Some}
 use Rattle.cw_model.specs.declared.syntax.CallKind.TheVariants.{Plain, Spawned}
+use Rattle.cw_model.specs.declared.syntax.NameKind.TheVariants.{Array}
 use Rattle.cw_model.specs.declared.syntax.Operator.TheVariants.{Plus, Minus, Less, AtMost, Divide}
 use Rattle.cw_model.specs.Syntax.{Name, Expr, Stmt, Block, End, Then, Param, Function, Program}
 use Rattle.cw_model.specs.Syntax as source
@@ -46,7 +47,7 @@ cut_source = record {
         name = f_name;
         line = 1;
         gives_int = true;
-        params = record { name = a_name; is_array = true } ∷ [];
+        params = record { name = a_name; kind = Array } ∷ [];
         body =
             in_line 1 (source.AssignElement a_name (source.Number (pos 0)) (source.Number (pos 7)))
             (in_line 1 (source.Return (Some (source.Length a_name))) End);
@@ -75,18 +76,21 @@ cut_code = record {
       Push (pos 0) ∷ Push (pos 7) ∷ SetElement 0 1 ∷ Length 0 ∷ ReturnValue
       ∷ Push (pos 3) ∷ NewArray 0 2 ∷ Push (pos 0) ∷ Store 0 ∷ Push (pos 1)
       ∷ Cut (record { array = 0; left = 1; right = 2 }) 2
-      ∷ Call Spawned (record { function = 0; site = 1; line = 2; target = Some 0; passed = 0 }) ∷ Push (pos 0)
+      ∷ Call Spawned (record { function = 0; site = 1; line = 2; target = Some 0; passed = 0; lent = 0 }) ∷ Push (pos 0)
       ∷ Push (pos 5) ∷ SetElement 1 2 ∷ EndCut
       ∷ Push (pos 1) ∷ Element 0 2 ∷ Load 0 ∷ Binary Plus 2 ∷ ReturnValue ∷ [];
   funcs =
-      record { start = 0; end = 5; gives_int = true; params = 0; slots = 0; array_params = 1; arrays = 1 }
-      ∷ record { start = 5; end = 21; gives_int = true; params = 0; slots = 1; array_params = 0; arrays = 3 } ∷ [];
+      record { start = 0; end = 5; gives_int = true; params = 0; slots = 0; array_params = 1; arrays = 1; readers = 0 }
+      ∷ record
+      { start = 5; end = 21; gives_int = true; params = 0; slots = 1; array_params = 0; arrays = 3; readers = 0 }
+      ∷ [];
   main = 1;
   main_line = 1;
   sites = record { told = record { number = 1; kind = Of Spawned; line = 2; callee = f_name }; function = 0 } ∷ [];
   reducers = [];
   tags = [];
   passed = (2 ∷ []) ∷ [];
+  lent = [];
 }
 
 -- int main() { int a[3]; cilk_for (int i = 1; i < 3; i++) grain 1 over (a) { a[i] = i; } return a[2]; }
@@ -124,14 +128,17 @@ loop_code = record {
       ∷ Push (pos 3) ∷ NewArray 0 1 ∷ Push (pos 1) ∷ Push (pos 3) ∷ Start (record { function = 0; passed = 2 }) 1
       ∷ Push (pos 2) ∷ Element 0 1 ∷ ReturnValue ∷ [];
   funcs =
-      record { start = 0; end = 45; gives_int = false; params = 2; slots = 3; array_params = 1; arrays = 3 }
-      ∷ record { start = 45; end = 53; gives_int = true; params = 0; slots = 0; array_params = 0; arrays = 1 } ∷ [];
+      record { start = 0; end = 45; gives_int = false; params = 2; slots = 3; array_params = 1; arrays = 3; readers = 0 }
+      ∷ record
+      { start = 45; end = 53; gives_int = true; params = 0; slots = 0; array_params = 0; arrays = 1; readers = 0 }
+      ∷ [];
   main = 1;
   main_line = 1;
   sites = [];
   reducers = [];
   tags = [];
   passed = (1 ∷ []) ∷ (2 ∷ []) ∷ (0 ∷ []) ∷ [];
+  lent = [];
 }
 
 -- each code answers as its source does, its tree included, and costs as much

@@ -1,22 +1,24 @@
 -- Codes that do not fit, for one reason each.
-use Rattle.std.specs.Prelude.{ℕ, ◌+◌, pos, true, List, [], ◌∷◌, None}
+use Rattle.std.specs.Prelude.{ℕ, ◌+◌, pos, true, if◌then◌else◌, nat_eq, List, [], ◌∷◌, None}
 use Rattle.cw_model.specs.declared.syntax.CallKind.{CallKind}
 use Rattle.cw_model.specs.declared.syntax.CallKind.TheVariants.{Plain, Spawned}
 use Rattle.cw_model.specs.Sites.{Of}
 use Rattle.cw_code.specs.declared.code.Callee.{Callee}
 use Rattle.cw_code.specs.declared.code.Func.{Func}
 use Rattle.cw_code.specs.declared.code.Instr.{Instr}
-use Rattle.cw_code.specs.declared.code.Instr.TheVariants.{Push, Call, Sync, ReturnValue}
+use Rattle.cw_code.specs.declared.code.Instr.TheVariants.{Push, Call, SetElement, Sync, ReturnValue}
+use Rattle.cw_code.specs.declared.code.Loan.TheVariants.{Array}
 use Rattle.cw_code.specs.Code.{CodeSite, Code}
 
 -- a function of no parameter and no name that gives a value
 abbrev pub nameless : (start end : ℕ) → Func
 nameless start end =
-    record { start = start; end = end; gives_int = true; params = 0; slots = 0; array_params = 0; arrays = 0 }
+    record
+    { start = start; end = end; gives_int = true; params = 0; slots = 0; array_params = 0; arrays = 0; readers = 0 }
 
 -- the call of function 1, at site 1
 abbrev pub call_it : Callee
-call_it = record { function = 1; site = 1; line = 1; target = None; passed = 0 }
+call_it = record { function = 1; site = 1; line = 1; target = None; passed = 0; lent = 0 }
 
 -- site 1, of this kind
 abbrev pub its_site : CallKind → CodeSite
@@ -33,6 +35,7 @@ two_functions end kind instrs = record {
   reducers = [];
   tags = [];
   passed = [];
+  lent = [];
 }
 
 -- main has one instruction, a join, and runs on into the code of the next function
@@ -44,6 +47,28 @@ abbrev pub crowded : Code
 crowded =
     two_functions 5 Spawned
     (Push (pos 7) ∷ Call Spawned call_it ∷ Sync ∷ Push (pos 0) ∷ ReturnValue ∷ Push (pos 1) ∷ ReturnValue ∷ [])
+
+-- main lends its array to the call, which reads one and may take one
+abbrev pub lending : (end taken : ℕ) → CallKind → List Instr → Code
+lending end taken kind instrs =
+    record (two_functions end kind instrs) {
+      funcs =
+          record (nameless 0 end) { arrays = 1 }
+          ∷ record (nameless end (end + 2)) { array_params = taken; arrays = taken; readers = 1 } ∷ [];
+      passed = (if nat_eq taken 0 then [] else 0 ∷ []) ∷ [];
+      lent = (Array 0 ∷ []) ∷ [];
+    }
+
+-- main spawns a call that reads its array, and writes the array before the join
+abbrev pub overwritten : Code
+overwritten =
+    lending 7 0 Spawned
+    (Call Spawned call_it ∷ Push (pos 0) ∷ Push (pos 1) ∷ SetElement 0 1 ∷ Sync ∷ Push (pos 0) ∷ ReturnValue
+    ∷ Push (pos 1) ∷ ReturnValue ∷ [])
+
+-- a call takes the array that it is lent
+abbrev pub overlent : Code
+overlent = lending 2 1 Plain (Call Plain call_it ∷ ReturnValue ∷ Push (pos 1) ∷ ReturnValue ∷ [])
 
 -- main joins with an operand
 abbrev pub littered : Code

@@ -15,15 +15,26 @@ pub struct Callee {
     pub target: Option<u32>,
     /// The index, among the lists of the code, of the caller's array slots whose arrays it takes.
     pub passed: u32,
+    /// The index, among the lists of loans of the code, of the caller's arrays that it reads.
+    pub lent: u32,
 }
 
-/// What a call of a loop's function names. It is at no site and no deeper than its caller.
+/// What a call of a loop's function names. It is at no site and no deeper than its caller, and reads no array of it.
 #[derive(Clone, Copy, Debug, PartialEq, Eq)]
 pub struct Inner {
     /// The index of its function in the code.
     pub function: u32,
     /// The index, among the lists of the code, of the caller's array slots whose arrays it takes.
     pub passed: u32,
+}
+
+/// An array that a call lends to the one that it makes: it stays where it is, and is only read.
+#[derive(Clone, Copy, Debug, PartialEq, Eq)]
+pub enum Loan {
+    /// The array in an array slot of the caller.
+    Array(u32),
+    /// An array that the caller itself was lent, by its number.
+    Reader(u32),
 }
 
 /// The array slots that a cut names.
@@ -75,8 +86,9 @@ pub enum Instr {
     /// Back by so many places.
     GoBack(u32),
     /// A call, which takes its arguments from the operands, the last one last, and the arrays in the slots that it
-    /// names. In place, its result goes into its slot as it ends, and the arrays go back into theirs. Spawned, it may
-    /// run beside what follows it: these slots are empty up to the next join of the sync block.
+    /// names, and reads those that it is lent. In place, its result goes into its slot as it ends, and the arrays that
+    /// it took go back into theirs. Spawned, it may run beside what follows it: these slots are empty up to the next
+    /// join of the sync block, and up to there the arrays that it was lent are only read.
     Call(CallKind, Callee),
     /// A call that a loop's function makes of itself.
     Recur(CallKind, Inner),
@@ -92,6 +104,10 @@ pub enum Instr {
     Element(u32, u32),
     /// The last operand, into the array in a slot at the operand before it; a trap is told in this line.
     SetElement(u32, u32),
+    /// The count of the elements of an array that the call was lent, onto the operands.
+    ReadLength(u32),
+    /// The element of an array that the call was lent, at the last operand; a trap is told in this line.
+    ReadElement(u32, u32),
     /// An array is cut at the last operand: its parts go into two slots, its own is empty, and a sync block begins; a
     /// trap is told in this line.
     Cut(Halves, u32),
@@ -130,6 +146,8 @@ pub struct Func {
     pub array_params: usize,
     /// The count of its array slots, parameters included.
     pub arrays: usize,
+    /// The count of the arrays that its calls are lent: they have numbers from 0, are in no slot, and are only read.
+    pub readers: usize,
 }
 
 /// A call statement of the source.
@@ -175,4 +193,6 @@ pub struct Code {
     pub tags: Vec<Name>,
     /// Lists of array slots whose arrays a call takes, in the order of its array parameters.
     pub passed: Vec<Vec<u32>>,
+    /// Lists of arrays that a call is lent, in the order of their numbers there.
+    pub lent: Vec<Vec<Loan>>,
 }

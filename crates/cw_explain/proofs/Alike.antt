@@ -5,7 +5,7 @@ use Rattle.std.proofs.lemmas.List.{append-nil}
 use Rattle.std.proofs.lemmas.List.Elements.{Contains-append_left, Contains-append_right, Contains-append_cases}
 use Rattle.cw_model.specs.Lines.{unless}
 use Rattle.cw_model.specs.Names.{differ, same_name}
-use Rattle.cw_model.specs.Ownership.{Around, Closing, CutOf, Declared, Holder, Joins, Leaves, Taken, are_free, are_inner, at_end, declared_by, for_head, given, is_taken, keeps_loop, left_taken, may_index, may_read, may_write, names_in, owner_faults_in, taken_after, taken_after_all, target_names}
+use Rattle.cw_model.specs.Ownership.{Around, Closing, CutOf, Declared, Holder, Joins, Leaves, Taken, are_free, are_inner, are_loose, at_end, declared_by, for_head, given, is_held, is_taken, keeps_loop, lent, left_taken, may_index, may_lend as may_share, may_read, may_write, names_in, owner_faults_in, taken_after, taken_after_all, target_names}
 use Rattle.cw_model.specs.Syntax.{Name, Expr, Stmt, Declare, DeclareArray, Assign, AssignElement, Reduce, Call, Start, Begin, Sync, If, IfElse, While, For, Scope, Cut, Region, Print, Return, Block, End, Then, Function}
 use Rattle.cw_explain.specs.Disowned.{Does, IsDisownedAmong, IsDisownedAt, IsLeftTaken, IsWrongDoing, IsWrongStmt, Lends, where_at}
 use Rattle.cw_explain.specs.Doings.{Doing, name_of}
@@ -14,30 +14,31 @@ use Rattle.cw_explain.specs.Moments.{Before, Ending, Moment, Spot, behind, decla
 use Rattle.cw_explain.specs.Owners.{block_faults, faults_among, faults_inside, keeps_owners, statement_faults}
 use Rattle.cw_explain.specs.declared.owning.Disowned.{Disowned}
 use Rattle.cw_explain.specs.declared.owning.Disowned.TheVariants as reason
+use Rattle.cw_explain.proofs.Holds.{by_taker, by_that}
 use Rattle.cw_explain.proofs.Sets.{same_after, same_all, same_freed, same_holder_self, same_more}
 
 or_true : (a : Bool) → (a || true) ≡ true
 or_true true = refl
 or_true false = refl
 
--- a name that is taken is so by something
-by_something : (ts : Taken) (x : Name) (p : Bool) → ((h : Holder) → has_taken x h ts ≡ true → p ≡ true) → is_taken ts x ≡ true → p ≡ true
+-- a name that is held is so by something
+by_something : (ts : Taken) (x : Name) (p : Bool) → ((h : Holder) → has_taken x h ts ≡ true → p ≡ true) → is_held ts x ≡ true → p ≡ true
 by_something [] x p k e = cc
 by_something (t ∷ ts) x p k e =
     step (same_name x t.0) refl e
     (by_something ts x p (λ h g. k h (ap (λ r. (same_name x t.0 && same_holder h t.1) || r) g ∙ or_true (same_name x t.0 && same_holder h t.1))))
   where
-    step : (b : Bool) → same_name x t.0 ≡ b → (if b then true else is_taken ts x) ≡ true → (is_taken ts x ≡ true → p ≡ true) → p ≡ true
+    step : (b : Bool) → same_name x t.0 ≡ b → (if b then true else is_held ts x) ≡ true → (is_held ts x ≡ true → p ≡ true) → p ≡ true
     step true n e further =
         k t.1 (ap (λ b. (b && same_holder t.1 t.1) || has_taken x t.1 ts) n ∙ ap (λ b. b || has_taken x t.1 ts) (same_holder_self t.1))
     step false n e further = further e
 
-pub by_this : (ts : Taken) (x : Name) (h : Holder) → has_taken x h ts ≡ true → is_taken ts x ≡ true
+pub by_this : (ts : Taken) (x : Name) (h : Holder) → has_taken x h ts ≡ true → is_held ts x ≡ true
 by_this [] x h e = cc
 by_this (t ∷ ts) x h e = step (same_name x t.0) (same_holder h t.1) e (by_this ts x h)
   where
-    step : (b c : Bool) → ((b && c) || has_taken x h ts) ≡ true → (has_taken x h ts ≡ true → is_taken ts x ≡ true) →
-        (if b then true else is_taken ts x) ≡ true
+    step : (b c : Bool) → ((b && c) || has_taken x h ts) ≡ true → (has_taken x h ts ≡ true → is_held ts x ≡ true) →
+        (if b then true else is_held ts x) ≡ true
     step true c e further = refl
     step false c e further = further e
 
@@ -47,10 +48,15 @@ alike true false f g = sym (f refl)
 alike false true f g = g refl
 alike false false f g = refl
 
+pub held_same : (a b : Taken) → AreSame a b → (x : Name) → is_held a x ≡ is_held b x
+held_same a b s x =
+    alike (is_held a x) (is_held b x) (by_something a x (is_held b x) (λ h g. by_this b x h (sym (s x h) ∙ g)))
+    (by_something b x (is_held a x) (λ h g. by_this a x h (s x h ∙ g)))
+
 pub taken_same : (a b : Taken) → AreSame a b → (x : Name) → is_taken a x ≡ is_taken b x
 taken_same a b s x =
-    alike (is_taken a x) (is_taken b x) (by_something a x (is_taken b x) (λ h g. by_this b x h (sym (s x h) ∙ g)))
-    (by_something b x (is_taken a x) (λ h g. by_this a x h (s x h ∙ g)))
+    alike (is_taken a x) (is_taken b x) (by_taker a x (is_taken b x) (λ h g r. by_that b x h (sym (s x h) ∙ g) r))
+    (by_taker b x (is_taken a x) (λ h g r. by_that a x h (s x h ∙ g) r))
 
 any_same : (a b : Taken) → AreSame a b → (xs : List Name) → list_any (λ x. is_taken a x) xs ≡ list_any (λ x. is_taken b x) xs
 any_same a b s [] = refl
@@ -60,11 +66,19 @@ any_same a b s (x ∷ xs) =
 free_same : (a b : Taken) → AreSame a b → (xs : List Name) → are_free a xs ≡ are_free b xs
 free_same a b s xs = ap not (any_same a b s xs)
 
+all_held_same : (a b : Taken) → AreSame a b → (xs : List Name) → list_any (λ x. is_held a x) xs ≡ list_any (λ x. is_held b x) xs
+all_held_same a b s [] = refl
+all_held_same a b s (x ∷ xs) =
+    ap (λ t. t || list_any (λ x. is_held a x) xs) (held_same a b s x) ∙ ap (λ r. is_held b x || r) (all_held_same a b s xs)
+
+loose_same : (a b : Taken) → AreSame a b → (xs : List Name) → are_loose a xs ≡ are_loose b xs
+loose_same a b s xs = ap not (all_held_same a b s xs)
+
 read_same : (around : Around) (a b : Taken) → AreSame a b → (e : Expr) → may_read around a e ≡ may_read around b e
 read_same around a b s e = ap (λ f. f && keeps_loop around e) (free_same a b s (names_in e))
 
 write_same : (around : Around) (a b : Taken) → AreSame a b → (xs : List Name) → may_write around a xs ≡ may_write around b xs
-write_same around a b s xs = ap (λ f. f && are_inner around xs) (free_same a b s xs)
+write_same around a b s xs = ap (λ f. f && are_inner around xs) (loose_same a b s xs)
 
 all_read_same : (around : Around) (a b : Taken) → AreSame a b → (es : List Expr) →
     list_all (λ e. may_read around a e) es ≡ list_all (λ e. may_read around b e) es
@@ -72,11 +86,11 @@ all_read_same around a b s [] = refl
 all_read_same around a b s (e ∷ es) =
     ap (λ t. t && list_all (λ e. may_read around a e) es) (read_same around a b s e) ∙ ap (λ r. may_read around b e && r) (all_read_same around a b s es)
 
-call_same : (around : Around) (a b : Taken) → AreSame a b → (es : List Expr) (xs : List Name) (d : Bool) →
-    (list_all (λ e. may_read around a e) es && may_write around a xs && d) ≡ (list_all (λ e. may_read around b e) es && may_write around b xs && d)
-call_same around a b s es xs d =
-    ap (λ r. r && may_write around a xs && d) (all_read_same around a b s es)
-    ∙ ap (λ w. list_all (λ e. may_read around b e) es && w && d) (write_same around a b s xs)
+call_same : (around : Around) (a b : Taken) → AreSame a b → (es : List Expr) (xs : List Name) (d m : Bool) →
+    (list_all (λ e. may_read around a e) es && may_write around a xs && d && m) ≡ (list_all (λ e. may_read around b e) es && may_write around b xs && d && m)
+call_same around a b s es xs d m =
+    ap (λ r. r && may_write around a xs && d && m) (all_read_same around a b s es)
+    ∙ ap (λ w. list_all (λ e. may_read around b e) es && w && d && m) (write_same around a b s xs)
 
 both_same : (around : Around) (a b : Taken) → AreSame a b → (e : Expr) (xs : List Name) →
     (may_read around a e && may_write around a xs) ≡ (may_read around b e && may_write around b xs)
@@ -84,11 +98,11 @@ both_same around a b s e xs =
     ap (λ r. r && may_write around a xs) (read_same around a b s e) ∙ ap (λ w. may_read around b e && w) (write_same around a b s xs)
 
 element_same : (around : Around) (a b : Taken) → AreSame a b → (i e : Expr) (xs : List Name) (m : Bool) →
-    (may_read around a i && may_read around a e && are_free a xs && m) ≡ (may_read around b i && may_read around b e && are_free b xs && m)
+    (may_read around a i && may_read around a e && are_loose a xs && m) ≡ (may_read around b i && may_read around b e && are_loose b xs && m)
 element_same around a b s i e xs m =
-    ap (λ r. r && may_read around a e && are_free a xs && m) (read_same around a b s i)
-    ∙ ap (λ r. may_read around b i && r && are_free a xs && m) (read_same around a b s e)
-    ∙ ap (λ f. may_read around b i && may_read around b e && f && m) (free_same a b s xs)
+    ap (λ r. r && may_read around a e && are_loose a xs && m) (read_same around a b s i)
+    ∙ ap (λ r. may_read around b i && r && are_loose a xs && m) (read_same around a b s e)
+    ∙ ap (λ f. may_read around b i && may_read around b e && f && m) (loose_same a b s xs)
 
 head_same : (around inner : Around) (a b : Taken) → AreSame a b → (d e : Expr) (xs : List Name) (m : Bool) →
     (may_read inner a d && may_read inner a e && may_write around a xs && m) ≡ (may_read inner b d && may_read inner b e && may_write around b xs && m)
@@ -104,7 +118,7 @@ keeps_same fs around (DeclareArray x e) a b s = read_same around a b s e
 keeps_same fs around (Assign x e) a b s = both_same around a b s e (x ∷ [])
 keeps_same fs around (AssignElement x i e) a b s = element_same around a b s i e (x ∷ []) (may_index around x i)
 keeps_same fs around (Reduce how x e) a b s = read_same around a b s e
-keeps_same fs around (Call kind site target f es) a b s = call_same around a b s es (target_names target ++ given fs f es) (differ (given fs f es))
+keeps_same fs around (Call kind site target f es) a b s = call_same around a b s es (target_names target ++ given fs f es) (differ (given fs f es)) (may_share around (given fs f es) (lent fs f es))
 keeps_same fs around (Start kind f es) a b s = refl
 keeps_same fs around (Begin f from to captured over) a b s = refl
 keeps_same fs around Sync a b s = refl
@@ -166,7 +180,7 @@ by_parts fs spot taken line (Return (Some e)) = sym (append-nil (unless (keeps_o
 pub left_same : (declared : Declared) (a b : Taken) → AreSame a b → left_taken declared a ≡ left_taken declared b
 left_same [] a b s = refl
 left_same (d ∷ ds) a b s =
-    ap (λ t. unless (not t) d.1 ++ left_taken ds a) (taken_same a b s d.0) ∙ ap (λ ls. unless (not (is_taken b d.0)) d.1 ++ ls) (left_same ds a b s)
+    ap (λ t. unless (not t) d.1 ++ left_taken ds a) (held_same a b s d.0) ∙ ap (λ ls. unless (not (is_held b d.0)) d.1 ++ ls) (left_same ds a b s)
 
 pub end_same : (closing : Closing) (depth : ℕ) (a b : Taken) → AreSame a b → AreSame (at_end closing depth a) (at_end closing depth b)
 end_same Joins depth a b s = same_freed depth a b s
@@ -281,9 +295,10 @@ carries_one fs m n f = λ line r h. moment_here fs line n [] r (f line r (alone 
 -- what is done breaks a rule
 doing_same : (spot : Spot) (st : Stmt) (a b : Taken) → AreSame a b → (d : Doing) (r : Disowned) → IsWrongDoing (where_at spot a st) d r →
     IsWrongDoing (where_at spot b st) d r
-doing_same spot st a b s d (reason.Taken word how holder line) h = (h.0, h.1, sym (s (name_of d) (holder_of holder)) ∙ h.2)
+doing_same spot st a b s d (reason.Taken word how holder line) h = (h.0, h.1, sym (s (name_of d) (holder_of holder)) ∙ h.2, h.3)
 doing_same spot st a b s d (reason.EndsTaken word holder line) h = h
 doing_same spot st a b s d (reason.GivenTwice word callee) h = h
+doing_same spot st a b s d (reason.GivenAndRead word callee) h = h
 doing_same spot st a b s d (reason.OverTwice word) h = h
 doing_same spot st a b s d (reason.OuterWritten word line) h = h
 doing_same spot st a b s d (reason.OuterArray word line) h = h
@@ -299,6 +314,7 @@ pub ends_same : (declared : Declared) (a b : Taken) → AreSame a b → (line : 
 ends_same declared a b s line (reason.Taken word how holder other) h = h
 ends_same declared a b s line (reason.EndsTaken word holder other) h = (h.0, sym (s word.text.now (holder_of holder)) ∙ h.1)
 ends_same declared a b s line (reason.GivenTwice word callee) h = h
+ends_same declared a b s line (reason.GivenAndRead word callee) h = h
 ends_same declared a b s line (reason.OverTwice word) h = h
 ends_same declared a b s line (reason.OuterWritten word other) h = h
 ends_same declared a b s line (reason.OuterArray word other) h = h

@@ -1,6 +1,7 @@
 -- The lines of a program that break a rule, by the parts that the code looks at.
-use Rattle.std.proofs.Common.{Bool, true, false, if◌then◌else◌, not, ◌&&◌, ◌||◌, ◌==◌, ◌≡◌, ◌≤◌, ◌-◌, ℕ, suc, List, [], ◌∷◌, ◌++◌, length, flat_map, map, get_or, refl, sym, ap, ◌∙◌, arith, append_assoc}
+use Rattle.std.proofs.Common.{Bool, true, false, if◌then◌else◌, not, ◌&&◌, ◌||◌, ◌==◌, ◌≡◌, ◌≤◌, ℕ, suc, List, [], ◌∷◌, ◌++◌, length, flat_map, map, get_or, refl, sym, ap, ◌∙◌, arith, append_assoc}
 use Rattle.std.proofs.lemmas.List.{append-nil}
+use Rattle.cw_model.specs.declared.syntax.NameKind.TheVariants as name_kind
 use Rattle.cw_model.specs.Answers.{main_name}
 use Rattle.cw_model.specs.Lines.{unless}
 use Rattle.cw_model.specs.Names.{is_among, same_name}
@@ -111,8 +112,8 @@ kinds_after line (Return e) locals = refl
 
 -- a statement adds to the names that are known
 pub oldest_after : (line : ℕ) (s : Stmt) (ks : List Declared) (n : ℕ) → n ≤ length ks → oldest n (after_stmt line s ks) ≡ oldest n ks
-oldest_after line (Declare x e) ks n h = oldest_more (record { name = x; is_array = false; line = line }) ks n h
-oldest_after line (DeclareArray a e) ks n h = oldest_more (record { name = a; is_array = true; line = line }) ks n h
+oldest_after line (Declare x e) ks n h = oldest_more (record { name = x; kind = name_kind.Integer; line = line }) ks n h
+oldest_after line (DeclareArray a e) ks n h = oldest_more (record { name = a; kind = name_kind.Array; line = line }) ks n h
 oldest_after line (Assign x e) ks n h = refl
 oldest_after line (AssignElement a i e) ks n h = refl
 oldest_after line (Reduce how s e) ks n h = refl
@@ -154,19 +155,19 @@ longer_after line (Return e) ks n h = h
 pub kinds_of_params : (line : ℕ) (ps : List Param) (locals : List Declared) → kinds (with_params line ps locals) ≡ known_of ps ++ kinds locals
 kinds_of_params line [] locals = refl
 kinds_of_params line (p ∷ ps) locals =
-    kinds_of_params line ps (with_local p.name p.is_array line locals)
-    ∙ sym (append_assoc (known_of ps) ((p.name, p.is_array) ∷ []) (kinds locals))
+    kinds_of_params line ps (with_local p.name p.kind line locals)
+    ∙ sym (append_assoc (known_of ps) ((p.name, p.kind) ∷ []) (kinds locals))
 
 -- the last parameter is known first
-pub known_more : (ps : List Param) (p : Param) → known_of (ps ++ p ∷ []) ≡ (p.name, p.is_array) ∷ known_of ps
+pub known_more : (ps : List Param) (p : Param) → known_of (ps ++ p ∷ []) ≡ (p.name, p.kind) ∷ known_of ps
 known_more [] p = refl
-known_more (q ∷ ps) p = ap (λ known. known ++ (q.name, q.is_array) ∷ []) (known_more ps p)
+known_more (q ∷ ps) p = ap (λ known. known ++ (q.name, q.kind) ∷ []) (known_more ps p)
 
 -- parameters are known by their names
 pub among_params : (x : Name) (ps : List Param) → is_among x (known_names (known_of ps)) ≡ is_among x (map (λ p. p.name) ps)
 among_params x [] = refl
 among_params x (p ∷ ps) =
-    ap (is_among x) (named_append (known_of ps) ((p.name, p.is_array) ∷ []))
+    ap (is_among x) (named_append (known_of ps) ((p.name, p.kind) ∷ []))
     ∙ among_append x (known_names (known_of ps)) (p.name ∷ [])
     ∙ ap (λ b. b || is_among x (p.name ∷ [])) (among_params x ps)
     ∙ turned (is_among x (map (λ p. p.name) ps)) (same_name x p.name)
@@ -236,7 +237,7 @@ pub new_step : (program : Program) (ps : List Param) (p : Param) (rest : List Pa
     are_new program (known_of ps) (p ∷ rest)
     ≡ (not (is_among p.name (param_names ps) || is_among p.name (globals program)) && are_new program (known_of (ps ++ p ∷ [])) rest)
 new_step program ps p rest =
-    ap (λ b. not (b || is_among p.name (globals program)) && are_new program ((p.name, p.is_array) ∷ known_of ps) rest) (among_params p.name ps)
+    ap (λ b. not (b || is_among p.name (globals program)) && are_new program ((p.name, p.kind) ∷ known_of ps) rest) (among_params p.name ps)
     ∙ ap (λ known. not (is_among p.name (param_names ps) || is_among p.name (globals program)) && are_new program known rest) (sym (known_more ps p))
 
 -- nothing follows where there is no further statement

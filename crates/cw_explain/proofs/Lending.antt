@@ -4,11 +4,12 @@ use Rattle.std.specs.List.{list_any, list_all}
 use Rattle.std.proofs.lemmas.List.{append-nil}
 use Rattle.std.proofs.lemmas.List.Folds.{list_any-append}
 use Rattle.cw_model.specs.Names.{differ, is_among, same_name}
-use Rattle.cw_model.specs.Ownership.{Around, InLoop, NoLoop, Taken, are_free, are_inner, arrays_given, is_outer, is_taken, keeps_loop, may_index, may_read, may_write, names_in, target_names}
+use Rattle.cw_model.specs.Ownership.{Around, InLoop, NoLoop, Taken, are_free, are_inner, are_loose, arrays_given, is_held, is_outer, keeps_loop, may_index, may_lend as may_share, may_read, may_write, names_in, target_names}
 use Rattle.cw_model.specs.Syntax.{Name, Expr, Number, Variable, Element, Length, Negative, Not, Binary, Param}
 use Rattle.cw_explain.specs.Doings.{doings_in_argument, doings_in_arguments}
-use Rattle.cw_explain.specs.Owners.{is_array_first, keeps_argument, lend_behind, may_lend}
+use Rattle.cw_explain.specs.Owners.{is_taken_first, keeps_argument, lend_behind, may_lend}
 use Rattle.cw_explain.proofs.Heading.{turned}
+use Rattle.cw_explain.proofs.Holds.{loose_free}
 use Rattle.cw_explain.proofs.Walking.{among_append}
 
 -- none of these is among the others
@@ -37,13 +38,13 @@ nothing_apart [] = refl
 nothing_apart (x ∷ xs) = nothing_apart xs
 
 lend_parts : (around : Around) (taken : Taken) (earlier xs : List Name) →
-    lend_behind around taken earlier xs ≡ (are_free taken xs && (are_inner around xs && (apart earlier xs && differ xs)))
+    lend_behind around taken earlier xs ≡ (are_loose taken xs && (are_inner around xs && (apart earlier xs && differ xs)))
 lend_parts around taken earlier [] = refl
 lend_parts around taken earlier (x ∷ xs) =
-    ap (λ b. (not (is_taken taken x) && (not (is_outer around x) && not (is_among x earlier))) && b) (lend_parts around taken (earlier ++ x ∷ []) xs)
-    ∙ ap (λ b. (not (is_taken taken x) && (not (is_outer around x) && not (is_among x earlier))) && (are_free taken xs && (are_inner around xs && (b && differ xs))))
+    ap (λ b. (not (is_held taken x) && (not (is_outer around x) && not (is_among x earlier))) && b) (lend_parts around taken (earlier ++ x ∷ []) xs)
+    ∙ ap (λ b. (not (is_held taken x) && (not (is_outer around x) && not (is_among x earlier))) && (are_loose taken xs && (are_inner around xs && (b && differ xs))))
     (apart_more x earlier xs)
-    ∙ mixed (is_taken taken x) (is_outer around x) (is_among x earlier) (list_any (λ x. is_taken taken x) xs) (list_any (λ x. is_outer around x) xs)
+    ∙ mixed (is_held taken x) (is_outer around x) (is_among x earlier) (list_any (λ x. is_held taken x) xs) (list_any (λ x. is_outer around x) xs)
     (apart earlier xs) (is_among x xs) (differ xs)
   where
     mixed : (t o m f i a n d : Bool) → ((not t && (not o && not m)) && (not f && (not i && ((a && not n) && d))))
@@ -63,8 +64,8 @@ lend_parts around taken earlier (x ∷ xs) =
 pub lend_all : (around : Around) (taken : Taken) (xs : List Name) → lend_behind around taken [] xs ≡ may_lend around taken xs
 lend_all around taken xs =
     lend_parts around taken [] xs
-    ∙ ap (λ b. are_free taken xs && (are_inner around xs && (b && differ xs))) (nothing_apart xs)
-    ∙ grouped (are_free taken xs) (are_inner around xs) (differ xs)
+    ∙ ap (λ b. are_loose taken xs && (are_inner around xs && (b && differ xs))) (nothing_apart xs)
+    ∙ grouped (are_loose taken xs) (are_inner around xs) (differ xs)
   where
     grouped : (a b c : Bool) → (a && (b && (true && c))) ≡ ((a && b) && c)
     grouped true b c = refl
@@ -83,7 +84,7 @@ lend_append around taken earlier (x ∷ xs) ys =
     ∙ sym (and_apart first (lend_behind around taken (earlier ++ x ∷ []) xs) (lend_behind around taken (earlier ++ x ∷ xs) ys))
   where
     first : Bool
-    first = not (is_taken taken x) && (not (is_outer around x) && not (is_among x earlier))
+    first = not (is_held taken x) && (not (is_outer around x) && not (is_among x earlier))
 
 -- what is not from outside a loop may be named in each way
 inner_index : (around : Around) (a : Name) (e : Expr) → is_outer around a ≡ false → may_index around a e ≡ true
@@ -143,23 +144,24 @@ lent_read : (around : Around) (taken : Taken) (earlier : List Name) (e : Expr) �
 lent_read around taken earlier e h =
     let parts = sym (lend_parts around taken earlier (names_in e)) ∙ h in
     let xs = names_in e in
-    both_true (are_free taken xs) (keeps_loop around e) (first_of_four (are_free taken xs) (are_inner around xs) (apart earlier xs) (differ xs) parts)
-    (inner_keeps around e (second_of_four (are_free taken xs) (are_inner around xs) (apart earlier xs) (differ xs) parts))
+    both_true (are_free taken xs) (keeps_loop around e)
+    (loose_free taken xs (first_of_four (are_loose taken xs) (are_inner around xs) (apart earlier xs) (differ xs) parts))
+    (inner_keeps around e (second_of_four (are_loose taken xs) (are_inner around xs) (apart earlier xs) (differ xs) parts))
 
 -- the arguments from one on, behind these arrays
 abbrev pub keep_rest : Around → Taken → List Name → List Param → List Expr → Bool
 keep_rest around taken earlier ps [] = true
 keep_rest around taken earlier ps (e ∷ es) =
-    keeps_argument around taken earlier (is_array_first ps) e
-    && keep_rest around taken (earlier ++ (if is_array_first ps then names_in e else [])) (drop 1 ps) es
+    keeps_argument around taken earlier (is_taken_first ps) e
+    && keep_rest around taken (earlier ++ (if is_taken_first ps then names_in e else [])) (drop 1 ps) es
 
 pub given_more : (ps : List Param) (e : Expr) (es : List Expr) →
-    arrays_given ps (e ∷ es) ≡ (if is_array_first ps then names_in e else []) ++ arrays_given (drop 1 ps) es
+    arrays_given ps (e ∷ es) ≡ (if is_taken_first ps then names_in e else []) ++ arrays_given (drop 1 ps) es
 given_more [] e es = refl
 given_more (p ∷ ps) e es = refl
 
 pub doings_more : (ps : List Param) (e : Expr) (es : List Expr) →
-    doings_in_arguments ps (e ∷ es) ≡ doings_in_argument (is_array_first ps) e ++ doings_in_arguments (drop 1 ps) es
+    doings_in_arguments ps (e ∷ es) ≡ doings_in_argument (is_taken_first ps) e ++ doings_in_arguments (drop 1 ps) es
 doings_more [] e es = refl
 doings_more (p ∷ ps) e es = refl
 
@@ -171,7 +173,7 @@ pub rest_parts : (around : Around) (taken : Taken) (earlier : List Name) (ps : L
     keep_rest around taken earlier ps es ≡ (list_all (λ e. may_read around taken e) es && lend_behind around taken earlier (arrays_given ps es))
 rest_parts around taken earlier ps [] = ap (lend_behind around taken earlier) (sym (given_nothing ps))
 rest_parts around taken earlier ps (e ∷ es) =
-    step (is_array_first ps) (λ ns. rest_parts around taken ns (drop 1 ps) es)
+    step (is_taken_first ps) (λ ns. rest_parts around taken ns (drop 1 ps) es)
     ∙ ap (λ (names : List Name). (may_read around taken e && list_all (λ e. may_read around taken e) es) && lend_behind around taken earlier names)
     (sym (given_more ps e es))
   where
@@ -211,10 +213,10 @@ pub call_parts : (around : Around) (taken : Taken) (all : Bool) (target : Option
     (all && may_write around taken (target_names target ++ names) && differ names)
     ≡ ((all && may_lend around taken names) && may_write around taken (target_names target))
 call_parts around taken all target names =
-    ap (λ b. all && (not b && are_inner around (target_names target ++ names)) && differ names) (list_any-append (λ x. is_taken taken x) (target_names target) names)
-    ∙ ap (λ b. all && (not (list_any (λ x. is_taken taken x) (target_names target) || list_any (λ x. is_taken taken x) names) && not b) && differ names)
+    ap (λ b. all && (not b && are_inner around (target_names target ++ names)) && differ names) (list_any-append (λ x. is_held taken x) (target_names target) names)
+    ∙ ap (λ b. all && (not (list_any (λ x. is_held taken x) (target_names target) || list_any (λ x. is_held taken x) names) && not b) && differ names)
     (list_any-append (λ x. is_outer around x) (target_names target) names)
-    ∙ mixed all (list_any (λ x. is_taken taken x) (target_names target)) (list_any (λ x. is_taken taken x) names)
+    ∙ mixed all (list_any (λ x. is_held taken x) (target_names target)) (list_any (λ x. is_held taken x) names)
     (list_any (λ x. is_outer around x) (target_names target)) (list_any (λ x. is_outer around x) names) (differ names)
   where
     mixed : (a t n o i d : Bool) → (a && (not (t || n) && not (o || i)) && d) ≡ ((a && ((not n && not i) && d)) && (not t && not o))
@@ -230,3 +232,36 @@ call_parts around taken all target names =
     mixed true false false false true d = refl
     mixed true false false false false true = refl
     mixed true false false false false false = refl
+
+-- a call, by what is given to it and what it only reads
+pub whole_call : (around : Around) (taken : Taken) (all : Bool) (target : Option Name) (names read : List Name) →
+    (all && may_write around taken (target_names target ++ names) && differ names && may_share around names read)
+    ≡ (((all && may_lend around taken names) && may_write around taken (target_names target)) && may_share around names read)
+whole_call around taken all target names read = ap (λ b. b && may_share around names read) (call_parts around taken all target names)
+
+-- an array that is only read, and the others
+pub share_step : (around : Around) (given all : List Name) (x : Name) (xs : List Name) → all ≡ x ∷ xs →
+    may_share around given all ≡ ((not (is_outer around x) && not (is_among x given)) && may_share around given xs)
+share_step around given all x xs first =
+    ap (may_share around given) first
+    ∙ mixed (is_outer around x) (is_among x given) (list_any (λ x. is_outer around x) xs) (list_any (λ a. is_among a given) xs)
+  where
+    mixed : (o m p n : Bool) → (not (o || p) && not (m || n)) ≡ ((not o && not m) && (not p && not n))
+    mixed true m p n = refl
+    mixed false true true n = refl
+    mixed false true false n = refl
+    mixed false false p n = refl
+
+pub share_outer : (o m : Bool) → true ≡ o → true ≡ not (not o && not m)
+share_outer true m h = refl
+share_outer false m h = cc
+
+pub share_given : (o m : Bool) → false ≡ o → true ≡ m → true ≡ not (not o && not m)
+share_given true m h k = cc
+share_given false true h k = refl
+share_given false false h k = cc
+
+pub share_neither : (o m : Bool) → false ≡ o → false ≡ m → false ≡ not (not o && not m)
+share_neither true m h k = cc
+share_neither false true h k = cc
+share_neither false false h k = refl

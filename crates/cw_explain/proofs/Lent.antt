@@ -3,12 +3,12 @@ use Rattle.std.proofs.Common.{Bool, true, false, not, ◌&&◌, ◌||◌, if◌t
 use Rattle.std.proofs.lemmas.List.{drop-map, drop_at, length-map, map_more, take-map, take_at}
 use Rattle.std.proofs.lemmas.List.Elements.{Contains-append_left, Contains-append_right}
 use Rattle.cw_model.specs.Names.{is_among}
-use Rattle.cw_model.specs.Ownership.{Around, InLoop, NoLoop, Taken, arrays_given, for_head, is_outer, is_taken, may_write, names_in}
+use Rattle.cw_model.specs.Ownership.{Around, InLoop, NoLoop, Taken, arrays_given, for_head, is_held, is_outer, may_write, names_in}
 use Rattle.cw_model.specs.Syntax.{Name, Expr, Param}
-use Rattle.cw_explain.specs.Disowned.{Does, IsGivenTwice, IsOverTwice, IsWrongAmong, IsWrongOr, Where}
-use Rattle.cw_explain.specs.Doings.{Doing, NamesInOver, Passes, doings_in_argument, doings_in_arguments}
+use Rattle.cw_explain.specs.Disowned.{Does, IsGivenTogether, IsGivenTwice, IsOverTwice, IsWrongAmong, IsWrongOr, Where}
+use Rattle.cw_explain.specs.Doings.{Doing, Measures, NamesInOver, Passes, doings_in_argument, doings_in_arguments}
 use Rattle.cw_explain.specs.Held.{spelled}
-use Rattle.cw_explain.specs.Owners.{IsTwiceIn, IsWrongWhole, is_array_first, keeps_argument, lend_behind, lent_to, touch_by}
+use Rattle.cw_explain.specs.Owners.{IsTwiceIn, IsWrongWhole, is_taken_first, keeps_argument, lend_behind, lent_to, touch_by}
 use Rattle.cw_explain.specs.Told.{AreBothIn}
 use Rattle.cw_explain.specs.declared.owning.Disowned.{Disowned}
 use Rattle.cw_explain.specs.declared.owning.Disowned.TheVariants as reason
@@ -31,6 +31,7 @@ lent_twice x xs h = are_in_both xs (x ∷ []) x x (among_there x xs (sym h)) (0,
 
 pub given_front : (f : Name) (xs ys : List Name) (r : Disowned) → IsGivenTwice f xs r → IsGivenTwice f (xs ++ ys) r
 given_front f xs ys (reason.GivenTwice word callee) h = (h.0, in_front xs ys word.text.now word.text.now h.1)
+given_front f xs ys (reason.GivenAndRead word callee) h = h
 given_front f xs ys (reason.Taken word how holder line) h = h
 given_front f xs ys (reason.EndsTaken word holder line) h = h
 given_front f xs ys (reason.OverTwice word) h = h
@@ -43,6 +44,7 @@ over_front xs ys (reason.OverTwice word) h = in_front xs ys word.text.now word.t
 over_front xs ys (reason.Taken word how holder line) h = h
 over_front xs ys (reason.EndsTaken word holder line) h = h
 over_front xs ys (reason.GivenTwice word callee) h = h
+over_front xs ys (reason.GivenAndRead word callee) h = h
 over_front xs ys (reason.OuterWritten word line) h = h
 over_front xs ys (reason.OuterArray word line) h = h
 over_front xs ys (reason.OtherElement word variable line) h = h
@@ -67,10 +69,10 @@ lent_among w l names earlier rest all x r first whole from within h =
 -- one name behind others
 pub lend_step : (around : Around) (taken : Taken) (earlier more : List Name) (x : Name) (names rest : List Name) → names ≡ x ∷ rest →
     more ≡ earlier ++ x ∷ [] → lend_behind around taken earlier names
-    ≡ ((not (is_taken taken x) && (not (is_outer around x) && not (is_among x earlier))) && lend_behind around taken more rest)
+    ≡ ((not (is_held taken x) && (not (is_outer around x) && not (is_among x earlier))) && lend_behind around taken more rest)
 lend_step around taken earlier more x names rest first m =
     ap (lend_behind around taken earlier) first
-    ∙ ap (λ (ns : List Name). (not (is_taken taken x) && (not (is_outer around x) && not (is_among x earlier))) && lend_behind around taken ns rest) (sym m)
+    ∙ ap (λ (ns : List Name). (not (is_held taken x) && (not (is_outer around x) && not (is_among x earlier))) && lend_behind around taken ns rest) (sym m)
 
 pub stops : (a b c : Bool) → c ≡ (a && b) → true ≡ not a → true ≡ not c
 stops true b c e h = cc
@@ -107,7 +109,7 @@ words_behind given more names place grown at =
 
 -- the arguments from one on: it, and those behind it
 pub argument_step : (around : Around) (taken : Taken) (earlier more : List Name) (ps next : List Param) (e : Expr) (es all : List Expr) (is_array : Bool) →
-    all ≡ e ∷ es → is_array ≡ is_array_first ps → next ≡ drop 1 ps → more ≡ earlier ++ (if is_array then names_in e else []) →
+    all ≡ e ∷ es → is_array ≡ is_taken_first ps → next ≡ drop 1 ps → more ≡ earlier ++ (if is_array then names_in e else []) →
     keep_rest around taken earlier ps all ≡ (keeps_argument around taken earlier is_array e && keep_rest around taken more next es)
 argument_step around taken earlier more ps next e es all is_array first kind later grown =
     ap (keep_rest around taken earlier ps) first
@@ -116,17 +118,17 @@ argument_step around taken earlier more ps next e es all is_array first kind lat
     ∙ ap (λ (qs : List Param). keeps_argument around taken earlier is_array e && keep_rest around taken more qs es) (sym later)
 
 pub given_step : (earlier more : List Name) (ps next : List Param) (e : Expr) (es all : List Expr) (is_array : Bool) →
-    all ≡ e ∷ es → is_array ≡ is_array_first ps → next ≡ drop 1 ps → more ≡ earlier ++ (if is_array then names_in e else []) →
+    all ≡ e ∷ es → is_array ≡ is_taken_first ps → next ≡ drop 1 ps → more ≡ earlier ++ (if is_array then names_in e else []) →
     earlier ++ arrays_given ps all ≡ more ++ arrays_given next es
 given_step earlier more ps next e es all is_array first kind later grown =
     ap (λ (xs : List Expr). earlier ++ arrays_given ps xs) first
     ∙ ap (λ (ns : List Name). earlier ++ ns) (given_more ps e es)
-    ∙ sym (append_assoc earlier (if is_array_first ps then names_in e else []) (arrays_given (drop 1 ps) es))
+    ∙ sym (append_assoc earlier (if is_taken_first ps then names_in e else []) (arrays_given (drop 1 ps) es))
     ∙ ap (λ (b : Bool). (earlier ++ (if b then names_in e else [])) ++ arrays_given (drop 1 ps) es) (sym kind)
     ∙ ap (λ (ns : List Name). ns ++ arrays_given (drop 1 ps) es) (sym grown)
     ∙ ap (λ (qs : List Param). more ++ arrays_given qs es) (sym later)
 
-doings_step : (ps next : List Param) (e : Expr) (es all : List Expr) (is_array : Bool) → all ≡ e ∷ es → is_array ≡ is_array_first ps → next ≡ drop 1 ps →
+doings_step : (ps next : List Param) (e : Expr) (es all : List Expr) (is_array : Bool) → all ≡ e ∷ es → is_array ≡ is_taken_first ps → next ≡ drop 1 ps →
     doings_in_arguments ps all ≡ doings_in_argument is_array e ++ doings_in_arguments next es
 doings_step ps next e es all is_array first kind later =
     ap (doings_in_arguments ps) first
@@ -136,7 +138,7 @@ doings_step ps next e es all is_array first kind later =
 
 -- what is told of an argument is told of all
 pub argument_among : (w : Where) (f : Name) (ps next : List Param) (e : Expr) (es all : List Expr) (is_array : Bool) → all ≡ e ∷ es →
-    is_array ≡ is_array_first ps → next ≡ drop 1 ps → (more names : List Name) (whole : List Doing) →
+    is_array ≡ is_taken_first ps → next ≡ drop 1 ps → (more names : List Name) (whole : List Doing) →
     ((d : Doing) → Contains (doings_in_arguments ps all) d → Contains whole d) → names ≡ more ++ arrays_given next es → (r : Disowned) →
     IsWrongOr w (doings_in_argument is_array e) (IsGivenTwice f more) r → IsWrongOr w whole (IsGivenTwice f names) r
 argument_among w f ps next e es all is_array first kind later more names whole within grown r h =
@@ -146,14 +148,14 @@ argument_among w f ps next e es all is_array first kind later more names whole w
     (λ found. subst (λ (ns : List Name). IsGivenTwice f ns r) (sym grown) (given_front f more (arrays_given next es) r found)) h
 
 pub argument_told : (w : Where) (f : Name) (ps next : List Param) (e : Expr) (es all : List Expr) (is_array : Bool) → all ≡ e ∷ es →
-    is_array ≡ is_array_first ps → next ≡ drop 1 ps → (more names : List Name) (whole : List Doing) →
+    is_array ≡ is_taken_first ps → next ≡ drop 1 ps → (more names : List Name) (whole : List Doing) →
     ((d : Doing) → Contains (doings_in_arguments ps all) d → Contains whole d) → names ≡ more ++ arrays_given next es → (found : Option Disowned) →
     IfSome found (IsWrongOr w (doings_in_argument is_array e) (IsGivenTwice f more)) → IfSome found (IsWrongOr w whole (IsGivenTwice f names))
 argument_told w f ps next e es all is_array first kind later more names whole within grown None h = h
 argument_told w f ps next e es all is_array first kind later more names whole within grown (Some r) h =
     argument_among w f ps next e es all is_array first kind later more names whole within grown r h
 
-pub arguments_later : (ps next : List Param) (e : Expr) (es all : List Expr) (is_array : Bool) → all ≡ e ∷ es → is_array ≡ is_array_first ps →
+pub arguments_later : (ps next : List Param) (e : Expr) (es all : List Expr) (is_array : Bool) → all ≡ e ∷ es → is_array ≡ is_taken_first ps →
     next ≡ drop 1 ps → (d : Doing) → Contains (doings_in_arguments next es) d → Contains (doings_in_arguments ps all) d
 arguments_later ps next e es all is_array first kind later d h =
     subst (λ (ds : List Doing). Contains ds d) (sym (doings_step ps next e es all is_array first kind later))
@@ -217,3 +219,39 @@ pub or_behind : (w : Where) (xs ys : List Doing) (P : Disowned → Type 0) (foun
     IfSome found (IsWrongOr w (xs ++ ys) P)
 or_behind w xs ys P None h = h
 or_behind w xs ys P (Some r) h = or_more w ys (xs ++ ys) P P r (Contains-append_right xs ys) (λ k. k) h
+
+-- a call, with what it only reads behind what it is given
+pub given_together : (f : Name) (given read : List Name) (r : Disowned) → IsGivenTwice f given r → IsGivenTogether f given read r
+given_together f given read (reason.GivenTwice word callee) h = h
+given_together f given read (reason.GivenAndRead word callee) h = absurd h
+given_together f given read (reason.Taken word how holder line) h = h
+given_together f given read (reason.EndsTaken word holder line) h = h
+given_together f given read (reason.OverTwice word) h = h
+given_together f given read (reason.OuterWritten word line) h = h
+given_together f given read (reason.OuterArray word line) h = h
+given_together f given read (reason.OtherElement word variable line) h = h
+
+pub or_together : (w : Where) (xs ys : List Doing) (f : Name) (given read : List Name) (found : Option Disowned) →
+    IfSome found (IsWrongOr w xs (IsGivenTwice f given)) → IfSome found (IsWrongOr w (xs ++ ys) (IsGivenTogether f given read))
+or_together w xs ys f given read None h = h
+or_together w xs ys f given read (Some r) h =
+    or_more w xs (xs ++ ys) (IsGivenTwice f given) (IsGivenTogether f given read) r (Contains-append_left xs ys) (given_together f given read r) h
+
+pub or_shared : (w : Taken → Where) (taken : Taken) (xs ys : List Doing) (P : Disowned → Type 0) (found : Option Disowned) →
+    IfSome found (λ r. (ts : Taken) → IsWrongOr (w ts) ys P r) → IfSome found (IsWrongOr (w taken) (xs ++ ys) P)
+or_shared w taken xs ys P None h = h
+or_shared w taken xs ys P (Some r) h = or_more (w taken) ys (xs ++ ys) P P r (Contains-append_right xs ys) (λ k. k) (h taken)
+
+-- a word at a place, and what is done with it where it is only read
+pub word_in : (words : List Word) (i : ℕ) (e : Word) → i < length words → Contains (spelled words) (get_or words i e).text.now
+word_in [] i e h = absurd (omega (arith, h))
+word_in (w ∷ words) zero e h = Contains-append_left (w.text.now ∷ []) (spelled words) w.text.now (0, omega arith, refl)
+word_in (w ∷ words) (suc i) e h =
+    Contains-append_right (w.text.now ∷ []) (spelled words) (get_or words i e).text.now (word_in words i e (omega (arith, h)))
+
+pub measured_in : (words : List Word) (i : ℕ) (e : Word) → i < length words → Contains (map Measures (spelled words)) (Measures (get_or words i e).text.now)
+measured_in [] i e h = absurd (omega (arith, h))
+measured_in (w ∷ words) zero e h =
+    Contains-append_left (Measures w.text.now ∷ []) (map Measures (spelled words)) (Measures w.text.now) (0, omega arith, refl)
+measured_in (w ∷ words) (suc i) e h =
+    Contains-append_right (Measures w.text.now ∷ []) (map Measures (spelled words)) (Measures (get_or words i e).text.now) (measured_in words i e (omega (arith, h)))

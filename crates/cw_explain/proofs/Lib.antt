@@ -1,6 +1,7 @@
 mod Alike
 mod Breaking
 mod Heading
+mod Holds
 mod Lending
 mod Lent
 mod Misuse

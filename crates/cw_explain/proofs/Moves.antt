@@ -1,8 +1,9 @@
 -- Where a walk is: places, blocks and what is told there, as the definitions have them.
 use Rattle.std.proofs.Common.{Bool, true, false, not, ◌&&◌, ◌||◌, ◌==◌, if◌then◌else◌, ◌≡◌, ◌≤◌, ◌-◌, ℕ, ◌+◌, List, [], ◌∷◌, ◌++◌, Option, Some, None, IfSome, Contains, drop, flat_map, length, subst, refl, sym, ap, ◌∙◌, arith, append_assoc}
 use Rattle.std.proofs.lemmas.List.Elements.{Contains-append_left, Contains-append_right}
+use Rattle.cw_model.specs.declared.syntax.NameKind.TheVariants as name_kind
 use Rattle.cw_model.specs.Lines.{unless}
-use Rattle.cw_model.specs.Ownership.{Around, Closing, Declared as Named, InLoop, NoLoop, Taken, at_end, declared_by, is_taken, known_after, left_taken, owner_faults_in, owner_faults_of, taken_after, taken_after_all}
+use Rattle.cw_model.specs.Ownership.{Around, Closing, Declared as Named, InLoop, NoLoop, Taken, at_end, declared_by, is_held, known_after, left_taken, owner_faults_in, owner_faults_of, taken_after, taken_after_all}
 use Rattle.cw_model.specs.Syntax.{Name, Stmt, Declare, DeclareArray, Assign, AssignElement, Reduce, Call, Start, Begin, Sync, If, IfElse, While, For, Scope, Cut, Region, Print, Return, Block, End, Then, Function, Program}
 use Rattle.cw_explain.specs.Disowned.{IsDisowned, IsDisownedAmong, IsLeftTaken, IsWrongStmt, where_at}
 use Rattle.cw_explain.specs.Held.{AreSame}
@@ -82,8 +83,8 @@ spot_parts line l r locals around depth h =
   where
     two : (n : ℕ) → n ≤ length locals → oldest n (in_cut line l r locals) ≡ oldest n locals
     two n k =
-        oldest_more (record { name = r; is_array = true; line = line }) (with_local l true line locals) n (omega (arith, k))
-        ∙ oldest_more (record { name = l; is_array = true; line = line }) locals n k
+        oldest_more (record { name = r; kind = name_kind.Array; line = line }) (with_local l name_kind.Array line locals) n (omega (arith, k))
+        ∙ oldest_more (record { name = l; kind = name_kind.Array; line = line }) locals n k
 
 -- at first
 pub spot_first : (locals : List Declared) (f : Function) → known_names (kinds locals) ≡ param_names f.params → spot_of locals None 1 ≡ at_first f
@@ -177,8 +178,8 @@ declared_more (Then line s b) declared =
 left_append : (xs ys : Named) (taken : Taken) → left_taken (xs ++ ys) taken ≡ left_taken xs taken ++ left_taken ys taken
 left_append [] ys taken = refl
 left_append (d ∷ xs) ys taken =
-    ap (λ (ls : List ℕ). unless (not (is_taken taken d.0)) d.1 ++ ls) (left_append xs ys taken)
-    ∙ sym (append_assoc (unless (not (is_taken taken d.0)) d.1) (left_taken xs taken) (left_taken ys taken))
+    ap (λ (ls : List ℕ). unless (not (is_held taken d.0)) d.1 ++ ls) (left_append xs ys taken)
+    ∙ sym (append_assoc (unless (not (is_held taken d.0)) d.1) (left_taken xs taken) (left_taken ys taken))
 
 -- the lines of names that are left taken: that of a statement, or of those behind it
 pub has_left : (n line : ℕ) (s : Stmt) (b : Block) (taken : Taken) → has_line n (left_taken (declared_in (Then line s b) []) taken)
@@ -200,6 +201,7 @@ pub left_more : (ds es : Named) (taken : Taken) (n : ℕ) (r : Disowned) → ((d
 left_more ds es taken n (reason.Taken word how holder other) f h = h
 left_more ds es taken n (reason.EndsTaken word holder other) f h = (f (word.text.now, n) h.0, h.1)
 left_more ds es taken n (reason.GivenTwice word callee) f h = h
+left_more ds es taken n (reason.GivenAndRead word callee) f h = h
 left_more ds es taken n (reason.OverTwice word) f h = h
 left_more ds es taken n (reason.OuterWritten word other) f h = h
 left_more ds es taken n (reason.OuterArray word other) f h = h

@@ -1,5 +1,5 @@
 -- Where a reason of ownership holds, the definition refuses the line.
-use Rattle.std.proofs.Common.{Bool, true, false, not, ◌&&◌, ◌||◌, ◌==◌, if◌then◌else◌, ◌≡◌, ◌<◌, ℕ, zero, suc, ◌+◌, List, [], ◌∷◌, ◌++◌, Option, Some, None, length, ◌⊎◌, ⊎_elim, inl, inr, flat_map, map, slice_get, slice_index_or, subst, refl, sym, ap, ◌∙◌, arith}
+use Rattle.std.proofs.Common.{Bool, true, false, not, ◌&&◌, ◌||◌, ◌==◌, if◌then◌else◌, ◌≡◌, ◌<◌, ℕ, zero, suc, List, [], ◌∷◌, ◌++◌, Option, Some, None, length, ◌⊎◌, ⊎_elim, inl, inr, flat_map, map, slice_get, slice_index_or, subst, refl, sym, ap, ◌∙◌, arith}
 use Rattle.std.specs.List.{list_any, list_all}
 use Rattle.std.proofs.lemmas.Bool.Decides.{nat_tests}
 use Rattle.std.proofs.lemmas.Slice.Eq.{bytes_eq-Decides}
@@ -7,11 +7,11 @@ use Rattle.std.proofs.lemmas.List.Folds.{list_any-append}
 use Rattle.cw_model.specs.Lines.{unless}
 use Rattle.cw_model.specs.Meaning.{function_named}
 use Rattle.cw_model.specs.Names.{differ, is_among, same_name}
-use Rattle.cw_model.specs.Ownership.{Around, Closing, CutOf, Declared, Holder, InLoop, Joins, Leaves, NoLoop, Taken, are_free, are_inner, arrays_given, at_end, for_head, given, is_outer, is_taken, keeps_loop, left_taken, may_index, may_read, may_write, names_in, owner_faults_of, ownership_faults, taken_after, taken_after_all, target_names}
-use Rattle.cw_model.specs.Syntax.{Name, Expr, Number, Variable, Element, Length, Negative, Not, Binary, Stmt, Declare, DeclareArray, Assign, AssignElement, Reduce, Call, Start, Begin, Sync, If, IfElse, While, For, Scope, Cut, Region, Print, Return, Block, End, Then, Param, Function, Program}
-use Rattle.cw_explain.specs.Disowned.{Does, IsDisowned, IsGivenTwice, IsOverTwice, IsDisownedAmong, IsDisownedAt, IsLeftTaken, IsLentTwice, IsWrongDoing, IsWrongStmt, Lends, Where, judged, where_at}
-use Rattle.cw_explain.specs.Doings.{Cuts, Doing, NamesInOver, Passes, Writes, WritesElement, doings, doings_in, doings_in_argument, doings_in_arguments, doings_of_target, may_be, name_of}
-use Rattle.cw_explain.specs.Held.{has_taken, holder_of}
+use Rattle.cw_model.specs.Ownership.{Around, Closing, CutOf, Declared, Holder, InLoop, Joins, Leaves, NoLoop, Taken, are_free, are_inner, are_loose, arrays_given, arrays_lent, at_end, for_head, given, is_held, is_outer, is_reader, is_taken, keeps_loop, left_taken, lent, may_index, may_lend as may_share, may_read, may_write, names_in, owner_faults_of, ownership_faults, taken_after, taken_after_all, target_names}
+use Rattle.cw_model.specs.Syntax.{Name, Expr, Number, Variable, Element, Length, Negative, Not, Binary, Stmt, Declare, DeclareArray, Assign, AssignElement, Reduce, Call, Start, Begin, Sync, If, IfElse, While, For, Scope, Cut, Region, Print, Return, Block, End, Then, Param, Function, Program, reads_array, takes_array}
+use Rattle.cw_explain.specs.Disowned.{Does, IsDisowned, IsGivenTogether, IsGivenTwice, IsOverTwice, IsDisownedAmong, IsDisownedAt, IsLeftTaken, IsLentTwice, IsWrongDoing, IsWrongStmt, Lends, Where, judged, where_at}
+use Rattle.cw_explain.specs.Doings.{Cuts, Doing, Measures, NamesInOver, Passes, Writes, WritesElement, doings, doings_in, doings_in_argument, doings_in_arguments, doings_of_call, doings_of_target, may_be, name_of, touch_of}
+use Rattle.cw_explain.specs.Held.{bars, has_taken, holder_of, is_read}
 use Rattle.cw_explain.specs.Moments.{Before, Ending, Moment, Spot, at_first, behind, declared_in, ending, in_parts, in_sync, in_turn, moments_among, moments_at, moments_in, moments_inside, moments_of, seen_by}
 use Rattle.cw_explain.specs.Owners.{block_faults, faults_among, faults_inside, keeps_owners, statement_faults}
 use Rattle.cw_explain.specs.Rules.{has_line}
@@ -20,13 +20,18 @@ use Rattle.cw_explain.specs.declared.owning.Disowned.{Disowned}
 use Rattle.cw_explain.specs.declared.owning.Disowned.TheVariants as reason
 use Rattle.cw_explain.proofs.Alike.{among_cases, by_this}
 use Rattle.cw_explain.proofs.Breaking.{has_append}
+use Rattle.cw_explain.proofs.Holds.{by_that}
 use Rattle.cw_explain.proofs.Lent.{write_in_head}
 use Rattle.cw_explain.proofs.Moves.{has_block, has_statement, has_then}
 use Rattle.cw_explain.proofs.Owned.{read_element}
 
--- what is done is done with a name that is free, as the loop around lets it be
+-- something has the name against what is done: what is read may be read by others too
+abbrev pub is_barred : Taken → Doing → Bool
+is_barred taken d = if is_read (touch_of d) then is_taken taken (name_of d) else is_held taken (name_of d)
+
+-- what is done is done with a name that nothing has against it, as the loop around lets it be
 abbrev pub is_right : Around → Taken → Doing → Bool
-is_right around taken d = not (is_taken taken (name_of d)) && may_be around d
+is_right around taken d = not (is_barred taken d) && may_be around d
 
 -- all that is done
 abbrev pub are_right : Around → Taken → List Doing → Bool
@@ -92,13 +97,21 @@ wholes_step false false u p = refl
 passes_are : (around : Around) (taken : Taken) (names : List Name) → are_right around taken (map Passes names) ≡ may_write around taken names
 passes_are around taken [] = refl
 passes_are around taken (x ∷ xs) =
-    ap (λ b. (not (is_taken taken x) && not (is_outer around x)) && b) (passes_are around taken xs)
-    ∙ wholes_step (is_taken taken x) (is_outer around x) (list_any (λ x. is_taken taken x) xs) (list_any (λ x. is_outer around x) xs)
+    ap (λ b. (not (is_held taken x) && not (is_outer around x)) && b) (passes_are around taken xs)
+    ∙ wholes_step (is_held taken x) (is_outer around x) (list_any (λ x. is_held taken x) xs) (list_any (λ x. is_outer around x) xs)
 
 over_are : (around : Around) (taken : Taken) (names : List Name) → are_right around taken (map NamesInOver names) ≡ may_write around taken names
 over_are around taken [] = refl
 over_are around taken (x ∷ xs) =
-    ap (λ b. (not (is_taken taken x) && not (is_outer around x)) && b) (over_are around taken xs)
+    ap (λ b. (not (is_held taken x) && not (is_outer around x)) && b) (over_are around taken xs)
+    ∙ wholes_step (is_held taken x) (is_outer around x) (list_any (λ x. is_held taken x) xs) (list_any (λ x. is_outer around x) xs)
+
+-- arrays that are only read
+measures_are : (around : Around) (taken : Taken) (names : List Name) →
+    are_right around taken (map Measures names) ≡ (are_free taken names && are_inner around names)
+measures_are around taken [] = refl
+measures_are around taken (x ∷ xs) =
+    ap (λ b. (not (is_taken taken x) && not (is_outer around x)) && b) (measures_are around taken xs)
     ∙ wholes_step (is_taken taken x) (is_outer around x) (list_any (λ x. is_taken taken x) xs) (list_any (λ x. is_outer around x) xs)
 
 one_whole : (t o : Bool) → ((not t && not o) && true) ≡ (not (t || false) && not (o || false))
@@ -122,9 +135,9 @@ right false b h = cc
 -- names that may be written together may be written apart
 write_append : (around : Around) (taken : Taken) (xs ys : List Name) → may_write around taken (xs ++ ys) ≡ (may_write around taken xs && may_write around taken ys)
 write_append around taken xs ys =
-    ap (λ b. not b && are_inner around (xs ++ ys)) (list_any-append (λ x. is_taken taken x) xs ys)
-    ∙ ap (λ b. not (list_any (λ x. is_taken taken x) xs || list_any (λ x. is_taken taken x) ys) && not b) (list_any-append (λ x. is_outer around x) xs ys)
-    ∙ sym (wholes_step (list_any (λ x. is_taken taken x) xs) (list_any (λ x. is_outer around x) xs) (list_any (λ x. is_taken taken x) ys) (list_any (λ x. is_outer around x) ys))
+    ap (λ b. not b && are_inner around (xs ++ ys)) (list_any-append (λ x. is_held taken x) xs ys)
+    ∙ ap (λ b. not (list_any (λ x. is_held taken x) xs || list_any (λ x. is_held taken x) ys) && not b) (list_any-append (λ x. is_outer around x) xs ys)
+    ∙ sym (wholes_step (list_any (λ x. is_held taken x) xs) (list_any (λ x. is_outer around x) xs) (list_any (λ x. is_held taken x) ys) (list_any (λ x. is_outer around x) ys))
 
 -- arguments
 arguments_right : (around : Around) (taken : Taken) (ps : List Param) (es : List Expr) → list_all (λ e. may_read around taken e) es ≡ true →
@@ -137,14 +150,14 @@ arguments_right around taken [] (e ∷ es) r w =
     (reads_are around taken e ∙ left (may_read around taken e) (list_all (λ e. may_read around taken e) es) r)
     (arguments_right around taken [] es (right (may_read around taken e) (list_all (λ e. may_read around taken e) es) r) refl)
 arguments_right around taken (p ∷ ps) (e ∷ es) r w =
-    right_append around taken (doings_in_argument p.is_array e) (doings_in_arguments ps es)
-    ∙ both (are_right around taken (doings_in_argument p.is_array e)) (are_right around taken (doings_in_arguments ps es))
-    (one p.is_array (left (may_write around taken (if p.is_array then names_in e else [])) (may_write around taken (arrays_given ps es)) parted))
+    right_append around taken (doings_in_argument (takes_array p) e) (doings_in_arguments ps es)
+    ∙ both (are_right around taken (doings_in_argument (takes_array p) e)) (are_right around taken (doings_in_arguments ps es))
+    (one (takes_array p) (left (may_write around taken (if (takes_array p) then names_in e else [])) (may_write around taken (arrays_given ps es)) parted))
     (arguments_right around taken ps es (right (may_read around taken e) (list_all (λ e. may_read around taken e) es) r)
-    (right (may_write around taken (if p.is_array then names_in e else [])) (may_write around taken (arrays_given ps es)) parted))
+    (right (may_write around taken (if (takes_array p) then names_in e else [])) (may_write around taken (arrays_given ps es)) parted))
   where
-    parted : (may_write around taken (if p.is_array then names_in e else []) && may_write around taken (arrays_given ps es)) ≡ true
-    parted = sym (write_append around taken (if p.is_array then names_in e else []) (arrays_given ps es)) ∙ w
+    parted : (may_write around taken (if (takes_array p) then names_in e else []) && may_write around taken (arrays_given ps es)) ≡ true
+    parted = sym (write_append around taken (if (takes_array p) then names_in e else []) (arrays_given ps es)) ∙ w
 
     one : (b : Bool) → may_write around taken (if b then names_in e else []) ≡ true → are_right around taken (doings_in_argument b e) ≡ true
     one true k = passes_are around taken (names_in e) ∙ k
@@ -153,7 +166,35 @@ arguments_right around taken (p ∷ ps) (e ∷ es) r w =
 target_right : (around : Around) (taken : Taken) (target : Option Name) → may_write around taken (target_names target) ≡ true →
     are_right around taken (doings_of_target target) ≡ true
 target_right around taken None h = refl
-target_right around taken (Some x) h = one_whole (is_taken taken x) (is_outer around x) ∙ h
+target_right around taken (Some x) h = one_whole (is_held taken x) (is_outer around x) ∙ h
+
+-- arrays that are only read are free, where the arguments may be read
+free_append : (taken : Taken) (xs ys : List Name) → are_free taken xs ≡ true → are_free taken ys ≡ true → are_free taken (xs ++ ys) ≡ true
+free_append taken xs ys h k =
+    ap not (list_any-append (λ x. is_taken taken x) xs ys) ∙ neither (list_any (λ x. is_taken taken x) xs) (list_any (λ x. is_taken taken x) ys) h k
+  where
+    neither : (a b : Bool) → not a ≡ true → not b ≡ true → not (a || b) ≡ true
+    neither true b h k = cc
+    neither false b h k = k
+
+lent_free : (around : Around) (taken : Taken) (ps : List Param) (es : List Expr) → list_all (λ e. may_read around taken e) es ≡ true →
+    are_free taken (arrays_lent ps es) ≡ true
+lent_free around taken [] es r = refl
+lent_free around taken (p ∷ ps) [] r = refl
+lent_free around taken (p ∷ ps) (e ∷ es) r =
+    free_append taken (if reads_array p then names_in e else []) (arrays_lent ps es) (one (reads_array p))
+    (lent_free around taken ps es (right (may_read around taken e) (list_all (λ e. may_read around taken e) es) r))
+  where
+    one : (b : Bool) → are_free taken (if b then names_in e else []) ≡ true
+    one true = left (are_free taken (names_in e)) (keeps_loop around e) (left (may_read around taken e) (list_all (λ e. may_read around taken e) es) r)
+    one false = refl
+
+shares_right : (around : Around) (taken : Taken) (ps : List Param) (es : List Expr) (given : List Name) → list_all (λ e. may_read around taken e) es ≡ true →
+    may_share around given (arrays_lent ps es) ≡ true → are_right around taken (map Measures (arrays_lent ps es)) ≡ true
+shares_right around taken ps es given r m =
+    measures_are around taken (arrays_lent ps es)
+    ∙ both (are_free taken (arrays_lent ps es)) (are_inner around (arrays_lent ps es)) (lent_free around taken ps es r)
+    (left (are_inner around (arrays_lent ps es)) (not (list_any (λ a. is_among a given) (arrays_lent ps es))) m)
 
 -- what keeps the rules does only what is right
 and_three : (a b c : Bool) → (a && b && c) ≡ true → a ≡ true
@@ -177,22 +218,22 @@ joined_right around taken xs ys h k = right_append around taken xs ys ∙ both (
 expr_right : (around : Around) (taken : Taken) (e : Expr) → may_read around taken e ≡ true → are_right around taken (doings_in e) ≡ true
 expr_right around taken e h = reads_are around taken e ∙ h
 
-with_right : (around : Around) (taken : Taken) (e : Expr) (d : Doing) (x : Name) → may_be around d ≡ not (is_outer around x) → name_of d ≡ x →
+with_right : (around : Around) (taken : Taken) (e : Expr) (d : Doing) (x : Name) → may_be around d ≡ not (is_outer around x) → is_barred taken d ≡ is_held taken x →
     (may_read around taken e && may_write around taken (x ∷ [])) ≡ true → are_right around taken (doings_in e ++ d ∷ []) ≡ true
 with_right around taken e d x m n h =
     joined_right around taken (doings_in e) (d ∷ []) (expr_right around taken e (left (may_read around taken e) (may_write around taken (x ∷ [])) h))
-    (ap (λ b. (not (is_taken taken (name_of d)) && b) && true) m ∙ ap (λ (y : Name). (not (is_taken taken y) && not (is_outer around x)) && true) n
-    ∙ one_whole (is_taken taken x) (is_outer around x) ∙ right (may_read around taken e) (may_write around taken (x ∷ [])) h)
+    (ap (λ b. (not (is_barred taken d) && b) && true) m ∙ ap (λ b. (not b && not (is_outer around x)) && true) n
+    ∙ one_whole (is_held taken x) (is_outer around x) ∙ right (may_read around taken e) (may_write around taken (x ∷ [])) h)
 
 element_right : (around : Around) (taken : Taken) (a : Name) (i e : Expr) →
-    (may_read around taken i && may_read around taken e && are_free taken (a ∷ []) && may_index around a i) ≡ true →
+    (may_read around taken i && may_read around taken e && are_loose taken (a ∷ []) && may_index around a i) ≡ true →
     are_right around taken (doings_in i ++ (doings_in e ++ WritesElement a i ∷ [])) ≡ true
 element_right around taken a i e h =
     right_append around taken (doings_in i) (doings_in e ++ WritesElement a i ∷ [])
     ∙ ap (λ b. b && are_right around taken (doings_in e ++ WritesElement a i ∷ [])) (reads_are around taken i)
     ∙ ap (λ b. may_read around taken i && b) (right_append around taken (doings_in e) (WritesElement a i ∷ []))
     ∙ ap (λ b. may_read around taken i && (b && are_right around taken (WritesElement a i ∷ []))) (reads_are around taken e)
-    ∙ mixed (may_read around taken i) (may_read around taken e) (is_taken taken a) (may_index around a i) h
+    ∙ mixed (may_read around taken i) (may_read around taken e) (is_held taken a) (may_index around a i) h
   where
     mixed : (r s t m : Bool) → (r && s && not (t || false) && m) ≡ true → (r && (s && ((not t && m) && true))) ≡ true
     mixed true true true m h = h
@@ -244,11 +285,16 @@ does_right fs spot taken (Call kind site target f es) h =
     let names = given fs f es in
     let writes = may_write spot.around taken (target_names target ++ names) in
     let apart = differ names in
-    let parted = sym (write_append spot.around taken (target_names target) names) ∙ and_three_second all writes apart h in
-    joined_right spot.around taken (doings_in_arguments (function_named f fs).params es) (doings_of_target target)
-    (arguments_right spot.around taken (function_named f fs).params es (and_three all writes apart h)
+    let read = lent fs f es in
+    let share = may_share spot.around names read in
+    let first : (all && writes && apart) ≡ true = left (all && writes && apart) share h in
+    let parted = sym (write_append spot.around taken (target_names target) names) ∙ and_three_second all writes apart first in
+    joined_right spot.around taken (doings_of_call fs target f es) (map Measures read)
+    (joined_right spot.around taken (doings_in_arguments (function_named f fs).params es) (doings_of_target target)
+    (arguments_right spot.around taken (function_named f fs).params es (and_three all writes apart first)
     (right (may_write spot.around taken (target_names target)) (may_write spot.around taken names) parted))
-    (target_right spot.around taken target (left (may_write spot.around taken (target_names target)) (may_write spot.around taken names) parted))
+    (target_right spot.around taken target (left (may_write spot.around taken (target_names target)) (may_write spot.around taken names) parted)))
+    (shares_right spot.around taken (function_named f fs).params es names (and_three all writes apart first) (right (all && writes && apart) share h))
 does_right fs spot taken (Start kind f es) h = cc
 does_right fs spot taken (Begin f from to captured over) h = cc
 does_right fs spot taken Sync h = refl
@@ -278,20 +324,30 @@ none_and : (b : Bool) → (b && false) ≡ false
 none_and true = refl
 none_and false = refl
 
+-- a name that something has against what is done
+barred_by : (taken : Taken) (d : Doing) (h : Holder) → has_taken (name_of d) h taken ≡ true → bars (touch_of d) h ≡ true → is_barred taken d ≡ true
+barred_by taken d h e k = step (is_read (touch_of d)) (is_reader h) refl k
+  where
+    step : (b r : Bool) → is_reader h ≡ r → not (b && r) ≡ true → (if b then is_taken taken (name_of d) else is_held taken (name_of d)) ≡ true
+    step true true r k = cc
+    step true false r k = by_that taken (name_of d) h e r
+    step false r n k = by_this taken (name_of d) h e
+
 pub told_wrong : (w : Where) (d : Doing) (r : Disowned) → IsWrongDoing w d r → is_right (judged w) w.taken d ≡ false
 told_wrong w d (reason.Taken word how holder line) h =
-    ap (λ t. not t && may_be (judged w) d) (by_this w.taken (name_of d) (holder_of holder) h.2)
+    ap (λ t. not t && may_be (judged w) d) (barred_by w.taken d (holder_of holder) h.2 h.3)
 told_wrong w d (reason.EndsTaken word holder line) h = absurd h
 told_wrong w d (reason.GivenTwice word callee) h = absurd h
+told_wrong w d (reason.GivenAndRead word callee) h = absurd h
 told_wrong w d (reason.OverTwice word) h = absurd h
 told_wrong w d (reason.OuterWritten word line) h =
     let x = word.text.now in
     subst (λ (o : Doing). is_right (judged w) w.taken o ≡ false) (sym h.0)
-    (ap (λ o. not (is_taken w.taken x) && not o) (outer_judged w x ∙ h.1) ∙ none_and (not (is_taken w.taken x)))
+    (ap (λ o. not (is_held w.taken x) && not o) (outer_judged w x ∙ h.1) ∙ none_and (not (is_held w.taken x)))
 told_wrong w d (reason.OuterArray word line) h =
-    ap (λ m. not (is_taken w.taken (name_of d)) && m) h.2 ∙ none_and (not (is_taken w.taken (name_of d)))
+    ap (λ m. not (is_barred w.taken d) && m) h.2 ∙ none_and (not (is_barred w.taken d))
 told_wrong w d (reason.OtherElement word variable line) h =
-    ap (λ m. not (is_taken w.taken (name_of d)) && m) h.2 ∙ none_and (not (is_taken w.taken (name_of d)))
+    ap (λ m. not (is_barred w.taken d) && m) h.2 ∙ none_and (not (is_barred w.taken d))
 
 right_at : (around : Around) (taken : Taken) (ds : List Doing) (k : ℕ) (d : Doing) → k < length ds → slice_index_or ds k d ≡ d →
     are_right around taken ds ≡ true → is_right around taken d ≡ true
@@ -341,6 +397,7 @@ not_twice x names h e = placed_twice x names h.place h.other h.apart h.one h.mor
 
 given_apart : (f : Name) (names : List Name) (r : Disowned) → IsGivenTwice f names r → differ names ≡ true → ⊥
 given_apart f names (reason.GivenTwice word callee) h e = not_twice word.text.now names h.1 e
+given_apart f names (reason.GivenAndRead word callee) h e = h
 given_apart f names (reason.Taken word how holder line) h e = h
 given_apart f names (reason.EndsTaken word holder line) h e = h
 given_apart f names (reason.OverTwice word) h e = h
@@ -351,11 +408,44 @@ given_apart f names (reason.OtherElement word variable line) h e = h
 over_apart : (names : List Name) (r : Disowned) → IsOverTwice names r → differ names ≡ true → ⊥
 over_apart names (reason.OverTwice word) h e = not_twice word.text.now names h e
 over_apart names (reason.GivenTwice word callee) h e = h
+over_apart names (reason.GivenAndRead word callee) h e = h
 over_apart names (reason.Taken word how holder line) h e = h
 over_apart names (reason.EndsTaken word holder line) h e = h
 over_apart names (reason.OuterWritten word line) h e = h
 over_apart names (reason.OuterArray word line) h e = h
 over_apart names (reason.OtherElement word variable line) h e = h
+
+-- an array that is given is none that is only read
+contained : (x : Name) (names : List Name) (k : ℕ) → k < length names → slice_index_or names k x ≡ x → is_among x names ≡ true
+contained x [] k h e = absurd (omega (arith, h))
+contained x (y ∷ ys) zero h e = ap (λ b. if b then true else is_among x ys) ((bytes_eq-Decides x y).1 (sym e))
+contained x (y ∷ ys) (suc k) h e = some_later (same_name x y) (is_among x ys) (contained x ys k (omega (arith, h)) e)
+
+some_in : (p : Name → Bool) (x : Name) (names : List Name) (k : ℕ) → k < length names → slice_index_or names k x ≡ x → p x ≡ true → list_any p names ≡ true
+some_in p x [] k h e t = absurd (omega (arith, h))
+some_in p x (y ∷ ys) zero h e t = first (p y) (ap p e ∙ t)
+  where
+    first : (b : Bool) → b ≡ true → (b || list_any p ys) ≡ true
+    first true h = refl
+    first false h = cc
+some_in p x (y ∷ ys) (suc k) h e t = later (p y) (some_in p x ys k (omega (arith, h)) e t)
+  where
+    later : (b : Bool) → list_any p ys ≡ true → (b || list_any p ys) ≡ true
+    later true h = refl
+    later false h = h
+
+together_apart : (f : Name) (names read : List Name) (r : Disowned) → IsGivenTogether f names read r → differ names ≡ true →
+    not (list_any (λ a. is_among a names) read) ≡ true → ⊥
+together_apart f names read (reason.GivenAndRead word callee) h e k =
+    clash (list_any (λ a. is_among a names) read)
+    (some_in (λ a. is_among a names) word.text.now read h.2.0 h.2.1 h.2.2 (contained word.text.now names h.1.0 h.1.1 h.1.2)) k
+together_apart f names read (reason.GivenTwice word callee) h e k = given_apart f names (reason.GivenTwice word callee) h e
+together_apart f names read (reason.Taken word how holder line) h e k = h
+together_apart f names read (reason.EndsTaken word holder line) h e k = h
+together_apart f names read (reason.OverTwice word) h e k = h
+together_apart f names read (reason.OuterWritten word line) h e k = h
+together_apart f names read (reason.OuterArray word line) h e k = h
+together_apart f names read (reason.OtherElement word variable line) h e k = h
 
 four_last : (a b c d : Bool) → (a && b && c && d) ≡ true → d ≡ true
 four_last true true true d h = h
@@ -365,8 +455,13 @@ four_last false b c d h = cc
 
 lends_apart : (fs : List Function) (around : Around) (taken : Taken) (s : Stmt) (r : Disowned) → IsLentTwice fs s r → keeps_owners fs around taken s ≡ true → ⊥
 lends_apart fs around taken (Call kind site target f es) r h k =
-    given_apart f (given fs f es) r h
-    (and_three_last (list_all (λ e. may_read around taken e) es) (may_write around taken (target_names target ++ given fs f es)) (differ (given fs f es)) k)
+    let all = list_all (λ e. may_read around taken e) es in
+    let writes = may_write around taken (target_names target ++ given fs f es) in
+    let share = may_share around (given fs f es) (lent fs f es) in
+    together_apart f (given fs f es) (lent fs f es) r h
+    (and_three_last all writes (differ (given fs f es)) (left (all && writes && differ (given fs f es)) share k))
+    (right (are_inner around (lent fs f es)) (not (list_any (λ a. is_among a (given fs f es)) (lent fs f es)))
+    (right (all && writes && differ (given fs f es)) share k))
 lends_apart fs around taken (For x y z from to grain over b) r h k =
     over_apart over r h
     (four_last (may_read (for_head around) taken from) (may_read (for_head around) taken to) (may_write around taken over) (differ over) k)
@@ -414,21 +509,22 @@ left_refused : (declared : Declared) (taken : Taken) (n : ℕ) (x : Name) (h : H
     has_taken x h taken ≡ true → has_line n (left_taken declared taken) ≡ true
 left_refused [] taken n x h k at e t = absurd (omega (arith, at))
 left_refused (d ∷ ds) taken n x h zero at e t =
-    has_append n (unless (not (is_taken taken d.0)) d.1) (left_taken ds taken)
-    ∙ or_one (has_line n (unless (not (is_taken taken d.0)) d.1)) (has_line n (left_taken ds taken))
-    (ap (λ (p : Name × ℕ). has_line n (unless (not (is_taken taken p.0)) p.1)) e
+    has_append n (unless (not (is_held taken d.0)) d.1) (left_taken ds taken)
+    ∙ or_one (has_line n (unless (not (is_held taken d.0)) d.1)) (has_line n (left_taken ds taken))
+    (ap (λ (p : Name × ℕ). has_line n (unless (not (is_held taken p.0)) p.1)) e
     ∙ ap (λ b. has_line n (unless (not b) n)) (by_this taken x h t) ∙ itself)
   where
     itself : has_line n (n ∷ []) ≡ true
     itself = grind (arith, nat_tests)
 left_refused (d ∷ ds) taken n x h (suc k) at e t =
-    has_append n (unless (not (is_taken taken d.0)) d.1) (left_taken ds taken)
-    ∙ or_other (has_line n (unless (not (is_taken taken d.0)) d.1)) (has_line n (left_taken ds taken)) (left_refused ds taken n x h k (omega (arith, at)) e t)
+    has_append n (unless (not (is_held taken d.0)) d.1) (left_taken ds taken)
+    ∙ or_other (has_line n (unless (not (is_held taken d.0)) d.1)) (has_line n (left_taken ds taken)) (left_refused ds taken n x h k (omega (arith, at)) e t)
 
 end_refused : (declared : Declared) (taken : Taken) (n : ℕ) (r : Disowned) → IsLeftTaken declared taken n r → has_line n (left_taken declared taken) ≡ true
 end_refused declared taken n (reason.EndsTaken word holder other) h = left_refused declared taken n word.text.now (holder_of holder) h.0.0 h.0.1 h.0.2 h.1
 end_refused declared taken n (reason.Taken word how holder other) h = absurd h
 end_refused declared taken n (reason.GivenTwice word callee) h = absurd h
+end_refused declared taken n (reason.GivenAndRead word callee) h = absurd h
 end_refused declared taken n (reason.OverTwice word) h = absurd h
 end_refused declared taken n (reason.OuterWritten word other) h = absurd h
 end_refused declared taken n (reason.OuterArray word other) h = absurd h

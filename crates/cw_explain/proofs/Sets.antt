@@ -8,7 +8,7 @@ use Rattle.std.proofs.lemmas.Slice.Eq.{bytes_eq-Decides}
 use Rattle.std.specs.List.{filter}
 use Rattle.cw_model.specs.declared.syntax.CallKind.TheVariants.{Plain, Spawned}
 use Rattle.cw_model.specs.Names.{is_among, same_name}
-use Rattle.cw_model.specs.Ownership.{CutOf, Holder, SpawnIn, Taken, cut_ended, freed, given, is_cut_of, is_spawn_in, arrays_given, own_names, taken_after, taken_after_all, taken_by, target_names, where_it_goes_on, without}
+use Rattle.cw_model.specs.Ownership.{CutOf, Holder, ReaderIn, SpawnIn, Taken, cut_ended, freed, frozen_by, given, is_cut_of, is_spawn_in, arrays_given, arrays_lent, lent, own_names, taken_after, taken_after_all, taken_by, target_names, where_it_goes_on, without}
 use Rattle.cw_model.specs.Syntax.{Name, Stmt, Declare, DeclareArray, Assign, AssignElement, Reduce, Call, Start, Begin, Sync, If, IfElse, While, For, Scope, Cut, Region, Print, Return, Block, End, Then, Expr, Param, Function}
 use Rattle.cw_model.specs.Typing.{block_returns, called}
 use Rattle.cw_explain.specs.declared.taken.Held.{Held}
@@ -51,18 +51,24 @@ same_joined a b c d s t = λ x h.
 pub same_turned : (a b : Taken) → AreSame (a ++ b) (b ++ a)
 same_turned a b = λ x h. has_joined x h a b ∙ or_turned (has_taken x h a) (has_taken x h b) ∙ sym (has_joined x h b a)
 
+same_depth : (e d : ℕ) → (e == d) ≡ true → d ≡ e
+same_depth e d s = grind (arith, nat_tests)
+
 -- a holder is told by its test
 pub holder_is : (h k : Holder) → same_holder h k ≡ true → h ≡ k
-holder_is (SpawnIn d) (SpawnIn e) s = ap SpawnIn (number e d s)
-  where
-    number : (e d : ℕ) → (e == d) ≡ true → d ≡ e
-    number e d s = grind (arith, nat_tests)
+holder_is (SpawnIn d) (SpawnIn e) s = ap SpawnIn (same_depth e d s)
+holder_is (SpawnIn d) (ReaderIn e) s = cc
 holder_is (SpawnIn d) CutOf s = cc
+holder_is (ReaderIn d) (SpawnIn e) s = cc
+holder_is (ReaderIn d) (ReaderIn e) s = ap ReaderIn (same_depth e d s)
+holder_is (ReaderIn d) CutOf s = cc
 holder_is CutOf (SpawnIn e) s = cc
+holder_is CutOf (ReaderIn e) s = cc
 holder_is CutOf CutOf s = refl
 
 pub same_holder_self : (h : Holder) → same_holder h h ≡ true
 same_holder_self (SpawnIn d) = grind (arith, nat_tests)
+same_holder_self (ReaderIn d) = grind (arith, nat_tests)
 same_holder_self CutOf = refl
 
 pub entry_is : (x : Name) (h : Holder) (t : Name × Holder) → (same_name x t.0 && same_holder h t.1) ≡ true → (x, h) ≡ t
@@ -176,6 +182,24 @@ loop_ended d x names ts = without_freed d (x ∷ []) (without names ts) ∙ ap (
 pub same_taken_by : (d : ℕ) (xs : List Name) (a b : Taken) → AreSame a b → AreSame (taken_by d xs a) (taken_by d xs b)
 same_taken_by d xs a b s = same_joined (map (λ x. (x, SpawnIn d)) xs) (map (λ x. (x, SpawnIn d)) xs) a b (λ x h. refl) s
 
+pub same_frozen_by : (d : ℕ) (xs : List Name) (a b : Taken) → AreSame a b → AreSame (frozen_by d xs a) (frozen_by d xs b)
+same_frozen_by d xs a b s = same_joined (map (λ x. (x, ReaderIn d)) xs) (map (λ x. (x, ReaderIn d)) xs) a b (λ x h. refl) s
+
+taken_twice : (d : ℕ) (xs ys : List Name) (ts : Taken) → taken_by d xs (taken_by d ys ts) ≡ taken_by d (xs ++ ys) ts
+taken_twice d [] ys ts = refl
+taken_twice d (x ∷ xs) ys ts = ap (λ rest. (x, SpawnIn d) ∷ rest) (taken_twice d xs ys ts)
+
+-- what a spawn takes and freezes, one after another
+pub spawned : (d : ℕ) (target names read : List Name) (old one two new : Taken) → AreSame one (taken_by d names old) → AreSame two (taken_by d target one) →
+    AreSame new (frozen_by d read two) → AreSame new (frozen_by d read (taken_by d (target ++ names) old))
+spawned d target names read old one two new f g h =
+    same_then new (frozen_by d read two) (frozen_by d read (taken_by d (target ++ names) old)) h
+    (same_frozen_by d read two (taken_by d (target ++ names) old)
+    (same_then two (taken_by d target one) (taken_by d (target ++ names) old) g
+    (same_then (taken_by d target one) (taken_by d target (taken_by d names old)) (taken_by d (target ++ names) old)
+    (same_taken_by d target one (taken_by d names old) f)
+    (same_is (taken_by d target (taken_by d names old)) (taken_by d (target ++ names) old) (taken_twice d target names old)))))
+
 -- a branch leaves so much, and a sync block
 abbrev pub branch : List Function → ℕ → Block → Taken → Taken
 branch fs d c taken = where_it_goes_on (block_returns c) (without (own_names c) (taken_after_all fs d c taken))
@@ -205,7 +229,9 @@ mutual
   same_after fs d (AssignElement x i e) a b s = s
   same_after fs d (Reduce how x e) a b s = s
   same_after fs d (Call Plain site target f es) a b s = s
-  same_after fs d (Call Spawned site target f es) a b s = same_taken_by d (target_names target ++ given fs f es) a b s
+  same_after fs d (Call Spawned site target f es) a b s =
+      same_frozen_by d (lent fs f es) (taken_by d (target_names target ++ given fs f es) a) (taken_by d (target_names target ++ given fs f es) b)
+      (same_taken_by d (target_names target ++ given fs f es) a b s)
   same_after fs d (Start kind f es) a b s = s
   same_after fs d (Begin f from to captured over) a b s = s
   same_after fs d Sync a b s = same_freed d a b s
@@ -355,6 +381,29 @@ given_of (k ∷ ks) f es g h = step (same_name f k.name) h (given_of ks f es g)
 pub none_given : (ps : List Param) → arrays_given ps [] ≡ []
 none_given [] = refl
 none_given (p ∷ ps) = refl
+
+-- the same of the arrays that are only read
+pub lent_none : (fs : List Function) (f : Name) (es : List Expr) → called f fs ≡ None → lent fs f es ≡ []
+lent_none [] f es h = refl
+lent_none (g ∷ gs) f es h = step (same_name f g.name) h (lent_none gs f es)
+  where
+    step : (b : Bool) → (if b then Some g else called f gs) ≡ None → (called f gs ≡ None → lent gs f es ≡ []) →
+        arrays_lent (if b then g else function_named f gs).params es ≡ []
+    step true h k = cc
+    step false h k = k h
+
+pub lent_of : (fs : List Function) (f : Name) (es : List Expr) (g : Function) → called f fs ≡ Some g → lent fs f es ≡ arrays_lent g.params es
+lent_of [] f es g h = cc
+lent_of (k ∷ ks) f es g h = step (same_name f k.name) h (lent_of ks f es g)
+  where
+    step : (b : Bool) → (if b then Some k else called f ks) ≡ Some g → (called f ks ≡ Some g → lent ks f es ≡ arrays_lent g.params es) →
+        arrays_lent (if b then k else function_named f ks).params es ≡ arrays_lent g.params es
+    step true h i = let e : k ≡ g = cc in ap (λ (j : Function). arrays_lent j.params es) e
+    step false h i = i h
+
+pub none_lent : (ps : List Param) → arrays_lent ps [] ≡ []
+none_lent [] = refl
+none_lent (p ∷ ps) = refl
 
 pub without_seen : (s : Stmt) (ts : Taken) → own_name s ≡ [] → ts ≡ without (own_name s) ts
 without_seen s ts h = sym (without_none ts) ∙ ap (λ (names : List Name). without names ts) (sym h)

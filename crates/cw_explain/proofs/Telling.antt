@@ -1,5 +1,5 @@
 -- A reason that is told of some statements is told of more.
-use Rattle.std.proofs.Common.{Bool, true, false, not, ◌||◌, ◌≡◌, ℕ, List, [], ◌++◌, Contains, Option, Some, None, IfSome, refl}
+use Rattle.std.proofs.Common.{Bool, true, false, not, ◌||◌, ◌≡◌, ℕ, List, ◌++◌, Contains, Option, Some, None, IfSome, refl}
 use Rattle.std.proofs.lemmas.List.Elements.{Contains-append_left, Contains-append_right}
 use Rattle.cw_model.specs.Syntax.{Function, Program}
 use Rattle.cw_explain.specs.Standing.{Standing}

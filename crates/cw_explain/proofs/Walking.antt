@@ -62,7 +62,7 @@ pub unequal : (known : Known) (ps : List Param) (es : List Expr) → (length ps 
 unequal known [] [] h = absurd (h refl)
 unequal known [] (e ∷ es) h = refl
 unequal known (p ∷ ps) [] h = refl
-unequal known (p ∷ ps) (e ∷ es) h = first (is_argument known p.is_array e) (unequal known ps es (λ k. h (omega (arith, k))))
+unequal known (p ∷ ps) (e ∷ es) h = first (is_argument known p.kind e) (unequal known ps es (λ k. h (omega (arith, k))))
   where
     first : (b : Bool) → are_arguments known ps es ≡ false → (b && are_arguments known ps es) ≡ false
     first true k = k

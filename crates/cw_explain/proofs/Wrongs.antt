@@ -4,14 +4,14 @@ use Rattle.std.proofs.lemmas.List.Elements.{Contains-append_left, Contains-appen
 use Rattle.cw_model.specs.Meaning.{function_named}
 use Rattle.cw_model.specs.Names.{same_name}
 use Rattle.cw_model.specs.Ownership.{for_head, is_outer}
-use Rattle.cw_model.specs.Syntax.{Name, Function}
+use Rattle.cw_model.specs.Syntax.{Name, Function, is_written_kind}
 use Rattle.cw_model.specs.Typing.{called}
 use Rattle.cw_tree.specs.declared.syntax.Param.{Param as CodeParam}
 use Rattle.cw_tree.specs.SyntaxView.{param_of}
 use Rattle.cw_explain.specs.Disowned.{Does, IsWrongAmong, IsWrongDoing, IsWrongOr, Lends, Where, judged}
 use Rattle.cw_explain.specs.Doings.{Doing, is_of_array, may_be, name_of, touch_of}
 use Rattle.cw_explain.specs.Loops.{around_in, around_of, where_of}
-use Rattle.cw_explain.specs.Owners.{IsOuterArray, IsWrongWhole, is_array_first}
+use Rattle.cw_explain.specs.Owners.{IsOuterArray, IsWrongWhole, is_taken_first}
 use Rattle.cw_explain.specs.Places.{Declared}
 use Rattle.cw_explain.specs.Touched.{IsTakenBy}
 use Rattle.cw_model.specs.Ownership.{Taken}
@@ -38,6 +38,7 @@ pub taken_wrong : (w : Where) (d : Doing) (r : Disowned) → IsTakenBy w.taken (
 taken_wrong w d (reason.Taken word how holder line) h = h
 taken_wrong w d (reason.EndsTaken word holder line) h = absurd h
 taken_wrong w d (reason.GivenTwice word callee) h = absurd h
+taken_wrong w d (reason.GivenAndRead word callee) h = absurd h
 taken_wrong w d (reason.OverTwice word) h = absurd h
 taken_wrong w d (reason.OuterWritten word line) h = absurd h
 taken_wrong w d (reason.OuterArray word line) h = absurd h
@@ -49,6 +50,7 @@ pub array_wrong : (w : Where) (d : Doing) (r : Disowned) → is_of_array d ≡ t
 array_wrong w d (reason.Taken word how holder line) a m h = absurd h
 array_wrong w d (reason.EndsTaken word holder line) a m h = absurd h
 array_wrong w d (reason.GivenTwice word callee) a m h = absurd h
+array_wrong w d (reason.GivenAndRead word callee) a m h = absurd h
 array_wrong w d (reason.OverTwice word) a m h = absurd h
 array_wrong w d (reason.OuterWritten word line) a m h = absurd h
 array_wrong w d (reason.OuterArray word line) a m h = (h.0, a, m, h.1, h.2)
@@ -59,6 +61,7 @@ pub outer_whole : (w : Where) (a : Name) (how : Touch) (r : Disowned) → IsOute
 outer_whole w a how (reason.Taken word touch holder line) h o = absurd h
 outer_whole w a how (reason.EndsTaken word holder line) h o = absurd h
 outer_whole w a how (reason.GivenTwice word callee) h o = absurd h
+outer_whole w a how (reason.GivenAndRead word callee) h o = absurd h
 outer_whole w a how (reason.OverTwice word) h o = absurd h
 outer_whole w a how (reason.OuterWritten word line) h o = absurd h
 outer_whole w a how (reason.OuterArray word line) h o = (h, o)
@@ -69,6 +72,7 @@ pub whole_wrong : (w : Where) (d : Doing) (r : Disowned) → is_of_array d ≡ t
 whole_wrong w d (reason.Taken word how holder line) a m h = h
 whole_wrong w d (reason.EndsTaken word holder line) a m h = absurd h.0
 whole_wrong w d (reason.GivenTwice word callee) a m h = absurd h.0
+whole_wrong w d (reason.GivenAndRead word callee) a m h = absurd h.0
 whole_wrong w d (reason.OverTwice word) a m h = absurd h.0
 whole_wrong w d (reason.OuterWritten word line) a m h = absurd h.0
 whole_wrong w d (reason.OuterArray word line) a m h = array_wrong w d (reason.OuterArray word line) a (m ∙ ap not h.1) h.0
@@ -117,7 +121,7 @@ params_uncalled f (k ∷ ks) h = step (same_name f k.name) h (params_uncalled f 
     step false h i = i h
 
 -- the parameter at a place
-pub first_dropped : (ps : List CodeParam) (k : ℕ) (d : CodeParam) → k < length ps → is_array_first (drop k (map param_of ps)) ≡ (get_or ps k d).is_array
+pub first_dropped : (ps : List CodeParam) (k : ℕ) (d : CodeParam) → k < length ps → is_taken_first (drop k (map param_of ps)) ≡ is_written_kind (get_or ps k d).kind
 first_dropped [] k d h = absurd (omega (arith, h))
 first_dropped (p ∷ ps) zero d h = refl
 first_dropped (p ∷ ps) (suc k) d h = first_dropped ps k d (omega (arith, h))

@@ -1,10 +1,10 @@
 -- What it means that a reason of ownership is told of a line of a program.
 use Rattle.std.specs.Prelude.{◌≡◌, ℕ, Bool, true, false, if◌then◌else◌, List, Contains}
 use Rattle.cw_model.specs.Names.{is_among}
-use Rattle.cw_model.specs.Ownership.{Around, Declared, InLoop, NoLoop, Taken, for_head, given, is_outer}
+use Rattle.cw_model.specs.Ownership.{Around, Declared, InLoop, NoLoop, Taken, for_head, given, is_outer, lent}
 use Rattle.cw_model.specs.Syntax.{Name, Stmt, Call, For, Function, Program}
 use Rattle.cw_explain.specs.Doings.{Doing, Writes, doings, is_of_array, may_be, name_of, touch_of}
-use Rattle.cw_explain.specs.Held.{has_taken, holder_of}
+use Rattle.cw_explain.specs.Held.{bars, has_taken, holder_of}
 use Rattle.cw_explain.specs.Moments.{Before, Ending, Moment, Spot, moments_of}
 use Rattle.cw_explain.specs.Told.{AreBothIn}
 use Rattle.cw_explain.specs.declared.owning.Disowned.{Disowned}
@@ -32,12 +32,13 @@ abbrev pub HasVariable : Around → Name → Type 0
 HasVariable NoLoop x = ⊥
 HasVariable (InLoop outer i over) x = i ≡ x
 
--- the reason is of what is done: with a name that is taken, by what the reason says; or in the loop around, whose
--- head is of the line that the reason says: it writes an integer from outside, or names an array from outside that the
--- loop is not over, or one that it is over, in another way than with its variable
+-- the reason is of what is done: with a name that is held against it, by what the reason says; or in the loop around,
+-- whose head is of the line that the reason says: it writes an integer from outside, or names an array from outside
+-- that the loop is not over, or one that it is over, in another way than with its variable
 abbrev pub IsWrongDoing : Where → Doing → Disowned → Type 0
 IsWrongDoing w d (reason.Taken word how holder line) =
     (word.text.now ≡ name_of d) × (how ≡ touch_of d) × (has_taken (name_of d) (holder_of holder) w.taken ≡ true)
+    × (bars (touch_of d) (holder_of holder) ≡ true)
 IsWrongDoing w d (reason.OuterWritten word line) =
     (d ≡ Writes word.text.now) × (is_outer w.around word.text.now ≡ true) × (line ≡ w.head)
 IsWrongDoing w d (reason.OuterArray word line) =
@@ -65,14 +66,20 @@ IsGivenTwice f names (reason.GivenTwice word callee) =
     (callee.text.now ≡ f) × AreBothIn names word.text.now word.text.now
 IsGivenTwice f names _ = ⊥
 
+-- this function is given one of these arrays, and reads it besides, or is given one twice
+abbrev pub IsGivenTogether : (callee : Name) → (given lent : List Name) → Disowned → Type 0
+IsGivenTogether f given lent (reason.GivenAndRead word callee) =
+    (callee.text.now ≡ f) × Contains given word.text.now × Contains lent word.text.now
+IsGivenTogether f given lent r = IsGivenTwice f given r
+
 -- a loop is over one of these arrays twice
 abbrev pub IsOverTwice : List Name → Disowned → Type 0
 IsOverTwice names (reason.OverTwice word) = AreBothIn names word.text.now word.text.now
 IsOverTwice names _ = ⊥
 
--- a call is given one array twice, or a loop is over one twice
+-- a call is given one array twice, or to write and to read, or a loop is over one twice
 abbrev pub IsLentTwice : List Function → Stmt → Disowned → Type 0
-IsLentTwice fs (Call kind site target f es) r = IsGivenTwice f (given fs f es) r
+IsLentTwice fs (Call kind site target f es) r = IsGivenTogether f (given fs f es) (lent fs f es) r
 IsLentTwice fs (For x y z from to grain over b) r = IsOverTwice over r
 IsLentTwice fs s r = ⊥
 
@@ -89,13 +96,13 @@ is_loop _ = false
 abbrev pub where_at : Spot → Taken → Stmt → Where
 where_at spot taken s = record { around = spot.around; head = spot.head; in_head = is_loop s; taken = taken }
 
--- a name of the line is among those declared, and is still taken by what the reason says
+-- a name of the line is among those declared, and is still held by what the reason says
 abbrev pub IsLeftTaken : Declared → Taken → (line : ℕ) → Disowned → Type 0
 IsLeftTaken declared taken line (reason.EndsTaken word holder other) =
     Contains declared (word.text.now, line) × (has_taken word.text.now (holder_of holder) taken ≡ true)
 IsLeftTaken declared taken line _ = ⊥
 
--- a statement of the line breaks a rule, or a block ends with a name of the line still taken
+-- a statement of the line breaks a rule, or a block ends with a name of the line still held
 abbrev pub IsDisownedAt : List Function → (line : ℕ) → Moment → Disowned → Type 0
 IsDisownedAt fs line (Before at spot taken s) r = (at ≡ line) × IsWrongStmt fs (where_at spot taken s) s r
 IsDisownedAt fs line (Ending declared taken) r = IsLeftTaken declared taken line r

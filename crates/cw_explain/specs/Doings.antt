@@ -1,14 +1,15 @@
 -- What a statement does with names, each by how it is done.
 use Rattle.std.specs.Prelude.{Bool, true, false, not, if◌then◌else◌, List, [], ◌∷◌, ◌++◌, Option, Some, None, map}
 use Rattle.cw_model.specs.Meaning.{function_named}
-use Rattle.cw_model.specs.Ownership.{Around, is_outer, may_index, names_in}
+use Rattle.cw_model.specs.Ownership.{Around, is_outer, lent, may_index, names_in}
 use Rattle.cw_model.specs.Syntax.{Name, Expr, Number, Variable, Element, Length, Negative, Not, Binary, Stmt, Declare}
 use Rattle.cw_model.specs.Syntax.{DeclareArray, Assign, AssignElement, Reduce, Call, If, IfElse, While, For, Cut, Print}
-use Rattle.cw_model.specs.Syntax.{Return, Param, Function}
+use Rattle.cw_model.specs.Syntax.{Return, Param, Function, takes_array}
 use Rattle.cw_explain.specs.declared.owning.Touch.{Touch}
 use Rattle.cw_explain.specs.declared.owning.Touch.TheVariants as touch
 
--- an integer is read or written, an element is, or an array is measured, passed, cut or named in over
+-- an integer is read or written, an element is, or an array is measured or read as a whole, given away, cut or named in
+-- over
 pub data Doing : Type 0 where
   Reads : (x : Name) → Doing
   Writes : (x : Name) → Doing
@@ -68,24 +69,28 @@ doings_in (Negative e) = doings_in e
 doings_in (Not e) = doings_in e
 doings_in (Binary operator d e) = doings_in d ++ doings_in e
 
--- in an argument for an array, or for an integer
+-- in an argument that is given away, or only read
 abbrev pub doings_in_argument : Bool → Expr → List Doing
-doings_in_argument is_array e = if is_array then map Passes (names_in e) else doings_in e
+doings_in_argument takes e = if takes then map Passes (names_in e) else doings_in e
 
 -- in the arguments for these parameters, and in those that are too many
 abbrev pub doings_in_arguments : List Param → List Expr → List Doing
 doings_in_arguments ps [] = []
 doings_in_arguments [] (e ∷ es) = doings_in e ++ doings_in_arguments [] es
-doings_in_arguments (p ∷ ps) (e ∷ es) = doings_in_argument p.is_array e ++ doings_in_arguments ps es
+doings_in_arguments (p ∷ ps) (e ∷ es) = doings_in_argument (takes_array p) e ++ doings_in_arguments ps es
 
 -- with the name that a result goes to, if there is one
 abbrev pub doings_of_target : Option Name → List Doing
 doings_of_target None = []
 doings_of_target (Some x) = Writes x ∷ []
 
+-- in a call of this function, but for the arrays that it only reads
+abbrev pub doings_of_call : List Function → Option Name → (callee : Name) → List Expr → List Doing
+doings_of_call fs target f es = doings_in_arguments (function_named f fs).params es ++ doings_of_target target
+
 -- in a call of this function
 abbrev pub doings_in_call : List Function → Option Name → (callee : Name) → List Expr → List Doing
-doings_in_call fs target f es = doings_in_arguments (function_named f fs).params es ++ doings_of_target target
+doings_in_call fs target f es = doings_of_call fs target f es ++ map Measures (lent fs f es)
 
 -- in the head of a loop
 abbrev pub doings_in_head : (from to : Expr) → (over : List Name) → List Doing

@@ -1,3 +1,4 @@
+pub mod Calls
 pub mod Disowned
 pub mod Doings
 pub mod Held

@@ -1,17 +1,17 @@
 -- The rules of ownership by the parts that the code tests them in.
-use Rattle.std.specs.Prelude.{◌≡◌, ℕ, ◌+◌, Bool, true, false, not, ◌&&◌, List, [], ◌∷◌, ◌++◌, Option, Some, None}
+use Rattle.std.specs.Prelude.{◌≡◌, ℕ, Bool, true, false, not, ◌&&◌, List, [], ◌∷◌, ◌++◌, Option, Some, None}
 use Rattle.std.specs.Prelude.{if◌then◌else◌}
 use Rattle.std.specs.List.{list_all}
 use Rattle.cw_model.specs.Names.{differ, is_among}
-use Rattle.cw_model.specs.Ownership.{Around, Closing, CutOf, Joins, Leaves, Taken, are_free, for_head, given, is_outer}
-use Rattle.cw_model.specs.Ownership.{is_taken, may_index, may_read, may_write, names_in, owner_faults, owner_faults_in}
-use Rattle.cw_model.specs.Ownership.{taken_after, target_names}
+use Rattle.cw_model.specs.Ownership.{Around, Closing, CutOf, Joins, Leaves, Taken, are_loose, for_head, given, is_held}
+use Rattle.cw_model.specs.Ownership.{is_outer, lent, may_index, may_lend as may_share, may_read, may_write, names_in}
+use Rattle.cw_model.specs.Ownership.{owner_faults, owner_faults_in, taken_after, target_names}
 use Rattle.cw_model.specs.Syntax.{Name, Expr, Stmt, Declare, DeclareArray, Assign, AssignElement, Reduce, Call, Start}
 use Rattle.cw_model.specs.Syntax.{Begin, Sync, If, IfElse, While, For, Scope, Cut, Region, Print, Return, Block, End}
-use Rattle.cw_model.specs.Syntax.{Then, Param, Function}
+use Rattle.cw_model.specs.Syntax.{Then, Param, Function, takes_array}
 use Rattle.cw_explain.specs.Disowned.{HasVariable, IsGivenTwice, IsOverTwice, Where, is_over, judged}
 use Rattle.cw_explain.specs.Doings.{Doing, NamesInOver, Passes}
-use Rattle.cw_explain.specs.Held.{has_taken, holder_of}
+use Rattle.cw_explain.specs.Held.{bars, has_taken, holder_of}
 use Rattle.cw_explain.specs.Moments.{Spot, behind, in_parts, in_sync, in_turn}
 use Rattle.cw_explain.specs.declared.owning.Disowned.{Disowned}
 use Rattle.cw_explain.specs.declared.owning.Disowned.TheVariants as reason
@@ -28,10 +28,11 @@ IsOuterArray w a (reason.OtherElement word variable line) =
     (word.text.now ≡ a) × (is_over w.around a ≡ true) × HasVariable w.around variable.text.now × (line ≡ w.head)
 IsOuterArray w a _ = ⊥
 
--- the reason is of this array, which is touched so as a whole, and is taken or from outside the loop around
+-- the reason is of this array, which is touched so as a whole, and is held or from outside the loop around
 abbrev pub IsWrongWhole : Where → Name → Touch → Disowned → Type 0
 IsWrongWhole w a how (reason.Taken word touch holder line) =
     (word.text.now ≡ a) × (touch ≡ how) × (has_taken a (holder_of holder) w.taken ≡ true)
+    × (bars how (holder_of holder) ≡ true)
 IsWrongWhole w a how r = IsOuterArray w a r × (is_outer (judged w) a ≡ true)
 
 -- what is done with a name that is lent
@@ -49,37 +50,42 @@ abbrev pub IsTwiceIn : Lender → List Name → Disowned → Type 0
 IsTwiceIn (lender.Call f) names r = IsGivenTwice f.text.now names r
 IsTwiceIn lender.Loop names r = IsOverTwice names r
 
--- names are neither taken nor from outside the loop around, nor among those before
+-- names are neither held nor from outside the loop around, nor among those before
 abbrev pub lend_behind : Around → Taken → (earlier names : List Name) → Bool
 lend_behind around taken earlier [] = true
 lend_behind around taken earlier (x ∷ xs) =
-    (not (is_taken taken x) && (not (is_outer around x) && not (is_among x earlier)))
+    (not (is_held taken x) && (not (is_outer around x) && not (is_among x earlier)))
     && lend_behind around taken (earlier ++ x ∷ []) xs
 
 -- names may be written, and differ
 abbrev pub may_lend : Around → Taken → List Name → Bool
 may_lend around taken names = may_write around taken names && differ names
 
--- the first of these parameters is an array
-abbrev pub is_array_first : List Param → Bool
-is_array_first [] = false
-is_array_first (p ∷ ps) = p.is_array
+-- the first of these parameters takes an array
+abbrev pub is_taken_first : List Param → Bool
+is_taken_first [] = false
+is_taken_first (p ∷ ps) = takes_array p
 
 -- an argument keeps the rules, behind these arrays
-abbrev pub keeps_argument : Around → Taken → (earlier : List Name) → (is_array : Bool) → Expr → Bool
-keeps_argument around taken earlier is_array e =
-    if is_array then lend_behind around taken earlier (names_in e) else may_read around taken e
+abbrev pub keeps_argument : Around → Taken → (earlier : List Name) → (takes : Bool) → Expr → Bool
+keeps_argument around taken earlier takes e =
+    if takes then lend_behind around taken earlier (names_in e) else may_read around taken e
 
 -- the arguments of a call keep the rules
 abbrev pub keep_arguments : List Function → Around → Taken → Name → List Expr → Bool
 keep_arguments fs around taken f es =
     list_all (λ e. may_read around taken e) es && may_lend around taken (given fs f es)
 
+-- the arguments of a call and its target do
+abbrev pub keeps_given : List Function → Around → Taken → Option Name → Name → List Expr → Bool
+keeps_given fs around taken target f es =
+    keep_arguments fs around taken f es && may_write around taken (target_names target)
+
 -- a call keeps the rules
 abbrev pub keeps_call : List Function → Around → Taken → Option Name → Name → List Expr → Bool
 keeps_call fs around taken target f es =
     list_all (λ e. may_read around taken e) es && may_write around taken (target_names target ++ given fs f es)
-    && differ (given fs f es)
+    && differ (given fs f es) && may_share around (given fs f es) (lent fs f es)
 
 -- the head of a loop keeps the rules
 abbrev pub keeps_head : Around → Taken → Expr → Expr → List Name → Bool
@@ -93,7 +99,7 @@ keeps_owners fs around taken (Declare x e) = may_read around taken e
 keeps_owners fs around taken (DeclareArray a e) = may_read around taken e
 keeps_owners fs around taken (Assign x e) = may_read around taken e && may_write around taken (x ∷ [])
 keeps_owners fs around taken (AssignElement a i e) =
-    may_read around taken i && may_read around taken e && are_free taken (a ∷ []) && may_index around a i
+    may_read around taken i && may_read around taken e && are_loose taken (a ∷ []) && may_index around a i
 keeps_owners fs around taken (Reduce how s e) = may_read around taken e
 keeps_owners fs around taken (Call kind site target f es) = keeps_call fs around taken target f es
 keeps_owners fs around taken (Start kind callee es) = false

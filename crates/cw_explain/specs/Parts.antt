@@ -1,5 +1,6 @@
 -- What it means that a part of a statement breaks a rule, and what the code's kinds of returns stand for.
-use Rattle.std.specs.Prelude.{ℕ, true, List, [], ◌∷◌, ◌++◌, Option}
+use Rattle.std.specs.Prelude.{ℕ, List, [], ◌∷◌, ◌++◌, Option}
+use Rattle.cw_model.specs.declared.syntax.NameKind.TheVariants.{Array}
 use Rattle.cw_model.specs.Syntax.{Name, Expr, Function, Program}
 use Rattle.cw_model.specs.Typing as rule
 use Rattle.cw_model.specs.Typing.{called}
@@ -35,4 +36,5 @@ IsBrokenHead program locals x y z from to grain over r =
 
 -- of a cut
 abbrev pub IsBrokenCut : Program → List Declared → Name → Expr → (left right : Name) → IllTyped → Type 0
-IsBrokenCut program locals a e x y r = IsPart program locals ((a, true) ∷ uses_in e) (x ∷ y ∷ []) (IsWrongParts x y r) r
+IsBrokenCut program locals a e x y r =
+    IsPart program locals ((a, Array) ∷ uses_in e) (x ∷ y ∷ []) (IsWrongParts x y r) r

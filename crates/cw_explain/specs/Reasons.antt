@@ -4,10 +4,11 @@ use Rattle.std.specs.Prelude.{MatchOption, Contains, is_some, length, map, optio
 use Rattle.std.specs.List.{slice_get}
 use Rattle.cw_model.specs.declared.limits.TheConstants.{MOST_GRAIN}
 use Rattle.cw_model.specs.declared.syntax.Reduction.{Reduction}
+use Rattle.cw_model.specs.declared.syntax.NameKind.TheVariants.{Integer, Array, Const}
 use Rattle.cw_model.specs.Answers.{main_name}
 use Rattle.cw_model.specs.Names.{same_name}
 use Rattle.cw_model.specs.Syntax.{Name, Expr, Variable, Stmt, Declare, DeclareArray, Reduce, Call, For, Cut, Return}
-use Rattle.cw_model.specs.Syntax.{Param, Function, Program}
+use Rattle.cw_model.specs.Syntax.{Param, Function, Program, is_array_kind, wants_array}
 use Rattle.cw_model.specs.Typing.{Returns, Nowhere, WithInt, Alone, called, is_array, is_int, is_reducer}
 use Rattle.cw_model.specs.Typing.{reducer_called}
 use Rattle.cw_explain.specs.Names.{IsUnknown}
@@ -18,22 +19,27 @@ use Rattle.cw_explain.specs.declared.typing.IllTyped.TheVariants as reason
 use Rattle.cw_explain.specs.declared.typing.Other.{Other}
 use Rattle.cw_explain.specs.declared.typing.Other.TheVariants as other
 
--- the name is that of a function or reducer of this line, or the newest local is an integer or an array declared there
+-- the name is that of a function or reducer of this line, or the newest local is an integer, an array or a const
+-- parameter declared there
 abbrev pub IsOther : Program → List Declared → Name → Other → ℕ → Type 0
-IsOther program locals x other.Integer line = option_map kind_and_line (newest x locals) ≡ Some (false, line)
-IsOther program locals x other.Array line = option_map kind_and_line (newest x locals) ≡ Some (true, line)
+IsOther program locals x other.Integer line = option_map kind_and_line (newest x locals) ≡ Some (Integer, line)
+IsOther program locals x other.Array line = option_map kind_and_line (newest x locals) ≡ Some (Array, line)
+IsOther program locals x other.Const line = option_map kind_and_line (newest x locals) ≡ Some (Const, line)
 IsOther program locals x other.Function line = option_map (λ f. f.line) (called x program.functions) ≡ Some line
 IsOther program locals x other.Reducer line = Contains (map name_and_line program.reducers) (x, line)
 
 -- the reason is of this name, where an integer or an array must stand: it is not known, or it is no integer, or it
--- is no array, but what it is said to be
+-- is no array, but what it is said to be, or it may not be written, as a const parameter of that line
 abbrev pub IsMisuse : Program → List Declared → Use → IllTyped → Type 0
-IsMisuse program locals (x, array) (reason.Unknown word) = (word.text.now ≡ x) × IsUnknown x (kinds locals)
-IsMisuse program locals (x, array) (reason.NotInteger word kind line) =
-    (word.text.now ≡ x) × (array ≡ false) × (is_int (kinds locals) x ≡ false) × IsOther program locals x kind line
-IsMisuse program locals (x, array) (reason.NotArray word kind line) =
-    (word.text.now ≡ x) × (array ≡ true) × (is_array (kinds locals) x ≡ false) × IsOther program locals x kind line
-IsMisuse program locals (x, array) _ = ⊥
+IsMisuse program locals (x, wanted) (reason.Unknown word) = (word.text.now ≡ x) × IsUnknown x (kinds locals)
+IsMisuse program locals (x, wanted) (reason.NotInteger word kind line) =
+    (word.text.now ≡ x) × (wanted ≡ Integer) × (is_int (kinds locals) x ≡ false) × IsOther program locals x kind line
+IsMisuse program locals (x, wanted) (reason.NotArray word kind line) =
+    (word.text.now ≡ x) × (is_array_kind wanted ≡ true) × (is_array (kinds locals) x ≡ false)
+    × IsOther program locals x kind line
+IsMisuse program locals (x, wanted) (reason.OnlyRead word line) =
+    (word.text.now ≡ x) × (wanted ≡ Array) × IsOther program locals x other.Const line
+IsMisuse program locals (x, wanted) _ = ⊥
 
 -- the reason is of one of these names
 pub record IsMisuseIn (program : Program) (locals : List Declared) (names : List Use) (r : IllTyped) : Type 0 where
@@ -81,6 +87,10 @@ IsNoReducer program how s (reason.ReducesOtherwise word told line) =
     × (option_map (λ r. r.line) (reducer_called s program.reducers) ≡ Some line)
 IsNoReducer program how s _ = ⊥
 
+-- a parameter's name, and whether it is an array
+abbrev pub named_array : Param → Name × Bool
+named_array p = (p.name, wants_array p)
+
 -- a name alone
 abbrev pub is_name : Expr → Bool
 is_name (Variable x) = true
@@ -90,7 +100,7 @@ is_name _ = false
 pub record IsNoArray (params : List Param) (arguments : List Expr) (place : ℕ) (param : Name) : Type 0 where
   pub index : ℕ
   pub counted : place ≡ index + 1
-  pub wanted : slice_get params index ≡ Some (record { name = param; is_array = true })
+  pub wanted : option_map named_array (slice_get params index) ≡ Some (param, true)
   pub given : option_map is_name (slice_get arguments index) ≡ Some false
 
 -- the arguments are too many or too few for a function, or one of them is no array where the parameter is

@@ -2,13 +2,15 @@
 use Rattle.std.specs.Prelude.{ℕ, nat_le, ◌==◌, Bool, true, false, not, ◌&&◌, ◌||◌, List, [], ◌∷◌, ◌++◌, Some}
 use Rattle.std.specs.Prelude.{if◌then◌else◌}
 use Rattle.std.specs.List.{list_any}
+use Rattle.cw_model.specs.declared.syntax.NameKind.TheVariants.{Integer, Array}
 use Rattle.cw_model.specs.Answers.{main_name}
 use Rattle.cw_model.specs.Names.{same_name}
 use Rattle.cw_model.specs.Syntax.{Stmt, Declare, DeclareArray, Assign, AssignElement, Reduce, Call, Start, Begin, Sync}
 use Rattle.cw_model.specs.Syntax.{If, IfElse, While, For, Scope, Cut, Region, Print, Return, Param, Function, Program}
+use Rattle.cw_model.specs.Syntax.{wants_array}
 use Rattle.cw_model.specs.Typing.{Known, Returns, Nowhere, WithInt, Alone, block_returns, called, ends_block}
-use Rattle.cw_model.specs.Typing.{faults_in_block, is_array, is_call, is_cut, is_fine, is_head_of_loop, is_int, is_new}
-use Rattle.cw_model.specs.Typing.{is_reducer, may_return, surely_returns}
+use Rattle.cw_model.specs.Typing.{faults_in_block, is_call, is_cut, is_fine, is_head_of_loop, is_int, is_new}
+use Rattle.cw_model.specs.Typing.{is_reducer, is_writable, may_return, surely_returns}
 use Rattle.cw_tree.specs.declared.syntax.Call.{Call as CodeCall}
 use Rattle.cw_tree.specs.declared.syntax.Cut.{Cut as CodeCut}
 use Rattle.cw_tree.specs.declared.syntax.Head.{Head as CodeHead}
@@ -43,7 +45,7 @@ abbrev pub keeps_rules : Program → Returns → Known → Stmt → Bool
 keeps_rules program returns known (Declare x e) = is_fine known e && is_new program known x
 keeps_rules program returns known (DeclareArray a e) = is_fine known e && is_new program known a
 keeps_rules program returns known (Assign x e) = is_int known x && is_fine known e
-keeps_rules program returns known (AssignElement a i e) = is_array known a && is_fine known i && is_fine known e
+keeps_rules program returns known (AssignElement a i e) = is_writable known a && is_fine known i && is_fine known e
 keeps_rules program returns known (Reduce how s e) = is_reducer program how s && is_fine known e
 keeps_rules program returns known (Call kind site target f es) = is_call known target (called f program.functions) es
 keeps_rules program returns known (Start kind callee es) = false
@@ -67,16 +69,17 @@ faults_inside program returns known (IfElse e b c) =
     faults_in_block program returns known b ++ faults_in_block program returns known c
 faults_inside program returns known (While e b) = faults_in_block program returns known b
 faults_inside program returns known (For x y z from to grain over b) =
-    faults_in_block program Nowhere ((x, false) ∷ known) b
+    faults_in_block program Nowhere ((x, Integer) ∷ known) b
 faults_inside program returns known (Scope b) = faults_in_block program Nowhere known b
-faults_inside program returns known (Cut a e l r b) = faults_in_block program Nowhere ((r, true) ∷ (l, true) ∷ known) b
+faults_inside program returns known (Cut a e l r b) =
+    faults_in_block program Nowhere ((r, Array) ∷ (l, Array) ∷ known) b
 faults_inside program returns known (Region tag b) = faults_in_block program Nowhere known b
 faults_inside program returns known _ = []
 
 -- parameters are new names that differ, where these names are known
 abbrev pub are_new : Program → Known → List Param → Bool
 are_new program known [] = true
-are_new program known (p ∷ ps) = is_new program known p.name && are_new program ((p.name, p.is_array) ∷ known) ps
+are_new program known (p ∷ ps) = is_new program known p.name && are_new program ((p.name, p.kind) ∷ known) ps
 
 -- a function that gives an integer surely returns
 abbrev pub returns_well : Function → Bool
@@ -84,7 +87,7 @@ returns_well f = not f.gives_int || block_returns f.body
 
 -- main is an int function of integers
 abbrev pub is_right_main : Function → Bool
-is_right_main f = not (same_name f.name main_name) || (f.gives_int && not (list_any (λ p. p.is_array) f.params))
+is_right_main f = not (same_name f.name main_name) || (f.gives_int && not (list_any (λ p. wants_array p) f.params))
 
 -- which returns may stand in the body of a function
 abbrev pub returns_in : Function → Returns

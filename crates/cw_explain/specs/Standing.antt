@@ -1,5 +1,6 @@
 -- The statements of a program, each where it stands: its line, which returns may stand there, and what is known there.
-use Rattle.std.specs.Prelude.{ℕ, true, false, List, [], ◌∷◌, ◌++◌}
+use Rattle.std.specs.Prelude.{ℕ, List, [], ◌∷◌, ◌++◌}
+use Rattle.cw_model.specs.declared.syntax.NameKind.TheVariants.{Integer, Array}
 use Rattle.cw_model.specs.Syntax.{Stmt, If, IfElse, While, For, Scope, Cut, Region, Block, End, Then, Function}
 use Rattle.cw_model.specs.Typing.{Returns, Nowhere}
 use Rattle.cw_tree.specs.declared.syntax.Line.{Line}
@@ -17,11 +18,11 @@ pub record Standing : Type 0 where
 
 -- the local names in a loop of a line over this variable
 abbrev pub in_loop : (line : ℕ) → (x : List ℕ) → List Declared → List Declared
-in_loop line x locals = with_local x false line locals
+in_loop line x locals = with_local x Integer line locals
 
 -- the local names in a cut of a line into these parts
 abbrev pub in_cut : (line : ℕ) → (l r : List ℕ) → List Declared → List Declared
-in_cut line l r locals = with_local r true line (with_local l true line locals)
+in_cut line l r locals = with_local r Array line (with_local l Array line locals)
 
 abbrev mutual
   -- the statements of a block where these returns may stand and these names are known, and all that is inside of them

@@ -1,12 +1,12 @@
 -- What it means that a reason of names and types is told of a line of a program.
-use Rattle.std.specs.Prelude.{◌≡◌, ◌≢◌, ℕ, true, false, List, [], ◌++◌, Some, Contains}
+use Rattle.std.specs.Prelude.{◌≡◌, ◌≢◌, ℕ, Bool, true, false, List, [], ◌++◌, Some, Contains, map}
 use Rattle.std.specs.List.{slice_get}
 use Rattle.cw_model.specs.Answers.{main_name}
 use Rattle.cw_model.specs.Names.{is_among, same_name}
 use Rattle.cw_model.specs.Syntax.{Name, Block, End, Then, Param, Function, Program}
 use Rattle.cw_model.specs.Typing.{block_returns, surely_returns}
 use Rattle.cw_explain.specs.Names.{function_names, functions_named, param_names, reducers_named}
-use Rattle.cw_explain.specs.Reasons.{IsBroken, IsNotNewIn}
+use Rattle.cw_explain.specs.Reasons.{IsBroken, IsNotNewIn, named_array}
 use Rattle.cw_explain.specs.Standing.{Standing, standing_of}
 use Rattle.cw_explain.specs.declared.typing.IllTyped.{IllTyped}
 use Rattle.cw_explain.specs.declared.typing.IllTyped.TheVariants as reason
@@ -43,11 +43,15 @@ pub data IsWrongParams (program : Program) (params : List Param) (r : IllTyped) 
   AreAlike : IsTwice params r → IsWrongParams program params r
   IsGlobal : IsNotNewIn program [] (param_names params) r → IsWrongParams program params r
 
+-- the parameters, each with whether it is an array
+abbrev pub are_arrays : List Param → List (Name × Bool)
+are_arrays params = map named_array params
+
 -- the function is main, and gives nothing or takes an array
 abbrev pub IsWrongMain : Function → IllTyped → Type 0
 IsWrongMain f reason.MainGivesNothing = (same_name f.name main_name ≡ true) × (f.gives_int ≡ false)
 IsWrongMain f (reason.MainTakesArray word) =
-    (same_name f.name main_name ≡ true) × Contains f.params (record { name = word.text.now; is_array = true })
+    (same_name f.name main_name ≡ true) × Contains (are_arrays f.params) (word.text.now, true)
 IsWrongMain f _ = ⊥
 
 -- the function gives an integer, and does not surely return

@@ -48,14 +48,15 @@ ghost use Rattle.cw_tree.specs.SyntaxView.{
 };
 
 use crate::word::Word;
+use cw_model::syntax::NameKind;
 use cw_tree::syntax::{Ast, Function, Line, Name, Reducer, Stmt};
 use std::alloc::{AllocError, Global};
 
-/// A local name, whether it is an array, and the line of its declaration.
+/// A local name, what it stands for, and the line of its declaration.
 #[derive(Clone, Copy, Debug)]
 pub struct Local<'a> {
     pub name: Word<'a>,
-    pub is_array: bool,
+    pub kind: NameKind,
     pub line: u32,
 }
 
@@ -76,7 +77,7 @@ impl<'a> Known<'a> {
             locals: Vec::new(alloc),
         };
         for param in function.params.as_slice() {
-            known.add(&param.name, param.is_array, function.line)?;
+            known.add(&param.name, param.kind, function.line)?;
         }
         Ok(known)
     }
@@ -90,7 +91,7 @@ impl<'a> Known<'a> {
         for param in function.params.as_slice() {
             locals.push(Local {
                 name: Word::of(&param.name),
-                is_array: param.is_array,
+                kind: param.kind,
                 line: function.line,
             })?;
         }
@@ -114,15 +115,15 @@ impl<'a> Known<'a> {
     }
 
     /// One name more.
-    pub fn add(&mut self, name: &'a Name, is_array: bool, line: u32) -> Result<(), AllocError>
+    pub fn add(&mut self, name: &'a Name, kind: NameKind, line: u32) -> Result<(), AllocError>
         ensures { OnOk result
-            (locals_of self.new ≡ with_local name.now is_array line (locals_of self.old)) }
+            (locals_of self.new ≡ with_local name.now kind line (locals_of self.old)) }
     {
         self.locals.insert(
             0,
             Local {
                 name: Word::of(name),
-                is_array,
+                kind,
                 line,
             },
         )?;
@@ -136,8 +137,8 @@ impl<'a> Known<'a> {
             ≡ after_stmt line.now.line (stmt_of line.now.stmt) (locals_of self.old)) }
     {
         match &line.stmt {
-            Stmt::Declare(x, _) => self.add(x, false, line.line),
-            Stmt::DeclareArray(a, _) => self.add(a, true, line.line),
+            Stmt::Declare(x, _) => self.add(x, NameKind::Integer, line.line),
+            Stmt::DeclareArray(a, _) => self.add(a, NameKind::Array, line.line),
             _ => Ok(()),
         }
     }
@@ -146,7 +147,7 @@ impl<'a> Known<'a> {
     pub fn newest(&self, name: &[u8]) -> Option<Local<'a>>
         ensures there { is_some result ≡ is_among name.now (known_names (names_of self.now)) }
         ensures kinds { MatchOption result (IsUnknown name.now (names_of self.now))
-            (λ local. known_as name.now local.is_array (names_of self.now)) }
+            (λ local. known_as name.now local.kind (names_of self.now)) }
         ensures newest { MatchOption result (newest name.now (locals_of self.now) ≡ None)
             (λ local. newest name.now (locals_of self.now) ≡ Some (local_view local)) }
     {
@@ -169,7 +170,7 @@ fn newest_of<'a>(locals: &[Local<'a>], name: &[u8]) -> Option<Local<'a>>
     ensures there { is_some result
         ≡ is_among name.now (known_names (kinds (map local_view locals.now))) }
     ensures kinds { MatchOption result (IsUnknown name.now (kinds (map local_view locals.now)))
-        (λ local. known_as name.now local.is_array (kinds (map local_view locals.now))) }
+        (λ local. known_as name.now local.kind (kinds (map local_view locals.now))) }
     ensures newest { MatchOption result (newest name.now (map local_view locals.now) ≡ None)
         (λ local. newest name.now (map local_view locals.now) ≡ Some (local_view local)) }
 {

@@ -9,6 +9,7 @@ mod limits;
 mod owning;
 mod reading;
 mod rules;
+mod shared;
 mod statements;
 mod taken;
 mod touched;

@@ -29,12 +29,14 @@ impl fmt::Display for Touch {
 /// A rule of ownership that is broken, with the names that it is broken for, and the other line that matters.
 #[derive(Clone, Copy, Debug)]
 pub enum Disowned<'a> {
-    /// A name is touched while something has it, which took it in a line.
+    /// A name is touched while something has it, which took it or reads it from a line on.
     Taken(Word<'a>, Touch, Holder, u32),
-    /// A name of a block is still taken as the block ends.
+    /// A name of a block is still held as the block ends.
     EndsTaken(Word<'a>, Holder, u32),
     /// A call is given one array twice.
     GivenTwice(Word<'a>, Word<'a>),
+    /// A call is given an array, and reads it besides.
+    GivenAndRead(Word<'a>, Word<'a>),
     /// A loop is over one array twice.
     OverTwice(Word<'a>),
     /// A loop's body writes an integer from outside, or the variable of the loop.
@@ -54,7 +56,8 @@ impl Disowned<'_> {
             | Disowned::OuterWritten(_, line)
             | Disowned::OuterArray(_, line)
             | Disowned::OtherElement(_, _, line) => Some(*line),
-            Disowned::GivenTwice(_, _) | Disowned::OverTwice(_) => None,
+            Disowned::GivenTwice(_, _) | Disowned::GivenAndRead(_, _) | Disowned::OverTwice(_) =>
+                None,
         }
     }
 }
@@ -79,6 +82,10 @@ impl fmt::Display for At<'_> {
             Disowned::GivenTwice(name, callee) => write!(
                 f,
                 "{callee} is given {name} twice: the arrays of a call differ; cut {name} and pass its parts"
+            ),
+            Disowned::GivenAndRead(name, callee) => write!(
+                f,
+                "{callee} is given {name}, and reads it as const besides: an array that a call may write stands once in it; copy it, or cut {name} and pass its parts"
             ),
             Disowned::OverTwice(name) => {
                 write!(
@@ -137,6 +144,10 @@ fn write_hint<W: fmt::Write>(
             f,
             "; calls that run side by side share no array: cut {name} and pass its parts, or let one wait for the other"
         ),
+        (Holder::Reader(_), Touch::Passed) => write!(
+            f,
+            "; calls that run side by side may read one array, each as const, and none writes it meanwhile"
+        ),
         _ => Ok(()),
     }
 }
@@ -156,6 +167,12 @@ fn write_holder<W: fmt::Write>(
             write!(
                 f,
                 "the call spawned in line {line} has it until the next cilk_sync"
+            )
+        }
+        Holder::Reader(_) => {
+            write!(
+                f,
+                "the call spawned in line {line} reads it until the next cilk_sync"
             )
         }
         Holder::Cut => write!(

@@ -50,6 +50,7 @@ use crate::owning::Disowned;
 use crate::taken::{Taken, after, deeper};
 use crate::touched::{Loop, of_stmt};
 use crate::word::Word;
+use cw_model::syntax::NameKind;
 use cw_tree::syntax::{Ast, Cut, Function, Head, Line, Name, Stmt};
 use std::alloc::{AllocError, Global};
 
@@ -245,9 +246,9 @@ fn left_taken<'a>(line: u32, taken: &Taken<'a>, declaring: &'a Line) -> Option<D
     }
 }
 
-// A name that ends is still taken.
+// A name that ends is still held.
 fn of_ending<'a>(taken: &Taken<'a>, name: &'a Name) -> Option<Disowned<'a>>
-    ensures decides { is_some result ≡ rule.is_taken (taken_of taken.now) name.now }
+    ensures decides { is_some result ≡ rule.is_held (taken_of taken.now) name.now }
     ensures holds { IfSome result (IsStillTaken (taken_of taken.now) name.now) }
 {
     let held = taken.holder(name.as_bytes())?;
@@ -429,7 +430,7 @@ fn in_turn<'a>(
         (taken_of seen.old) (block_of lines.now)))) }
 {
     let before = known.len();
-    known.add(&head.variable, false, line)?;
+    known.add(&head.variable, NameKind::Integer, line)?;
     let inner = place.inside()?;
     let around = Some(Loop {
         head,
@@ -469,8 +470,8 @@ fn in_parts<'a>(
 {
     let before = known.len();
     seen.cut(&cut.array, line)?;
-    known.add(&cut.left, true, line)?;
-    known.add(&cut.right, true, line)?;
+    known.add(&cut.left, NameKind::Array, line)?;
+    known.add(&cut.right, NameKind::Array, line)?;
     let inner = place.inside()?;
     let found = in_block(inner, known, seen, lines, true)?;
     known.leave(before);

@@ -52,6 +52,7 @@ ghost use Rattle.cw_explain.specs.Told.{
   IsWrongFunction,
   IsWrongMain,
   IsWrongParams,
+  are_arrays,
 };
 ghost use Rattle.cw_model.specs.Names.{is_among};
 ghost use Rattle.cw_model.specs.Syntax as model;
@@ -68,9 +69,10 @@ ghost use Rattle.cw_tree.specs.SyntaxView.{
 use crate::known::{
     Known, block_returns, function_among, function_named, reducer_among, surely_returns,
 };
-use crate::statements::{MAIN, Returns, of_global, of_stmt};
+use crate::statements::{MAIN, Returns, is_array, of_global, of_stmt};
 use crate::typing::IllTyped;
 use crate::word::Word;
+use cw_model::syntax::NameKind;
 use cw_tree::syntax::{Ast, Function, Line, Name, Param, Reducer, Stmt};
 use std::alloc::{AllocError, Global};
 
@@ -409,12 +411,13 @@ fn of_main(function: &Function) -> Option<IllTyped<'_>>
 
 // The first of these parameters that is an array.
 fn first_array(params: &[Param]) -> Option<&Name>
-    ensures decides { is_some result ≡ list_any (λ p. p.is_array) (map param_of params.now) }
-    ensures holds { IfSome result (λ name. Contains (map param_of params.now)
-        (record { name = name.now; is_array = true })) }
+    ensures decides { is_some result
+        ≡ list_any (λ p. model.wants_array p) (map param_of params.now) }
+    ensures holds { IfSome result (λ name.
+        Contains (are_arrays (map param_of params.now)) (name.now, true)) }
 {
     for param in params {
-        if param.is_array {
+        if is_array(param.kind) {
             return Some(&param.name);
         }
     }
@@ -558,15 +561,15 @@ fn inside<'a>(
         Stmt::Scope(b) | Stmt::Region(_, b) => in_block(place.inside(), known, b.as_slice()),
         Stmt::For(head, b) => {
             let before = known.len();
-            known.add(&head.variable, false, line.line)?;
+            known.add(&head.variable, NameKind::Integer, line.line)?;
             let found = in_block(place.inside(), known, b.as_slice())?;
             known.leave(before);
             Ok(found)
         }
         Stmt::Cut(cut, b) => {
             let before = known.len();
-            known.add(&cut.left, true, line.line)?;
-            known.add(&cut.right, true, line.line)?;
+            known.add(&cut.left, NameKind::Array, line.line)?;
+            known.add(&cut.right, NameKind::Array, line.line)?;
             let found = in_block(place.inside(), known, b.as_slice())?;
             known.leave(before);
             Ok(found)

@@ -13,10 +13,9 @@ ghost use Rattle.std.specs.Prelude.{
   is_some,
   not,
   option_map,
-  true,
 };
 ghost use Rattle.std.specs.List.{list_all};
-ghost use Rattle.cw_explain.specs.Names.{IsUnknown, locals_of, names_of};
+ghost use Rattle.cw_explain.specs.Names.{IsUnknown, locals_of, may_stand, names_of};
 ghost use Rattle.cw_explain.specs.Places.{Declared, kinds};
 ghost use Rattle.cw_explain.specs.Reasons.{
   IsBroken,
@@ -45,6 +44,7 @@ ghost use Rattle.cw_explain.specs.Rules.{
   keeps_rules,
 };
 ghost use Rattle.cw_explain.specs.Uses.{as_arrays, uses_in, uses_in_argument};
+ghost use Rattle.cw_model.specs.declared.syntax.NameKind.TheVariants as name_kind;
 ghost use Rattle.cw_model.specs.Names.{is_among, same_name};
 ghost use Rattle.cw_model.specs.Syntax as model;
 ghost use Rattle.cw_model.specs.Typing as rule;
@@ -54,7 +54,7 @@ use crate::known::{Known, function_named, reducer_named};
 use crate::typing::{IllTyped, Other};
 use crate::word::Word;
 use cw_model::limits::MOST_GRAIN;
-use cw_model::syntax::Reduction;
+use cw_model::syntax::{NameKind, Reduction};
 use cw_tree::syntax::{Ast, Call, Cut, Expr, Function, Head, Name, Param, Stmt};
 
 /// The name of the function that a run begins with.
@@ -85,7 +85,7 @@ pub fn of_stmt<'a>(
     match stmt {
         Stmt::Declare(x, e) => Some(of_declare(ast, known, x, e)?),
         Stmt::DeclareArray(a, e) => Some(of_declare(ast, known, a, e)?),
-        Stmt::Assign(x, e) => Some(of_name_and(ast, known, x, false, e)?),
+        Stmt::Assign(x, e) => Some(of_name_and(ast, known, x, NameKind::Integer, e)?),
         Stmt::AssignElement(a, i, e) => Some(of_assign_element(ast, known, a, i, e)?),
         Stmt::Reduce(how, s, e) => Some(of_reduce(ast, known, *how, s, e)?),
         Stmt::If(e, _) => Some(of_expr(ast, known, e)?),
@@ -105,37 +105,57 @@ fn of_use<'a>(
     ast: &'a Ast,
     known: &Known<'a>,
     name: &'a Name,
-    wants_array: bool,
+    wanted: NameKind,
 ) -> Option<IllTyped<'a>>
     ensures decides { is_some result
-        ≡ not (rule.is_known name.now wants_array (names_of known.now)) }
+        ≡ not (rule.is_known name.now (may_stand wanted) (names_of known.now)) }
     ensures holds { IfSome result
-        (IsMisuse (program_of ast.now) (locals_of known.now) (name.now, wants_array)) }
+        (IsMisuse (program_of ast.now) (locals_of known.now) (name.now, wanted)) }
 {
     match known.newest(name.as_bytes()) {
-        None => Some(of_unknown(ast, name, wants_array)),
-        Some(local) => {
-            if local.is_array == wants_array {
-                return None;
+        None => Some(of_unknown(ast, name, wanted)),
+        Some(local) => match (wanted, local.kind) {
+            (NameKind::Integer, NameKind::Integer)
+            | (NameKind::Array, NameKind::Array)
+            | (NameKind::Const, NameKind::Array)
+            | (NameKind::Const, NameKind::Const) => None,
+            (NameKind::Integer, NameKind::Array) => Some(IllTyped::NotInteger(
+                Word::of(name),
+                Other::Array,
+                local.line,
+            )),
+            (NameKind::Integer, NameKind::Const) => Some(IllTyped::NotInteger(
+                Word::of(name),
+                Other::Const,
+                local.line,
+            )),
+            (NameKind::Array, NameKind::Integer) => Some(IllTyped::NotArray(
+                Word::of(name),
+                Other::Integer,
+                local.line,
+            )),
+            (NameKind::Const, NameKind::Integer) => Some(IllTyped::NotArray(
+                Word::of(name),
+                Other::Integer,
+                local.line,
+            )),
+            (NameKind::Array, NameKind::Const) => {
+                Some(IllTyped::OnlyRead(Word::of(name), local.line))
             }
-            if wants_array {
-                return Some(IllTyped::NotArray(Word::of(name), Other::Integer, local.line));
-            }
-            Some(IllTyped::NotInteger(Word::of(name), Other::Array, local.line))
-        }
+        },
     }
 }
 
 // A name that no local has stands where an integer or an array must.
-fn of_unknown<'a>(ast: &'a Ast, name: &'a Name, wants_array: bool) -> IllTyped<'a>
+fn of_unknown<'a>(ast: &'a Ast, name: &'a Name, wanted: NameKind) -> IllTyped<'a>
     ensures { (locals : List Declared) → IsUnknown name.now (kinds locals) →
-        IsMisuse (program_of ast.now) locals (name.now, wants_array) result }
+        IsMisuse (program_of ast.now) locals (name.now, wanted) result }
 {
     if let Some(function) = function_named(ast, name.as_bytes()) {
-        return misused(ast, name, wants_array, Other::Function, function.line);
+        return misused(ast, name, wanted, Other::Function, function.line);
     }
     if let Some(reducer) = reducer_named(ast, name.as_bytes()) {
-        return misused(ast, name, wants_array, Other::Reducer, reducer.line);
+        return misused(ast, name, wanted, Other::Reducer, reducer.line);
     }
     IllTyped::Unknown(Word::of(name))
 }
@@ -144,18 +164,18 @@ fn of_unknown<'a>(ast: &'a Ast, name: &'a Name, wants_array: bool) -> IllTyped<'
 fn misused<'a>(
     ast: &'a Ast,
     name: &'a Name,
-    wants_array: bool,
+    wanted: NameKind,
     other: Other,
     line: u32,
 ) -> IllTyped<'a>
     ensures { (locals : List Declared) → IsUnknown name.now (kinds locals) →
         IsOther (program_of ast.now) locals name.now other line →
-        IsMisuse (program_of ast.now) locals (name.now, wants_array) result }
+        IsMisuse (program_of ast.now) locals (name.now, wanted) result }
 {
-    if wants_array {
-        return IllTyped::NotArray(Word::of(name), other, line);
+    match wanted {
+        NameKind::Integer => IllTyped::NotInteger(Word::of(name), other, line),
+        NameKind::Array | NameKind::Const => IllTyped::NotArray(Word::of(name), other, line),
     }
-    IllTyped::NotInteger(Word::of(name), other, line)
 }
 
 // A name in an expression is not what must stand there.
@@ -167,8 +187,8 @@ fn of_expr<'a>(ast: &'a Ast, known: &Known<'a>, e: &'a Expr) -> Option<IllTyped<
 {
     match e {
         Expr::Number(_) => None,
-        Expr::Variable(x) => Some(of_use(ast, known, x, false)?),
-        Expr::Length(a) => Some(of_use(ast, known, a, true)?),
+        Expr::Variable(x) => Some(of_use(ast, known, x, NameKind::Integer)?),
+        Expr::Length(a) => Some(of_use(ast, known, a, NameKind::Const)?),
         Expr::Negative(e) => {
             let reason = of_expr(ast, known, e)?;
             Some(reason)
@@ -178,7 +198,7 @@ fn of_expr<'a>(ast: &'a Ast, known: &Known<'a>, e: &'a Expr) -> Option<IllTyped<
             Some(reason)
         }
         Expr::Element(a, e) => {
-            if let Some(reason) = of_use(ast, known, a, true) {
+            if let Some(reason) = of_use(ast, known, a, NameKind::Const) {
                 return Some(reason);
             }
             let reason = of_expr(ast, known, e)?;
@@ -247,16 +267,16 @@ fn of_name_and<'a>(
     ast: &'a Ast,
     known: &Known<'a>,
     x: &'a Name,
-    wants_array: bool,
+    wanted: NameKind,
     e: &'a Expr,
 ) -> Option<IllTyped<'a>>
     ensures decides { is_some result
-        ≡ not (rule.is_known x.now wants_array (names_of known.now)
+        ≡ not (rule.is_known x.now (may_stand wanted) (names_of known.now)
         && rule.is_fine (names_of known.now) (expr_of e.now)) }
     ensures holds { IfSome result (IsMisuseIn (program_of ast.now) (locals_of known.now)
-        ((x.now, wants_array) ∷ uses_in (expr_of e.now))) }
+        ((x.now, wanted) ∷ uses_in (expr_of e.now))) }
 {
-    if let Some(reason) = of_use(ast, known, x, wants_array) {
+    if let Some(reason) = of_use(ast, known, x, wanted) {
         return Some(reason);
     }
     let reason = of_expr(ast, known, e)?;
@@ -272,13 +292,13 @@ fn of_assign_element<'a>(
     e: &'a Expr,
 ) -> Option<IllTyped<'a>>
     ensures decides { is_some result
-        ≡ not (rule.is_array (names_of known.now) a.now
+        ≡ not (rule.is_writable (names_of known.now) a.now
         && rule.is_fine (names_of known.now) (expr_of i.now)
         && rule.is_fine (names_of known.now) (expr_of e.now)) }
     ensures holds { IfSome result (IsMisuseIn (program_of ast.now) (locals_of known.now)
-        ((a.now, true) ∷ (uses_in (expr_of i.now) ++ uses_in (expr_of e.now)))) }
+        ((a.now, name_kind.Array) ∷ (uses_in (expr_of i.now) ++ uses_in (expr_of e.now)))) }
 {
-    if let Some(reason) = of_use(ast, known, a, true) {
+    if let Some(reason) = of_use(ast, known, a, NameKind::Array) {
         return Some(reason);
     }
     let reason = of_two(ast, known, i, e)?;
@@ -405,7 +425,7 @@ fn of_target<'a>(
     let Some(target) = &call.target else {
         return None;
     };
-    if let Some(reason) = of_use(ast, known, target, false) {
+    if let Some(reason) = of_use(ast, known, target, NameKind::Integer) {
         return Some(reason);
     }
     if !function.gives_int {
@@ -438,12 +458,22 @@ fn of_arguments<'a>(
         if let Some(reason) = of_argument(ast, known, param, argument) {
             return Some(reason);
         }
-        if param.is_array && !is_name(argument) {
+        if is_array(param.kind) && !is_name(argument) {
             let wanted = Word::of(&param.name);
             return Some(IllTyped::ArgumentNotArray(i + 1, name, wanted, function.line));
         }
     }
     None
+}
+
+/// Whether a name of this kind is an array.
+pub fn is_array(kind: NameKind) -> bool
+    ensures { result ≡ model.is_array_kind kind }
+{
+    match kind {
+        NameKind::Integer => false,
+        NameKind::Array | NameKind::Const => true,
+    }
 }
 
 // Whether an expression is a name alone.
@@ -457,6 +487,7 @@ fn is_name(e: &Expr) -> bool
 }
 
 // A name in an argument is not what must stand there.
+#[tactic(auto, using(crate::proofs::Misuse::argument_named))]
 fn of_argument<'a>(
     ast: &'a Ast,
     known: &Known<'a>,
@@ -464,17 +495,17 @@ fn of_argument<'a>(
     e: &'a Expr,
 ) -> Option<IllTyped<'a>>
     ensures decides { is_some result
-        ≡ not (rule.is_argument (names_of known.now) param.now.is_array (expr_of e.now)
-        || (param.now.is_array && not (is_name (expr_of e.now)))) }
+        ≡ not (rule.is_argument (names_of known.now) param.now.kind (expr_of e.now)
+        || (model.is_array_kind param.now.kind && not (is_name (expr_of e.now)))) }
     ensures holds { IfSome result (IsMisuseIn (program_of ast.now) (locals_of known.now)
-        (uses_in_argument param.now.is_array (expr_of e.now))) }
+        (uses_in_argument param.now.kind (expr_of e.now))) }
 {
-    if !param.is_array {
+    if !is_array(param.kind) {
         let reason = of_expr(ast, known, e)?;
         return Some(reason);
     }
     match e {
-        Expr::Variable(a) => Some(of_use(ast, known, a, true)?),
+        Expr::Variable(a) => Some(of_use(ast, known, a, param.kind)?),
         _ => None,
     }
 }
@@ -525,12 +556,12 @@ fn of_other_name<'a>(head: &'a Head) -> Option<IllTyped<'a>>
 // One of these names is no array.
 fn of_arrays<'a>(ast: &'a Ast, known: &Known<'a>, names: &'a [Name]) -> Option<IllTyped<'a>>
     ensures decides { is_some result
-        ≡ not (list_all (λ a. rule.is_array (names_of known.now) a) names.now) }
+        ≡ not (list_all (λ a. rule.is_writable (names_of known.now) a) names.now) }
     ensures holds { IfSome result
         (IsMisuseIn (program_of ast.now) (locals_of known.now) (as_arrays names.now)) }
 {
     for a in names {
-        if let Some(reason) = of_use(ast, known, a, true) {
+        if let Some(reason) = of_use(ast, known, a, NameKind::Array) {
             return Some(reason);
         }
     }
@@ -547,7 +578,7 @@ fn of_cut<'a>(ast: &'a Ast, known: &Known<'a>, cut: &'a Cut) -> Option<IllTyped<
     if cut.left.as_bytes() == cut.right.as_bytes() {
         return Some(IllTyped::PartsAlike(Word::of(&cut.left)));
     }
-    if let Some(reason) = of_name_and(ast, known, &cut.array, true, &cut.at) {
+    if let Some(reason) = of_name_and(ast, known, &cut.array, NameKind::Array, &cut.at) {
         return Some(reason);
     }
     if let Some(reason) = of_declared(ast, known, &cut.left) {

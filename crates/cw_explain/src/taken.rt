@@ -1,4 +1,4 @@
-//! Which names are taken, by what and where.
+//! Which names are held, by what and where.
 
 ghost use Rattle.std.specs.Prelude.{
   if◌then◌else◌,
@@ -10,10 +10,12 @@ ghost use Rattle.std.specs.Prelude.{
   IfSome,
   OnOk,
   [],
+  false,
   is_some,
   map,
   true,
 };
+ghost use Rattle.cw_explain.specs.Calls.{given_by, read_by};
 ghost use Rattle.cw_explain.specs.Held.{
   AreSame,
   has_taken,
@@ -25,20 +27,23 @@ ghost use Rattle.cw_explain.specs.Held.{
   taken_of,
 };
 ghost use Rattle.cw_model.specs.Ownership as rule;
+ghost use Rattle.cw_model.specs.Syntax as model;
 ghost use Rattle.cw_model.specs.Typing as typing;
 ghost use Rattle.cw_tree.specs.SyntaxView.{block_of, expr_of, exprs_of, param_of, program_of, stmt_of};
 
 use crate::known::{block_returns, function_named};
 use crate::word::Word;
-use cw_model::syntax::CallKind;
+use cw_model::syntax::{CallKind, NameKind};
 use cw_tree::syntax::{Ast, Call, Cut, Expr, Head, Line, Name, Param, Stmt};
 use std::alloc::{AllocError, Global};
 
-/// What took a name: a spawn of the sync block at a depth, for its result or as an argument, or a cut.
+/// What holds a name: a spawn of the sync block at a depth, for its result, as an argument or as one that it only reads;
+/// or a cut.
 #[derive(Clone, Copy, Debug)]
 pub enum Holder {
     Result(usize),
     Argument(usize),
+    Reader(usize),
     Cut,
 }
 
@@ -50,27 +55,66 @@ impl Holder {
         match self {
             Holder::Result(at) => at == depth,
             Holder::Argument(at) => at == depth,
+            Holder::Reader(at) => at == depth,
             Holder::Cut => false,
         }
     }
 
-    // Whether both are cuts, or spawns of one sync block.
+    // Whether it only reads.
+    fn is_reader(self) -> bool
+        ensures { result ≡ rule.is_reader (holder_of self) }
+    {
+        match self {
+            Holder::Result(_) => false,
+            Holder::Argument(_) => false,
+            Holder::Reader(_) => true,
+            Holder::Cut => false,
+        }
+    }
+
+    // Whether it is a spawn of the sync block at this depth that takes the name.
+    fn is_taker_in(self, depth: usize) -> bool
+        ensures { result ≡ same_holder (rule.SpawnIn depth) (holder_of self) }
+    {
+        match self {
+            Holder::Result(at) => at == depth,
+            Holder::Argument(at) => at == depth,
+            Holder::Reader(_) => false,
+            Holder::Cut => false,
+        }
+    }
+
+    // Whether it is a spawn of the sync block at this depth that only reads the name.
+    fn is_reader_in(self, depth: usize) -> bool
+        ensures { result ≡ same_holder (rule.ReaderIn depth) (holder_of self) }
+    {
+        match self {
+            Holder::Result(_) => false,
+            Holder::Argument(_) => false,
+            Holder::Reader(at) => at == depth,
+            Holder::Cut => false,
+        }
+    }
+
+    // Whether both are cuts, or spawns of one sync block that both take, or both only read.
     fn is(self, other: Holder) -> bool
         ensures { result ≡ same_holder (holder_of self) (holder_of other) }
     {
         match self {
-            Holder::Result(depth) => other.is_spawn_in(depth),
-            Holder::Argument(depth) => other.is_spawn_in(depth),
+            Holder::Result(depth) => other.is_taker_in(depth),
+            Holder::Argument(depth) => other.is_taker_in(depth),
+            Holder::Reader(depth) => other.is_reader_in(depth),
             Holder::Cut => match other {
                 Holder::Result(_) => false,
                 Holder::Argument(_) => false,
+                Holder::Reader(_) => false,
                 Holder::Cut => true,
             },
         }
     }
 }
 
-/// A name that is taken, and the line where it was.
+/// A name that is held, and the line since which it is.
 #[derive(Clone, Copy, Debug)]
 pub struct Held<'a> {
     pub name: Word<'a>,
@@ -86,12 +130,13 @@ impl Held<'_> {
         match self.holder {
             Holder::Result(_) => false,
             Holder::Argument(_) => false,
+            Holder::Reader(_) => false,
             Holder::Cut => name == self.name.text,
         }
     }
 }
 
-/// The names that are taken, each once for what took it.
+/// The names that are held, each once for what holds it.
 #[derive(Drop)]
 pub struct Taken<'a> {
     held: Vec<Held<'a>>,
@@ -116,9 +161,9 @@ impl<'a> Taken<'a> {
         })
     }
 
-    /// What took the name, if something did.
+    /// What holds the name, if something does.
     pub fn holder(&self, name: &[u8]) -> Option<Held<'a>>
-        ensures decides { is_some result ≡ rule.is_taken (taken_of self.now) name.now }
+        ensures decides { is_some result ≡ rule.is_held (taken_of self.now) name.now }
         ensures holds { IfSome result (λ held.
             has_taken name.now (holder_of held.holder) (taken_of self.now) ≡ true) }
     {
@@ -130,7 +175,23 @@ impl<'a> Taken<'a> {
         None
     }
 
-    // Whether the name is taken by this.
+    /// What took the name, if something did: what only reads it did not.
+    #[tactic(auto, using(crate::proofs::Holds::taken_step))]
+    pub fn taker(&self, name: &[u8]) -> Option<Held<'a>>
+        ensures decides { is_some result ≡ rule.is_taken (taken_of self.now) name.now }
+        ensures holds { IfSome result (λ held.
+            (has_taken name.now (holder_of held.holder) (taken_of self.now) ≡ true)
+            × (rule.is_reader (holder_of held.holder) ≡ false)) }
+    {
+        for held in self.held.as_slice() {
+            if name == held.name.text && !held.holder.is_reader() {
+                return Some(*held);
+            }
+        }
+        None
+    }
+
+    // Whether the name is held by this.
     fn has(&self, name: &[u8], holder: Holder) -> bool
         ensures { result ≡ has_taken name.now (holder_of holder) (taken_of self.now) }
     {
@@ -176,7 +237,7 @@ impl<'a> Taken<'a> {
         Ok(())
     }
 
-    /// Without what the spawns of the sync block at this depth took.
+    /// Without what the spawns of the sync block at this depth hold.
     pub fn free(&mut self, depth: usize)
         ensures { taken_of self.new ≡ rule.freed depth (taken_of self.old) }
     {
@@ -271,7 +332,7 @@ pub fn add_names<'a>(names: &mut Vec<Word<'a>>, e: &'a Expr) -> Result<(), Alloc
     }
 }
 
-// The arrays that are passed for these parameters.
+// The arrays that are given away for these parameters.
 fn arrays_given<'a>(
     alloc: Global,
     params: &[Param],
@@ -290,26 +351,61 @@ fn arrays_given<'a>(
     Ok(names)
 }
 
-// With the array that is passed for a parameter, if that is one.
+// With the array that is given away for a parameter, if one is.
 fn add_given<'a>(names: &mut Vec<Word<'a>>, param: &Param, e: &'a Expr) -> Result<(), AllocError>
     ensures { OnOk result
         (spelled names.new.items
         ≡ spelled names.old.items
-        ++ (if param.now.is_array then rule.names_in (expr_of e.now) else [])) }
+        ++ (if model.takes_array (param_of param.now) then rule.names_in (expr_of e.now) else [])) }
 {
-    if param.is_array {
-        add_names(names, e)?;
-        return Ok(());
+    match param.kind {
+        NameKind::Array => {
+            add_names(names, e)?;
+            Ok(())
+        }
+        NameKind::Integer | NameKind::Const => Ok(()),
     }
-    Ok(())
 }
 
-// The arrays that are passed by a call.
-#[tactic(auto, using(crate::proofs::Sets::given_of, crate::proofs::Sets::given_none))]
-fn given<'a>(alloc: Global, ast: &Ast, call: &'a Call) -> Result<Vec<Word<'a>>, AllocError>
+// The arrays that are only read for these parameters.
+fn arrays_lent<'a>(
+    alloc: Global,
+    params: &[Param],
+    arguments: &'a [Expr],
+) -> Result<Vec<Word<'a>>, AllocError>
     ensures { IfOk result (λ names. spelled names.items
-        ≡ rule.given (program_of ast.now).functions call.now.callee
-        (exprs_of call.now.arguments.items)) }
+        ≡ rule.arrays_lent (map param_of params.now) (exprs_of arguments.now)) }
+{
+    let mut names = Vec::new(alloc);
+    for i in 0..params.len() {
+        if i >= arguments.len() {
+            return Ok(names);
+        }
+        add_lent(&mut names, &params[i], &arguments[i])?;
+    }
+    Ok(names)
+}
+
+// With the array that is only read for a parameter, if one is.
+fn add_lent<'a>(names: &mut Vec<Word<'a>>, param: &Param, e: &'a Expr) -> Result<(), AllocError>
+    ensures { OnOk result
+        (spelled names.new.items
+        ≡ spelled names.old.items
+        ++ (if model.reads_array (param_of param.now) then rule.names_in (expr_of e.now) else [])) }
+{
+    match param.kind {
+        NameKind::Const => {
+            add_names(names, e)?;
+            Ok(())
+        }
+        NameKind::Integer | NameKind::Array => Ok(()),
+    }
+}
+
+/// The arrays that a call gives away.
+#[tactic(auto, using(crate::proofs::Sets::given_of, crate::proofs::Sets::given_none))]
+pub fn given<'a>(alloc: Global, ast: &Ast, call: &'a Call) -> Result<Vec<Word<'a>>, AllocError>
+    ensures { IfOk result (λ names. spelled names.items ≡ given_by (program_of ast.now) call.now) }
 {
     match function_named(ast, call.callee.as_bytes()) {
         Some(function) => {
@@ -318,6 +414,41 @@ fn given<'a>(alloc: Global, ast: &Ast, call: &'a Call) -> Result<Vec<Word<'a>>, 
         }
         None => Ok(Vec::new(alloc)),
     }
+}
+
+/// The arrays that a call only reads.
+#[tactic(auto, using(crate::proofs::Sets::lent_of, crate::proofs::Sets::lent_none))]
+pub fn lent<'a>(alloc: Global, ast: &Ast, call: &'a Call) -> Result<Vec<Word<'a>>, AllocError>
+    ensures { IfOk result (λ names. spelled names.items ≡ read_by (program_of ast.now) call.now) }
+{
+    match function_named(ast, call.callee.as_bytes()) {
+        Some(function) => {
+            let names = arrays_lent(alloc, function.params.as_slice(), call.arguments.as_slice())?;
+            Ok(names)
+        }
+        None => Ok(Vec::new(alloc)),
+    }
+}
+
+// A spawn in a line freezes these arrays.
+fn freeze_all<'a>(
+    depth: usize,
+    line: u32,
+    names: &[Word<'a>],
+    taken: &mut Taken<'a>,
+) -> Result<(), AllocError>
+    ensures { OnOk result
+        (AreSame (taken_of taken.new)
+        (rule.frozen_by depth (spelled names.now) (taken_of taken.old))) }
+{
+    for name in names {
+        taken.take(Held {
+            name: *name,
+            holder: Holder::Reader(depth),
+            line,
+        })?;
+    }
+    Ok(())
 }
 
 // A spawn in a line takes these arrays.
@@ -372,14 +503,16 @@ fn after_spawn<'a>(
 ) -> Result<(), AllocError>
     ensures { OnOk result
         (AreSame (taken_of taken.new)
+        (rule.frozen_by depth (read_by (program_of ast.now) call.now)
         (rule.taken_by depth
-        (rule.target_names call.now.target
-        ++ rule.given (program_of ast.now).functions call.now.callee (exprs_of call.now.arguments.items))
-        (taken_of taken.old))) }
+        (rule.target_names call.now.target ++ given_by (program_of ast.now) call.now)
+        (taken_of taken.old)))) }
 {
     let names = given(alloc, ast, call)?;
+    let shared = lent(alloc, ast, call)?;
     take_all(depth, line, names.as_slice(), taken)?;
     take_target(depth, line, &call.target, taken)?;
+    freeze_all(depth, line, shared.as_slice(), taken)?;
     Ok(())
 }
 

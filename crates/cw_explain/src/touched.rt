@@ -12,6 +12,7 @@ ghost use Rattle.std.specs.Prelude.{
   List,
   OnOk,
   Some,
+  false,
   true,
   drop,
   is_some,
@@ -20,6 +21,7 @@ ghost use Rattle.std.specs.Prelude.{
   option_map,
   take,
 };
+ghost use Rattle.cw_explain.specs.Calls.{IsTangled};
 ghost use Rattle.cw_explain.specs.Disowned.{
   IsGivenTwice,
   IsOverTwice,
@@ -39,19 +41,21 @@ ghost use Rattle.cw_explain.specs.Doings.{
   doings_in_arguments,
   doings_in_call,
   doings_in_head,
+  doings_of_call,
   doings_of_target,
 };
-ghost use Rattle.cw_explain.specs.Held.{spelled, taken_of};
+ghost use Rattle.cw_explain.specs.Held.{is_read, spelled, taken_of};
 ghost use Rattle.cw_explain.specs.Loops.{around_of, loop_of, where_of};
 ghost use Rattle.cw_explain.specs.Names.{locals_of};
 ghost use Rattle.cw_explain.specs.Owners.{
   IsOuterArray,
   IsTwiceIn,
   IsWrongWhole,
-  is_array_first,
+  is_taken_first,
   keep_arguments,
   keeps_argument,
   keeps_call,
+  keeps_given,
   keeps_head,
   keeps_owners,
   lend_behind,
@@ -60,6 +64,7 @@ ghost use Rattle.cw_explain.specs.Owners.{
 };
 ghost use Rattle.cw_explain.specs.Told.{AreBothIn};
 ghost use Rattle.cw_explain.specs.Touched.{IsTakenBy};
+ghost use Rattle.cw_explain.specs.declared.owning.Touch.TheVariants as touching;
 ghost use Rattle.cw_model.specs.Meaning.{function_named as function_of_name};
 ghost use Rattle.cw_model.specs.Names.{is_among};
 ghost use Rattle.cw_model.specs.Ownership as rule;
@@ -68,8 +73,10 @@ ghost use Rattle.cw_tree.specs.SyntaxView.{expr_of, exprs_of, param_of, program_
 
 use crate::known::{Known, function_named};
 use crate::owning::{Disowned, Touch};
+use crate::shared::of_shared;
 use crate::taken::{Taken, add_names};
 use crate::word::Word;
+use cw_model::syntax::NameKind;
 use cw_tree::syntax::{Ast, Call, Cut, Expr, Head, Name, Param, Stmt};
 use std::alloc::{AllocError, Global};
 
@@ -186,13 +193,26 @@ fn of_return<'a>(
     }
 }
 
-// A name is taken.
+// A name is held that is not only read.
+#[tactic(auto, using(crate::proofs::Holds::barred))]
 fn of_touch<'a>(taken: &Taken<'a>, name: Word<'a>, touch: Touch) -> Option<Disowned<'a>>
-    ensures decides { is_some result ≡ rule.is_taken (taken_of taken.now) name.entry.text.now }
+    requires { is_read touch ≡ false }
+    ensures decides { is_some result ≡ rule.is_held (taken_of taken.now) name.entry.text.now }
     ensures holds { IfSome result (IsTakenBy (taken_of taken.now) name.entry.text.now touch) }
 {
     let held = taken.holder(name.text)?;
     Some(Disowned::Taken(name, touch, held.holder, held.line))
+}
+
+// A name that is read is taken.
+#[tactic(auto, using(crate::proofs::Holds::read_barred))]
+fn of_read<'a>(taken: &Taken<'a>, name: Word<'a>) -> Option<Disowned<'a>>
+    ensures decides { is_some result ≡ rule.is_taken (taken_of taken.now) name.entry.text.now }
+    ensures holds { IfSome result
+        (IsTakenBy (taken_of taken.now) name.entry.text.now touching.Read) }
+{
+    let held = taken.taker(name.text)?;
+    Some(Disowned::Taken(name, Touch::Read, held.holder, held.line))
 }
 
 // The loop around, where the name is from outside its body.
@@ -220,8 +240,8 @@ fn of_written<'a>(around: Within<'a>, known: &Known<'a>, name: &'a Name) -> Opti
     Some(Disowned::OuterWritten(word, looped.line))
 }
 
-// An array from outside the loop around is named otherwise than by an element of it.
-fn of_array<'a>(around: Within<'a>, known: &Known<'a>, name: Word<'a>) -> Option<Disowned<'a>>
+/// An array from outside the loop around is named otherwise than by an element of it.
+pub fn of_array<'a>(around: Within<'a>, known: &Known<'a>, name: Word<'a>) -> Option<Disowned<'a>>
     ensures decides { is_some result
         ≡ rule.is_outer (around_of (locals_of known.now) around.entry) name.entry.text.now }
     ensures holds { IfSome result (λ r. (taken : rule.Taken) →
@@ -287,9 +307,9 @@ fn of_expr<'a>(
 {
     match e {
         Expr::Number(_) => None,
-        Expr::Variable(x) => Some(of_touch(taken, Word::of(x), Touch::Read)?),
+        Expr::Variable(x) => Some(of_read(taken, Word::of(x))?),
         Expr::Element(a, e) => {
-            if let Some(reason) = of_touch(taken, Word::of(a), Touch::Read) {
+            if let Some(reason) = of_read(taken, Word::of(a)) {
                 return Some(reason);
             }
             if let Some(reason) = of_expr(around, known, taken, e) {
@@ -299,7 +319,7 @@ fn of_expr<'a>(
             Some(reason)
         }
         Expr::Length(a) => {
-            if let Some(reason) = of_touch(taken, Word::of(a), Touch::Read) {
+            if let Some(reason) = of_read(taken, Word::of(a)) {
                 return Some(reason);
             }
             let reason = of_array(around, known, Word::of(a))?;
@@ -341,7 +361,7 @@ fn of_assign<'a>(
     Some(reason)
 }
 
-// An integer is written that is taken, or that is from outside the loop around.
+// An integer is written that is held, or that is from outside the loop around.
 fn of_write<'a>(
     around: Within<'a>,
     known: &Known<'a>,
@@ -376,7 +396,7 @@ fn of_assign_element<'a>(
         (taken_of taken.now) (expr_of i.now)
         && rule.may_read (around_of (locals_of known.now) around.entry)
         (taken_of taken.now) (expr_of e.now)
-        && rule.are_free (taken_of taken.now) (a.now ∷ [])
+        && rule.are_loose (taken_of taken.now) (a.now ∷ [])
         && rule.may_index (around_of (locals_of known.now) around.entry) a.now (expr_of i.now)) }
     ensures holds { IfSome result
         (IsWrongAmong (where_of (locals_of known.now) around.entry (taken_of taken.now))
@@ -393,7 +413,7 @@ fn of_assign_element<'a>(
     Some(reason)
 }
 
-// An element is written of an array that is taken, or that the loop around may not touch there.
+// An element is written of an array that is held, or that the loop around may not touch there.
 fn of_element_written<'a>(
     around: Within<'a>,
     known: &Known<'a>,
@@ -402,7 +422,7 @@ fn of_element_written<'a>(
     i: &Expr,
 ) -> Option<Disowned<'a>>
     ensures decides { is_some result
-        ≡ not (rule.are_free (taken_of taken.now) (a.now ∷ [])
+        ≡ not (rule.are_loose (taken_of taken.now) (a.now ∷ [])
         && rule.may_index (around_of (locals_of known.now) around.entry) a.now (expr_of i.now)) }
     ensures holds { IfSome result
         (IsWrongDoing (where_of (locals_of known.now) around.entry (taken_of taken.now))
@@ -438,7 +458,7 @@ fn of_cut<'a>(
     Some(reason)
 }
 
-// An array is touched as a whole that is taken, or that is from outside the loop around.
+// An array is touched as a whole, not only read, that is held, or that is from outside the loop around.
 fn of_whole<'a>(
     around: Within<'a>,
     known: &Known<'a>,
@@ -446,6 +466,7 @@ fn of_whole<'a>(
     name: Word<'a>,
     touch: Touch,
 ) -> Option<Disowned<'a>>
+    requires { is_read touch ≡ false }
     ensures decides { is_some result
         ≡ not (rule.may_write (around_of (locals_of known.now) around.entry)
         (taken_of taken.now) (name.entry.text.now ∷ [])) }
@@ -476,6 +497,33 @@ fn of_call<'a>(
     ensures holds { IfOk result (λ found. IfSome found
         (IsWrongOr (where_of (locals_of known.now) around.entry (taken_of taken.now))
         (doings_in_call (program_of ast.now).functions call.now.target call.now.callee
+        (exprs_of call.now.arguments.items))
+        (IsTangled (program_of ast.now) call.now))) }
+{
+    let found = of_given(alloc, ast, around, known, taken, call)?;
+    if found.is_some() {
+        return Ok(found);
+    }
+    let shared = of_shared(alloc, ast, around, known, call)?;
+    Ok(shared)
+}
+
+// An argument of a call or its target breaks a rule, but for the arrays that it only reads.
+fn of_given<'a>(
+    alloc: Global,
+    ast: &'a Ast,
+    around: Within<'a>,
+    known: &Known<'a>,
+    taken: &Taken<'a>,
+    call: &'a Call,
+) -> Result<Option<Disowned<'a>>, AllocError>
+    ensures decides { IfOk result (λ found. is_some found
+        ≡ not (keeps_given (program_of ast.now).functions
+        (around_of (locals_of known.now) around.entry)
+        (taken_of taken.now) call.now.target call.now.callee (exprs_of call.now.arguments.items))) }
+    ensures holds { IfOk result (λ found. IfSome found
+        (IsWrongOr (where_of (locals_of known.now) around.entry (taken_of taken.now))
+        (doings_of_call (program_of ast.now).functions call.now.target call.now.callee
         (exprs_of call.now.arguments.items))
         (IsGivenTwice call.now.callee (rule.given (program_of ast.now).functions call.now.callee
         (exprs_of call.now.arguments.items))))) }
@@ -533,9 +581,9 @@ fn of_arguments<'a>(
     let arguments = call.arguments.as_slice();
     let mut given = Vec::new(alloc);
     for i in 0..arguments.len() {
-        let is_array = is_array_at(params, i);
+        let takes = takes_array_at(params, i);
         let e = &arguments[i];
-        let found = of_argument(around, known, taken, callee, is_array, &mut given, e)?;
+        let found = of_argument(around, known, taken, callee, takes, &mut given, e)?;
         if found.is_some() {
             return Ok(found);
         }
@@ -554,14 +602,24 @@ fn params_of<'a>(ast: &'a Ast, name: &[u8]) -> &'a [Param]
     }
 }
 
-// Whether the parameter at a place is an array.
-fn is_array_at(params: &[Param], place: usize) -> bool
-    ensures { result ≡ is_array_first (drop place (map param_of params.now)) }
+// Whether the parameter at a place takes an array.
+fn takes_array_at(params: &[Param], place: usize) -> bool
+    ensures { result ≡ is_taken_first (drop place (map param_of params.now)) }
 {
     if place >= params.len() {
         return false;
     }
-    params[place].is_array
+    takes_array(params[place].kind)
+}
+
+// Whether an argument of this kind is given away.
+fn takes_array(kind: NameKind) -> bool
+    ensures { result ≡ model.is_written_kind kind }
+{
+    match kind {
+        NameKind::Array => true,
+        NameKind::Integer | NameKind::Const => false,
+    }
 }
 
 // An argument breaks a rule, behind those whose arrays are given.
@@ -570,22 +628,22 @@ fn of_argument<'a>(
     known: &Known<'a>,
     taken: &Taken<'a>,
     callee: Word<'a>,
-    is_array: bool,
+    takes: bool,
     given: &mut Vec<Word<'a>>,
     e: &'a Expr,
 ) -> Result<Option<Disowned<'a>>, AllocError>
     ensures decides { IfOk result (λ found. is_some found
         ≡ not (keeps_argument (around_of (locals_of known.now) around.entry) (taken_of taken.now)
-        (spelled given.old.items) is_array (expr_of e.now))) }
+        (spelled given.old.items) takes (expr_of e.now))) }
     ensures grows { OnOk result
         (spelled given.new.items
-        ≡ spelled given.old.items ++ (if is_array then rule.names_in (expr_of e.now) else [])) }
+        ≡ spelled given.old.items ++ (if takes then rule.names_in (expr_of e.now) else [])) }
     ensures holds { IfOk result (λ found. IfSome found
         (IsWrongOr (where_of (locals_of known.now) around.entry (taken_of taken.now))
-        (doings_in_argument is_array (expr_of e.now))
+        (doings_in_argument takes (expr_of e.now))
         (IsGivenTwice callee.entry.text.now (spelled given.new.items)))) }
 {
-    if !is_array {
+    if !takes {
         return Ok(of_expr(around, known, taken, e));
     }
     let before = given.len();
@@ -621,6 +679,7 @@ fn of_lent<'a>(
 }
 
 // A name may not be lent behind others.
+#[tactic(auto, using(crate::proofs::Holds::lends_more))]
 fn of_lent_name<'a>(
     around: Within<'a>,
     known: &Known<'a>,
@@ -630,7 +689,7 @@ fn of_lent_name<'a>(
     name: Word<'a>,
 ) -> Option<Disowned<'a>>
     ensures decides { is_some result
-        ≡ not (not (rule.is_taken (taken_of taken.now) name.entry.text.now)
+        ≡ not (not (rule.is_held (taken_of taken.now) name.entry.text.now)
         && (not (rule.is_outer (around_of (locals_of known.now) around.entry) name.entry.text.now)
         && not (is_among name.entry.text.now (spelled earlier.now)))) }
     ensures holds { IfSome result
@@ -647,8 +706,8 @@ fn of_lent_name<'a>(
     None
 }
 
-// Whether a name is one of these.
-fn is_earlier(earlier: &[Word<'_>], name: Word<'_>) -> bool
+/// Whether a name is one of these.
+pub fn is_earlier(earlier: &[Word<'_>], name: Word<'_>) -> bool
     ensures { result ≡ is_among name.entry.text.now (spelled earlier.now) }
 {
     for word in earlier {

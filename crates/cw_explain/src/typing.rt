@@ -10,6 +10,8 @@ use std::fmt;
 pub enum Other {
     Integer,
     Array,
+    /// An array that is only read.
+    Const,
     Function,
     Reducer,
 }
@@ -19,6 +21,7 @@ impl fmt::Display for Other {
         match self {
             Other::Integer => write!(f, "an integer"),
             Other::Array => write!(f, "an array"),
+            Other::Const => write!(f, "an array that is only read"),
             Other::Function => write!(f, "a function"),
             Other::Reducer => write!(f, "a reducer"),
         }
@@ -46,6 +49,8 @@ pub enum IllTyped<'a> {
     NotInteger(Word<'a>, Other, u32),
     /// A name stands where an array must, and is something else.
     NotArray(Word<'a>, Other, u32),
+    /// A const parameter stands where an array must that may be written.
+    OnlyRead(Word<'a>, u32),
     /// A name is declared where it is known already.
     Known(Word<'a>, u32),
     /// A local name is that of a function or a reducer.
@@ -87,6 +92,7 @@ impl IllTyped<'_> {
             IllTyped::Repeated(_, line)
             | IllTyped::NotInteger(_, _, line)
             | IllTyped::NotArray(_, _, line)
+            | IllTyped::OnlyRead(_, line)
             | IllTyped::Known(_, line)
             | IllTyped::Global(_, _, line)
             | IllTyped::Count(_, _, _, line)
@@ -105,6 +111,7 @@ impl fmt::Display for IllTyped<'_> {
             IllTyped::Unknown(_)
             | IllTyped::NotInteger(_, _, _)
             | IllTyped::NotArray(_, _, _)
+            | IllTyped::OnlyRead(_, _)
             | IllTyped::Known(_, _)
             | IllTyped::Global(_, _, _)
             | IllTyped::NotReducer(_, _)
@@ -169,6 +176,10 @@ fn fmt_name<W: fmt::Write>(reason: &IllTyped<'_>, f: &mut fmt::Formatter<W>) -> 
                 "an array must stand here, and {name} is {other} (line {line})"
             )
         }
+        IllTyped::OnlyRead(name, line) => write!(
+            f,
+            "{name} in line {line} is const: it is read by {name}[..] and len({name}), and passed to a const parameter"
+        ),
         IllTyped::Known(name, line) => write!(
             f,
             "{name} is declared where the {name} of line {line} is still known: take another name, or leave out 'int' to assign"

@@ -42,6 +42,23 @@ const TAKEN: &[(&str, &str)] = &[
         "int f() { return 1; }\nint main(int n) {\n  if (n) {\n    int x = 0;\n    x = cilk_spawn f();\n  }\n  return 0;\n}",
         "refused 4 line 4\nthe block of x, declared in line 4, ends, and the call spawned in line 5 gives its result at the next cilk_sync; put a cilk_sync before the end of the block; turns that run side by side are those of a cilk_for\n  4 |     int x = 0;\n  5 |     x = cilk_spawn f();\n",
     ),
+    // arrays that are only read
+    (
+        "int get(const int a[]) { return a[0]; }\nint main() {\n  int a[2];\n  int x = 0;\n  x = cilk_spawn get(a);\n  a[0] = 1;\n  cilk_sync;\n  return x;\n}",
+        "refused 4 line 6\na is written in line 6, and the call spawned in line 5 reads it until the next cilk_sync\n  5 |   x = cilk_spawn get(a);\n  6 |   a[0] = 1;\n",
+    ),
+    (
+        "void f(int a[]) { }\nint get(const int a[]) { return a[0]; }\nint main() {\n  int a[2];\n  int x = 0;\n  x = cilk_spawn get(a);\n  f(a);\n  cilk_sync;\n  return x;\n}",
+        "refused 4 line 7\na is passed in line 7, and the call spawned in line 6 reads it until the next cilk_sync; calls that run side by side may read one array, each as const, and none writes it meanwhile\n  6 |   x = cilk_spawn get(a);\n  7 |   f(a);\n",
+    ),
+    (
+        "void f(int a[]) { }\nint get(const int a[]) { return a[0]; }\nint main() {\n  int a[2];\n  int x = 0;\n  cilk_spawn f(a);\n  x = get(a);\n  cilk_sync;\n  return x;\n}",
+        "refused 4 line 7\na is read in line 7, and the call spawned in line 6 has it until the next cilk_sync\n  6 |   cilk_spawn f(a);\n  7 |   x = get(a);\n",
+    ),
+    (
+        "int get(const int a[]) { return a[0]; }\nint main(int n) {\n  if (n) {\n    int a[2];\n    cilk_spawn get(a);\n  }\n  return 0;\n}",
+        "refused 4 line 4\nthe block of a, declared in line 4, ends, and the call spawned in line 5 reads it until the next cilk_sync; put a cilk_sync before the end of the block; turns that run side by side are those of a cilk_for\n  4 |     int a[2];\n  5 |     cilk_spawn get(a);\n",
+    ),
     // in one line nothing is said of turns
     (
         "int f() { return 1; }\nint main() {\n  int x = 0;\n  x = cilk_spawn f(); print(x);\n  cilk_sync;\n  return x;\n}",
@@ -53,6 +70,10 @@ const TWICE: &[(&str, &str)] = &[
     (
         "void f(int a[], int b[]) { }\nint main() {\n  int a[4];\n  f(a, a);\n  return 0;\n}",
         "refused 4 line 4\nf is given a twice: the arrays of a call differ; cut a and pass its parts\n  4 |   f(a, a);\n",
+    ),
+    (
+        "void f(int a[], const int b[]) { }\nint main() {\n  int a[4];\n  f(a, a);\n  return 0;\n}",
+        "refused 4 line 4\nf is given a, and reads it as const besides: an array that a call may write stands once in it; copy it, or cut a and pass its parts\n  4 |   f(a, a);\n",
     ),
     (
         "int main() {\n  int a[4];\n  cilk_for (int i = 0; i < 4; i++) over (a, a) { }\n  return 0;\n}",
@@ -69,6 +90,10 @@ const LOOPS: &[(&str, &str)] = &[
     (
         "int main() {\n  int a[4];\n  cilk_for (int i = 0; i < 4; i++) {\n    a[i] = i;\n  }\n  return 0;\n}",
         "refused 4 line 4\na is from outside of the cilk_for in line 3: its body touches such an array only where over(a) names it, and then only the element of its own turn\n  3 |   cilk_for (int i = 0; i < 4; i++) {\n  4 |     a[i] = i;\n",
+    ),
+    (
+        "int get(const int a[]) { return a[0]; }\nint main() {\n  int a[4];\n  cilk_for (int i = 0; i < 4; i++) {\n    get(a);\n  }\n  return 0;\n}",
+        "refused 4 line 5\na is from outside of the cilk_for in line 4: its body touches such an array only where over(a) names it, and then only the element of its own turn\n  4 |   cilk_for (int i = 0; i < 4; i++) {\n  5 |     get(a);\n",
     ),
     (
         "int main() {\n  int a[4];\n  cilk_for (int i = 0; i < 4; i++) over (a) {\n    a[0] = i;\n  }\n  return 0;\n}",

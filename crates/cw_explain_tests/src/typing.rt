@@ -56,6 +56,14 @@ const NAMES: &[(&str, &str)] = &[
         "refused 3 line 10\nan integer must stand here, and a is an array (line 2)\n   2 |   int a[3];\n  10 |   return a + 1;\n",
     ),
     (
+        "int f(const int a[]) {\n  return a;\n}\nint main() { return 0; }",
+        "refused 3 line 2\nan integer must stand here, and a is an array that is only read (line 1)\n  1 | int f(const int a[]) {\n  2 |   return a;\n",
+    ),
+    (
+        "int get(const int a[], int i) {\n  a[i] = 0;\n  return a[i];\n}\nint main() { return 0; }",
+        "refused 3 line 2\na in line 1 is const: it is read by a[..] and len(a), and passed to a const parameter\n  1 | int get(const int a[], int i) {\n  2 |   a[i] = 0;\n",
+    ),
+    (
         "void f() { }\nint main() {\n  return f;\n}",
         "refused 3 line 3\nan integer must stand here, and f is a function (line 1)\n  1 | void f() { }\n  3 |   return f;\n",
     ),

@@ -39,6 +39,7 @@ fn keywords_are_no_names(rt: HostRuntime) -> Result<(), Fail> {
     for (text, kind) in [
         ("int", Kind::Int),
         ("void", Kind::Void),
+        ("const", Kind::Const),
         ("if", Kind::If),
         ("else", Kind::Else),
         ("while", Kind::While),
@@ -77,6 +78,9 @@ fn other_words_are_names(rt: HostRuntime) -> Result<(), Fail> {
         "max_",
         "maxi",
         "ma",
+        "Const",
+        "const_",
+        "cons",
         "for",
         "_",
         "a_B9",

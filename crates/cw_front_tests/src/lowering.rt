@@ -1,7 +1,7 @@
 //! Lowering of whole sources: loops in their order, the slots of their functions and the limit of their number, by hand.
 
 use cw_lex::lex;
-use cw_loops::tree::{Begin, Expr, Stmt};
+use cw_loops::tree::{Argument, Begin, Expr, Line, Stmt};
 use cw_loops::{Core, lower};
 use cw_own::own;
 use cw_parse::parse;
@@ -38,6 +38,23 @@ fn begun(stmt: &Stmt) -> Option<&Begin> {
         Stmt::Begin(begin) => Some(begin),
         _ => None,
     }
+}
+
+// How each array is passed by calls in a row, with its slot: whether it is only read.
+fn passed(alloc: Global, lines: &[Line]) -> Result<Vec<(bool, u32)>, AllocError> {
+    let mut all = Vec::new(alloc);
+    for line in lines {
+        if let Stmt::Call(call) = &line.stmt {
+            for e in &call.arguments {
+                match e {
+                    Argument::Int(_) => {}
+                    Argument::Array(slot) => all.push((false, *slot))?,
+                    Argument::Shared(slot) => all.push((true, *slot))?,
+                }
+            }
+        }
+    }
+    Ok(all)
 }
 
 // So many functions of 64 loops each, a loop on each line, and a main of so many loops more.
@@ -122,6 +139,42 @@ return a[0]; }";
         }
     }
     assert_eq!(rt; moved, 2);
+    Ok(())
+}
+
+#[test]
+fn arrays_are_given_away_or_only_read(rt: HostRuntime) -> Result<(), Fail> {
+    let alloc = rt.alloc();
+    // in main z has the slot 0 and a 1; in a turn a has the slot 0, t 1 and u 2
+    let text =
+        b"void fill(int a[], const int b[]) { } int look(const int a[], int v) { return a[v]; }
+int main() { int z[2]; int a[9];
+fill(a, z); cilk_spawn look(z, 1);
+cilk_for (int i = 0; i < 9; i++) over (a) { int t[2]; int u[3]; fill(u, t); cilk_spawn look(u, i); look(t, 1); }
+cilk_sync; return a[0]; }";
+    match lowered(alloc, text.as_slice()) {
+        Ok(core) => {
+            let mut outside = Vec::new(alloc);
+            for body in &core.tree.bodies {
+                outside.push(passed(alloc, body.as_slice())?)?;
+            }
+            let mut inside = Vec::new(alloc);
+            for l in &core.tree.loops {
+                inside.push(passed(alloc, l.body.as_slice())?)?;
+            }
+            assert_eq!(rt; outside.len(), 3);
+            assert_eq!(rt;
+                outside[2].as_slice(),
+                &[(false, 1), (true, 0), (true, 0)][..]
+            );
+            assert_eq!(rt; inside.len(), 1);
+            assert_eq!(rt;
+                inside[0].as_slice(),
+                &[(false, 2), (true, 1), (true, 2), (true, 1)][..]
+            );
+        }
+        Err(_) => assert!(rt; false),
+    }
     Ok(())
 }
 

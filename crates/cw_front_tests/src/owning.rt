@@ -6,6 +6,7 @@
 mod arrays;
 mod branches;
 mod cuts;
+mod frozen;
 mod integers;
 mod joins;
 mod least;
@@ -21,11 +22,13 @@ use cw_types::check;
 use std::alloc::Global;
 use std::process::Abort;
 
-// Line 1 of each source: a reducer of each kind, and functions of integers and arrays.
+// Line 1 of each source: a reducer of each kind, functions of integers and arrays, and four that only read an array.
 const HEAD: &str =
     "reducer sum total; reducer max top; int f(int v) { return v; } int two(int v, int w) { return v; } \
 void g(int a[]) { } void h(int a[], int b[]) { } int s(int a[]) { return len(a); } \
-int n(int a[], int v) { return v; } void three(int a[], int v, int b[]) { }\n";
+int n(int a[], int v) { return v; } void three(int a[], int v, int b[]) { } \
+int look(const int a[]) { return len(a); } int pair(const int a[], const int b[]) { return a[0]; } \
+void fill(int a[], const int b[]) { } void spill(const int a[], int b[]) { }\n";
 
 // The beginning of `main`: two integers and two arrays in line 3.
 const MAIN: &str = "int main() {\nint x = 0; int y = 0; int a[2]; int b[2];\n";

@@ -1,6 +1,7 @@
 //! What the tables of tests stand on: sources from their text to their types.
 
 mod calls;
+mod consts;
 mod kinds;
 mod limits;
 mod names;

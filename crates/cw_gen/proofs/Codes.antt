@@ -2,7 +2,7 @@
 use Rattle.std.proofs.Common.{◌≡◌, ℕ, suc, ◌≤◌, Bool, not, cond, filter, List, [], ◌∷◌, ◌++◌, length, true, false, if◌then◌else◌, Option, Some, None, refl, sym, ap, ◌∙◌, arith, append_assoc, ℤ}
 use Rattle.std.specs.Prelude.{reverse, take, drop, map, min, is_none}
 use Rattle.std.proofs.lemmas.List.{append-nil, length-reverse, reverse-reverse}
-use Rattle.cw_model.specs.Syntax.{Name, Expr, Variable, Stmt, Block, End, Then, Param, Function}
+use Rattle.cw_model.specs.Syntax.{Name, Expr, Variable, Stmt, Block, End, Then, Param, Function, wants_array}
 use Rattle.std.specs.List.{list_all}
 use Rattle.cw_model.specs.Frames.{Frame, new_int, new_array, set_result}
 use Rattle.cw_model.specs.Outcome.{Outcome, Trace, then_do}
@@ -10,7 +10,8 @@ use Rattle.cw_model.specs.Meaning.{Returned, Completion, going, returned_arrays}
 use Rattle.cw_model.specs.Answers.{main_frame}
 use Rattle.cw_model.specs.Typing.{Returns, Nowhere, WithInt, Alone, surely_returns, block_returns}
 use Rattle.cw_model.specs.Ownership.{Taken}
-use Rattle.cw_tree.specs.Resolved.{Locals, slot_of, locals_of}
+use Rattle.cw_model.specs.Ownership as ownership
+use Rattle.cw_tree.specs.Resolved.{Locals, is_reader, slot_of, locals_of}
 use Rattle.cw_loops.specs.Slotted.{slotted_argument}
 use Rattle.cw_loops.specs.Slotted as slotted
 use Rattle.cw_code.specs.declared.code.Func.{Func}
@@ -18,7 +19,9 @@ use Rattle.cw_code.specs.Run.{Slots, Around, State, Transition, is_full, on_slot
 use Rattle.cw_gen.specs.Emit.{most_jump, distance, emitted_arg}
 use Rattle.cw_gen.proofs.Texts.{expr_code}
 use Rattle.cw_gen.proofs.Decided.{first_true, second_true}
-use Rattle.cw_gen.proofs.Fine.{NoArray, ArgFine, Room, Begins}
+use Rattle.cw_gen.specs.Marks.{Marks}
+use Rattle.cw_gen.proofs.Marked.{owned, read_in, told_at, AllOwn, settle_owned}
+use Rattle.cw_gen.proofs.Fine.{NoArray, ArrayAlone, Room, Begins}
 use Rattle.cw_gen.proofs.Stores.{Store, Outside, array_waits, Agrees}
 use Rattle.cw_gen.proofs.Names.{names_in, values_in, names_more, values_more, all_of}
 
@@ -42,6 +45,12 @@ take_all xs n e = ap (λ m. take m xs) e ∙ whole xs
 abbrev pub leaves : Option Name → List Param → List Expr → Frame → Returned → ℕ → Outcome Completion
 leaves target ps es frame r = going (set_result target r.0 (returned_arrays ps es r.1 frame))
 
+-- the arrays among arguments, whether they are given away or only read
+abbrev pub arrays_named : List Param → List Expr → List Name
+arrays_named [] es = []
+arrays_named (p ∷ ps) [] = []
+arrays_named (p ∷ ps) (e ∷ es) = (if wants_array p then ownership.names_in e else []) ++ arrays_named ps es
+
 -- a frame after values for parameters: integers and arrays, each in order
 pub record Bound (ps : List Param) (vs : List ℤ) (xss : List (List ℤ)) (before after : Frame) : Type 0 where
   pub ints : names_in after.ints ≡ names_in before.ints ++ (locals_of ps).ints
@@ -55,64 +64,64 @@ pub bound_none : (g : Frame) → Bound [] [] [] g g
 bound_none g = record { ints = sym (append-nil (names_in g.ints)); values = sym (append-nil (values_in g.ints)); arrays = sym (append-nil (names_in g.arrays)); elements = sym (append-nil (values_in g.arrays)); whole = refl }
 
 -- one integer, and then the rest
-pub bound_int : (p : Param) (ps : List Param) (v : ℤ) (vs : List ℤ) (xss : List (List ℤ)) (g after : Frame) → p.is_array ≡ false → Bound ps vs xss (new_int p.name v g) after → Bound (p ∷ ps) (v ∷ vs) xss g after
+pub bound_int : (p : Param) (ps : List Param) (v : ℤ) (vs : List ℤ) (xss : List (List ℤ)) (g after : Frame) → (wants_array p) ≡ false → Bound ps vs xss (new_int p.name v g) after → Bound (p ∷ ps) (v ∷ vs) xss g after
 bound_int p ps v vs xss g after is b = record {
-  ints = b.ints ∙ ap (λ l. l ++ (locals_of ps).ints) (names_more g.ints p.name v) ∙ append_assoc (names_in g.ints) (p.name ∷ []) (locals_of ps).ints ∙ ap (λ l. names_in g.ints ++ l) (sym (kept (not p.is_array) (ap not is)));
+  ints = b.ints ∙ ap (λ l. l ++ (locals_of ps).ints) (names_more g.ints p.name v) ∙ append_assoc (names_in g.ints) (p.name ∷ []) (locals_of ps).ints ∙ ap (λ l. names_in g.ints ++ l) (sym (kept (not (wants_array p)) (ap not is)));
   values = b.values ∙ ap (λ l. l ++ vs) (values_more g.ints p.name v) ∙ append_assoc (values_in g.ints) (v ∷ []) vs;
-  arrays = b.arrays ∙ ap (λ l. names_in g.arrays ++ l) (sym (left_out p.is_array is));
+  arrays = b.arrays ∙ ap (λ l. names_in g.arrays ++ l) (sym (left_out (wants_array p) is));
   elements = b.elements;
   whole = b.whole;
 }
   where
-    kept : (c : Bool) → c ≡ true → map (λ (q : Param). q.name) (cond c (p ∷ filter (λ q. not q.is_array) ps) (filter (λ q. not q.is_array) ps)) ≡ p.name ∷ (locals_of ps).ints
+    kept : (c : Bool) → c ≡ true → map (λ (q : Param). q.name) (cond c (p ∷ filter (λ q. not (wants_array q)) ps) (filter (λ q. not (wants_array q)) ps)) ≡ p.name ∷ (locals_of ps).ints
     kept true e = refl
     kept false e = cc
 
-    left_out : (c : Bool) → c ≡ false → map (λ (q : Param). q.name) (cond c (p ∷ filter (λ q. q.is_array) ps) (filter (λ q. q.is_array) ps)) ≡ (locals_of ps).arrays
+    left_out : (c : Bool) → c ≡ false → map (λ (q : Param). q.name) (cond c (p ∷ filter (λ q. (wants_array q)) ps) (filter (λ q. (wants_array q)) ps)) ≡ (locals_of ps).arrays
     left_out true e = cc
     left_out false e = refl
 
 -- one array, and then the rest
-pub bound_array : (p : Param) (ps : List Param) (xs : List ℤ) (vs : List ℤ) (xss : List (List ℤ)) (g after : Frame) → p.is_array ≡ true → Bound ps vs xss (new_array p.name xs g) after → Bound (p ∷ ps) vs (xs ∷ xss) g after
+pub bound_array : (p : Param) (ps : List Param) (xs : List ℤ) (vs : List ℤ) (xss : List (List ℤ)) (g after : Frame) → (wants_array p) ≡ true → Bound ps vs xss (new_array p.name xs g) after → Bound (p ∷ ps) vs (xs ∷ xss) g after
 bound_array p ps xs vs xss g after is b = record {
-  ints = b.ints ∙ ap (λ l. names_in g.ints ++ l) (sym (left_out (not p.is_array) (ap not is)));
+  ints = b.ints ∙ ap (λ l. names_in g.ints ++ l) (sym (left_out (not (wants_array p)) (ap not is)));
   values = b.values;
-  arrays = b.arrays ∙ ap (λ l. l ++ (locals_of ps).arrays) (names_more g.arrays p.name xs) ∙ append_assoc (names_in g.arrays) (p.name ∷ []) (locals_of ps).arrays ∙ ap (λ l. names_in g.arrays ++ l) (sym (kept p.is_array is));
+  arrays = b.arrays ∙ ap (λ l. l ++ (locals_of ps).arrays) (names_more g.arrays p.name xs) ∙ append_assoc (names_in g.arrays) (p.name ∷ []) (locals_of ps).arrays ∙ ap (λ l. names_in g.arrays ++ l) (sym (kept (wants_array p) is));
   elements = b.elements ∙ ap (λ l. l ++ xss) (values_more g.arrays p.name xs) ∙ append_assoc (values_in g.arrays) (xs ∷ []) xss;
   whole = b.whole;
 }
   where
-    kept : (c : Bool) → c ≡ true → map (λ (q : Param). q.name) (cond c (p ∷ filter (λ q. q.is_array) ps) (filter (λ q. q.is_array) ps)) ≡ p.name ∷ (locals_of ps).arrays
+    kept : (c : Bool) → c ≡ true → map (λ (q : Param). q.name) (cond c (p ∷ filter (λ q. (wants_array q)) ps) (filter (λ q. (wants_array q)) ps)) ≡ p.name ∷ (locals_of ps).arrays
     kept true e = refl
     kept false e = cc
 
-    left_out : (c : Bool) → c ≡ false → map (λ (q : Param). q.name) (cond c (p ∷ filter (λ q. not q.is_array) ps) (filter (λ q. not q.is_array) ps)) ≡ (locals_of ps).ints
+    left_out : (c : Bool) → c ≡ false → map (λ (q : Param). q.name) (cond c (p ∷ filter (λ q. not (wants_array q)) ps) (filter (λ q. not (wants_array q)) ps)) ≡ (locals_of ps).ints
     left_out true e = cc
     left_out false e = refl
 
 -- the frame of main
-pub bound_main : (ps : List Param) (vs : List ℤ) (g : Frame) → list_all (λ p. not p.is_array) ps ≡ true → length vs ≡ length ps → Bound ps vs [] g (main_frame ps vs g)
+pub bound_main : (ps : List Param) (vs : List ℤ) (g : Frame) → list_all (λ p. not (wants_array p)) ps ≡ true → length vs ≡ length ps → Bound ps vs [] g (main_frame ps vs g)
 bound_main [] [] g ints n = bound_none g
 bound_main [] (v ∷ vs) g ints n = absurd (omega (arith, n))
 bound_main (p ∷ ps) [] g ints n = absurd (omega (arith, n))
 bound_main (p ∷ ps) (v ∷ vs) g ints n =
-    let rest = list_all (λ q. not q.is_array) ps in
-    bound_int p ps v vs [] g (main_frame ps vs (new_int p.name v g)) (negated p.is_array (first_true (not p.is_array) rest ints)) (bound_main ps vs (new_int p.name v g) (second_true (not p.is_array) rest ints) (omega (arith, n)))
+    let rest = list_all (λ q. not (wants_array q)) ps in
+    bound_int p ps v vs [] g (main_frame ps vs (new_int p.name v g)) (negated (wants_array p) (first_true (not (wants_array p)) rest ints)) (bound_main ps vs (new_int p.name v g) (second_true (not (wants_array p)) rest ints) (omega (arith, n)))
   where
     negated : (b : Bool) → not b ≡ true → b ≡ false
     negated true h = cc
     negated false h = refl
 
 -- main takes no array, and an integer for each parameter
-pub main_locals : (ps : List Param) → list_all (λ p. not p.is_array) ps ≡ true → (length (locals_of ps).ints ≡ length ps) × (length (locals_of ps).arrays ≡ 0)
+pub main_locals : (ps : List Param) → list_all (λ p. not (wants_array p)) ps ≡ true → (length (locals_of ps).ints ≡ length ps) × (length (locals_of ps).arrays ≡ 0)
 main_locals [] ints = (refl, refl)
 main_locals (p ∷ ps) ints =
-    let rest = list_all (λ q. not q.is_array) ps in
-    let more = main_locals ps (second_true (not p.is_array) rest ints) in
-    test p.is_array (first_true (not p.is_array) rest ints) more.0 more.1
+    let rest = list_all (λ q. not (wants_array q)) ps in
+    let more = main_locals ps (second_true (not (wants_array p)) rest ints) in
+    test (wants_array p) (first_true (not (wants_array p)) rest ints) more.0 more.1
   where
     test : (b : Bool) → not b ≡ true → length (locals_of ps).ints ≡ length ps → length (locals_of ps).arrays ≡ 0 →
-        (length (map (λ (q : Param). q.name) (cond (not b) (p ∷ filter (λ q. not q.is_array) ps) (filter (λ q. not q.is_array) ps))) ≡ suc (length ps)) × (length (map (λ (q : Param). q.name) (cond b (p ∷ filter (λ q. q.is_array) ps) (filter (λ q. q.is_array) ps))) ≡ 0)
+        (length (map (λ (q : Param). q.name) (cond (not b) (p ∷ filter (λ q. not (wants_array q)) ps) (filter (λ q. not (wants_array q)) ps))) ≡ suc (length ps)) × (length (map (λ (q : Param). q.name) (cond b (p ∷ filter (λ q. (wants_array q)) ps) (filter (λ q. (wants_array q)) ps))) ≡ 0)
     test true h a b = cc
     test false h a b = (ap suc a, b)
 
@@ -132,35 +141,42 @@ distance_is n le = least n most_jump le
     least a b h = omega (arith, h)
 
 -- an integer as an argument
-pub arg_code : (locals : Locals) (line : ℕ) (e : Expr) → NoArray locals e → emitted_arg line (slotted_argument locals e) ≡ expr_code locals line e
-arg_code locals line (Variable x) h = ap (λ b. emitted_arg line (if b then slotted.Array (slot_of x locals.arrays) else slotted.Int (slotted.Variable (slot_of x locals.ints)))) h
-arg_code locals line _ h = refl
+pub arg_code : (marks : Marks) (locals : Locals) (line : ℕ) (ps : List Param) (e : Expr) → NoArray locals e → emitted_arg marks line (slotted_argument locals ps e) ≡ expr_code marks locals line e
+arg_code marks locals line ps (Variable x) h = ap (λ b. emitted_arg marks line (if b then slotted.slot_to ps (slot_of x locals.arrays) else slotted.Int (slotted.Variable (slot_of x locals.ints)))) h
+arg_code marks locals line ps _ h = refl
 
 -- an array as an argument
-pub array_code : (locals : Locals) (taken : Taken) (line : ℕ) (e : Expr) → ArgFine true locals taken e → emitted_arg line (slotted_argument locals e) ≡ []
-array_code locals taken line (Variable x) h = ap (λ b. emitted_arg line (if b then slotted.Array (slot_of x locals.arrays) else slotted.Int (slotted.Variable (slot_of x locals.ints)))) h.declared
-array_code locals taken line _ h = absurd h
+pub array_code : (marks : Marks) (locals : Locals) (line : ℕ) (ps : List Param) (e : Expr) → ArrayAlone locals e → emitted_arg marks line (slotted_argument locals ps e) ≡ []
+array_code marks locals line ps (Variable x) h =
+    ap (λ b. emitted_arg marks line (if b then slotted.slot_to ps (slot_of x locals.arrays) else slotted.Int (slotted.Variable (slot_of x locals.ints)))) h
+    ∙ either (is_reader ps)
+  where
+    either : (b : Bool) → emitted_arg marks line (if b then slotted.Shared (slot_of x locals.arrays) else slotted.Array (slot_of x locals.arrays)) ≡ []
+    either true = refl
+    either false = refl
+array_code marks locals line ps _ h = absurd h
 
--- the state of a call at a place
-abbrev pub here : (depth : ℕ) → List Around → ℕ → List ℤ → Store → Trace → State
-here depth around place operands store trace = record {
+-- the state of a call at a place; array slots that are only read are readers there
+abbrev pub here : Marks → (depth : ℕ) → List Around → ℕ → List ℤ → Store → Trace → State
+here marks depth around place operands store trace = record {
   place = place;
   operands = operands;
   slots = store.slots;
-  arrays = store.arrays;
+  arrays = owned marks store.arrays;
+  readers = read_in marks store.arrays;
   results = store.results;
-  arrived = store.arrived;
+  arrived = told_at marks store.arrived;
   depth = depth;
   around = around;
   trace = trace;
 }
 
 -- the arrays of a call that ends are those of its frame, and its parameters' come first
-pub record GivesBack (given : List Name) (frame : Frame) (arrays : Slots (List ℤ)) : Type 0 where
+pub record GivesBack (marks : Marks) (given : List Name) (frame : Frame) (arrays : Slots (List ℤ)) : Type 0 where
   pub more : List Name
   pub named : names_in frame.arrays ≡ given ++ more
   pub rest : List (List ℤ)
-  pub are : arrays ≡ full (values_in frame.arrays ++ rest)
+  pub are : arrays ≡ owned marks (full (values_in frame.arrays ++ rest))
 
 -- a return stands in no block
 abbrev pub Outermost : Returns → Outside → Type 0
@@ -185,12 +201,14 @@ MayGive WithInt v = is_none v ≡ false
 MayGive Alone v = is_none v ≡ true
 
 -- what a call that ends gives back
-pub gives_back : (room : Room) (locals : Locals) (taken' : Taken) (frame : Frame) (store : Store) (outer : Outside) → outer ≡ [] → Begins room.given locals.arrays → Agrees locals taken' frame store outer → GivesBack room.given frame (settled store.arrived store.arrays)
-gives_back room locals taken' frame store outer e begins a = record {
+pub gives_back : (marks : Marks) (room : Room) (locals : Locals) (taken' : Taken) (frame : Frame) (store : Store) (outer : Outside) → outer ≡ [] → Begins room.given locals.arrays → Agrees locals taken' frame store outer → AllOwn marks store.arrived → GivesBack marks room.given frame (settled (told_at marks store.arrived) (owned marks store.arrays))
+gives_back marks room locals taken' frame store outer e begins a own = record {
   more = begins.more;
   named = a.arrays.named ∙ begins.is;
   rest = a.arrays.rest;
-  are = ap (λ l. settled l store.arrays) (sym (append-nil store.arrived)) ∙ ap (λ o. settled (store.arrived ++ all_of (array_waits o)) store.arrays) (sym e) ∙ a.arrays.held;
+  are =
+      sym (settle_owned marks store.arrived store.arrays own)
+      ∙ ap (owned marks) (ap (λ l. settled l store.arrays) (sym (append-nil store.arrived)) ∙ ap (λ o. settled (store.arrived ++ all_of (array_waits o)) store.arrays) (sym e) ∙ a.arrays.held);
 }
 
 -- a slot that is full

@@ -7,13 +7,15 @@ use Rattle.cw_model.specs.Syntax.{Name}
 use Rattle.cw_model.specs.Names.{same_name, is_among, find, put}
 use Rattle.cw_model.specs.Frames.{Frame, array_of, new_array, leave}
 use Rattle.cw_model.specs.Meaning.{uncut}
-use Rattle.cw_model.specs.Ownership.{CutOf, Taken, is_taken, cut_ended, freed, without}
+use Rattle.cw_model.specs.Ownership.{SpawnIn, ReaderIn, CutOf, Taken, is_taken, cut_ended, freed, without}
 use Rattle.cw_code.specs.declared.code.Halves.{Halves}
 use Rattle.cw_code.specs.Run.{is_full, settled, cut_arrays, may_cut, uncut_arrays}
 use Rattle.cw_tree.specs.Resolved.{Locals, slot_of, with_array}
 use Rattle.cw_tree.specs.lemmas.NamedSlots.{slot_stays, slot_in}
 use Rattle.cw_loops.specs.lemmas.Naming.{later_among, among_left}
 use Rattle.cw_gen.proofs.Decided.{both_true}
+use Rattle.cw_gen.specs.Marks.{Marks}
+use Rattle.cw_gen.proofs.Marked.{AllOwn}
 use Rattle.cw_gen.proofs.Fine.{IsUsable, Room}
 use Rattle.cw_gen.proofs.Takens.{holds, holds_behind, freed_without, spawn_past_cut}
 use Rattle.cw_gen.proofs.Names.{Entries, names_in, names_more, get-other, length-settled, AgreesOf, is_free}
@@ -41,15 +43,15 @@ uncut_store locals x y left right inner store =
 abbrev pub parted : (y z : Name) → List ℤ → ℕ → Frame → Frame
 parted y z xs n frame = new_array z (drop n xs) (new_array y (take n xs) frame)
 
-pub cut_fills : (locals : Locals) (x y : Name) (xs : List ℤ) (n : ℕ) (store : Store) (room : Room) → Fills store room → Fills (cut_store locals x y xs n store) room
-cut_fills locals x y xs n store room m =
+pub cut_fills : (marks : Marks) (locals : Locals) (x y : Name) (xs : List ℤ) (n : ℕ) (store : Store) (room : Room) → Fills marks store room → Fills marks (cut_store locals x y xs n store) room
+cut_fills marks locals x y xs n store room m =
     let h = cut_halves locals x y in
     let a = slice_set store.arrays h.array None in
     let b = slice_set a h.left (Some (take n xs)) in
-    record { ints = m.ints; arrays = length-set b h.right (Some (drop n xs)) ∙ length-set a h.left (Some (take n xs)) ∙ length-set store.arrays h.array None ∙ m.arrays }
+    record { ints = m.ints; arrays = length-set b h.right (Some (drop n xs)) ∙ length-set a h.left (Some (take n xs)) ∙ length-set store.arrays h.array None ∙ m.arrays; own = tt }
 
-pub uncut_fills : (locals : Locals) (x y : Name) (left right : List ℤ) (inner store : Store) (room : Room) → Fills inner room → Fills (uncut_store locals x y left right inner store) room
-uncut_fills locals x y left right inner store room m =
+pub uncut_fills : (marks : Marks) (locals : Locals) (x y : Name) (left right : List ℤ) (inner store : Store) (room : Room) → AllOwn marks store.arrived → Fills marks inner room → Fills marks (uncut_store locals x y left right inner store) room
+uncut_fills marks locals x y left right inner store room own m =
     let h = cut_halves locals x y in
     let none : List ℤ = [] in
     let s = settled inner.arrived inner.arrays in
@@ -58,6 +60,7 @@ uncut_fills locals x y left right inner store room m =
     record {
       ints = length-settled inner.results inner.slots ∙ m.ints;
       arrays = length-set b h.array (Some (left ++ right)) ∙ length-set a h.right (Some none) ∙ length-set s h.left (Some none) ∙ length-settled inner.arrived inner.arrays ∙ m.arrays;
+      own = own;
     }
 
 -- a cut finds its slots
@@ -135,12 +138,23 @@ among_first x ns more = ap (is_among x) (sym (append_assoc ns (x ∷ []) more)) 
 -- a name that is not taken is not taken of fewer
 free_without : (own : List Name) (taken : Taken) (x : Name) → is_taken taken x ≡ false → is_taken (without own taken) x ≡ false
 free_without own [] x h = refl
-free_without own (t ∷ taken) x h = test (free_without own taken x) (is_among t.0 own) (same_name x t.0) refl h
+free_without own ((y, SpawnIn d) ∷ taken) x h = test (free_without own taken x) (is_among y own) (same_name x y) refl h
   where
-    test : (is_taken taken x ≡ false → is_taken (without own taken) x ≡ false) → (b c : Bool) → same_name x t.0 ≡ c → (if c then true else is_taken taken x) ≡ false → is_taken (cond (not b) (t ∷ without own taken) (without own taken)) x ≡ false
+    test : (is_taken taken x ≡ false → is_taken (without own taken) x ≡ false) → (b c : Bool) → same_name x y ≡ c → (if c then true else is_taken taken x) ≡ false → is_taken (cond (not b) ((y, SpawnIn d) ∷ without own taken) (without own taken)) x ≡ false
     test more b true e h' = cc
     test more true false e h' = more h'
     test more false false e h' = ap (λ c. if c then true else is_taken (without own taken) x) e ∙ more h'
+free_without own ((y, CutOf) ∷ taken) x h = test (free_without own taken x) (is_among y own) (same_name x y) refl h
+  where
+    test : (is_taken taken x ≡ false → is_taken (without own taken) x ≡ false) → (b c : Bool) → same_name x y ≡ c → (if c then true else is_taken taken x) ≡ false → is_taken (cond (not b) ((y, CutOf) ∷ without own taken) (without own taken)) x ≡ false
+    test more b true e h' = cc
+    test more true false e h' = more h'
+    test more false false e h' = ap (λ c. if c then true else is_taken (without own taken) x) e ∙ more h'
+free_without own ((y, ReaderIn d) ∷ taken) x h = test (free_without own taken x h) (is_among y own)
+  where
+    test : is_taken (without own taken) x ≡ false → (b : Bool) → is_taken (cond (not b) ((y, ReaderIn d) ∷ without own taken) (without own taken)) x ≡ false
+    test more true = more
+    test more false = more
 
 -- names left out one after another
 without_both : (y z : Name) (own : List Name) (taken : Taken) → without (y ∷ z ∷ []) (without own taken) ≡ without (y ∷ z ∷ own) taken

@@ -4,7 +4,8 @@ use Rattle.std.specs.Prelude.{slice_get, map, replicate}
 use Rattle.std.proofs.Math.Seq.{get_or-append_seam}
 use Rattle.std.proofs.lemmas.List.{append-nil, length-replicate}
 use Rattle.std.proofs.lemmas.Option.{slice_get-get_or, slice_get_within}
-use Rattle.cw_model.specs.Syntax.{Function, Program}
+use Rattle.cw_model.specs.declared.syntax.NameKind.{NameKind}
+use Rattle.cw_model.specs.Syntax.{Param, Function, Program}
 use Rattle.cw_model.specs.Answers.{main_name}
 use Rattle.cw_model.specs.Typing.{WithInt, Alone, block_returns}
 use Rattle.cw_model.specs.Meaning.{function_named}
@@ -14,16 +15,18 @@ use Rattle.cw_loops.specs.Slotted.{slotted_function, lowered_lists}
 use Rattle.cw_code.specs.declared.code.Func.{Func}
 use Rattle.cw_code.specs.declared.code.Instr.{Instr}
 use Rattle.cw_code.specs.Code.{Code, reducer_names}
-use Rattle.cw_code.specs.Fits.{gives_value, array_params_of, are_apart, names_well, Shape, first_shape, FlowsInto, FitsFunc, LieFrom, Fits}
+use Rattle.cw_code.specs.Fits.{gives_value, array_params_of, readers_of, are_apart, names_well, Shape, first_shape, FlowsInto, FitsFunc, LieFrom, Fits}
 use Rattle.cw_gen.specs.Emit.{Tables, first_list, most_jump, emitted_end, emitted_func, emitted_instrs, emitted_funcs}
 use Rattle.cw_gen.proofs.CodedReducers.{names_kept}
 use Rattle.cw_gen.proofs.Codes.{main_locals}
-use Rattle.cw_gen.proofs.Entries.{ints_of, arrays_of, params_counted, as_counted, main_slot}
-use Rattle.cw_gen.proofs.Fine.{Room, room_of, is_function, BlockFine, FunctionFine, FunctionsFine, ProgramFine}
+use Rattle.cw_gen.proofs.Entries.{ints_of, arrays_of, as_counted, main_slot}
+use Rattle.cw_gen.proofs.Marked.{length_owned}
+use Rattle.cw_gen.proofs.MarkedParams.{counted_ints, counted_arrays, counted_readers, both_counted, marks_short}
+use Rattle.cw_gen.proofs.Fine.{Room, room_of, marks_for, is_function, BlockFine, FunctionFine, FunctionsFine, ProgramFine}
 use Rattle.cw_gen.proofs.Texts as texts
 use Rattle.cw_gen.proofs.Texts.{block_code, function_code, tables_in, code_of, room_of_func, TurnsClose}
 use Rattle.cw_gen.proofs.Places.{HasAt, has_all, length_within}
-use Rattle.cw_gen.proofs.Rows.{row, length-row, covers_none}
+use Rattle.cw_gen.proofs.Rows.{row, array_row, length-row, covers_none}
 use Rattle.cw_gen.proofs.Shapes.{Shapes, shape_at, reached, end_shape, block_shapes, block_as_many}
 use Rattle.cw_gen.proofs.Settings.{Setting, StandsAt, stands_front, stands_back, flat, table_of, exact, takes_less, Returning, FitsAt, AllFit, both_fit}
 use Rattle.cw_gen.proofs.FittingFirsts.{block_enters}
@@ -72,7 +75,7 @@ module _ (code : Code) (fs : List Function) (lists : Lists) (small : length code
     locals = locals_of g.params
 
     abbrev body : List Instr
-    body = block_code first lists locals g.body
+    body = block_code first (marks_for g.params) lists locals g.body
 
     abbrev body_shapes : Shapes
     body_shapes = block_shapes fs size [] locals [] g.body
@@ -89,12 +92,15 @@ module _ (code : Code) (fs : List Function) (lists : Lists) (small : length code
     abbrev tab : Shapes
     tab = replicate start None ++ shapes
 
+    abbrev kinds : List NameKind
+    kinds = map (λ (p : Param). p.kind) g.params
+
     -- the entry has the room that its text needs
     same_room : room_of lists g ≡ size
-    same_room = as_counted lists g first start
+    same_room = as_counted lists g first start fine.array_room
 
-    fine_body : BlockFine fs lists tables size (if g.gives_int then WithInt else Alone) 1 locals [] g.body
-    fine_body = subst (λ q. BlockFine fs lists tables q (if g.gives_int then WithInt else Alone) 1 locals [] g.body) same_room fine.body
+    fine_body : BlockFine fs lists tables size.marks size (if g.gives_int then WithInt else Alone) 1 locals [] g.body
+    fine_body = subst (λ q. BlockFine fs lists tables (marks_for g.params) q (if g.gives_int then WithInt else Alone) 1 locals [] g.body) same_room fine.body
 
     room : (length locals.ints ≤ size.ints) × (length locals.arrays ≤ size.arrays)
     room = (omega (arith, fine.room, ap ints_of same_room), omega (arith, fine.array_room, ap arrays_of same_room))
@@ -123,7 +129,10 @@ module _ (code : Code) (fs : List Function) (lists : Lists) (small : length code
       least = least;
       f = f;
       given_arrays = locals.arrays;
-      few_given = (params_counted g.params).1;
+      marks = marks_for g.params;
+      few_given = both_counted kinds ∙ sym (counted_arrays g.params);
+      many_read = counted_readers g.params;
+      marks_fit = omega (arith, room.1, marks_short g.params);
       tab = tab;
       within = within;
     }
@@ -160,7 +169,7 @@ module _ (code : Code) (fs : List Function) (lists : Lists) (small : length code
     ends : (b : Bool) → g.gives_int ≡ b → (r : Bool) → AllFit setting (start + length body) (if b then [] else reached r (end_shape fs size [] locals [] g.body) ∷ []) (emitted_end b)
     ends true e r = tt
     ends false e true = (ap not e, tt)
-    ends false e false = ((ap not e, refl, tt), tt)
+    ends false e false = ((ap not e, refl, tt, refl), tt)
 
     all_fit : AllFit setting start shapes (function_code first lists g)
     all_fit =
@@ -168,11 +177,18 @@ module _ (code : Code) (fs : List Function) (lists : Lists) (small : length code
         (block_fits setting (if g.gives_int then WithInt else Alone) 1 [] locals [] g.body start refl room tt (returning g.gives_int refl) fine_body short (stands_front tab start body_shapes (end_shapes g.gives_int) stands) closes)
         (ends g.gives_int refl (block_returns g.body))
 
+    -- a row of arrays is as long as the entry says
+    as_long : length (array_row size 1 locals.arrays []) ≡ f.arrays
+    as_long =
+        let r = row size.arrays 1 locals.arrays [] in
+        let n : length r ≡ size.arrays = length-row size.arrays 1 locals.arrays [] in
+        omega (arith, n, length_owned size.marks r (omega (arith, n, room.1, marks_short g.params)), counted_readers g.params)
+
     starts : FlowsInto (table_of tab) start (first_shape f)
     starts =
         takes_less (table_of tab) start (first_shape f) (shape_at size [] locals [] 0)
         (block_enters setting (if g.gives_int then WithInt else Alone) 1 [] locals [] g.body start refl room tt fine_body (stands_front tab start body_shapes (end_shapes g.gives_int) stands) closes)
-        refl (covers_none (row size.ints 1 locals.ints []) size.ints (length-row size.ints 1 locals.ints []), covers_none (row size.arrays 1 locals.arrays []) size.arrays (length-row size.arrays 1 locals.arrays []), tt)
+        refl (covers_none (row size.ints 1 locals.ints []) size.ints (length-row size.ints 1 locals.ints []), covers_none (array_row size 1 locals.arrays []) f.arrays as_long, covers_none (array_row size 1 locals.arrays []) f.arrays as_long, tt)
 
     abbrev FitsHere : ℕ → Option Shape → Instr → Type 0
     FitsHere place o i = FitsAt setting place o i
@@ -205,14 +221,15 @@ module _ (code : Code) (fs : List Function) (lists : Lists) (small : length code
 
     pub function_fits : FitsFunc code f
     function_fits = record {
-      room = omega (arith, room.0, (params_counted g.params).0);
-      array_room = omega (arith, room.1, (params_counted g.params).1);
+      room = omega (arith, room.0, counted_ints g.params);
+      array_room = omega (arith, room.1, counted_arrays g.params, both_counted kinds);
       names = λ place i le below e. named (flat (slice_get tab place)) place i (fits_at place i le below e);
       table = table_of tab;
       is_table = record {
         starts = starts;
         within = within;
         ready = λ place shape i e e'. (found_at place shape i e e').1;
+        thawed = λ place shape i e e'. (found_at place shape i e e').3;
         goes = λ place shape i e e'. (found_at place shape i e e').2;
       };
     }
@@ -257,7 +274,8 @@ generated_fits program is_main small least functions fine apart =
     let all = row_fits code (lowered program).functions (lowered_lists program) small functions (names_kept program.reducers) refl least [] (lowered program).functions refl fine.functions in
     record {
       main = ap gives_value at ∙ entry.2.gives ∙ fine.gives;
-      of_integers = ap array_params_of at ∙ entry.2.array_params ∙ (main_locals main.params fine.ints).1;
+      of_integers = omega (arith, ap array_params_of at, entry.2.readers, (main_locals main.params fine.ints).1);
+      reads_none = omega (arith, ap readers_of at, entry.2.readers, (main_locals main.params fine.ints).1);
       reducers = ap are_apart (names_kept program.reducers) ∙ fine.reducers;
       tags = apart;
       lie = subst (λ m. LieFrom 0 code.funcs m) none_before all.lie;

@@ -18,7 +18,8 @@ use Rattle.cw_gen.proofs.Held.{held_after_all}
 use Rattle.cw_gen.proofs.Decided.{both_true, below}
 use Rattle.cw_gen.proofs.Fine.{ExprFine, ReturnFine, IsListed, BlockFine, EndsFree}
 use Rattle.cw_gen.proofs.Texts.{expr_code, block_code}
-use Rattle.cw_gen.proofs.Rows.{row, length-row, covers_itself, covers_none, outers, Over, each_covers_itself, CutsOpen}
+use Rattle.cw_gen.proofs.Frozen.{frozen_of}
+use Rattle.cw_gen.proofs.Rows.{row, array_row, length-row, length_array_row, covers_itself, covers_none, outers, Over, each_covers_itself, CutsOpen}
 use Rattle.cw_gen.proofs.Shapes.{Opened, depth_in, expr_shapes, reached, end_shape, block_shapes, block_as_many}
 use Rattle.cw_gen.proofs.Settings.{Setting, StandsAt, stands_front, stands_back, exact, takes_less, Returning, tables, first, table, size, HasRoom, FitsAt, AllFit, both_fit, lies, made}
 use Rattle.cw_gen.proofs.FittingExprs.{valued_fits}
@@ -42,21 +43,21 @@ module _ (setting : Setting) where
   jump_fits false place n shape next enters leads reach r e =
       let at : place + 1 + n ≡ place + 1 + past r n = omega (arith, ap (λ q. past q n) e, reach) in
       let there = subst (λ p. FlowsInto (table setting) p shape) at (leads refl) in
-      (lies setting (place + 1 + past r n) shape there, refl, (there, tt))
+      (lies setting (place + 1 + past r n) shape there, refl, (there, tt), refl)
 
   -- the jump back to a test
   pub back_fits : (returns : Bool) (place n : ℕ) (shape : Shape) → nat_le (setting.f.start + n) place ≡ true → (returns ≡ false → FlowsInto (table setting) (place - n) shape) → FitsAt setting place (reached returns shape) (instr.GoBack n)
   back_fits true place n shape named leads = named
-  back_fits false place n shape named leads = (named, refl, (leads refl, tt))
+  back_fits false place n shape named leads = (named, refl, (leads refl, tt), refl)
 
   -- a block between an instruction that opens it and one that closes it
-  pub inside_fits : (level : ℕ) (opened : Opened) (locals : Locals) (taken : Taken) (b : Block) (kind : BlockKind) (place : ℕ) → level ≡ depth_in opened → HasRoom setting locals → CutsOpen opened locals taken → names_tag setting.code kind ≡ true → BlockFine setting.fs setting.lists (tables setting) (size setting) Nowhere (level + 1) locals taken b → EndsFree setting.fs (level + 1) Joins taken b →
+  pub inside_fits : (level : ℕ) (opened : Opened) (locals : Locals) (taken : Taken) (b : Block) (kind : BlockKind) (place : ℕ) → level ≡ depth_in opened → HasRoom setting locals → CutsOpen setting.marks opened locals taken → names_tag setting.code kind ≡ true → BlockFine setting.fs setting.lists (tables setting) setting.marks (size setting) Nowhere (level + 1) locals taken b → EndsFree setting.fs (level + 1) Joins taken b →
       StandsAt setting.tab place (Some (made setting opened locals taken 0) ∷ (block_shapes setting.fs (size setting) (None ∷ opened) locals taken b ++ reached (block_returns b) (end_shape setting.fs (size setting) (None ∷ opened) locals taken b) ∷ [])) →
-      FlowsInto (table setting) (place + length (instr.Open kind ∷ (block_code (first setting) setting.lists locals b ++ instr.Close ∷ []))) (made setting opened locals (freed (level + 1) (without (own_names b) (held_after_all setting.fs (level + 1) b taken))) 0) →
-      ((block_returns b ≡ false → FlowsInto (table setting) (place + 1 + length (block_code (first setting) setting.lists locals b)) (end_shape setting.fs (size setting) (None ∷ opened) locals taken b)) → AllFit setting (place + 1) (block_shapes setting.fs (size setting) (None ∷ opened) locals taken b) (block_code (first setting) setting.lists locals b)) →
-      AllFit setting place (Some (made setting opened locals taken 0) ∷ (block_shapes setting.fs (size setting) (None ∷ opened) locals taken b ++ reached (block_returns b) (end_shape setting.fs (size setting) (None ∷ opened) locals taken b) ∷ [])) (instr.Open kind ∷ (block_code (first setting) setting.lists locals b ++ instr.Close ∷ []))
+      FlowsInto (table setting) (place + length (instr.Open kind ∷ (block_code (first setting) setting.marks setting.lists locals b ++ instr.Close ∷ []))) (made setting opened locals (freed (level + 1) (without (own_names b) (held_after_all setting.fs (level + 1) b taken))) 0) →
+      ((block_returns b ≡ false → FlowsInto (table setting) (place + 1 + length (block_code (first setting) setting.marks setting.lists locals b)) (end_shape setting.fs (size setting) (None ∷ opened) locals taken b)) → AllFit setting (place + 1) (block_shapes setting.fs (size setting) (None ∷ opened) locals taken b) (block_code (first setting) setting.marks setting.lists locals b)) →
+      AllFit setting place (Some (made setting opened locals taken 0) ∷ (block_shapes setting.fs (size setting) (None ∷ opened) locals taken b ++ reached (block_returns b) (end_shape setting.fs (size setting) (None ∷ opened) locals taken b) ∷ [])) (instr.Open kind ∷ (block_code (first setting) setting.marks setting.lists locals b ++ instr.Close ∷ []))
   inside_fits level opened locals taken b kind place at room cuts tag fine free stands leads inner =
-      let cb = block_code (first setting) setting.lists locals b in
+      let cb = block_code (first setting) setting.marks setting.lists locals b in
       let ss = block_shapes setting.fs (size setting) (None ∷ opened) locals taken b in
       let last = reached (block_returns b) (end_shape setting.fs (size setting) (None ∷ opened) locals taken b) in
       let deeper : level + 1 ≡ suc (depth_in opened) = omega (arith, at) in
@@ -69,16 +70,23 @@ module _ (setting : Setting) where
       let begins : FlowsInto (table setting) (place + 1) (leaves setting.code (made setting opened locals taken 0) (instr.Open kind)) =
       takes_less (table setting) (place + 1) (leaves setting.code (made setting opened locals taken 0) (instr.Open kind)) (made setting (None ∷ opened) locals taken 0) enters refl (
         covers_none (row (size setting).ints (suc (depth_in opened)) locals.ints taken) (length (row (size setting).ints (depth_in opened) locals.ints taken)) (length-row (size setting).ints (suc (depth_in opened)) locals.ints taken ∙ sym (length-row (size setting).ints (depth_in opened) locals.ints taken)),
-        covers_none (row (size setting).arrays (suc (depth_in opened)) locals.arrays taken) (length (row (size setting).arrays (depth_in opened) locals.arrays taken)) (length-row (size setting).arrays (suc (depth_in opened)) locals.arrays taken ∙ sym (length-row (size setting).arrays (depth_in opened) locals.arrays taken)),
-        (covers_itself (row (size setting).ints (depth_in opened) locals.ints taken), covers_itself (row (size setting).arrays (depth_in opened) locals.arrays taken), refl, each_covers_itself (outers (size setting) opened locals taken)),
+        covers_none (array_row (size setting) (suc (depth_in opened)) locals.arrays taken) (length (array_row (size setting) (depth_in opened) locals.arrays taken)) (length_array_row (size setting) (suc (depth_in opened)) (depth_in opened) locals.arrays locals.arrays taken taken),
+        covers_none (array_row (size setting) (suc (depth_in opened)) locals.arrays (frozen_of taken)) (length (array_row (size setting) (depth_in opened) locals.arrays (frozen_of taken))) (length_array_row (size setting) (suc (depth_in opened)) (depth_in opened) locals.arrays locals.arrays (frozen_of taken) (frozen_of taken)),
+        (
+          covers_itself (row (size setting).ints (depth_in opened) locals.ints taken),
+          covers_itself (array_row (size setting) (depth_in opened) locals.arrays taken),
+          covers_itself (array_row (size setting) (depth_in opened) locals.arrays (frozen_of taken)),
+          refl,
+          each_covers_itself (outers (size setting) opened locals taken),
+        ),
       ) in
       let behind : place + length (instr.Open kind ∷ (cb ++ instr.Close ∷ [])) ≡ place + 1 + length cb + 1 = omega (arith, length-append cb (instr.Close ∷ [])) in
       let leads' = subst (λ p. FlowsInto (table setting) p (made setting opened locals (freed (level + 1) (without (own_names b) (held_after_all setting.fs (level + 1) b taken))) 0)) behind leads in
-      ((tag, refl, (begins, tt)), both_fit setting (place + 1) ss (last ∷ []) cb (instr.Close ∷ []) (inner closes) (closing (block_returns b) leads', tt))
+      ((tag, refl, (begins, tt), refl), both_fit setting (place + 1) ss (last ∷ []) cb (instr.Close ∷ []) (inner closes) (closing (block_returns b) leads', tt))
     where
-      closing : (r : Bool) → FlowsInto (table setting) (place + 1 + length (block_code (first setting) setting.lists locals b) + 1) (made setting opened locals (freed (level + 1) (without (own_names b) (held_after_all setting.fs (level + 1) b taken))) 0) → FitsAt setting (place + 1 + length (block_code (first setting) setting.lists locals b)) (reached r (end_shape setting.fs (size setting) (None ∷ opened) locals taken b)) instr.Close
+      closing : (r : Bool) → FlowsInto (table setting) (place + 1 + length (block_code (first setting) setting.marks setting.lists locals b) + 1) (made setting opened locals (freed (level + 1) (without (own_names b) (held_after_all setting.fs (level + 1) b taken))) 0) → FitsAt setting (place + 1 + length (block_code (first setting) setting.marks setting.lists locals b)) (reached r (end_shape setting.fs (size setting) (None ∷ opened) locals taken b)) instr.Close
       closing true h = refl
-      closing false h = (refl, refl, (takes_less (table setting) (place + 1 + length (block_code (first setting) setting.lists locals b) + 1) (leaves setting.code (end_shape setting.fs (size setting) (None ∷ opened) locals taken b) instr.Close) (made setting opened locals (freed (level + 1) (without (own_names b) (held_after_all setting.fs (level + 1) b taken))) 0) h refl (inside_covers setting opened locals taken b level (omega (arith, at)) free), tt))
+      closing false h = (refl, refl, (takes_less (table setting) (place + 1 + length (block_code (first setting) setting.marks setting.lists locals b) + 1) (leaves setting.code (end_shape setting.fs (size setting) (None ∷ opened) locals taken b) instr.Close) (made setting opened locals (freed (level + 1) (without (own_names b) (held_after_all setting.fs (level + 1) b taken))) 0) h refl (inside_covers setting opened locals taken b level (omega (arith, at)) free), tt), refl)
 
   -- where a return alone may stand
   pub return_place : (returns : Returns) (opened : Opened) (locals : Locals) (taken : Taken) → Returning returns opened setting.f.gives_int → ReturnFine returns locals taken None → (opened ≡ []) × (setting.f.gives_int ≡ false)
@@ -98,20 +106,20 @@ module _ (setting : Setting) where
   none_round (c ∷ opened) locals taken e = cc
 
   -- an expression and the store of its value
-  pub store_fits : (opened : Opened) (locals locals' : Locals) (taken : Taken) → HasRoom setting locals → CutsOpen opened locals taken → (e : Expr) (line place a : ℕ) → nat_lt a (size setting).ints ≡ true → has_slot (made setting opened locals taken 1) a ≡ true → ExprFine locals taken e → StandsAt setting.tab place (expr_shapes (made setting opened locals taken) 0 e ++ Some (made setting opened locals taken 1) ∷ []) →
-      Over (made setting opened locals' taken 0) (made setting opened locals taken 0) → FlowsInto (table setting) (place + length (expr_code locals line e ++ instr.Store a ∷ [])) (made setting opened locals' taken 0) →
-      AllFit setting place (expr_shapes (made setting opened locals taken) 0 e ++ Some (made setting opened locals taken 1) ∷ []) (expr_code locals line e ++ instr.Store a ∷ [])
+  pub store_fits : (opened : Opened) (locals locals' : Locals) (taken : Taken) → HasRoom setting locals → CutsOpen setting.marks opened locals taken → (e : Expr) (line place a : ℕ) → nat_lt a (size setting).ints ≡ true → has_slot (made setting opened locals taken 1) a ≡ true → ExprFine locals taken e → StandsAt setting.tab place (expr_shapes (made setting opened locals taken) 0 e ++ Some (made setting opened locals taken 1) ∷ []) →
+      Over (made setting opened locals' taken 0) (made setting opened locals taken 0) → FlowsInto (table setting) (place + length (expr_code setting.marks locals line e ++ instr.Store a ∷ [])) (made setting opened locals' taken 0) →
+      AllFit setting place (expr_shapes (made setting opened locals taken) 0 e ++ Some (made setting opened locals taken 1) ∷ []) (expr_code setting.marks locals line e ++ instr.Store a ∷ [])
   store_fits opened locals locals' taken room cuts e line place a there slot fine stands covers leads =
-      let ce = expr_code locals line e in
+      let ce = expr_code setting.marks locals line e in
       let behind : place + length (ce ++ instr.Store a ∷ []) ≡ place + length ce + 1 = omega (arith, length-append ce (instr.Store a ∷ [])) in
       valued_fits setting opened locals taken room cuts e line place (instr.Store a) fine stands
-      (there, both_true (has_slot (made setting opened locals taken 1) a) true slot refl, (takes_less (table setting) (place + length ce + 1) (made setting opened locals taken 0) (made setting opened locals' taken 0) (subst (λ p. FlowsInto (table setting) p (made setting opened locals' taken 0)) behind leads) refl covers, tt))
+      (there, both_true (has_slot (made setting opened locals taken 1) a) true slot refl, (takes_less (table setting) (place + length ce + 1) (made setting opened locals taken 0) (made setting opened locals' taken 0) (subst (λ p. FlowsInto (table setting) p (made setting opened locals' taken 0)) behind leads) refl covers, tt), refl)
 
   -- an expression and an instruction that takes its value
-  pub tell_fits : (opened : Opened) (locals : Locals) (taken : Taken) → HasRoom setting locals → CutsOpen opened locals taken → (e : Expr) (line place : ℕ) (i : Instr) → ExprFine locals taken e → StandsAt setting.tab place (expr_shapes (made setting opened locals taken) 0 e ++ Some (made setting opened locals taken 1) ∷ []) →
-      (FlowsInto (table setting) (place + length (expr_code locals line e) + 1) (made setting opened locals taken 0) → FitsAt setting (place + length (expr_code locals line e)) (Some (made setting opened locals taken 1)) i) → FlowsInto (table setting) (place + length (expr_code locals line e ++ i ∷ [])) (made setting opened locals taken 0) →
-      AllFit setting place (expr_shapes (made setting opened locals taken) 0 e ++ Some (made setting opened locals taken 1) ∷ []) (expr_code locals line e ++ i ∷ [])
+  pub tell_fits : (opened : Opened) (locals : Locals) (taken : Taken) → HasRoom setting locals → CutsOpen setting.marks opened locals taken → (e : Expr) (line place : ℕ) (i : Instr) → ExprFine locals taken e → StandsAt setting.tab place (expr_shapes (made setting opened locals taken) 0 e ++ Some (made setting opened locals taken 1) ∷ []) →
+      (FlowsInto (table setting) (place + length (expr_code setting.marks locals line e) + 1) (made setting opened locals taken 0) → FitsAt setting (place + length (expr_code setting.marks locals line e)) (Some (made setting opened locals taken 1)) i) → FlowsInto (table setting) (place + length (expr_code setting.marks locals line e ++ i ∷ [])) (made setting opened locals taken 0) →
+      AllFit setting place (expr_shapes (made setting opened locals taken) 0 e ++ Some (made setting opened locals taken 1) ∷ []) (expr_code setting.marks locals line e ++ i ∷ [])
   tell_fits opened locals taken room cuts e line place i fine stands last leads =
-      let ce = expr_code locals line e in
+      let ce = expr_code setting.marks locals line e in
       let behind : place + length (ce ++ i ∷ []) ≡ place + length ce + 1 = omega (arith, length-append ce (i ∷ [])) in
       valued_fits setting opened locals taken room cuts e line place i fine stands (last (subst (λ p. FlowsInto (table setting) p (made setting opened locals taken 0)) behind leads))

@@ -1,6 +1,7 @@
 -- After a statement a lowered function holds no more than its source, where it was so before.
+use Rattle.cw_model.specs.declared.syntax.NameKind.TheVariants as name_kind
 use Rattle.std.proofs.Common.{◌≡◌, ℕ, ◌+◌, List, [], ◌∷◌, ◌++◌, true, sym, ap, ◌∙◌, subst, arith}
-use Rattle.std.specs.Prelude.{map, not, ◌&&◌, ◌||◌, Option}
+use Rattle.std.specs.Prelude.{not, ◌&&◌, ◌||◌, Option}
 use Rattle.std.specs.List.{list_all}
 use Rattle.cw_model.specs.declared.syntax.CallKind.TheVariants.{Plain, Spawned}
 use Rattle.cw_model.specs.Lines.{unless}
@@ -8,7 +9,7 @@ use Rattle.cw_model.specs.Syntax.{Name, Expr, Stmt, Declare, DeclareArray, Assig
 use Rattle.cw_model.specs.Names.{is_among}
 use Rattle.cw_model.specs.Meaning.{function_named}
 use Rattle.cw_model.specs.Typing.{Known, Returns, Nowhere, is_fine, is_int, is_array, is_call, called, is_cut, surely_returns, block_returns, declares, ends_block, faults_in, faults_in_block}
-use Rattle.cw_model.specs.Ownership.{SpawnIn, CutOf, Taken, freed, without, own_names, where_it_goes_on, target_names, arrays_given, given, may_read, may_write, Around, Closing, Joins, Leaves, Declared, declared_by, known_after, taken_after, taken_after_all, owner_faults, owner_faults_in}
+use Rattle.cw_model.specs.Ownership.{CutOf, Taken, freed, taken_by, frozen_by, without, own_names, where_it_goes_on, target_names, arrays_given, arrays_lent, given, lent, may_read, may_write, Around, Closing, Joins, Leaves, Declared, declared_by, known_after, taken_after, taken_after_all, owner_faults, owner_faults_in}
 use Rattle.cw_model.specs.WhileLaw.{WhilesAreLeast}
 use Rattle.cw_model.specs.lemmas.Kept.{left_none, right_none, kept}
 use Rattle.cw_loops.specs.Lowered.{is_plain, lower_exprs, lower_stmt, lower_block, loop_count, loop_count_in}
@@ -19,10 +20,10 @@ use Rattle.cw_loops.specs.lemmas.Knowing.{known_array_more}
 use Rattle.cw_loops.specs.lemmas.Declaring.{CutKept, cut_kept}
 use Rattle.cw_loops.specs.lemmas.Seeing.{SameKnown, after_known, CallKept, call_kept}
 use Rattle.cw_gen.proofs.Held.{held_after, held_after_all}
-use Rattle.cw_gen.proofs.FreeTexts.{returns_same, own_same, given_same}
+use Rattle.cw_gen.proofs.FreeTexts.{returns_same, own_same, given_same, lent_same}
 use Rattle.cw_gen.proofs.FreeMembers.{in_append, in_left, in_contains, contains_in, either_way}
 use Rattle.cw_gen.proofs.FreeStays.{for_keeps}
-use Rattle.cw_gen.proofs.FreeCarried.{deeper, AllCarried, carried_in, deeper_all, inside_more, inside_outer, freed_carried, left_carried, goes_carried, both_carried, cut_carried, ended_carried, spawned_carried, more_carried, call_plain, then_names, part_names}
+use Rattle.cw_gen.proofs.FreeCarried.{deeper, AllCarried, carried_in, deeper_all, inside_more, inside_outer, freed_carried, left_carried, goes_carried, both_carried, cut_carried, ended_carried, spawned_carried, frozen_carried, more_carried, call_plain, lent_call_plain, then_names, part_names}
 
 -- where a lowered block goes on
 goes_same : (over : List Name) (k : ℕ) (b : Block) (held : Taken) →
@@ -34,6 +35,11 @@ goes_same over k b held =
 pub call_same : (fs gs : List Function) (over : List Name) (known : Known) (target : Option Name) (f : Name) (es : List Expr) → (function_named f gs).params ≡ (function_named f fs).params → CallKept fs known target f es →
     given gs f (lower_exprs over es) ≡ given fs f es
 call_same fs gs over known target f es e k = ap (λ ps. arrays_given ps (lower_exprs over es)) e ∙ given_same over known (function_named f fs).params es k.arguments
+
+-- and the same are only read
+pub lent_call_same : (fs gs : List Function) (over : List Name) (known : Known) (target : Option Name) (f : Name) (es : List Expr) → (function_named f gs).params ≡ (function_named f fs).params → CallKept fs known target f es →
+    lent gs f (lower_exprs over es) ≡ lent fs f es
+lent_call_same fs gs over known target f es e k = ap (λ ps. arrays_lent ps (lower_exprs over es)) e ∙ lent_same over known (function_named f fs).params es k.arguments
 
 module _ (program : Program) (least : WhilesAreLeast) (gs : List Function) (same_params : (g : Name) → is_plain g ≡ true → (function_named g gs).params ≡ (function_named g program.functions).params) where
   abbrev StmtCarries : Stmt → Type 0
@@ -94,7 +100,7 @@ module _ (program : Program) (least : WhilesAreLeast) (gs : List Function) (same
       after' = taken_after_all program.functions (source + 1) b ((a, CutOf) ∷ taken)
 
       c : CutKept program known a at l r
-      c = cut_kept program known a at l r (kept (is_cut program known a at l r) line (left_none _ (faults_in_block program Nowhere ((r, true) ∷ (l, true) ∷ known) b) types))
+      c = cut_kept program known a at l r (kept (is_cut program known a at l r) line (left_none _ (faults_in_block program Nowhere ((r, name_kind.Array) ∷ (l, name_kind.Array) ∷ known) b) types))
 
       s1 : (is_plain a ≡ true) × ((is_source_expr at && (is_plain l && (is_plain r && is_source_block b))) ≡ true)
       s1 = both_true (is_plain a) (is_source_expr at && (is_plain l && (is_plain r && is_source_block b))) src
@@ -102,8 +108,8 @@ module _ (program : Program) (least : WhilesAreLeast) (gs : List Function) (same
       s2 : is_source_block b ≡ true
       s2 = (both_true (is_plain r) (is_source_block b) (both_true (is_plain l) (is_plain r && is_source_block b) (both_true (is_source_expr at) (is_plain l && (is_plain r && is_source_block b)) s1.1).1).1).1
 
-      same' : SameKnown ((r, true) ∷ (l, true) ∷ known) (r ∷ l ∷ owners)
-      same' w = known_array_more w r (l ∷ owners) (is_int ((l, true) ∷ known) w) (is_array ((l, true) ∷ known) w) (known_array_more w l owners (is_int known w) (is_array known w) (same w))
+      same' : SameKnown ((r, name_kind.Array) ∷ (l, name_kind.Array) ∷ known) (r ∷ l ∷ owners)
+      same' w = known_array_more w r (l ∷ owners) (is_int ((l, name_kind.Array) ∷ known) w) (is_array ((l, name_kind.Array) ∷ known) w) (known_array_more w l owners (is_int known w) (is_array known w) (same w))
 
       there : is_among a owners ≡ true
       there = same a ∙ either_right (is_int known a) (is_array known a) c.array
@@ -115,8 +121,8 @@ module _ (program : Program) (least : WhilesAreLeast) (gs : List Function) (same
 
       inner : AllCarried shift (depth + 1) (own_names b ++ (r ∷ l ∷ owners)) after after'
       inner =
-          more over k ((r, true) ∷ (l, true) ∷ known) (r ∷ l ∷ owners) around same' Nowhere (depth + 1) (source + 1) shift (omega (arith, e)) Joins ((a, CutOf) ∷ held) ((a, CutOf) ∷ taken) [] s2
-          (right_none (unless (is_cut program known a at l r) line) (faults_in_block program Nowhere ((r, true) ∷ (l, true) ∷ known) b) types)
+          more over k ((r, name_kind.Array) ∷ (l, name_kind.Array) ∷ known) (r ∷ l ∷ owners) around same' Nowhere (depth + 1) (source + 1) shift (omega (arith, e)) Joins ((a, CutOf) ∷ held) ((a, CutOf) ∷ taken) [] s2
+          (right_none (unless (is_cut program known a at l r) line) (faults_in_block program Nowhere ((r, name_kind.Array) ∷ (l, name_kind.Array) ∷ known) b) types)
           (right_none (unless (may_read around taken at && may_write around taken (a ∷ [])) line) (owner_faults_in program.functions around (r ∷ l ∷ owners) (source + 1) Joins ((a, CutOf) ∷ taken) [] b) owns) all'
 
   call_carries : (site : ℕ) (target : Option Name) (f : Name) (es : List Expr) → StmtCarries (Call Spawned site target f es)
@@ -124,8 +130,14 @@ module _ (program : Program) (least : WhilesAreLeast) (gs : List Function) (same
       let s = both_true (is_source_target target) (is_plain f && list_all is_source_expr es) src in
       let t = both_true (is_plain f) (list_all is_source_expr es) s.1 in
       let c = call_kept program.functions known target f es (kept (is_call known target (called f program.functions) es) line types) in
-      subst (λ xs. AllCarried shift depth owners (map (λ x. (x, SpawnIn depth)) (target_names target ++ xs) ++ held) (taken_after program.functions source (Call Spawned site target f es) taken)) (sym (call_same program.functions gs over known target f es (same_params f t.0) c))
-      (spawned_carried shift depth source owners (target_names target ++ given program.functions f es) held taken e (call_plain program.functions known owners same target f es c s.0 t.1) all)
+      let after = taken_after program.functions source (Call Spawned site target f es) taken in
+      let takes = target_names target ++ given program.functions f es in
+      let takes' = target_names target ++ given gs f (lower_exprs over es) in
+      let reads = lent program.functions f es in
+      let taking = spawned_carried shift depth source owners takes held taken e (call_plain program.functions known owners same target f es c s.0 t.1) all in
+      let reading = frozen_carried shift depth source owners reads (taken_by depth takes held) (taken_by source takes taken) e (lent_call_plain program.functions known owners same target f es c t.1) taking in
+      subst (λ ys. AllCarried shift depth owners (frozen_by depth ys (taken_by depth takes' held)) after) (sym (lent_call_same program.functions gs over known target f es (same_params f t.0) c))
+      (subst (λ xs. AllCarried shift depth owners (frozen_by depth reads (taken_by depth (target_names target ++ xs) held)) after) (sym (call_same program.functions gs over known target f es (same_params f t.0) c)) reading)
 
   mutual
     -- after a statement

@@ -3,26 +3,31 @@ use Rattle.std.proofs.Common.{◌≡◌, ℕ, ◌+◌, ◌≤◌, ◌==◌, List
 use Rattle.std.specs.Prelude.{map, not, if◌then◌else◌, Option, Some, None}
 use Rattle.std.specs.List.{list_all}
 use Rattle.std.proofs.lemmas.Bool.{eq-eqb, eqb-true}
-use Rattle.cw_model.specs.Syntax.{Name, Expr, Variable, Stmt, Declare, DeclareArray, Block, Then, Param, Function}
+use Rattle.cw_model.specs.Syntax.{is_written_kind, is_const_kind, Name, Expr, Variable, Stmt, Declare, DeclareArray, Block, Then, Param, Function}
 use Rattle.cw_model.specs.Names.{is_among}
 use Rattle.cw_model.specs.Meaning.{function_named}
 use Rattle.cw_model.specs.Typing.{Known, is_int, is_array, is_argument, are_arguments, is_target}
-use Rattle.cw_model.specs.Ownership.{Holder, SpawnIn, CutOf, Taken, is_taken, is_spawn_in, is_cut_of, freed, cut_ended, without, own_names, where_it_goes_on, target_names, arrays_given, given, names_in, Closing, Joins, Leaves, at_end, known_after}
+use Rattle.cw_model.specs.Ownership.{Holder, SpawnIn, ReaderIn, CutOf, Taken, is_reader, is_taken, is_held, is_spawn_in, is_cut_of, freed, taken_by, frozen_by, cut_ended, without, own_names, where_it_goes_on, target_names, arrays_given, arrays_lent, given, lent, names_in, Closing, Joins, Leaves, at_end, known_after}
+use Rattle.cw_model.specs.declared.syntax.NameKind.{NameKind}
+use Rattle.cw_model.specs.declared.syntax.NameKind.TheVariants.{Integer, Array, Const}
+use Rattle.cw_model.specs.lemmas.Fits.{writable_array}
 use Rattle.cw_loops.specs.Lowered.{is_plain}
 use Rattle.cw_loops.specs.SourceLike.{is_source_expr, is_source_target}
 use Rattle.cw_loops.specs.lemmas.Tests.{both_true, not_true, told, yes_is, no_is, Told, never, refuted, either_left, either_right}
 use Rattle.cw_loops.specs.lemmas.Naming.{Placed, at_front, after_it, placed, Side, in_first, in_second, side, front_among, later_among, among_left, among_right}
 use Rattle.cw_loops.specs.lemmas.Seeing.{SameKnown, CallKept}
-use Rattle.cw_gen.proofs.FreeMembers.{In, in_append, in_left, in_right, in_filter, in_kept, in_taken, not_in, by_spawn, spawn_has, Outer, either_way}
+use Rattle.cw_gen.proofs.FreeMembers.{In, in_append, in_left, in_right, in_filter, in_kept, in_taken, not_in, in_held, not_held, by_holder, holder_has, Outer, either_way}
 
 -- a holder as much deeper
 abbrev pub deeper : ℕ → Holder → Holder
 deeper shift (SpawnIn d) = SpawnIn (d + shift)
+deeper shift (ReaderIn d) = ReaderIn (d + shift)
 deeper shift CutOf = CutOf
 
 -- no deeper than this
 abbrev pub Inside : ℕ → Holder → Type 0
 Inside depth (SpawnIn d) = d ≤ depth
+Inside depth (ReaderIn d) = d ≤ depth
 Inside depth CutOf = Unit {0}
 
 -- the source holds it too, and it is a plain name of its owners
@@ -46,14 +51,15 @@ renamed shift depth names others taken t f c = record { there = c.there; plain =
 -- no deeper than a depth, nor than the next
 pub inside_more : (depth : ℕ) (k : Holder) → Inside depth k → Inside (depth + 1) k
 inside_more depth (SpawnIn d) h = omega (arith, h)
+inside_more depth (ReaderIn d) h = omega (arith, h)
 inside_more depth CutOf h = tt
 
 -- what is carried at a depth is carried one deeper
 pub deeper_all : (shift depth : ℕ) (names : List Name) (held taken : Taken) → AllCarried shift depth names held taken → AllCarried shift (depth + 1) names held taken
 deeper_all shift depth names held taken all t h = let c = all t h in record { there = c.there; plain = c.plain; named = c.named; inside = inside_more depth t.1 c.inside }
 
-inside_less : (depth : ℕ) (k : Holder) → is_spawn_in (depth + 1) k ≡ false → Inside (depth + 1) k → Inside depth k
-inside_less depth (SpawnIn d) n h = cases (told (d == depth + 1))
+not_last : (d depth : ℕ) → (d == depth + 1) ≡ false → d ≤ depth + 1 → d ≤ depth
+not_last d depth n h = cases (told (d == depth + 1))
   where
     other : d ≡ depth + 1 → ⊥
     other e = true≢false (sym (eq-eqb d (depth + 1) e) ∙ n)
@@ -61,21 +67,37 @@ inside_less depth (SpawnIn d) n h = cases (told (d == depth + 1))
     cases : Told (d == depth + 1) → d ≤ depth
     cases (yes_is e) = absurd (true≢false (sym e ∙ n))
     cases (no_is e) = omega (arith, h, other)
+
+inside_less : (depth : ℕ) (k : Holder) → is_spawn_in (depth + 1) k ≡ false → Inside (depth + 1) k → Inside depth k
+inside_less depth (SpawnIn d) n h = not_last d depth n h
+inside_less depth (ReaderIn d) n h = not_last d depth n h
 inside_less depth CutOf n h = tt
 
 -- outside the body of a loop in the source
 pub inside_outer : (shift depth source : ℕ) (k : Holder) → source ≡ depth + shift → Inside depth k → Outer (source + 1) (deeper shift k)
 inside_outer shift depth source (SpawnIn d) e h = omega (arith, e, h)
+inside_outer shift depth source (ReaderIn d) e h = omega (arith, e, h)
 inside_outer shift depth source CutOf e h = tt
 
 -- a spawn of the lowered block is one of the source's block
+moved_not : (shift depth source d : ℕ) → source ≡ depth + shift → (d == depth) ≡ false → (d + shift == source) ≡ false
+moved_not shift depth source d e h = refuted ((d + shift) == source) (λ q. never (d == depth) (eq-eqb d depth (omega (arith, e, eqb-true (d + shift) source q))) h)
+
 spawn_moved : (shift depth source : ℕ) (k : Holder) → source ≡ depth + shift → is_spawn_in depth k ≡ false → is_spawn_in source (deeper shift k) ≡ false
-spawn_moved shift depth source (SpawnIn d) e h = refuted ((d + shift) == source) (λ q. never (d == depth) (eq-eqb d depth (omega (arith, e, eqb-true (d + shift) source q))) h)
+spawn_moved shift depth source (SpawnIn d) e h = moved_not shift depth source d e h
+spawn_moved shift depth source (ReaderIn d) e h = moved_not shift depth source d e h
 spawn_moved shift depth source CutOf e h = refl
 
 cut_moved : (shift : ℕ) (a x : Name) (k : Holder) → is_cut_of a (x, deeper shift k) ≡ is_cut_of a (x, k)
 cut_moved shift a x (SpawnIn d) = refl
+cut_moved shift a x (ReaderIn d) = refl
 cut_moved shift a x CutOf = refl
+
+-- one that only reads is one there
+pub reader_moved : (shift : ℕ) (k : Holder) → is_reader (deeper shift k) ≡ is_reader k
+reader_moved shift (SpawnIn d) = refl
+reader_moved shift (ReaderIn d) = refl
+reader_moved shift CutOf = refl
 
 -- a join on both sides
 pub freed_carried : (shift depth source : ℕ) (names : List Name) (held taken : Taken) → source ≡ depth + shift → AllCarried shift depth names held taken → AllCarried shift depth names (freed depth held) (freed source taken)
@@ -129,38 +151,54 @@ ended_carried shift depth names a held taken all t h =
     let one = in_filter (λ u. not (is_cut_of a u)) t held h in
     carried_in shift depth names taken (cut_ended a taken) t (all t one.0) (λ i. in_kept (λ u. not (is_cut_of a u)) (t.0, deeper shift t.1) taken i (ap not (cut_moved shift a t.0 t.1) ∙ one.1))
 
--- a spawn on both sides
-pub spawned_carried : (shift depth source : ℕ) (names xs : List Name) (held taken : Taken) → source ≡ depth + shift → ((x : Name) → is_among x xs ≡ true → (is_plain x ≡ true) × (is_among x names ≡ true)) → AllCarried shift depth names held taken →
-    AllCarried shift depth names (map (λ x. (x, SpawnIn depth)) xs ++ held) (map (λ x. (x, SpawnIn source)) xs ++ taken)
-spawned_carried shift depth source names xs held taken e fine all =
-    both_carried shift depth names (map (λ x. (x, SpawnIn depth)) xs) held (map (λ x. (x, SpawnIn source)) xs) taken by all
+-- names with one holder on both sides
+added_carried : (shift depth : ℕ) (k : Holder) (names xs : List Name) (held taken : Taken) → Inside depth k → ((x : Name) → is_among x xs ≡ true → (is_plain x ≡ true) × (is_among x names ≡ true)) → AllCarried shift depth names held taken →
+    AllCarried shift depth names (map (λ x. (x, k)) xs ++ held) (map (λ x. (x, deeper shift k)) xs ++ taken)
+added_carried shift depth k names xs held taken inside fine all =
+    both_carried shift depth names (map (λ x. (x, k)) xs) held (map (λ x. (x, deeper shift k)) xs) taken by all
   where
-    by : AllCarried shift depth names (map (λ x. (x, SpawnIn depth)) xs) (map (λ x. (x, SpawnIn source)) xs)
+    by : AllCarried shift depth names (map (λ x. (x, k)) xs) (map (λ x. (x, deeper shift k)) xs)
     by t h =
-        let s = by_spawn depth xs t h in
+        let s = by_holder k xs t h in
         let f = fine t.0 s.0 in
-        let k : deeper shift t.1 ≡ SpawnIn source = ap (deeper shift) s.1 ∙ ap (λ n. SpawnIn n) (sym e) in
         record {
-          there = subst (λ q. In (t.0, q) (map (λ x. (x, SpawnIn source)) xs)) (sym k) (spawn_has source xs t.0 s.0);
+          there = subst (λ q. In (t.0, q) (map (λ x. (x, deeper shift k)) xs)) (ap (deeper shift) (sym s.1)) (holder_has (deeper shift k) xs t.0 s.0);
           plain = f.0;
           named = f.1;
-          inside = subst (Inside depth) (sym s.1) (here depth);
+          inside = subst (Inside depth) (sym s.1) inside;
         }
-      where
-        here : (d : ℕ) → d ≤ d
-        here d = omega arith
+
+here_inside : (depth : ℕ) → depth ≤ depth
+here_inside depth = omega arith
+
+-- a spawn on both sides
+pub spawned_carried : (shift depth source : ℕ) (names xs : List Name) (held taken : Taken) → source ≡ depth + shift → ((x : Name) → is_among x xs ≡ true → (is_plain x ≡ true) × (is_among x names ≡ true)) → AllCarried shift depth names held taken →
+    AllCarried shift depth names (taken_by depth xs held) (taken_by source xs taken)
+spawned_carried shift depth source names xs held taken e fine all =
+    subst (λ d. AllCarried shift depth names (taken_by depth xs held) (taken_by d xs taken)) (sym e) (added_carried shift depth (SpawnIn depth) names xs held taken (here_inside depth) fine all)
+
+-- and what it only reads
+pub frozen_carried : (shift depth source : ℕ) (names xs : List Name) (held taken : Taken) → source ≡ depth + shift → ((x : Name) → is_among x xs ≡ true → (is_plain x ≡ true) × (is_among x names ≡ true)) → AllCarried shift depth names held taken →
+    AllCarried shift depth names (frozen_by depth xs held) (frozen_by source xs taken)
+frozen_carried shift depth source names xs held taken e fine all =
+    subst (λ d. AllCarried shift depth names (frozen_by depth xs held) (frozen_by d xs taken)) (sym e) (added_carried shift depth (ReaderIn depth) names xs held taken (here_inside depth) fine all)
 
 -- what is free in the source is free in the lowered function
 pub free_carried : (shift depth : ℕ) (names : List Name) (held taken : Taken) → AllCarried shift depth names held taken → (x : Name) → is_taken taken x ≡ false → is_taken held x ≡ false
-free_carried shift depth names held taken all x free = not_in x held (λ k h. true≢false (sym (in_taken (x, deeper shift k) taken (all (x, k) h).there) ∙ free))
+free_carried shift depth names held taken all x free =
+    not_in x held (λ k h loud. true≢false (sym (in_taken (x, deeper shift k) taken (all (x, k) h).there (reader_moved shift k ∙ loud)) ∙ free))
 
--- what is not plain is free
-pub plain_carried : (shift depth : ℕ) (names : List Name) (held taken : Taken) → AllCarried shift depth names held taken → (x : Name) → is_plain x ≡ false → is_taken held x ≡ false
-plain_carried shift depth names held taken all x other = not_in x held (λ k h. true≢false (sym (all (x, k) h).plain ∙ other))
+-- what nothing holds in the source nothing holds there
+pub loose_carried : (shift depth : ℕ) (names : List Name) (held taken : Taken) → AllCarried shift depth names held taken → (x : Name) → is_held taken x ≡ false → is_held held x ≡ false
+loose_carried shift depth names held taken all x loose = not_held x held (λ k h. true≢false (sym (in_held (x, deeper shift k) taken (all (x, k) h).there) ∙ loose))
 
--- so is what its owners do not have
-pub named_carried : (shift depth : ℕ) (names : List Name) (held taken : Taken) → AllCarried shift depth names held taken → (x : Name) → is_among x names ≡ false → is_taken held x ≡ false
-named_carried shift depth names held taken all x other = not_in x held (λ k h. true≢false (sym (all (x, k) h).named ∙ other))
+-- nothing holds what is not plain
+pub plain_carried : (shift depth : ℕ) (names : List Name) (held taken : Taken) → AllCarried shift depth names held taken → (x : Name) → is_plain x ≡ false → is_held held x ≡ false
+plain_carried shift depth names held taken all x other = not_held x held (λ k h. true≢false (sym (all (x, k) h).plain ∙ other))
+
+-- nor what its owners do not have
+pub named_carried : (shift depth : ℕ) (names : List Name) (held taken : Taken) → AllCarried shift depth names held taken → (x : Name) → is_among x names ≡ false → is_held held x ≡ false
+named_carried shift depth names held taken all x other = not_held x held (λ k h. true≢false (sym (all (x, k) h).named ∙ other))
 
 -- the end of a block on both sides
 pub end_carried : (shift depth source : ℕ) (names : List Name) (closing : Closing) (held taken : Taken) → source ≡ depth + shift → AllCarried shift depth names held taken → AllCarried shift depth names (at_end closing depth held) (at_end closing source taken)
@@ -171,29 +209,51 @@ end_carried shift depth source names Leaves held taken e all = all
 pub more_carried : (shift depth : ℕ) (names others : List Name) (held taken : Taken) → ((x : Name) → is_among x names ≡ true → is_among x others ≡ true) → AllCarried shift depth names held taken → AllCarried shift depth others held taken
 more_carried shift depth names others held taken f all t h = renamed shift depth names others taken t (f t.0) (all t h)
 
--- what a call gives is plain and known
+-- what a call gives, or lends, is plain and known
 
-array_plain : (array : Bool) (known : Known) (e : Expr) → is_argument known array e ≡ true → is_source_expr e ≡ true → (x : Name) → is_among x (if array then names_in e else []) ≡ true → (is_plain x ≡ true) × (is_array known x ≡ true)
-array_plain false known e h s x o = absurd cc
-array_plain true known (Variable a) h s x o = go (placed x a [] o)
+one_plain : (known : Known) (a : Name) → is_array known a ≡ true → is_plain a ≡ true → (x : Name) → is_among x (a ∷ []) ≡ true → (is_plain x ≡ true) × (is_array known x ≡ true)
+one_plain known a h s x o = go (placed x a [] o)
   where
     go : Placed x a [] → (is_plain x ≡ true) × (is_array known x ≡ true)
     go (at_front same) = (ap is_plain same ∙ s, ap (is_array known) same ∙ h)
     go (after_it other p) = absurd cc
-array_plain true known _ h s x o = absurd cc
+
+only : (such : NameKind → Bool) (k : NameKind) (xs : List Name) (x : Name) → is_among x (if such k then xs else []) ≡ true → is_among x xs ≡ true
+only such k xs x o = test (such k) o
+  where
+    test : (b : Bool) → is_among x (if b then xs else []) ≡ true → is_among x xs ≡ true
+    test true h = h
+    test false h = absurd cc
+
+of_either : {P : Type 0} (x : Name) (xs ys : List Name) → is_among x (xs ++ ys) ≡ true → (is_among x xs ≡ true → P) → (is_among x ys ≡ true → P) → P
+of_either x xs ys o one more = go (side x xs ys o) one more
+  where
+    go : {P : Type 0} → Side x xs ys → (is_among x xs ≡ true → P) → (is_among x ys ≡ true → P) → P
+    go (in_first p) f g = f p
+    go (in_second p) f g = g p
+
+array_plain : (such : NameKind → Bool) → (such Integer ≡ false) → (known : Known) (k : NameKind) (e : Expr) → is_argument known k e ≡ true → is_source_expr e ≡ true → (x : Name) → is_among x (if such k then names_in e else []) ≡ true → (is_plain x ≡ true) × (is_array known x ≡ true)
+array_plain such not_int known Integer e h s x o = absurd (true≢false (sym o ∙ ap (λ b. is_among x (if b then names_in e else [])) not_int))
+array_plain such not_int known Array (Variable a) h s x o = one_plain known a (writable_array known a h) s x (only such Array (a ∷ []) x o)
+array_plain such not_int known Const (Variable a) h s x o = one_plain known a h s x (only such Const (a ∷ []) x o)
+array_plain such not_int known Array _ h s x o = absurd cc
+array_plain such not_int known Const _ h s x o = absurd cc
 
 arrays_plain : (known : Known) (ps : List Param) (es : List Expr) → are_arguments known ps es ≡ true → list_all is_source_expr es ≡ true → (x : Name) → is_among x (arrays_given ps es) ≡ true → (is_plain x ≡ true) × (is_array known x ≡ true)
 arrays_plain known [] es h s x o = absurd cc
 arrays_plain known (p ∷ ps) [] h s x o = absurd cc
 arrays_plain known (p ∷ ps) (e ∷ es) h s x o =
-    let f = both_true (is_argument known p.is_array e) (are_arguments known ps es) h in
+    let f = both_true (is_argument known p.kind e) (are_arguments known ps es) h in
     let q = both_true (is_source_expr e) (list_all is_source_expr es) s in
-    go (side x (if p.is_array then names_in e else []) (arrays_given ps es) o) (array_plain p.is_array known e f.0 q.0 x) (arrays_plain known ps es f.1 q.1 x)
-  where
-    go : Side x (if p.is_array then names_in e else []) (arrays_given ps es) → (is_among x (if p.is_array then names_in e else []) ≡ true → (is_plain x ≡ true) × (is_array known x ≡ true)) →
-        (is_among x (arrays_given ps es) ≡ true → (is_plain x ≡ true) × (is_array known x ≡ true)) → (is_plain x ≡ true) × (is_array known x ≡ true)
-    go (in_first p') one more = one p'
-    go (in_second p') one more = more p'
+    of_either x (if is_written_kind p.kind then names_in e else []) (arrays_given ps es) o (array_plain is_written_kind refl known p.kind e f.0 q.0 x) (arrays_plain known ps es f.1 q.1 x)
+
+lent_plain : (known : Known) (ps : List Param) (es : List Expr) → are_arguments known ps es ≡ true → list_all is_source_expr es ≡ true → (x : Name) → is_among x (arrays_lent ps es) ≡ true → (is_plain x ≡ true) × (is_array known x ≡ true)
+lent_plain known [] es h s x o = absurd cc
+lent_plain known (p ∷ ps) [] h s x o = absurd cc
+lent_plain known (p ∷ ps) (e ∷ es) h s x o =
+    let f = both_true (is_argument known p.kind e) (are_arguments known ps es) h in
+    let q = both_true (is_source_expr e) (list_all is_source_expr es) s in
+    of_either x (if is_const_kind p.kind then names_in e else []) (arrays_lent ps es) o (array_plain is_const_kind refl known p.kind e f.0 q.0 x) (lent_plain known ps es f.1 q.1 x)
 
 target_plain : (known : Known) (f : Function) (target : Option Name) → is_target known f target ≡ true → is_source_target target ≡ true → (x : Name) → is_among x (target_names target) ≡ true → (is_plain x ≡ true) × (is_int known x ≡ true)
 target_plain known f None h s x o = absurd cc
@@ -211,6 +271,13 @@ call_plain fs known owners same target f es k st se x o = go (side x (target_nam
     go : Side x (target_names target) (given fs f es) → (is_plain x ≡ true) × (is_among x owners ≡ true)
     go (in_first p) = let r = target_plain known (function_named f fs) target k.target_fine st x p in (r.0, same x ∙ either_left (is_int known x) (is_array known x) r.1)
     go (in_second p) = let r = arrays_plain known (function_named f fs).params es k.arguments se x p in (r.0, same x ∙ either_right (is_int known x) (is_array known x) r.1)
+
+-- the arrays that it only reads
+pub lent_call_plain : (fs : List Function) (known : Known) (owners : List Name) → SameKnown known owners → (target : Option Name) (f : Name) (es : List Expr) → CallKept fs known target f es → list_all is_source_expr es ≡ true →
+    (x : Name) → is_among x (lent fs f es) ≡ true → (is_plain x ≡ true) × (is_among x owners ≡ true)
+lent_call_plain fs known owners same target f es k se x o =
+    let r = lent_plain known (function_named f fs).params es k.arguments se x o in
+    (r.0, same x ∙ either_right (is_int known x) (is_array known x) r.1)
 
 -- names behind those that a statement declares
 pub then_names : (s : Stmt) (line : ℕ) (b : Block) (owners : List Name) (x : Name) → is_among x (own_names b ++ known_after owners s) ≡ true → is_among x (own_names (Then line s b) ++ owners) ≡ true

@@ -5,7 +5,8 @@ use Rattle.cw_model.specs.declared.syntax.Operator.TheVariants.{Less}
 use Rattle.cw_model.specs.Syntax.{Name, Expr, Variable, Binary, While, Scope, Block, Function}
 use Rattle.cw_model.specs.Names.{same_name, is_among, differ}
 use Rattle.cw_model.specs.Meaning.{function_named}
-use Rattle.cw_model.specs.Ownership.{Holder, SpawnIn, CutOf, Taken, is_taken, own_names, given, arrays_given, taken_by, Joins, Leaves}
+use Rattle.cw_model.specs.Ownership.{Holder, SpawnIn, CutOf, Taken, is_taken, is_held, own_names, given, arrays_given, taken_by, are_loose, Joins, Leaves}
+use Rattle.cw_gen.proofs.Takens.{loose_free}
 use Rattle.cw_loops.specs.Lowered.{is_plain, low, high, middle, left_part, right_part, int_params, array_params, variables, leaf_turn, leaf_block, left_arguments, right_arguments, both_halves, in_cuts, node_block, loop_function}
 use Rattle.cw_loops.specs.lemmas.Tests.{both_true, not_true, all_of}
 use Rattle.cw_loops.specs.lemmas.Apart.{plain_apart, not_later}
@@ -13,23 +14,29 @@ use Rattle.cw_loops.specs.lemmas.Naming.{Placed, at_front, after_it, placed, fro
 use Rattle.cw_gen.proofs.Held.{held_after, held_after_all}
 use Rattle.cw_gen.proofs.Fine.{EndsFree}
 use Rattle.cw_gen.proofs.Kept.{ExprsFree, BlockFree}
-use Rattle.cw_gen.proofs.FreeTexts.{free_all, free_one}
-use Rattle.cw_gen.proofs.FreeMembers.{In, in_append, in_filter, in_taken, not_in, by_spawn, scope_from, cut_from, free_after, either_way}
+use Rattle.cw_gen.proofs.FreeTexts.{free_all, free_one, loose_all}
+use Rattle.cw_gen.proofs.FreeMembers.{In, in_append, in_filter, in_taken, not_in, in_held, not_held, by_spawn, scope_from, cut_from, free_after, either_way}
 
 -- nothing is taken
 abbrev pub Nothing : Taken → Type 0
 Nothing held = (t : Name × Holder) → In t held → ⊥
 
--- then each name is free
-pub nothing_taken : (held : Taken) → Nothing held → (x : Name) → is_taken held x ≡ false
-nothing_taken held h x = not_in x held (λ k i. h (x, k) i)
+-- then nothing holds a name
+pub nothing_taken : (held : Taken) → Nothing held → (x : Name) → is_held held x ≡ false
+nothing_taken held h x = not_held x held (λ k i. h (x, k) i)
+
+nothing_free : (held : Taken) → Nothing held → (x : Name) → is_taken held x ≡ false
+nothing_free held h x = loose_free x held (nothing_taken held h x)
 
 -- each name that is taken is plain
 abbrev OnlyPlain : Taken → Type 0
 OnlyPlain held = (t : Name × Holder) → In t held → is_plain t.0 ≡ true
 
+hash_loose : (held : Taken) → OnlyPlain held → (x : Name) → is_plain x ≡ false → is_held held x ≡ false
+hash_loose held h x other = not_held x held (λ k i. true≢false (sym (h (x, k) i) ∙ other))
+
 hash_free : (held : Taken) → OnlyPlain held → (x : Name) → is_plain x ≡ false → is_taken held x ≡ false
-hash_free held h x other = not_in x held (λ k i. true≢false (sym (h (x, k) i) ∙ other))
+hash_free held h x other = loose_free x held (hash_loose held h x other)
 
 -- arguments that are names alone
 
@@ -87,7 +94,12 @@ right_left over (a ∷ all) y o = go (placed y (right_part a) (map right_part al
 -- of names that a spawn took, and of those before
 spawn_free : (depth : ℕ) (xs : List Name) (held : Taken) (x : Name) → is_among x xs ≡ false → is_taken held x ≡ false → is_taken (taken_by depth xs held) x ≡ false
 spawn_free depth xs held x n free =
-    not_in x (taken_by depth xs held) (λ k i. either_way (in_append (x, k) (map (λ y. (y, SpawnIn depth)) xs) held i) (λ j. true≢false (sym (by_spawn depth xs (x, k) j).0 ∙ n)) (λ j. true≢false (sym (in_taken (x, k) held j) ∙ free)))
+    not_in x (taken_by depth xs held) (λ k i loud. either_way (in_append (x, k) (map (λ y. (y, SpawnIn depth)) xs) held i) (λ j. true≢false (sym (by_spawn depth xs (x, k) j).0 ∙ n)) (λ j. true≢false (sym (in_taken (x, k) held j loud) ∙ free)))
+
+-- so nothing holds them
+spawn_loose : (depth : ℕ) (xs : List Name) (held : Taken) (x : Name) → is_among x xs ≡ false → is_held held x ≡ false → is_held (taken_by depth xs held) x ≡ false
+spawn_loose depth xs held x n free =
+    not_held x (taken_by depth xs held) (λ k i. either_way (in_append (x, k) (map (λ y. (y, SpawnIn depth)) xs) held i) (λ j. true≢false (sym (by_spawn depth xs (x, k) j).0 ∙ n)) (λ j. true≢false (sym (in_held (x, k) held j) ∙ free)))
 
 module _ (gs : List Function) (name : Name) (line : ℕ) (x : Name) (grain : ℕ) (ints over : List Name) (body : Block) (found : function_named name gs ≡ loop_function name line x grain ints over body)
     (ints_plain : (y : Name) → is_among y ints ≡ true → is_plain y ≡ true) (over_plain : (a : Name) → is_among a over ≡ true → is_plain a ≡ true) (no_int : (y : Name) → is_among y ints ≡ true → is_among y over ≡ false) (apart : differ over ≡ true)
@@ -106,11 +118,11 @@ module _ (gs : List Function) (name : Name) (line : ℕ) (x : Name) (grain : ℕ
       refl,
       (
         (
-          free_all all (x ∷ high ∷ []) (λ y o. nothing_taken all leaf_leaves y),
+          free_all all (x ∷ high ∷ []) (λ y o. nothing_free all leaf_leaves y),
           (
             body_free all leaf_leaves,
             (
-              (nothing_taken after (turn_leaves all leaf_leaves) x, free_all after (x ∷ []) (λ y o. nothing_taken after (turn_leaves all leaf_leaves) y)),
+              (nothing_free after (turn_leaves all leaf_leaves) x, free_all after (x ∷ []) (λ y o. nothing_free after (turn_leaves all leaf_leaves) y)),
               tt,
             ),
           ),
@@ -150,7 +162,7 @@ module _ (gs : List Function) (name : Name) (line : ℕ) (x : Name) (grain : ℕ
   only_plain held h t i = over_plain t.0 (h t i)
 
   int_free : (held : Taken) → OnlyOver held → (y : Name) → is_among y ints ≡ true → is_taken held y ≡ false
-  int_free held h y o = not_in y held (λ k i. true≢false (sym (h (y, k) i) ∙ no_int y o))
+  int_free held h y o = loose_free y held (not_held y held (λ k i. true≢false (sym (h (y, k) i) ∙ no_int y o)))
 
   halves_free : (depth : ℕ) (held : Taken) → OnlyOver held → BlockFree gs depth held (both_halves line name lefts rights)
   halves_free depth held h = (
@@ -163,6 +175,7 @@ module _ (gs : List Function) (name : Name) (line : ℕ) (x : Name) (grain : ℕ
         ),
       ),
       ap differ lefts_given ∙ parts_differ left_part (λ a b. refl) over apart,
+      ap (are_loose held) lefts_given ∙ loose_all held (map left_part over) (λ y o. hash_loose held (only_plain held h) y (part_hash left_part (λ a. refl) over y o)),
     ),
     (
       (
@@ -175,6 +188,8 @@ module _ (gs : List Function) (name : Name) (line : ℕ) (x : Name) (grain : ℕ
           ),
         ),
         ap differ rights_given ∙ parts_differ right_part (λ a b. refl) over apart,
+        subst (λ xs. are_loose (taken_by depth xs held) (given gs name rights) ≡ true) (sym lefts_given)
+            (ap (are_loose now) rights_given ∙ loose_all now (map right_part over) (λ y o. spawn_loose depth (map left_part over) held y (right_left over over y o) (hash_loose held (only_plain held h) y (part_hash right_part (λ a. refl) over y o)))),
       ),
       tt,
     ),
@@ -199,10 +214,10 @@ module _ (gs : List Function) (name : Name) (line : ℕ) (x : Name) (grain : ℕ
   cuts_free [] depth held h n within d = halves_free depth held h
   cuts_free (a ∷ todo) depth held h n within d = (
     (
-      not_in a held (λ k i. true≢false (sym (front_among a todo) ∙ n (a, k) i)),
+      not_held a held (λ k i. true≢false (sym (front_among a todo) ∙ n (a, k) i)),
       free_all held (middle ∷ low ∷ []) both,
       cuts_free todo (depth + 1) inner inner_over inner_done (λ b o. within b (later_among b a todo o)) q.1,
-      (λ y o. free_after gs (depth + 1) (in_cuts line todo (both_halves line name lefts rights)) inner y (hash_free inner (only_plain inner inner_over) y (part y o))),
+      (λ y o. free_after gs (depth + 1) (in_cuts line todo (both_halves line name lefts rights)) inner y (hash_loose inner (only_plain inner inner_over) y (part y o))),
     ),
     tt,
   )

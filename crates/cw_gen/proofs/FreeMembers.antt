@@ -8,7 +8,8 @@ use Rattle.cw_model.specs.declared.syntax.CallKind.TheVariants.{Plain, Spawned}
 use Rattle.cw_model.specs.Syntax.{Name, Stmt, Call, Start, Sync, If, IfElse, While, Scope, Cut, Region, Return, Block, End, Then, Function}
 use Rattle.cw_model.specs.Names.{same_name, is_among}
 use Rattle.cw_model.specs.Typing.{block_returns}
-use Rattle.cw_model.specs.Ownership.{Holder, SpawnIn, CutOf, Taken, is_taken, is_spawn_in, is_cut_of, freed, without, own_names, where_it_goes_on, target_names, given}
+use Rattle.cw_model.specs.Ownership.{Holder, SpawnIn, ReaderIn, CutOf, Taken, is_reader, is_taken, is_held, is_spawn_in, is_cut_of, freed, without, taken_by, own_names, where_it_goes_on, target_names, given, lent}
+use Rattle.cw_loops.specs.lemmas.Tests.{not_true}
 use Rattle.cw_gen.proofs.Held.{held_after, held_after_all}
 
 -- it is one of them
@@ -73,80 +74,120 @@ contains_in t (u ∷ us) c = ⊎_elim (λ here. inl (only here.0 here.1 here.2))
     only zero l e = e
     only (suc n) l e = absurd (omega arith)
 
--- a taken name has a holder
-pub taken_in : (x : Name) (us : Taken) → is_taken us x ≡ true → (k : Holder) × In (x, k) us
-taken_in x [] h = cc
-taken_in x (u ∷ us) h = test (taken_in x us) (same_name x u.0) refl h
+-- a name that is held has a holder
+pub held_in : (x : Name) (us : Taken) → is_held us x ≡ true → (k : Holder) × In (x, k) us
+held_in x [] h = cc
+held_in x (u ∷ us) h = test (held_in x us) (same_name x u.0) refl h
   where
-    test : (is_taken us x ≡ true → (k : Holder) × In (x, k) us) → (b : Bool) → same_name x u.0 ≡ b → (if b then true else is_taken us x) ≡ true → (k : Holder) × In (x, k) (u ∷ us)
+    test : (is_held us x ≡ true → (k : Holder) × In (x, k) us) → (b : Bool) → same_name x u.0 ≡ b → (if b then true else is_held us x) ≡ true → (k : Holder) × In (x, k) (u ∷ us)
     test more true e h' = (u.1, inl (ap (λ n. (n, u.1)) (sym ((bytes_eq-Decides x u.0).0 e))))
     test more false e h' = let r = more h' in (r.0, inr r.1)
 
--- a name with a holder is taken
-pub in_taken : (t : Name × Holder) (us : Taken) → In t us → is_taken us t.0 ≡ true
-in_taken t [] h = absurd h
-in_taken t (u ∷ us) (inl e) = ap (λ b. if b then true else is_taken us t.0) (ap (λ (v : Name × Holder). same_name t.0 v.0) e ∙ (bytes_eq-Decides t.0 t.0).1 refl)
-in_taken t (u ∷ us) (inr h) = test (same_name t.0 u.0) (in_taken t us h)
+-- a name with a holder is held
+pub in_held : (t : Name × Holder) (us : Taken) → In t us → is_held us t.0 ≡ true
+in_held t [] h = absurd h
+in_held t (u ∷ us) (inl e) = ap (λ b. if b then true else is_held us t.0) (ap (λ (v : Name × Holder). same_name t.0 v.0) e ∙ (bytes_eq-Decides t.0 t.0).1 refl)
+in_held t (u ∷ us) (inr h) = test (same_name t.0 u.0) (in_held t us h)
   where
-    test : (b : Bool) → is_taken us t.0 ≡ true → (if b then true else is_taken us t.0) ≡ true
+    test : (b : Bool) → is_held us t.0 ≡ true → (if b then true else is_held us t.0) ≡ true
     test true e = refl
     test false e = e
 
--- a name of which nothing is among them is not taken
-pub not_in : (x : Name) (us : Taken) → ((k : Holder) → In (x, k) us → ⊥) → is_taken us x ≡ false
+-- a name of which nothing is among them is not held
+pub not_held : (x : Name) (us : Taken) → ((k : Holder) → In (x, k) us → ⊥) → is_held us x ≡ false
+not_held x us h = cases (is_held us x) refl
+  where
+    cases : (b : Bool) → is_held us x ≡ b → b ≡ false
+    cases true e = let r = held_in x us e in absurd (h r.0 r.1)
+    cases false e = refl
+
+-- what does not only read
+abbrev taking : (Name × Holder) → Bool
+taking t = not (is_reader t.1)
+
+-- a name that is taken has a holder that does not only read it
+pub taken_in : (x : Name) (us : Taken) → is_taken us x ≡ true → (k : Holder) × In (x, k) us × (is_reader k ≡ false)
+taken_in x us h =
+    let r = held_in x (filter taking us) h in
+    let f = in_filter taking (x, r.0) us r.1 in
+    (r.0, f.0, not_true (is_reader r.0) f.1)
+
+-- a name with such a holder is taken
+pub in_taken : (t : Name × Holder) (us : Taken) → In t us → is_reader t.1 ≡ false → is_taken us t.0 ≡ true
+in_taken t us i loud = in_held t (filter taking us) (in_kept taking t us i (ap not loud))
+
+-- a name that nothing has that does not only read it is not taken
+pub not_in : (x : Name) (us : Taken) → ((k : Holder) → In (x, k) us → is_reader k ≡ false → ⊥) → is_taken us x ≡ false
 not_in x us h = cases (is_taken us x) refl
   where
     cases : (b : Bool) → is_taken us x ≡ b → b ≡ false
-    cases true e = let r = taken_in x us e in absurd (h r.0 r.1)
+    cases true e = let r = taken_in x us e in absurd (h r.0 r.1 r.2)
     cases false e = refl
 
--- what a spawn took
-pub by_spawn : (depth : ℕ) (xs : List Name) (t : Name × Holder) → In t (map (λ x. (x, SpawnIn depth)) xs) → (is_among t.0 xs ≡ true) × (t.1 ≡ SpawnIn depth)
-by_spawn depth [] t h = absurd h
-by_spawn depth (x ∷ xs) t (inl e) = (
+-- names with one holder
+pub by_holder : (k : Holder) (xs : List Name) (t : Name × Holder) → In t (map (λ x. (x, k)) xs) → (is_among t.0 xs ≡ true) × (t.1 ≡ k)
+by_holder k [] t h = absurd h
+by_holder k (x ∷ xs) t (inl e) = (
   ap (λ b. if b then true else is_among t.0 xs) ((bytes_eq-Decides t.0 x).1 (ap (λ (u : Name × Holder). u.0) (sym e))),
   ap (λ (u : Name × Holder). u.1) (sym e),
 )
-by_spawn depth (x ∷ xs) t (inr h) = let r = by_spawn depth xs t h in (later (same_name t.0 x) r.0, r.1)
+by_holder k (x ∷ xs) t (inr h) = let r = by_holder k xs t h in (later (same_name t.0 x) r.0, r.1)
   where
     later : (b : Bool) → is_among t.0 xs ≡ true → (if b then true else is_among t.0 xs) ≡ true
     later true e = refl
     later false e = e
 
--- each name that a spawn took is there
-pub spawn_has : (depth : ℕ) (xs : List Name) (x : Name) → is_among x xs ≡ true → In (x, SpawnIn depth) (map (λ x. (x, SpawnIn depth)) xs)
-spawn_has depth [] x h = absurd cc
-spawn_has depth (y ∷ xs) x h = test (spawn_has depth xs x) (same_name x y) refl h
+-- each of the names is there
+pub holder_has : (k : Holder) (xs : List Name) (x : Name) → is_among x xs ≡ true → In (x, k) (map (λ x. (x, k)) xs)
+holder_has k [] x h = absurd cc
+holder_has k (y ∷ xs) x h = test (holder_has k xs x) (same_name x y) refl h
   where
-    test : (is_among x xs ≡ true → In (x, SpawnIn depth) (map (λ x. (x, SpawnIn depth)) xs)) → (b : Bool) → same_name x y ≡ b → (if b then true else is_among x xs) ≡ true → In (x, SpawnIn depth) (map (λ x. (x, SpawnIn depth)) (y ∷ xs))
-    test more true e h' = inl (ap (λ n. (n, SpawnIn depth)) (sym ((bytes_eq-Decides x y).0 e)))
+    test : (is_among x xs ≡ true → In (x, k) (map (λ x. (x, k)) xs)) → (b : Bool) → same_name x y ≡ b → (if b then true else is_among x xs) ≡ true → In (x, k) (map (λ x. (x, k)) (y ∷ xs))
+    test more true e h' = inl (ap (λ n. (n, k)) (sym ((bytes_eq-Decides x y).0 e)))
     test more false e h' = inr (more h')
+
+-- what a spawn took
+pub by_spawn : (depth : ℕ) (xs : List Name) (t : Name × Holder) → In t (map (λ x. (x, SpawnIn depth)) xs) → (is_among t.0 xs ≡ true) × (t.1 ≡ SpawnIn depth)
+by_spawn depth xs t h = by_holder (SpawnIn depth) xs t h
 
 -- taken outside the sync block at this depth, or by a cut
 abbrev pub Outer : ℕ → Holder → Type 0
 Outer depth (SpawnIn d) = d < depth
+Outer depth (ReaderIn d) = d < depth
 Outer depth CutOf = Unit {0}
 
 -- outside a block, and outside those in it
 pub outer_more : (depth : ℕ) (k : Holder) → Outer depth k → Outer (depth + 1) k
 outer_more depth (SpawnIn d) h = omega (arith, h)
+outer_more depth (ReaderIn d) h = omega (arith, h)
 outer_more depth CutOf h = tt
 
--- no spawn of the block itself
-pub outer_not : (depth : ℕ) (k : Holder) → Outer depth k → is_spawn_in depth k ≡ false
-outer_not depth (SpawnIn d) h = cases (d == depth) refl
+less_not : (d depth : ℕ) → d < depth → (d == depth) ≡ false
+less_not d depth h = cases (d == depth) refl
   where
     cases : (b : Bool) → (d == depth) ≡ b → b ≡ false
     cases true e = absurd (omega (arith, h, eqb-true d depth e))
     cases false e = refl
+
+-- no spawn of the block itself
+pub outer_not : (depth : ℕ) (k : Holder) → Outer depth k → is_spawn_in depth k ≡ false
+outer_not depth (SpawnIn d) h = less_not d depth h
+outer_not depth (ReaderIn d) h = less_not d depth h
 outer_not depth CutOf h = refl
 
 -- it was taken before, or a spawn of the sync block at this depth has it
 abbrev pub From : ℕ → Taken → (Name × Holder) → Type 0
-From depth taken t = In t taken ⊎ (t.1 ≡ SpawnIn depth)
+From depth taken t = In t taken ⊎ (is_spawn_in depth t.1 ≡ true)
 
-no_longer : (depth : ℕ) (k : Holder) → k ≡ SpawnIn depth → not (is_spawn_in depth k) ≡ true → true ≡ false
-no_longer depth k e h = sym h ∙ ap (λ q. not (is_spawn_in depth q)) e ∙ ap not (eq-eqb depth depth refl)
+no_longer : (depth : ℕ) (k : Holder) → is_spawn_in depth k ≡ true → not (is_spawn_in depth k) ≡ true → true ≡ false
+no_longer depth k e h = sym h ∙ ap not e
+
+-- what a spawn took, and what it only reads
+by_taker : (depth : ℕ) (xs : List Name) (t : Name × Holder) → In t (map (λ x. (x, SpawnIn depth)) xs) → is_spawn_in depth t.1 ≡ true
+by_taker depth xs t h = ap (is_spawn_in depth) (by_holder (SpawnIn depth) xs t h).1 ∙ eq-eqb depth depth refl
+
+by_reader : (depth : ℕ) (xs : List Name) (t : Name × Holder) → In t (map (λ x. (x, ReaderIn depth)) xs) → is_spawn_in depth t.1 ≡ true
+by_reader depth xs t h = ap (is_spawn_in depth) (by_holder (ReaderIn depth) xs t h).1 ∙ eq-eqb depth depth refl
 
 -- out of an inner sync block
 left_inner : (depth : ℕ) (taken : Taken) (own : List Name) (after_it : Taken) (t : Name × Holder) → (In t after_it → From (depth + 1) taken t) → In t (freed (depth + 1) (without own after_it)) → In t taken
@@ -175,9 +216,11 @@ cut_of a taken t e (inl same) = absurd (true≢false (sym e ∙ ap (λ u. not (i
 mutual
   -- after a statement
   pub stmt_from : (fs : List Function) (depth : ℕ) (s : Stmt) (taken : Taken) (t : Name × Holder) → In t (held_after fs depth s taken) → From depth taken t
-  stmt_from fs depth (Call Spawned site target f es) taken t h = either_way (in_append t (map (λ x. (x, SpawnIn depth)) (target_names target ++ given fs f es)) taken h) (λ k. inr (by_spawn depth (target_names target ++ given fs f es) t k).1) (λ k. inl k)
+  stmt_from fs depth (Call Spawned site target f es) taken t h =
+      either_way (in_append t (map (λ x. (x, ReaderIn depth)) (lent fs f es)) (taken_by depth (target_names target ++ given fs f es) taken) h) (λ k. inr (by_reader depth (lent fs f es) t k))
+      (λ k. either_way (in_append t (map (λ x. (x, SpawnIn depth)) (target_names target ++ given fs f es)) taken k) (λ j. inr (by_taker depth (target_names target ++ given fs f es) t j)) (λ j. inl j))
   stmt_from fs depth (Call Plain site target f es) taken t h = inl h
-  stmt_from fs depth (Start Spawned f es) taken t h = either_way (in_append t (map (λ x. (x, SpawnIn depth)) (given fs f es)) taken h) (λ k. inr (by_spawn depth (given fs f es) t k).1) (λ k. inl k)
+  stmt_from fs depth (Start Spawned f es) taken t h = either_way (in_append t (map (λ x. (x, SpawnIn depth)) (given fs f es)) taken h) (λ k. inr (by_taker depth (given fs f es) t k)) (λ k. inl k)
   stmt_from fs depth (Start Plain f es) taken t h = inl h
   stmt_from fs depth Sync taken t h = inl (in_filter (λ u. not (is_spawn_in depth u.1)) t taken h).0
   stmt_from fs depth (Return e) taken t h = inl (in_filter (λ u. not (is_spawn_in depth u.1)) t taken h).0
@@ -218,12 +261,12 @@ cut_from fs depth a l r b taken t h =
     let one = in_filter (λ u. not (is_cut_of a u)) t (freed (depth + 1) (without (l ∷ r ∷ own_names b) (held_after_all fs (depth + 1) b inner))) h in
     cut_of a taken t one.1 (left_inner depth inner (l ∷ r ∷ own_names b) (held_after_all fs (depth + 1) b inner) t (block_from fs (depth + 1) b inner t) one.0)
 
--- what was not taken before a sync block is not taken after its join
-pub free_after : (fs : List Function) (depth : ℕ) (b : Block) (taken : Taken) (x : Name) → is_taken taken x ≡ false → is_taken (freed depth (held_after_all fs depth b taken)) x ≡ false
-free_after fs depth b taken x free = not_in x (freed depth (held_after_all fs depth b taken)) (λ k h.
+-- what was not held before a sync block is not held after its join
+pub free_after : (fs : List Function) (depth : ℕ) (b : Block) (taken : Taken) (x : Name) → is_held taken x ≡ false → is_held (freed depth (held_after_all fs depth b taken)) x ≡ false
+free_after fs depth b taken x free = not_held x (freed depth (held_after_all fs depth b taken)) (λ k h.
     let one = in_filter (λ u. not (is_spawn_in depth u.1)) (x, k) (held_after_all fs depth b taken) h in
-    absurd (true≢false (sym (was k (block_from fs depth b taken (x, k) one.0) one.1) ∙ free)))
+    true≢false (sym (was k (block_from fs depth b taken (x, k) one.0) one.1) ∙ free))
   where
-    was : (k : Holder) → From depth taken (x, k) → not (is_spawn_in depth k) ≡ true → is_taken taken x ≡ true
-    was k (inl h) e = in_taken (x, k) taken h
+    was : (k : Holder) → From depth taken (x, k) → not (is_spawn_in depth k) ≡ true → is_held taken x ≡ true
+    was k (inl h) e = in_held (x, k) taken h
     was k (inr h) e = absurd (true≢false (no_longer depth k h e))

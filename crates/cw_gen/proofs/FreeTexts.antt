@@ -2,11 +2,13 @@
 use Rattle.std.proofs.Common.{◌≡◌, ℕ, ◌+◌, Bool, true, false, List, [], ◌∷◌, ◌++◌, refl, ap, ◌∙◌}
 use Rattle.std.specs.Prelude.{◌&&◌, ◌||◌, not, if◌then◌else◌}
 use Rattle.std.specs.List.{list_any}
-use Rattle.cw_model.specs.Syntax.{Name, Expr, Number, Variable, Element, Length, Negative, Not, Binary, Stmt, Declare, DeclareArray, IfElse, Block, End, Then, Param}
+use Rattle.cw_model.specs.declared.syntax.NameKind.{NameKind}
+use Rattle.cw_model.specs.declared.syntax.NameKind.TheVariants.{Integer, Array, Const}
+use Rattle.cw_model.specs.Syntax.{is_written_kind, is_const_kind, Name, Expr, Number, Variable, Element, Length, Negative, Not, Binary, Stmt, Declare, DeclareArray, IfElse, Block, End, Then, Param}
 use Rattle.cw_model.specs.Names.{is_among}
 use Rattle.cw_model.specs.Captured.{read_by, declared_in, declared_in_block}
 use Rattle.cw_model.specs.Typing.{Known, is_argument, are_arguments, surely_returns, block_returns}
-use Rattle.cw_model.specs.Ownership.{Taken, is_taken, own_names, names_in, arrays_given, are_free}
+use Rattle.cw_model.specs.Ownership.{Taken, is_taken, is_held, own_names, names_in, arrays_given, arrays_lent, are_free, are_loose}
 use Rattle.cw_loops.specs.Lowered.{low, lower_index, lower_expr, lower_exprs, lower_stmt, lower_block, loop_count, loop_count_in}
 use Rattle.cw_loops.specs.lemmas.Tests.{both_true, not_true}
 use Rattle.cw_loops.specs.lemmas.Naming.{Placed, at_front, after_it, placed, Side, in_first, in_second, side, none_any, among_left, among_right, front_among, later_among}
@@ -52,13 +54,28 @@ pub given_same : (over : List Name) (known : Known) (ps : List Param) (es : List
 given_same over known [] es h = refl
 given_same over known (p ∷ ps) [] h = refl
 given_same over known (p ∷ ps) (e ∷ es) h =
-    let f = both_true (is_argument known p.is_array e) (are_arguments known ps es) h in
-    ap (λ l. l ++ arrays_given ps (lower_exprs over es)) (one p.is_array e f.0) ∙ ap (λ l. (if p.is_array then names_in e else []) ++ l) (given_same over known ps es f.1)
+    let f = both_true (is_argument known p.kind e) (are_arguments known ps es) h in
+    ap (λ l. l ++ arrays_given ps (lower_exprs over es)) (one p.kind e f.0) ∙ ap (λ l. (if is_written_kind p.kind then names_in e else []) ++ l) (given_same over known ps es f.1)
   where
-    one : (array : Bool) (e : Expr) → is_argument known array e ≡ true → (if array then names_in (lower_expr over e) else []) ≡ (if array then names_in e else [])
-    one false e g = refl
-    one true (Variable x) g = refl
-    one true _ g = absurd cc
+    one : (k : NameKind) (e : Expr) → is_argument known k e ≡ true → (if is_written_kind k then names_in (lower_expr over e) else []) ≡ (if is_written_kind k then names_in e else [])
+    one Integer e g = refl
+    one Const e g = refl
+    one Array (Variable x) g = refl
+    one Array _ g = absurd cc
+
+-- the same are only read
+pub lent_same : (over : List Name) (known : Known) (ps : List Param) (es : List Expr) → are_arguments known ps es ≡ true → arrays_lent ps (lower_exprs over es) ≡ arrays_lent ps es
+lent_same over known [] es h = refl
+lent_same over known (p ∷ ps) [] h = refl
+lent_same over known (p ∷ ps) (e ∷ es) h =
+    let f = both_true (is_argument known p.kind e) (are_arguments known ps es) h in
+    ap (λ l. l ++ arrays_lent ps (lower_exprs over es)) (one p.kind e f.0) ∙ ap (λ l. (if is_const_kind p.kind then names_in e else []) ++ l) (lent_same over known ps es f.1)
+  where
+    one : (k : NameKind) (e : Expr) → is_argument known k e ≡ true → (if is_const_kind k then names_in (lower_expr over e) else []) ≡ (if is_const_kind k then names_in e else [])
+    one Integer e g = refl
+    one Array e g = refl
+    one Const (Variable x) g = refl
+    one Const _ g = absurd cc
 
 -- a name that stands alone in an expression is in it
 pub read_is_in : (e : Expr) (x : Name) → is_among x (read_by e) ≡ true → is_among x (names_in e) ≡ true
@@ -79,6 +96,15 @@ read_is_in (Binary operator d e) x h = go (side x (read_by d) (read_by e) h) (re
 -- each of free names
 pub free_each : (taken : Taken) (xs : List Name) → are_free taken xs ≡ true → (x : Name) → is_among x xs ≡ true → is_taken taken x ≡ false
 free_each taken xs h = none_any (λ x. is_taken taken x) xs (not_true _ h)
+
+-- each of names that nothing holds
+pub loose_each : (taken : Taken) (xs : List Name) → are_loose taken xs ≡ true → (x : Name) → is_among x xs ≡ true → is_held taken x ≡ false
+loose_each taken xs h = none_any (λ x. is_held taken x) xs (not_true _ h)
+
+-- names that nothing holds, one by one
+pub loose_all : (taken : Taken) (xs : List Name) → ((x : Name) → is_among x xs ≡ true → is_held taken x ≡ false) → are_loose taken xs ≡ true
+loose_all taken [] h = refl
+loose_all taken (x ∷ xs) h = ap (λ b. not (b || list_any (λ z. is_held taken z) xs)) (h x (front_among x xs)) ∙ loose_all taken xs (λ y o. h y (later_among y x xs o))
 
 -- names that are free one by one
 pub free_all : (taken : Taken) (xs : List Name) → ((x : Name) → is_among x xs ≡ true → is_taken taken x ≡ false) → are_free taken xs ≡ true

@@ -1,7 +1,8 @@
 -- No name that a lowered program uses is taken.
+use Rattle.cw_model.specs.declared.syntax.NameKind.TheVariants as name_kind
 use Rattle.std.proofs.Common.{◌≡◌, ℕ, zero, suc, ◌+◌, ◌≤◌, List, [], ◌∷◌, ◌++◌, true, false, refl, sym, ap, ◌∙◌, arith, inr}
 use Rattle.std.specs.Prelude.{map, flat_map, not, ◌&&◌, ◌||◌, if◌then◌else◌, Option, Some, None}
-use Rattle.std.specs.List.{list_all}
+use Rattle.std.specs.List.{list_all, list_any}
 use Rattle.cw_model.specs.declared.syntax.CallKind.{CallKind}
 use Rattle.cw_model.specs.Lines.{unless}
 use Rattle.cw_model.specs.Syntax.{Name, Expr, Stmt, Declare, DeclareArray, Assign, AssignElement, Reduce, Call, Start, Begin, Sync, If, IfElse, While, For, Scope, Cut, Region, Print, Return, Block, End, Then, Function, Program}
@@ -9,15 +10,15 @@ use Rattle.cw_model.specs.Names.{is_among, differ}
 use Rattle.cw_model.specs.Captured.{captured, read_by, read_in_block, declared_in_block}
 use Rattle.cw_model.specs.Meaning.{function_named}
 use Rattle.cw_model.specs.Typing.{Known, Returns, Nowhere, WithInt, Alone, is_fine, is_int, is_array, is_call, called, is_cut, is_head, is_head_of_loop, surely_returns, declares, ends_block, known_of, faults_in, faults_in_block, faults_of}
-use Rattle.cw_model.specs.Ownership.{Holder, CutOf, Taken, is_taken, freed, own_names, target_names, given, names_in, are_free, are_inner, keeps_loop, may_read, may_write, may_index, for_head, Around, NoLoop, InLoop, Closing, Joins, Leaves, Declared, declared_by, known_after, taken_after, taken_after_all, owner_faults, owner_faults_in, owner_faults_of}
+use Rattle.cw_model.specs.Ownership.{Holder, CutOf, Taken, is_reader, is_taken, is_held, freed, own_names, target_names, given, lent, names_in, are_free, are_loose, are_inner, keeps_loop, may_read, may_write, may_lend, may_index, for_head, Around, NoLoop, InLoop, Closing, Joins, Leaves, Declared, declared_by, known_after, taken_after, taken_after_all, owner_faults, owner_faults_in, owner_faults_of}
 use Rattle.cw_model.specs.WhileLaw.{WhilesAreLeast}
 use Rattle.cw_model.specs.lemmas.Kept.{left_none, right_none, kept}
 use Rattle.cw_loops.specs.Lowered.{is_plain, low, lower_expr, lower_exprs, lower_stmt, lower_block, loop_count, loop_count_in, made_by, made_in, made_of, loop_name, loop_function, lower_functions, lowered}
 use Rattle.cw_loops.specs.Lowerable.{is_lowerable}
 use Rattle.cw_loops.specs.SourceLike.{is_source_expr, is_source_target, is_source_stmt, is_source_block, is_source_function}
 use Rattle.cw_loops.specs.LoweringLaws.{IsOwnedSource}
-use Rattle.cw_loops.specs.lemmas.Tests.{both_true, never, refuted, either_right}
-use Rattle.cw_loops.specs.lemmas.Naming.{Placed, at_front, after_it, placed, each_of, among_right, front_among, later_among, new_are_there}
+use Rattle.cw_loops.specs.lemmas.Tests.{both_true, not_true, never, refuted, either_right}
+use Rattle.cw_loops.specs.lemmas.Naming.{Placed, at_front, after_it, placed, each_of, among_left, among_right, front_among, later_among, new_are_there}
 use Rattle.cw_loops.specs.lemmas.Knowing.{known_more, known_array_more, new_unknown, not_both}
 use Rattle.cw_loops.specs.lemmas.Declaring.{HeadKept, head_kept, CutKept, cut_kept}
 use Rattle.cw_loops.specs.lemmas.Seeing.{SameKnown, after_known, call_kept, Seen, Home, declared_there, known_before, home, block_seen}
@@ -26,12 +27,12 @@ use Rattle.cw_loops.specs.lemmas.Finding.{Found, found_left, found_right, all_fo
 use Rattle.cw_gen.proofs.Held.{held_after, held_after_all}
 use Rattle.cw_gen.proofs.Fine.{EndsFree}
 use Rattle.cw_gen.proofs.Kept.{ExprsFree, StmtFree, BlockFree, AllFree}
-use Rattle.cw_gen.proofs.Takens.{ends_free}
-use Rattle.cw_gen.proofs.FreeTexts.{own_same, free_each, free_all, free_first, index_free, expr_free}
+use Rattle.cw_gen.proofs.Takens.{ends_free, loose_free}
+use Rattle.cw_gen.proofs.FreeTexts.{own_same, free_each, free_all, loose_each, loose_all, index_free, expr_free}
 use Rattle.cw_gen.proofs.FreeMembers.{In, not_in, free_after}
 use Rattle.cw_gen.proofs.FreeStays.{for_keeps, unknown_out}
-use Rattle.cw_gen.proofs.FreeCarried.{deeper, AllCarried, deeper_all, inside_more, inside_outer, free_carried, plain_carried, named_carried, end_carried, cut_carried}
-use Rattle.cw_gen.proofs.FreeAfter.{call_same, stmt_carries, block_carries}
+use Rattle.cw_gen.proofs.FreeCarried.{deeper, AllCarried, deeper_all, inside_more, inside_outer, reader_moved, free_carried, loose_carried, plain_carried, named_carried, end_carried, cut_carried}
+use Rattle.cw_gen.proofs.FreeAfter.{call_same, lent_call_same, stmt_carries, block_carries}
 use Rattle.cw_gen.proofs.FreeLoops.{Nothing, loop_free}
 
 -- how much less deep the body of a loop lies in its function
@@ -53,7 +54,11 @@ module _ (shift depth : ℕ) (owners : List Name) (held taken : Taken) (all : Al
   names_free xs h = free_all held xs (λ x o. free_carried shift depth owners held taken all x (free_each taken xs h x o))
 
   low_free : is_taken held low ≡ false
-  low_free = plain_carried shift depth owners held taken all low refl
+  low_free = loose_free low held (plain_carried shift depth owners held taken all low refl)
+
+  -- and what nothing holds there nothing holds in it
+  names_loose : (xs : List Name) → are_loose taken xs ≡ true → are_loose held xs ≡ true
+  names_loose xs h = loose_all held xs (λ x o. loose_carried shift depth owners held taken all x (loose_each taken xs h x o))
 
   lowered_free : (over : List Name) (e : Expr) → are_free taken (names_in e) ≡ true → are_free held (names_in (lower_expr over e)) ≡ true
   lowered_free over e h = expr_free held over e low_free (names_free (names_in e) h)
@@ -67,8 +72,11 @@ module _ (shift depth : ℕ) (owners : List Name) (held taken : Taken) (all : Al
       let p = both_true (may_read around taken e) (list_all (λ e. may_read around taken e) es) h in
       (read_free around over e p.0, reads_free around over es p.1)
 
+  write_loose : (around : Around) (x : Name) → may_write around taken (x ∷ []) ≡ true → is_held held x ≡ false
+  write_loose around x h = loose_carried shift depth owners held taken all x (loose_each taken (x ∷ []) (both_true (are_loose taken (x ∷ [])) (are_inner around (x ∷ [])) h).0 x (front_among x []))
+
   write_free : (around : Around) (x : Name) → may_write around taken (x ∷ []) ≡ true → is_taken held x ≡ false
-  write_free around x h = free_carried shift depth owners held taken all x (free_each taken (x ∷ []) (both_true (are_free taken (x ∷ [])) (are_inner around (x ∷ [])) h).0 x (front_among x []))
+  write_free around x h = loose_free x held (write_loose around x h)
 
 module _ (program : Program) (least : WhilesAreLeast) (gs : List Function) (same_params : (g : Name) → is_plain g ≡ true → (function_named g gs).params ≡ (function_named g program.functions).params) where
   abbrev StmtFrees : Stmt → Type 0
@@ -86,7 +94,7 @@ module _ (program : Program) (least : WhilesAreLeast) (gs : List Function) (same
       is_source_block b ≡ true → faults_in_block program returns known b ≡ [] → owner_faults_in program.functions around owners source closing taken [] b ≡ [] → AllCarried shift depth owners held taken →
       EndsFree gs depth closing held (lower_block over k b)
   block_ends b over k known owners around same returns depth source shift e closing held taken src types owns all x o =
-      free_carried shift depth (own_names b ++ owners) _ _ (end_carried shift depth source (own_names b ++ owners) closing (held_after_all gs depth (lower_block over k b) held) (taken_after_all program.functions source b taken) e
+      loose_carried shift depth (own_names b ++ owners) _ _ (end_carried shift depth source (own_names b ++ owners) closing (held_after_all gs depth (lower_block over k b) held) (taken_after_all program.functions source b taken) e
       (block_carries program least gs same_params b over k known owners around same returns depth source shift e closing held taken [] src types owns all))
       x (ends_free program.functions around owners source closing taken [] b owns x (inr (ap (is_among x) (sym (own_same over b k)) ∙ o)))
 
@@ -103,13 +111,21 @@ module _ (program : Program) (least : WhilesAreLeast) (gs : List Function) (same
       let s = both_true (is_source_target target) (is_plain f && list_all is_source_expr es) src in
       let t = both_true (is_plain f) (list_all is_source_expr es) s.1 in
       let c = call_kept program.functions known target f es (kept (is_call known target (called f program.functions) es) line types) in
-      let two = both_true (list_all (λ e. may_read around taken e) es && may_write around taken (target_names target ++ given program.functions f es)) (differ (given program.functions f es)) (kept _ line owns) in
-      let one = both_true (list_all (λ e. may_read around taken e) es) (may_write around taken (target_names target ++ given program.functions f es)) two.0 in
-      let free = (both_true (are_free taken (target_names target ++ given program.functions f es)) (are_inner around (target_names target ++ given program.functions f es)) one.1).0 in (
+      let gives = given program.functions f es in
+      let lends = lent program.functions f es in
+      let three = both_true _ (may_lend around gives lends) (kept _ line owns) in
+      let two = both_true (list_all (λ e. may_read around taken e) es && may_write around taken (target_names target ++ gives)) (differ gives) three.0 in
+      let one = both_true (list_all (λ e. may_read around taken e) es) (may_write around taken (target_names target ++ gives)) two.0 in
+      let loose = names_loose shift depth owners held taken all (target_names target ++ gives) (both_true (are_loose taken (target_names target ++ gives)) (are_inner around (target_names target ++ gives)) one.1).0 in
+      let same_given = call_same program.functions gs over known target f es (same_params f t.0) c in
+      let same_lent = lent_call_same program.functions gs over known target f es (same_params f t.0) c in
+      let lending = both_true (are_inner around lends) (not (list_any (λ a. is_among a gives) lends)) three.1 in (
         (
-          names_free shift depth owners held taken all (target_names target) (free_first taken (target_names target) (given program.functions f es) free),
+          free_all held (target_names target) (λ x o. loose_free x held (loose_each held (target_names target ++ gives) loose x (among_left x (target_names target) gives o))),
           reads_free shift depth owners held taken all around over es one.0,
-          ap differ (call_same program.functions gs over known target f es (same_params f t.0) c) ∙ two.1,
+          ap differ same_given ∙ two.1,
+          ap (are_loose held) same_given ∙ loose_all held gives (λ x o. loose_each held (target_names target ++ gives) loose x (among_right x (target_names target) gives o)),
+          ap (λ g. list_any (λ a. is_among a g) (lent gs f (lower_exprs over es))) same_given ∙ ap (λ l. list_any (λ a. is_among a gives) l) same_lent ∙ not_true (list_any (λ a. is_among a gives) lends) lending.1,
         ),
         tt,
       )
@@ -117,7 +133,7 @@ module _ (program : Program) (least : WhilesAreLeast) (gs : List Function) (same
   cut_frees : (a : Name) (at : Expr) (l r : Name) (b : Block) → BlockFrees b → StmtFrees (Cut a at l r b)
   cut_frees a at l r b more over k known owners around same returns line depth source shift some e held taken src types owns all found = (
     (
-      write_free shift depth owners held taken all around a rules.1,
+      write_loose shift depth owners held taken all around a rules.1,
       read_free shift depth owners held taken all around over at rules.0,
       inner.0.0,
       (λ x o. ends x (placed x l (r ∷ own_names (lower_block over k b)) o)),
@@ -126,7 +142,7 @@ module _ (program : Program) (least : WhilesAreLeast) (gs : List Function) (same
   )
     where
       c : CutKept program known a at l r
-      c = cut_kept program known a at l r (kept (is_cut program known a at l r) line (left_none _ (faults_in_block program Nowhere ((r, true) ∷ (l, true) ∷ known) b) types))
+      c = cut_kept program known a at l r (kept (is_cut program known a at l r) line (left_none _ (faults_in_block program Nowhere ((r, name_kind.Array) ∷ (l, name_kind.Array) ∷ known) b) types))
 
       rules : (may_read around taken at ≡ true) × (may_write around taken (a ∷ []) ≡ true)
       rules = both_true (may_read around taken at) (may_write around taken (a ∷ [])) (kept _ line (left_none _ (owner_faults_in program.functions around (r ∷ l ∷ owners) (source + 1) Joins ((a, CutOf) ∷ taken) [] b) owns))
@@ -137,8 +153,8 @@ module _ (program : Program) (least : WhilesAreLeast) (gs : List Function) (same
       s2 : is_source_block b ≡ true
       s2 = (both_true (is_plain r) (is_source_block b) (both_true (is_plain l) (is_plain r && is_source_block b) (both_true (is_source_expr at) (is_plain l && (is_plain r && is_source_block b)) s1.1).1).1).1
 
-      same' : SameKnown ((r, true) ∷ (l, true) ∷ known) (r ∷ l ∷ owners)
-      same' w = known_array_more w r (l ∷ owners) (is_int ((l, true) ∷ known) w) (is_array ((l, true) ∷ known) w) (known_array_more w l owners (is_int known w) (is_array known w) (same w))
+      same' : SameKnown ((r, name_kind.Array) ∷ (l, name_kind.Array) ∷ known) (r ∷ l ∷ owners)
+      same' w = known_array_more w r (l ∷ owners) (is_int ((l, name_kind.Array) ∷ known) w) (is_array ((l, name_kind.Array) ∷ known) w) (known_array_more w l owners (is_int known w) (is_array known w) (same w))
 
       cut : AllCarried shift depth owners ((a, CutOf) ∷ held) ((a, CutOf) ∷ taken)
       cut = cut_carried shift depth owners a held taken s1.0 (same a ∙ either_right (is_int known a) (is_array known a) c.array) all
@@ -148,20 +164,20 @@ module _ (program : Program) (least : WhilesAreLeast) (gs : List Function) (same
 
       inner : (BlockFree gs (depth + 1) ((a, CutOf) ∷ held) (lower_block over k b) × EndsFree gs (depth + 1) Joins ((a, CutOf) ∷ held) (lower_block over k b)) × AllFree gs (made_in k b)
       inner =
-          branch_frees b more over k ((r, true) ∷ (l, true) ∷ known) (r ∷ l ∷ owners) around same' Nowhere (depth + 1) (source + 1) shift (omega arith) (omega (arith, e)) Joins ((a, CutOf) ∷ held) ((a, CutOf) ∷ taken) s2
-          (right_none (unless (is_cut program known a at l r) line) (faults_in_block program Nowhere ((r, true) ∷ (l, true) ∷ known) b) types)
+          branch_frees b more over k ((r, name_kind.Array) ∷ (l, name_kind.Array) ∷ known) (r ∷ l ∷ owners) around same' Nowhere (depth + 1) (source + 1) shift (omega arith) (omega (arith, e)) Joins ((a, CutOf) ∷ held) ((a, CutOf) ∷ taken) s2
+          (right_none (unless (is_cut program known a at l r) line) (faults_in_block program Nowhere ((r, name_kind.Array) ∷ (l, name_kind.Array) ∷ known) b) types)
           (right_none (unless (may_read around taken at && may_write around taken (a ∷ [])) line) (owner_faults_in program.functions around (r ∷ l ∷ owners) (source + 1) Joins ((a, CutOf) ∷ taken) [] b) owns) all' found
 
-      part_free : (x y : Name) → x ≡ y → is_among y owners ≡ false → is_taken (freed (depth + 1) (held_after_all gs (depth + 1) (lower_block over k b) ((a, CutOf) ∷ held))) x ≡ false
+      part_free : (x y : Name) → x ≡ y → is_among y owners ≡ false → is_held (freed (depth + 1) (held_after_all gs (depth + 1) (lower_block over k b) ((a, CutOf) ∷ held))) x ≡ false
       part_free x y e' new =
-          ap (is_taken (freed (depth + 1) (held_after_all gs (depth + 1) (lower_block over k b) ((a, CutOf) ∷ held)))) e'
+          ap (is_held (freed (depth + 1) (held_after_all gs (depth + 1) (lower_block over k b) ((a, CutOf) ∷ held)))) e'
           ∙ free_after gs (depth + 1) (lower_block over k b) ((a, CutOf) ∷ held) y (named_carried shift depth owners ((a, CutOf) ∷ held) ((a, CutOf) ∷ taken) cut y new)
 
-      later : (x : Name) → Placed x r (own_names (lower_block over k b)) → is_taken (freed (depth + 1) (held_after_all gs (depth + 1) (lower_block over k b) ((a, CutOf) ∷ held))) x ≡ false
+      later : (x : Name) → Placed x r (own_names (lower_block over k b)) → is_held (freed (depth + 1) (held_after_all gs (depth + 1) (lower_block over k b) ((a, CutOf) ∷ held))) x ≡ false
       later x (at_front e') = part_free x r e' (unknown_out known owners r same (new_unknown program known r c.right))
       later x (after_it other o) = inner.0.1 x o
 
-      ends : (x : Name) → Placed x l (r ∷ own_names (lower_block over k b)) → is_taken (freed (depth + 1) (held_after_all gs (depth + 1) (lower_block over k b) ((a, CutOf) ∷ held))) x ≡ false
+      ends : (x : Name) → Placed x l (r ∷ own_names (lower_block over k b)) → is_held (freed (depth + 1) (held_after_all gs (depth + 1) (lower_block over k b) ((a, CutOf) ∷ held))) x ≡ false
       ends x (at_front e') = part_free x l e' (unknown_out known owners l same (new_unknown program known l c.left))
       ends x (after_it other o) = later x (placed x r (own_names (lower_block over k b)) o)
 
@@ -170,8 +186,8 @@ module _ (program : Program) (least : WhilesAreLeast) (gs : List Function) (same
     (
       read_free shift depth owners held taken all (for_head around) over from reads.0,
       read_free shift depth owners held taken all (for_head around) over to reads.1,
-      free_all held (captured x b) (λ v o. not_in v held (λ h i. never (is_among v (read_by from ++ (read_by to ++ read_in_block b))) (read_here v (there v o).0) (unread (v, h) i))),
-      names_free shift depth owners held taken all on over_free,
+      free_all held (captured x b) (λ v o. not_in v held (λ h i loud. never (is_among v (read_by from ++ (read_by to ++ read_in_block b))) (read_here v (there v o).0) (unread (v, h) i loud))),
+      names_loose shift depth owners held taken all on over_loose,
     ),
     both_free gs (made_in k b) (loop_function (loop_name (k + loop_count_in b)) line x grain (captured x b) on (lower_block on k b) ∷ []) (inside [] (λ t i. i)).1 (
       loop_free gs (loop_name (k + loop_count_in b)) line x grain (captured x b) on (lower_block on k b) (found_right gs (made_in k b) (loop_function (loop_name (k + loop_count_in b)) line x grain (captured x b) on (lower_block on k b) ∷ []) found).0
@@ -181,10 +197,10 @@ module _ (program : Program) (least : WhilesAreLeast) (gs : List Function) (same
   )
     where
       head : HeadKept program known x from to grain on
-      head = head_kept program known x y z from to grain on (kept (is_head_of_loop program known x y z from to grain on) line (left_none (unless (is_head_of_loop program known x y z from to grain on) line) (faults_in_block program Nowhere ((x, false) ∷ known) b) types))
+      head = head_kept program known x y z from to grain on (kept (is_head_of_loop program known x y z from to grain on) line (left_none (unless (is_head_of_loop program known x y z from to grain on) line) (faults_in_block program Nowhere ((x, name_kind.Integer) ∷ known) b) types))
 
-      types' : faults_in_block program Nowhere ((x, false) ∷ known) b ≡ []
-      types' = right_none (unless (is_head_of_loop program known x y z from to grain on) line) (faults_in_block program Nowhere ((x, false) ∷ known) b) types
+      types' : faults_in_block program Nowhere ((x, name_kind.Integer) ∷ known) b ≡ []
+      types' = right_none (unless (is_head_of_loop program known x y z from to grain on) line) (faults_in_block program Nowhere ((x, name_kind.Integer) ∷ known) b) types
 
       kept_rules : ((may_read (for_head around) taken from && may_read (for_head around) taken to && may_write around taken on && differ on) ≡ true) × (owner_faults_in program.functions (InLoop (x ∷ owners) x on) (x ∷ owners) (source + 1) Joins taken [] b ≡ [])
       kept_rules =
@@ -204,8 +220,8 @@ module _ (program : Program) (least : WhilesAreLeast) (gs : List Function) (same
       reads : (may_read (for_head around) taken from ≡ true) × (may_read (for_head around) taken to ≡ true)
       reads = both_true (may_read (for_head around) taken from) (may_read (for_head around) taken to) two.0
 
-      over_free : are_free taken on ≡ true
-      over_free = (both_true (are_free taken on) (are_inner around on) two.1).0
+      over_loose : are_loose taken on ≡ true
+      over_loose = (both_true (are_loose taken on) (are_inner around on) two.1).0
 
       s1 : (is_plain x ≡ true) × ((is_source_expr from && (is_source_expr to && (list_all is_plain on && is_source_block b))) ≡ true)
       s1 = both_true (is_plain x) (is_source_expr from && (is_source_expr to && (list_all is_plain on && is_source_block b))) src
@@ -216,7 +232,7 @@ module _ (program : Program) (least : WhilesAreLeast) (gs : List Function) (same
       s4 : (list_all is_plain on ≡ true) × (is_source_block b ≡ true)
       s4 = both_true (list_all is_plain on) (is_source_block b) (both_true (is_source_expr to) (list_all is_plain on && is_source_block b) s2.1).1
 
-      same' : SameKnown ((x, false) ∷ known) (x ∷ owners)
+      same' : SameKnown ((x, name_kind.Integer) ∷ known) (x ∷ owners)
       same' w = known_more w x owners (is_int known w) (is_array known w) (same w)
 
       there : (v : Name) → is_among v (captured x b) ≡ true → (is_among v (read_in_block b) ≡ true) × (is_among v (x ∷ declared_in_block b) ≡ false)
@@ -225,13 +241,13 @@ module _ (program : Program) (least : WhilesAreLeast) (gs : List Function) (same
       read_here : (v : Name) → is_among v (read_in_block b) ≡ true → is_among v (read_by from ++ (read_by to ++ read_in_block b)) ≡ true
       read_here v o = among_right v (read_by from) (read_by to ++ read_in_block b) (among_right v (read_by to) (read_in_block b) o)
 
-      unread : (t : Name × Holder) → In t held → is_among t.0 (read_by from ++ (read_by to ++ read_in_block b)) ≡ false
-      unread t i =
+      unread : (t : Name × Holder) → In t held → is_reader t.1 ≡ false → is_among t.0 (read_by from ++ (read_by to ++ read_in_block b)) ≡ false
+      unread t i loud =
           let c = all t i in
-          (for_keeps program x y z from to grain on b known owners around same source line taken types owns (t.0, deeper shift t.1) c.there (inside_outer shift depth source t.1 e c.inside) c.named).unread
+          (for_keeps program x y z from to grain on b known owners around same source line taken types owns (t.0, deeper shift t.1) c.there (inside_outer shift depth source t.1 e c.inside) c.named).unread (reader_moved shift t.1 ∙ loud)
 
-      seen : (v : Name) → is_among v (captured x b) ≡ true → Seen (InLoop (x ∷ owners) x on) ((x, false) ∷ known) (declared_in_block b) v
-      seen v o = block_seen program program.functions refl b Nowhere ((x, false) ∷ known) (x ∷ owners) (InLoop (x ∷ owners) x on) same' (source + 1) Joins taken [] s4.1 types' kept_rules.1 v (there v o).0
+      seen : (v : Name) → is_among v (captured x b) ≡ true → Seen (InLoop (x ∷ owners) x on) ((x, name_kind.Integer) ∷ known) (declared_in_block b) v
+      seen v o = block_seen program program.functions refl b Nowhere ((x, name_kind.Integer) ∷ known) (x ∷ owners) (InLoop (x ∷ owners) x on) same' (source + 1) Joins taken [] s4.1 types' kept_rules.1 v (there v o).0
 
       no_int : (v : Name) → is_among v (captured x b) ≡ true → is_among v on ≡ false
       no_int v o = refuted (is_among v on) (λ p. never (is_array known v) (each_of (is_array known) on head.arrays v p) (by_home (home x known owners same on (declared_in_block b) v (seen v o).place)))
@@ -243,7 +259,7 @@ module _ (program : Program) (least : WhilesAreLeast) (gs : List Function) (same
       inside : (h : Taken) → Nothing h → (BlockFree gs 2 h (lower_block on k b) × EndsFree gs 2 Joins h (lower_block on k b)) × AllFree gs (made_in k b)
       inside h n =
           let d = shift_of source some in
-          branch_frees b more on k ((x, false) ∷ known) (x ∷ owners) (InLoop (x ∷ owners) x on) same' Nowhere 2 (source + 1) d.shift (omega arith) d.is Joins h taken s4.1 types' kept_rules.1 (λ t i. absurd (n t i))
+          branch_frees b more on k ((x, name_kind.Integer) ∷ known) (x ∷ owners) (InLoop (x ∷ owners) x on) same' Nowhere 2 (source + 1) d.shift (omega arith) d.is Joins h taken s4.1 types' kept_rules.1 (λ t i. absurd (n t i))
           (found_left gs (made_in k b) (loop_function (loop_name (k + loop_count_in b)) line x grain (captured x b) on (lower_block on k b) ∷ []) found)
 
   while_frees : (e : Expr) (b : Block) → BlockFrees b → StmtFrees (While e b)
@@ -268,11 +284,11 @@ module _ (program : Program) (least : WhilesAreLeast) (gs : List Function) (same
 
   element_frees : (a : Name) (i e : Expr) → StmtFrees (AssignElement a i e)
   element_frees a i e' over k known owners around same returns line depth source shift some e held taken src types owns all found =
-      let three = both_true (may_read around taken i && may_read around taken e' && are_free taken (a ∷ [])) (may_index around a i) (kept _ line owns) in
-      let two = both_true (may_read around taken i && may_read around taken e') (are_free taken (a ∷ [])) three.0 in
+      let three = both_true (may_read around taken i && may_read around taken e' && are_loose taken (a ∷ [])) (may_index around a i) (kept _ line owns) in
+      let two = both_true (may_read around taken i && may_read around taken e') (are_loose taken (a ∷ [])) three.0 in
       let one = both_true (may_read around taken i) (may_read around taken e') two.0 in (
         (
-          free_carried shift depth owners held taken all a (free_each taken (a ∷ []) two.1 a (front_among a [])),
+          loose_carried shift depth owners held taken all a (loose_each taken (a ∷ []) two.1 a (front_among a [])),
           index_free held (is_among a over) (lower_expr over i) (low_free shift depth owners held taken all) (read_free shift depth owners held taken all around over i one.0),
           read_free shift depth owners held taken all around over e' one.1,
         ),

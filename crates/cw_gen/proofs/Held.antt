@@ -3,12 +3,12 @@ use Rattle.std.specs.Prelude.{ℕ, ◌+◌, Bool, true, false, ◌&&◌, List, �
 use Rattle.cw_model.specs.declared.syntax.CallKind.TheVariants.{Spawned}
 use Rattle.cw_model.specs.Syntax.{Stmt, Call, Start, Sync, If, IfElse, While, For, Scope, Cut, Region, Return, Block, End, Then, Function}
 use Rattle.cw_model.specs.Typing.{block_returns}
-use Rattle.cw_model.specs.Ownership.{CutOf, Taken, freed, cut_ended, without, own_names, where_it_goes_on, target_names, given, taken_by}
+use Rattle.cw_model.specs.Ownership.{CutOf, Taken, freed, cut_ended, without, own_names, where_it_goes_on, target_names, given, lent, taken_by, frozen_by}
 
 abbrev mutual
   -- what is taken after a statement that lies in so many sync blocks
   pub held_after : List Function → ℕ → Stmt → Taken → Taken
-  held_after fs depth (Call Spawned site target f es) taken = taken_by depth (target_names target ++ given fs f es) taken
+  held_after fs depth (Call Spawned site target f es) taken = frozen_by depth (lent fs f es) (taken_by depth (target_names target ++ given fs f es) taken)
   held_after fs depth (Start Spawned f es) taken = taken_by depth (given fs f es) taken
   held_after fs depth Sync taken = freed depth taken
   held_after fs depth (Return e) taken = freed depth taken

@@ -10,10 +10,12 @@ use Rattle.cw_loops.specs.Slotted.{Block, Function}
 use Rattle.cw_loops.specs.Moved.{Loop}
 use Rattle.cw_loops.specs.Expanded.{loop_text, loop_texts, with_bodies}
 use Rattle.cw_code.specs.declared.code.Func.{Func}
+use Rattle.cw_code.specs.declared.code.Loan.{Loan}
 use Rattle.cw_code.specs.declared.code.Instr.{Instr}
-use Rattle.cw_gen.specs.Emit.{emitted_function, emitted_func, emitted_instrs, emitted_funcs, put_lists_in, put_lists_of, no_lists, emitted_lists}
-use Rattle.cw_gen.specs.Written.{put_lists_of_bodies, written_func}
-use Rattle.cw_gen.proofs.LoopCode.{func_emitted}
+use Rattle.cw_gen.specs.Emit.{emitted_function, emitted_func, emitted_instrs, emitted_funcs, put_lists_in, put_lists_of, put_loans_in, put_loans_of, no_lists, emitted_lists, emitted_loans}
+use Rattle.cw_gen.specs.Marks.{marks_of}
+use Rattle.cw_gen.specs.Written.{written_func}
+use Rattle.cw_gen.proofs.LoopCode.{loop_marks, func_emitted, loans_emitted}
 
 pub instrs_joined : (first : ℕ) (fs gs : List Function) → emitted_instrs first (fs ++ gs) ≡ emitted_instrs first fs ++ emitted_instrs first gs
 instrs_joined first [] gs = refl
@@ -29,15 +31,11 @@ funcs_joined first start (f ∷ fs) gs =
 
 pub lists_joined : (first : ℕ) (fs gs : List Function) (lists : List (List ℕ)) → put_lists_of first (fs ++ gs) lists ≡ put_lists_of first gs (put_lists_of first fs lists)
 lists_joined first [] gs lists = refl
-lists_joined first (f ∷ fs) gs lists = lists_joined first fs gs (put_lists_in first f.body lists)
+lists_joined first (f ∷ fs) gs lists = lists_joined first fs gs (put_lists_in first (marks_of f.params) f.body lists)
 
--- lists are those of the bodies alone
-pub lists_with_bodies : (first : ℕ) (fs : List source.Function) (bodies : List Block) (lists : List (List ℕ)) → length bodies ≡ length fs →
-    put_lists_of first (with_bodies fs bodies) lists ≡ put_lists_of_bodies first bodies lists
-lists_with_bodies first [] [] lists same = refl
-lists_with_bodies first (f ∷ fs) (b ∷ bodies) lists same = lists_with_bodies first fs bodies (put_lists_in first b lists) (omega (arith, same))
-lists_with_bodies first [] (b ∷ bodies) lists same = absurd (omega (arith, same))
-lists_with_bodies first (f ∷ fs) [] lists same = absurd (omega (arith, same))
+pub loans_joined : (fs gs : List Function) (lists : List (List Loan)) → put_loans_of (fs ++ gs) lists ≡ put_loans_of gs (put_loans_of fs lists)
+loans_joined [] gs lists = refl
+loans_joined (f ∷ fs) gs lists = loans_joined fs gs (put_loans_in (marks_of f.params) f.body lists)
 
 -- how many functions there are
 pub length_with_bodies : (fs : List source.Function) (bodies : List Block) → length bodies ≡ length fs → length (with_bodies fs bodies) ≡ length fs
@@ -77,7 +75,7 @@ funcs_of_both first index fs bodies loops old mid old_funcs mid_funcs new_funcs 
     ∙ sym (funcs_joined first 0 (with_bodies fs bodies) (loop_texts (length fs) loops))
 
 pub lists_of_both : (first index n : ℕ) (fs : List source.Function) (bodies : List Block) (loops : List Loop) (none mid new : List (List ℕ)) → length bodies ≡ length fs → index ≡ length fs → n ≡ length fs + length loops →
-    none ≡ replicate (first + 3 * n) [] → mid ≡ put_lists_of_bodies first bodies none → new ≡ put_lists_of first (loop_texts index loops) mid →
+    none ≡ replicate (first + 3 * n) [] → mid ≡ put_lists_of first (with_bodies fs bodies) none → new ≡ put_lists_of first (loop_texts index loops) mid →
     new ≡ emitted_lists first (with_bodies fs bodies ++ loop_texts (length fs) loops)
 lists_of_both first index n fs bodies loops none mid new same is_index is_n is_none is_mid is_new =
     let front = with_bodies fs bodies in
@@ -86,8 +84,44 @@ lists_of_both first index n fs bodies loops none mid new same is_index is_n is_n
     let none_is : none ≡ no_lists first (length (front ++ back)) = is_none ∙ ap (λ k. replicate (first + 3 * k) []) count in
     is_new
     ∙ ap (λ k. put_lists_of first (loop_texts k loops) mid) is_index
-    ∙ ap (put_lists_of first back) (is_mid ∙ ap (put_lists_of_bodies first bodies) none_is ∙ sym (lists_with_bodies first fs bodies (no_lists first (length (front ++ back))) same))
+    ∙ ap (put_lists_of first back) (is_mid ∙ ap (put_lists_of first front) none_is)
     ∙ sym (lists_joined first front back (no_lists first (length (front ++ back))))
+
+pub loans_of_both : (first index : ℕ) (fs : List source.Function) (bodies : List Block) (loops : List Loop) (none mid new : List (List Loan)) → index ≡ length fs →
+    none ≡ replicate first [] → mid ≡ put_loans_of (with_bodies fs bodies) none → new ≡ put_loans_of (loop_texts index loops) mid →
+    new ≡ emitted_loans first (with_bodies fs bodies ++ loop_texts (length fs) loops)
+loans_of_both first index fs bodies loops none mid new is_index is_none is_mid is_new =
+    let front = with_bodies fs bodies in
+    let back = loop_texts (length fs) loops in
+    is_new
+    ∙ ap (λ k. put_loans_of (loop_texts k loops) mid) is_index
+    ∙ ap (put_loans_of back) (is_mid ∙ ap (put_loans_of front) is_none)
+    ∙ sym (loans_joined front back (replicate first []))
+
+-- the lists of the functions of loops, one by one
+pub lists_next : (first at next : ℕ) (l : Loop) (rest left : List Loop) (now new whole : List (List ℕ)) → next ≡ at + 1 → left ≡ l ∷ rest → new ≡ put_lists_in first [] (loop_text at l).body now →
+    put_lists_of first (loop_texts at left) now ≡ whole → put_lists_of first (loop_texts next rest) new ≡ whole
+lists_next first at next l rest left now new whole is_next is_left is_new before =
+    let e : next ≡ suc at = omega (arith, is_next) in
+    ap (λ k. put_lists_of first (loop_texts k rest) new) e
+    ∙ ap (put_lists_of first (loop_texts (suc at) rest)) (is_new ∙ sym (ap (λ ms. put_lists_in first ms (loop_text at l).body now) (loop_marks at l)))
+    ∙ sym (ap (λ ls. put_lists_of first (loop_texts at ls) now) is_left)
+    ∙ before
+
+-- the loans of the functions of loops are the same whatever index the first of them has
+pub loans_any : (i j : ℕ) (loops : List Loop) (lists : List (List Loan)) → put_loans_of (loop_texts i loops) lists ≡ put_loans_of (loop_texts j loops) lists
+loans_any i j [] lists = refl
+loans_any i j (l ∷ loops) lists =
+    ap (put_loans_of (loop_texts (suc i) loops)) (loans_emitted i l lists ∙ sym (loans_emitted j l lists))
+    ∙ loans_any (suc i) (suc j) loops (put_loans_in (marks_of (loop_text j l).params) (loop_text j l).body lists)
+
+pub loans_next : (l : Loop) (rest left : List Loop) (now new whole : List (List Loan)) → left ≡ l ∷ rest → new ≡ put_loans_in [] l.body now →
+    put_loans_of (loop_texts 0 left) now ≡ whole → put_loans_of (loop_texts 0 rest) new ≡ whole
+loans_next l rest left now new whole is_left is_new before =
+    loans_any 0 1 rest new
+    ∙ ap (put_loans_of (loop_texts 1 rest)) (is_new ∙ sym (loans_emitted 0 l now))
+    ∙ sym (ap (λ ls. put_loans_of (loop_texts 0 ls) now) is_left)
+    ∙ before
 
 -- the functions of loops, one by one
 pub instrs_next : (first at next : ℕ) (l : Loop) (rest left : List Loop) (now new whole : List Instr) → next ≡ at + 1 → left ≡ l ∷ rest → new ≡ now ++ emitted_function first (loop_text at l) →

@@ -1,13 +1,13 @@
 -- The rules that a lowered program keeps, in two parts: that names are known, and that none that is used is taken.
 use Rattle.std.specs.Prelude.{◌≡◌, map, ℕ, ◌+◌, if◌then◌else◌, Bool, true, false, ◌++◌, List, [], ◌∷◌, Option, Some, None}
-use Rattle.cw_model.specs.Syntax.{Name, Expr, Number, Variable, Element, Length, Negative, Not, Binary, Stmt, Declare, DeclareArray, Assign, AssignElement, Reduce, Call, Start, Begin, Sync, If, IfElse, While, Scope, Cut, Region, Print, Return, Block, End, Then, Param, Function}
+use Rattle.cw_model.specs.Syntax.{wants_array, Name, Expr, Number, Variable, Element, Length, Negative, Not, Binary, Stmt, Declare, DeclareArray, Assign, AssignElement, Reduce, Call, Start, Begin, Sync, If, IfElse, While, Scope, Cut, Region, Print, Return, Block, End, Then, Param, Function}
 use Rattle.cw_model.specs.Names.{is_among, differ}
 use Rattle.cw_model.specs.Meaning.{function_named}
 use Rattle.cw_model.specs.Typing.{Returns, Nowhere, WithInt, Alone, block_returns}
-use Rattle.cw_model.specs.Ownership.{Taken, CutOf, is_taken, given, own_names, names_in, target_names, Joins, Leaves, are_free}
+use Rattle.cw_model.specs.Ownership.{Taken, CutOf, is_taken, is_held, given, lent, own_names, names_in, target_names, Joins, Leaves, are_free, are_loose}
 use Rattle.cw_tree.specs.Resolved.{Locals, with_array, locals_after, locals_of}
 use Rattle.cw_gen.proofs.Held.{held_after, has_no_half_in}
-use Rattle.cw_gen.proofs.Fine.{NoArray, Begins, FreeAtEnd, EndsFree, is_function, TakesRange}
+use Rattle.cw_gen.proofs.Fine.{marks_for, NotBoth, NoArray, Begins, FreeAtEnd, EndsFree, is_function, TakesRange}
 
 -- an expression names integers and arrays that are known
 abbrev pub ExprKnown : Locals → Expr → Type 0
@@ -28,7 +28,7 @@ ArgKnown true locals _ = ⊥
 -- one argument for each parameter
 abbrev pub ArgsKnown : Locals → List Param → List Expr → Type 0
 ArgsKnown locals [] [] = Unit {0}
-ArgsKnown locals (p ∷ ps) (e ∷ es) = ArgKnown p.is_array locals e × ArgsKnown locals ps es
+ArgsKnown locals (p ∷ ps) (e ∷ es) = ArgKnown (wants_array p) locals e × ArgsKnown locals ps es
 ArgsKnown locals _ _ = ⊥
 
 -- what takes the result of a function that gives one
@@ -59,6 +59,7 @@ abbrev mutual
       (is_function f fs ≡ true) × TargetKnown locals (function_named f fs) target × ArgsKnown locals (function_named f fs).params es
   StmtKnown fs given_arrays returns locals (Start kind f es) =
       (is_function f fs ≡ true) × ((function_named f fs).gives_int ≡ false) × ArgsKnown locals (function_named f fs).params es
+      × (marks_for (function_named f fs).params ≡ [])
   StmtKnown fs given_arrays returns locals (Begin f from to captured over) =
       (is_function f fs ≡ true) × TakesRange (function_named f fs) captured over
       × ExprKnown locals from × ExprKnown locals to × AllKnown locals.ints captured × AllKnown locals.arrays over × (differ over ≡ true)
@@ -110,14 +111,15 @@ abbrev mutual
   StmtFree fs depth taken (Declare x e) = are_free taken (names_in e) ≡ true
   StmtFree fs depth taken (DeclareArray a e) = are_free taken (names_in e) ≡ true
   StmtFree fs depth taken (AssignElement a i e) =
-      (is_taken taken a ≡ false) × (are_free taken (names_in i) ≡ true) × (are_free taken (names_in e) ≡ true)
+      (is_held taken a ≡ false) × (are_free taken (names_in i) ≡ true) × (are_free taken (names_in e) ≡ true)
   StmtFree fs depth taken (Assign x e) = (is_taken taken x ≡ false) × (are_free taken (names_in e) ≡ true)
   StmtFree fs depth taken (Reduce how s e) = are_free taken (names_in e) ≡ true
   StmtFree fs depth taken (Call kind site target f es) =
       (are_free taken (target_names target) ≡ true) × ExprsFree taken es × (differ (given fs f es) ≡ true)
-  StmtFree fs depth taken (Start kind f es) = ExprsFree taken es × (differ (given fs f es) ≡ true)
+      × (are_loose taken (given fs f es) ≡ true) × NotBoth (given fs f es) (lent fs f es)
+  StmtFree fs depth taken (Start kind f es) = ExprsFree taken es × (differ (given fs f es) ≡ true) × (are_loose taken (given fs f es) ≡ true)
   StmtFree fs depth taken (Begin f from to captured over) =
-      (are_free taken (names_in from) ≡ true) × (are_free taken (names_in to) ≡ true) × (are_free taken captured ≡ true) × (are_free taken over ≡ true)
+      (are_free taken (names_in from) ≡ true) × (are_free taken (names_in to) ≡ true) × (are_free taken captured ≡ true) × (are_loose taken over ≡ true)
   StmtFree fs depth taken Sync = Unit {0}
   StmtFree fs depth taken (If e b) = (are_free taken (names_in e) ≡ true) × BlockFree fs depth taken b × EndsFree fs depth Leaves taken b
   StmtFree fs depth taken (IfElse e b c) =
@@ -130,7 +132,7 @@ abbrev mutual
   StmtFree fs depth taken (Scope b) = BlockFree fs (depth + 1) taken b × EndsFree fs (depth + 1) Joins taken b
   StmtFree fs depth taken (Cut a e l r b) =
       let inner = (a, CutOf) ∷ taken in
-      (is_taken taken a ≡ false) × (are_free taken (names_in e) ≡ true)
+      (is_held taken a ≡ false) × (are_free taken (names_in e) ≡ true)
       × BlockFree fs (depth + 1) inner b × FreeAtEnd fs (depth + 1) Joins inner (l ∷ r ∷ own_names b) b
   StmtFree fs depth taken (Region tag b) = BlockFree fs (depth + 1) taken b × EndsFree fs (depth + 1) Joins taken b
   StmtFree fs depth taken (Print e) = are_free taken (names_in e) ≡ true

@@ -1,4 +1,5 @@
 -- The names that the function of a loop uses are known there.
+use Rattle.cw_model.specs.declared.syntax.NameKind.TheVariants as name_kind
 use Rattle.std.proofs.Common.{◌≡◌, ℕ, ◌+◌, true, false, List, [], ◌∷◌, ◌++◌, Some, refl, sym, ◌∙◌, ap, subst, append-nil}
 use Rattle.std.specs.Prelude.{not, ◌&&◌, ◌||◌, map}
 use Rattle.cw_model.specs.declared.syntax.CallKind.{CallKind}
@@ -18,10 +19,10 @@ use Rattle.cw_loops.specs.lemmas.Naming.{front_among, later_among, among_left, a
 use Rattle.cw_loops.specs.lemmas.Knowing.{not_both}
 use Rattle.cw_loops.specs.lemmas.Heads.{names_of}
 use Rattle.cw_gen.proofs.Held.{has_no_half_in}
-use Rattle.cw_gen.proofs.Fine.{Begins}
+use Rattle.cw_gen.proofs.Fine.{Begins, marks_for}
 use Rattle.cw_gen.proofs.Kept.{ArgsKnown, StmtKnown, BlockKnown, FunctionKnown, AllFunctionsKnown}
 use Rattle.cw_gen.proofs.KnownNames.{past, differ_join}
-use Rattle.cw_gen.proofs.KnownParams.{loop_names, loop_ints, loop_arrays}
+use Rattle.cw_gen.proofs.KnownParams.{loop_names, loop_ints, loop_arrays, loop_unread}
 use Rattle.cw_gen.proofs.KnownFunctions.{Found, AllFound, found_first, found_second, CallFound}
 use Rattle.cw_gen.proofs.KnownPlaces.{Agree, agree_inside, agree_after}
 use Rattle.cw_gen.proofs.KnownStatements.{no_half_in, begins_array, head_kept, loop_kept, block_known, cut_kept, cut_agrees}
@@ -184,7 +185,7 @@ module _ (all : List Function) (name : Name) (line : ℕ) (x : Name) (grain : �
 
   -- a call on one half
   half_known : (kind : CallKind) (returns : Returns) (es : List Expr) → ArgsKnown cut (loop_function name line x grain taken over body).params es → StmtKnown all over returns cut (Start kind name es)
-  half_known kind returns es args = (here.there, ap (λ (q : Function). q.gives_int) here.is, subst (λ (q : Function). ArgsKnown cut q.params es) (sym here.is) args)
+  half_known kind returns es args = (here.there, ap (λ (q : Function). q.gives_int) here.is, subst (λ (q : Function). ArgsKnown cut q.params es) (sym here.is) args, ap (λ (q : Function). marks_for q.params) here.is ∙ loop_unread taken over)
 
   halves_known : (returns : Returns) → BlockKnown all over returns cut (both_halves line name (left_arguments taken over) (right_arguments taken over))
   halves_known returns = (
@@ -281,7 +282,7 @@ module _ (program : Program) (all : List Function) (calls : (f : Name) (g : Func
         let body = lower_block over k b in
         let g = loop_function name line x grain taken over body in
         let keeps = loop_kept c ints arrays x y z from to grain over b can in
-        let known' = (x, false) ∷ known in
+        let known' = (x, name_kind.Integer) ∷ known in
         let head_line = unless (is_head_of_loop program known x y z from to grain over) line in
         let head = head_kept program known x y z from to grain over (kept (is_head_of_loop program known x y z from to grain over) line (left_none head_line (faults_in_block program Nowhere known' b) typed)) in
         let typed_body = right_none head_line (faults_in_block program Nowhere known' b) typed in
@@ -304,7 +305,7 @@ module _ (program : Program) (all : List Function) (calls : (f : Name) (g : Func
     made_by_known returns c ints arrays known locals agree line k (Scope b) typed can found = made_in_known Nowhere c ints arrays known locals agree k b typed can found
     made_by_known returns c ints arrays known locals agree line k (Cut a e l r b) typed can found =
         let inner = (arrays ++ l ∷ []) ++ r ∷ [] in
-        let known' = (r, true) ∷ (l, true) ∷ known in
+        let known' = (r, name_kind.Array) ∷ (l, name_kind.Array) ∷ known in
         let test = unless (is_cut program known a e l r) line in
         let cut = cut_kept program known a e l r (kept (is_cut program known a e l r) line (left_none test (faults_in_block program Nowhere known' b) typed)) in
         let one = both_true (can_evaluate c e) _ can in

@@ -3,17 +3,21 @@ use Rattle.std.proofs.Common.{◌≡◌, ℕ, ◌+◌, true, List, [], ◌∷◌
 use Rattle.std.specs.Prelude.{if◌then◌else◌, not, ◌&&◌, ◌||◌, map, flat_map}
 use Rattle.std.specs.List.{list_all, list_any}
 use Rattle.cw_model.specs.Lines.{unless}
-use Rattle.cw_model.specs.Syntax.{Name, Function, Program}
+use Rattle.cw_model.specs.Syntax.{wants_array, Name, Stmt, Declare, DeclareArray, Assign, AssignElement, Reduce, Call, Start, Begin, Sync, If, IfElse, While, For, Scope, Cut, Region, Print, Return, Block, End, Then, Function, Program}
+use Rattle.cw_model.specs.Captured.{captured}
 use Rattle.cw_model.specs.Names.{same_name, is_among, differ}
 use Rattle.cw_model.specs.Answers.{main_name}
 use Rattle.cw_model.specs.Typing.{WithInt, Alone, globals, block_returns, faults_in_block, known_of, is_head, called, faults_of, repeated_names, IsWellTyped}
 use Rattle.cw_model.specs.lemmas.Kept.{kept, left_none, right_none}
 use Rattle.cw_tree.specs.Resolved.{locals_of}
-use Rattle.cw_loops.specs.Lowered.{is_plain, loop_count_in, lower_function, lower_functions, made_in, made_of, lowered}
+use Rattle.cw_loops.specs.Lowered.{is_plain, loop_name, loop_function, loop_count, loop_count_in, lower_block, lower_function, lower_functions, made_by, made_in, made_of, lowered}
 use Rattle.cw_loops.specs.Lowerable.{nothing_around, integers_of, arrays_of, can_lower_function, is_lowerable}
 use Rattle.cw_loops.specs.LoweringLaws.{IsOwnedSource}
 use Rattle.cw_loops.specs.lemmas.Tests.{both_true}
-use Rattle.cw_loops.specs.lemmas.Heads.{names_of}
+use Rattle.cw_loops.specs.lemmas.Heads.{names_of, array_kind}
+use Rattle.cw_gen.proofs.OwnNames.{AllOwnNames, unread_own, head_written, block_own}
+use Rattle.cw_gen.proofs.KnownParams.{local_arrays, loop_unread}
+use Rattle.cw_gen.proofs.Fine.{marks_for}
 use Rattle.cw_gen.proofs.Kept.{FunctionKnown, AllFunctionsKnown}
 use Rattle.cw_gen.proofs.KnownFunctions.{AllFound, found_first, found_second, loops_found, CallFound, call_found}
 use Rattle.cw_gen.proofs.KnownPlaces.{agree_head}
@@ -27,7 +31,7 @@ record HeadOf (f : Function) : Type 0 where
 
 head_of : (program : Program) (f : Function) → is_head program f ≡ true → HeadOf f
 head_of program f h =
-    let three = (both_true _ (not (same_name f.name main_name) || (f.gives_int && not (list_any (λ p. p.is_array) f.params))) h).0 in
+    let three = (both_true _ (not (same_name f.name main_name) || (f.gives_int && not (list_any (λ p. (wants_array p)) f.params))) h).0 in
     let two = both_true _ (not f.gives_int || block_returns f.body) three in
     record { apart = (both_true (differ (names_of f.params)) (not (list_any (λ p. is_among p.name (globals program)) f.params)) two.0).0; returns = two.1 }
 
@@ -75,3 +79,56 @@ lowerable_known program typed can =
 -- in a program that types and ownership accept, which can be lowered, as the law `owned_is_lowerable` tells
 pub functions_known : (program : Program) → IsOwnedSource program → is_lowerable program ≡ true → AllFunctionsKnown (lowered program).functions (lowered program).functions
 functions_known program owned can = lowerable_known program owned.typed can
+
+both_own : (all xs ys : List Function) → AllOwnNames all xs → AllOwnNames all ys → AllOwnNames all (xs ++ ys)
+both_own all [] ys h g = g
+both_own all (x ∷ xs) ys h g = (h.0, both_own all xs ys h.1 g)
+
+-- the functions of loops read no array alone
+mutual
+  loops_own : (all : List Function) (line k : ℕ) (s : Stmt) → AllOwnNames all (made_by line k s)
+  loops_own all line k (If e b) = loops_own_in all k b
+  loops_own all line k (IfElse e b c) = both_own all (made_in k b) (made_in (k + loop_count_in b) c) (loops_own_in all k b) (loops_own_in all (k + loop_count_in b) c)
+  loops_own all line k (While e b) = loops_own_in all k b
+  loops_own all line k (For x y z from to grain over b) =
+      let g = loop_function (loop_name (k + loop_count_in b)) line x grain (captured x b) over (lower_block over k b) in
+      both_own all (made_in k b) (g ∷ []) (loops_own_in all k b) (unread_own all g (loop_unread (captured x b) over), tt)
+  loops_own all line k (Scope b) = loops_own_in all k b
+  loops_own all line k (Cut a e l r b) = loops_own_in all k b
+  loops_own all line k (Region tag b) = loops_own_in all k b
+  loops_own all line k (Declare x e) = tt
+  loops_own all line k (DeclareArray a e) = tt
+  loops_own all line k (Assign x e) = tt
+  loops_own all line k (AssignElement a i e) = tt
+  loops_own all line k (Reduce how s e) = tt
+  loops_own all line k (Call kind site target f es) = tt
+  loops_own all line k (Start kind f es) = tt
+  loops_own all line k (Begin f from to captured' over) = tt
+  loops_own all line k Sync = tt
+  loops_own all line k (Print e) = tt
+  loops_own all line k (Return e) = tt
+
+  loops_own_in : (all : List Function) (k : ℕ) (b : Block) → AllOwnNames all (made_in k b)
+  loops_own_in all k End = tt
+  loops_own_in all k (Then line s b) = both_own all (made_by line k s) (made_in (k + loop_count s) b) (loops_own all line k s) (loops_own_in all (k + loop_count s) b)
+
+module _ (program : Program) (all : List Function) (calls : (f : Name) (g : Function) → called f program.functions ≡ Some g → CallFound all f g) where
+  sources_own : (k : ℕ) (fs : List Function) → flat_map (faults_of program) fs ≡ [] → AllOwnNames all (lower_functions k fs) × AllOwnNames all (made_of k fs)
+  sources_own k [] typed = (tt, tt)
+  sources_own k (f ∷ fs) typed =
+      let returns = if f.gives_int then WithInt else Alone in
+      let test = unless (is_head program f) f.line in
+      let inner = faults_in_block program returns (known_of f.params) f.body in
+      let typed_here = left_none (faults_of program f) (flat_map (faults_of program) fs) typed in
+      let head = head_of program f (kept (is_head program f) f.line (left_none test inner typed_here)) in
+      let more = sources_own (k + loop_count_in f.body) fs (right_none (faults_of program f) (flat_map (faults_of program) fs) typed) in
+      let here = block_own program all calls (marks_for f.params) returns [] (known_of f.params) (locals_of f.params) (head_written f.params head.apart (λ x. array_kind f.params head.apart x ∙ sym (ap (is_among x) (local_arrays f.params)))) k f.body (right_none test inner typed_here) in
+      ((here, more.0), both_own all (made_in k f.body) (made_of (k + loop_count_in f.body) fs) (loops_own_in all k f.body) more.1)
+
+-- in a program that types accept, which can be lowered
+pub functions_own : (program : Program) → IsWellTyped program → AllOwnNames (lowered program).functions (lowered program).functions
+functions_own program typed =
+    let fs = program.functions in
+    let typed' = right_none (repeated_names program) (flat_map (faults_of program) fs) (right_none (unless (is_among main_name (map (λ f. f.name) fs)) 1) (repeated_names program ++ flat_map (faults_of program) fs) typed) in
+    let two = sources_own program (lowered program).functions (call_found 0 fs (made_of 0 fs)) 0 fs typed' in
+    both_own (lowered program).functions (lower_functions 0 fs) (made_of 0 fs) two.0 two.1

@@ -1,10 +1,12 @@
 -- Where a statement of a source stands, what types and the test of lowering know of names there, and what its lowered text knows.
+use Rattle.cw_model.specs.declared.syntax.NameKind.TheVariants as name_kind
 use Rattle.std.proofs.Common.{◌≡◌, ℕ, Bool, true, false, List, [], ◌∷◌, ◌++◌, refl, sym, ◌∙◌, ap, subst, append_assoc, append-nil}
 use Rattle.std.specs.Prelude.{if◌then◌else◌, not, ◌&&◌, ◌||◌, map, Option, Some, None}
-use Rattle.cw_model.specs.Syntax.{Name, Expr, Number, Variable, Element, Length, Negative, Not, Binary, Stmt, Declare, DeclareArray, Param, Function, Program}
+use Rattle.cw_model.specs.Syntax.{is_array_kind, wants_array, Name, Expr, Number, Variable, Element, Length, Negative, Not, Binary, Stmt, Declare, DeclareArray, Param, Function, Program}
 use Rattle.cw_model.specs.Names.{is_among, differ}
-use Rattle.cw_model.specs.Typing.{Known, is_int, is_array, is_new, is_fine, is_argument, are_arguments, is_target, globals, declares, known_of, faults_in, Returns, Nowhere, WithInt, Alone, may_return}
+use Rattle.cw_model.specs.Typing.{Known, is_int, is_array, is_new, is_fine, is_target, globals, declares, known_of, faults_in, Returns, Nowhere, WithInt, Alone, may_return}
 use Rattle.cw_model.specs.lemmas.Kept.{kept}
+use Rattle.cw_model.specs.lemmas.Fits.{fits_kind, fit_kinds}
 use Rattle.cw_tree.specs.Resolved.{Locals, with_int, with_array, locals_after, locals_of}
 use Rattle.cw_loops.specs.Lowered.{is_plain, low, high, lower_index, lower_expr, lower_exprs, lower_option}
 use Rattle.cw_loops.specs.Lowerable.{Surroundings, nothing_around, can_write, can_read, is_local, is_variable, can_evaluate, can_pass, can_pass_all, can_target, new_integers, new_arrays, can_capture, can_slice, inside, integers_of, arrays_of}
@@ -29,7 +31,7 @@ pub record Agree (c : Surroundings) (ints arrays : List Name) (known : Known) (l
 
 -- a new name is neither
 pub new_name : (program : Program) (known : Known) (x : Name) → is_new program known x ≡ true → (is_int known x ≡ false) × (is_array known x ≡ false)
-new_name program known x h = (not_there false known x unknown, not_there true known x unknown)
+new_name program known x h = (not_there (λ kind. not (is_array_kind kind)) known x unknown, not_there is_array_kind known x unknown)
   where
     test : (b : Bool) → not (b || is_among x (globals program)) ≡ true → b ≡ false
     test true g = absurd cc
@@ -112,7 +114,7 @@ module _ {c : Surroundings} {ints arrays : List Name} {known : Known} {locals : 
       let g = both_true (can_evaluate c d) (can_evaluate c e) can in
       (expr_known d f.0 g.0, expr_known e f.1 g.1)
 
-  arg_known : (b : Bool) (e : Expr) → is_argument known b e ≡ true → can_pass c e ≡ true → ArgKnown b locals (lower_expr c.over e)
+  arg_known : (b : Bool) (e : Expr) → fits_kind known b e ≡ true → can_pass c e ≡ true → ArgKnown b locals (lower_expr c.over e)
   arg_known false (Variable x) fine can = let two = both_true (can_read c x) (is_local c x) can in (int_there x fine two.0, no_array x fine two.1)
   arg_known false (Number n) fine can = (tt, tt)
   arg_known false (Element a e) fine can = (expr_known (Element a e) fine can, tt)
@@ -128,14 +130,14 @@ module _ {c : Surroundings} {ints arrays : List Name} {known : Known} {locals : 
   arg_known true (Not e) fine can = absurd cc
   arg_known true (Binary operator d e) fine can = absurd cc
 
-  pub args_known : (ps : List Param) (es : List Expr) → are_arguments known ps es ≡ true → can_pass_all c es ≡ true → ArgsKnown locals ps (lower_exprs c.over es)
+  pub args_known : (ps : List Param) (es : List Expr) → fit_kinds known ps es ≡ true → can_pass_all c es ≡ true → ArgsKnown locals ps (lower_exprs c.over es)
   args_known [] [] fine can = tt
   args_known [] (e ∷ es) fine can = absurd cc
   args_known (p ∷ ps) [] fine can = absurd cc
   args_known (p ∷ ps) (e ∷ es) fine can =
-      let f = both_true (is_argument known p.is_array e) (are_arguments known ps es) fine in
+      let f = both_true (fits_kind known (wants_array p) e) (fit_kinds known ps es) fine in
       let g = both_true (can_pass c e) (can_pass_all c es) can in
-      (arg_known p.is_array e f.0 g.0, args_known ps es f.1 g.1)
+      (arg_known (wants_array p) e f.0 g.0, args_known ps es f.1 g.1)
 
   -- what takes a result
   pub target_known : (f : Function) (target : Option Name) → is_target known f target ≡ true → can_target c target ≡ true → TargetKnown locals f target
@@ -170,7 +172,7 @@ module _ {c : Surroundings} {ints arrays : List Name} {known : Known} {locals : 
 
   -- one name more
 
-  pub agree_int : (y : Name) → is_array known y ≡ false → Agree c (ints ++ y ∷ []) arrays ((y, false) ∷ known) (with_int y locals)
+  pub agree_int : (y : Name) → is_array known y ≡ false → Agree c (ints ++ y ∷ []) arrays ((y, name_kind.Integer) ∷ known) (with_int y locals)
   agree_int y fresh = record {
     ints_are = ap (λ l. l ++ y ∷ []) agree.ints_are ∙ append_assoc c.given ints (y ∷ []);
     arrays_are = agree.arrays_are;
@@ -181,7 +183,7 @@ module _ {c : Surroundings} {ints arrays : List Name} {known : Known} {locals : 
     variable_given = agree.variable_given;
   }
 
-  pub agree_array : (y : Name) → is_int known y ≡ false → Agree c ints (arrays ++ y ∷ []) ((y, true) ∷ known) (with_array y locals)
+  pub agree_array : (y : Name) → is_int known y ≡ false → Agree c ints (arrays ++ y ∷ []) ((y, name_kind.Array) ∷ known) (with_array y locals)
   agree_array y fresh = record {
     ints_are = agree.ints_are;
     arrays_are = ap (λ l. l ++ y ∷ []) agree.arrays_are ∙ append_assoc c.over arrays (y ∷ []);
@@ -212,7 +214,7 @@ module _ {c : Surroundings} {ints arrays : List Name} {known : Known} {locals : 
 
   -- in the turn of a loop: the function's own frame
   pub agree_inside : (x : Name) (taken over : List Name) → is_array known x ≡ false →
-      Agree (inside c ints arrays x taken over) [] [] ((x, false) ∷ known) (record { ints = (low ∷ high ∷ taken) ++ x ∷ []; arrays = over })
+      Agree (inside c ints arrays x taken over) [] [] ((x, name_kind.Integer) ∷ known) (record { ints = (low ∷ high ∷ taken) ++ x ∷ []; arrays = over })
   agree_inside x taken over fresh = record {
     ints_are = sym (append-nil ((low ∷ high ∷ taken) ++ x ∷ []));
     arrays_are = sym (append-nil over);

@@ -1,4 +1,5 @@
 -- The names that a lowered statement uses are known where it stands.
+use Rattle.cw_model.specs.declared.syntax.NameKind.TheVariants as name_kind
 use Rattle.std.proofs.Common.{◌≡◌, ℕ, suc, ◌+◌, ◌==◌, Bool, true, false, List, [], ◌∷◌, ◌++◌, length, Option, Some, None, refl, sym, ◌∙◌, ap, subst, append_assoc}
 use Rattle.std.specs.Prelude.{if◌then◌else◌, nat_le, not, ◌&&◌, ◌||◌}
 use Rattle.std.specs.List.{list_all}
@@ -9,8 +10,9 @@ use Rattle.cw_model.specs.Names.{same_name, is_among, differ}
 use Rattle.cw_model.specs.Answers.{main_name}
 use Rattle.cw_model.specs.Meaning.{function_named}
 use Rattle.cw_model.specs.Captured.{captured}
-use Rattle.cw_model.specs.Typing.{Returns, Nowhere, Known, is_int, is_array, is_new, is_fine, are_arguments, is_target, is_call, is_reducer, is_cut, is_head_of_loop, called, surely_returns, block_returns, ends_block, declares, faults_in, faults_in_block}
+use Rattle.cw_model.specs.Typing.{Returns, Nowhere, Known, is_int, is_array, is_writable, is_new, is_fine, are_arguments, is_target, is_call, is_reducer, is_cut, is_head_of_loop, called, surely_returns, block_returns, ends_block, declares, faults_in, faults_in_block}
 use Rattle.cw_model.specs.lemmas.Kept.{kept, left_none, right_none}
+use Rattle.cw_model.specs.lemmas.Fits.{arguments_fit, writable_array}
 use Rattle.cw_tree.specs.Resolved.{Locals, with_array, locals_after}
 use Rattle.cw_loops.specs.Lowered.{is_plain, loop_name, loop_function, loop_count, loop_count_in, lower_exprs, lower_stmt, lower_block, made_by, made_in}
 use Rattle.cw_loops.specs.Lowerable.{Surroundings, can_write, is_local, can_evaluate, can_pass_all, can_target, new_integers, new_arrays, can_capture, can_slice, can_loop, inside, can_lower, can_lower_all}
@@ -21,7 +23,7 @@ use Rattle.cw_gen.proofs.Held.{has_no_half, has_no_half_in}
 use Rattle.cw_gen.proofs.Fine.{Begins, TakesRange, is_function}
 use Rattle.cw_gen.proofs.Kept.{ArgsKnown, TargetKnown, StmtKnown, BlockKnown}
 use Rattle.cw_gen.proofs.KnownNames.{past}
-use Rattle.cw_gen.proofs.KnownParams.{loop_ints, loop_arrays}
+use Rattle.cw_gen.proofs.KnownParams.{loop_ints, loop_arrays, loop_unread}
 use Rattle.cw_gen.proofs.KnownFunctions.{Found, AllFound, found_first, found_second, CallFound}
 use Rattle.cw_gen.proofs.KnownPlaces.{Agree, new_name, write_there, spot_known, expr_known, args_known, target_known, return_known, captured_known, sliced_known, local_there, not_there_alone, agree_array, agree_after}
 
@@ -130,7 +132,7 @@ pub record HeadKept (known : Known) (x : Name) (from to : Expr) : Type 0 where
 
 pub head_kept : (program : Program) (known : Known) (x y z : Name) (from to : Expr) (grain : ℕ) (over : List Name) → is_head_of_loop program known x y z from to grain over ≡ true → HeadKept known x from to
 head_kept program known x y z from to grain over h =
-    let seven = (both_true _ (list_all (λ a. is_array known a) over) h).0 in
+    let seven = (both_true _ (list_all (λ a. is_writable known a) over) h).0 in
     let six = (both_true _ (nat_le grain MOST_GRAIN) seven).0 in
     let five = (both_true _ (nat_le 1 grain) six).0 in
     let four = both_true _ (is_fine known to) five in
@@ -152,12 +154,12 @@ cut_kept program known a e l r h =
     let four = (both_true _ (not (same_name l r)) h).0 in
     let three = both_true _ (is_new program known r) four in
     let two = both_true _ (is_new program known l) three.0 in
-    let one = both_true (is_array known a) (is_fine known e) two.0 in
-    record { array = one.0; at_fine = one.1; left = (new_name program known l two.1).0; right = (new_name program known r three.1).0 }
+    let one = both_true (is_writable known a) (is_fine known e) two.0 in
+    record { array = writable_array known a one.0; at_fine = one.1; left = (new_name program known l two.1).0; right = (new_name program known r three.1).0 }
 
 -- in a cut, beside its two parts
 pub cut_agrees : {c : Surroundings} {ints arrays : List Name} {known : Known} {locals : Locals} → Agree c ints arrays known locals → (a : Name) (e : Expr) (l r : Name) → CutKept known a e l r →
-    Agree c ints ((arrays ++ l ∷ []) ++ r ∷ []) ((r, true) ∷ (l, true) ∷ known) (with_array r (with_array l locals))
+    Agree c ints ((arrays ++ l ∷ []) ++ r ∷ []) ((r, name_kind.Array) ∷ (l, name_kind.Array) ∷ known) (with_array r (with_array l locals))
 cut_agrees {known = known} agree a e l r cut = agree_array (agree_array agree l cut.left) r (still (same_name r l) cut.right)
   where
     still : (q : Bool) → is_int known r ≡ false → (if q then false else is_int known r) ≡ false
@@ -204,7 +206,7 @@ loop_kept c ints arrays x y z from to grain over b can =
 
 -- the function of a loop takes its range
 takes_range : (name : Name) (line : ℕ) (x : Name) (grain : ℕ) (ints over : List Name) (b : Block) → TakesRange (loop_function name line x grain ints over b) ints over
-takes_range name line x grain ints over b = record { ints = ap (λ l. suc (suc (length l))) (loop_ints ints over); arrays = loop_arrays ints over; order = range_order ints over; gives = refl }
+takes_range name line x grain ints over b = record { ints = ap (λ l. suc (suc (length l))) (loop_ints ints over); arrays = loop_arrays ints over; order = range_order ints over; unread = loop_unread ints over; gives = refl }
 
 module _ (program : Program) (all : List Function) (calls : (f : Name) (g : Function) → called f program.functions ≡ Some g → CallFound all f g) where
   call_known : (c : Surroundings) (ints arrays : List Name) (known : Known) (locals : Locals) → Agree c ints arrays known locals → (target : Option Name) (f : Name) (es : List Expr) (o : Option Function) → called f program.functions ≡ o → is_call known target o es ≡ true →
@@ -217,7 +219,7 @@ module _ (program : Program) (all : List Function) (calls : (f : Name) (g : Func
       let two = both_true (is_target known g target) (are_arguments known g.params es) one in (
         is.there,
         gives target is.gives (target_known agree g target two.0 can_t),
-        subst (λ ps. ArgsKnown locals ps (lower_exprs c.over es)) (sym is.params) (args_known agree g.params es two.1 can_p),
+        subst (λ ps. ArgsKnown locals ps (lower_exprs c.over es)) (sym is.params) (args_known agree g.params es (arguments_fit known g.params es two.1) can_p),
       )
     where
       gives : (target : Option Name) → (function_named f all).gives_int ≡ g.gives_int → TargetKnown locals g target → TargetKnown locals (function_named f all) target
@@ -237,9 +239,9 @@ module _ (program : Program) (all : List Function) (calls : (f : Name) (g : Func
         (write_there agree x t.0 g.0, expr_known agree e t.1 g.1)
     stmt_known given returns c ints arrays known locals agree begins line k (AssignElement a i e) typed can found =
         let t = both_true _ (is_fine known e) (kept _ line typed) in
-        let u = both_true (is_array known a) (is_fine known i) t.0 in
+        let u = both_true (is_writable known a) (is_fine known i) t.0 in
         let g = both_true _ (can_evaluate c e) can in
-        let spot = spot_known agree a i u.0 g.0 (λ h. expr_known agree i u.1 h) in
+        let spot = spot_known agree a i (writable_array known a u.0) g.0 (λ h. expr_known agree i u.1 h) in
         (spot.0, spot.1, expr_known agree e t.1 g.1)
     stmt_known given returns c ints arrays known locals agree begins line k (Reduce how s e) typed can found =
         expr_known agree e (both_true (is_reducer program how s) (is_fine known e) (kept _ line typed)).1 can
@@ -285,7 +287,7 @@ module _ (program : Program) (all : List Function) (calls : (f : Name) (g : Func
         let g = loop_function name line x grain taken over (lower_block over k b) in
         let here : Found all g = (found_second all (made_in k b) (g ∷ []) found).0 in
         let keeps = loop_kept c ints arrays x y z from to grain over b can in
-        let head = head_kept program known x y z from to grain over (kept _ line (left_none (unless _ line) (faults_in_block program Nowhere ((x, false) ∷ known) b) typed)) in (
+        let head = head_kept program known x y z from to grain over (kept _ line (left_none (unless _ line) (faults_in_block program Nowhere ((x, name_kind.Integer) ∷ known) b) typed)) in (
           here.there,
           subst (λ q. TakesRange q taken over) (sym here.is) (takes_range name line x grain taken over (lower_block over k b)),
           expr_known agree from head.from_fine keeps.from_can,
@@ -298,7 +300,7 @@ module _ (program : Program) (all : List Function) (calls : (f : Name) (g : Func
         block_known given Nowhere c ints arrays known locals agree begins k b typed can found
     stmt_known given returns c ints arrays known locals agree begins line k (Cut a e l r b) typed can found =
         let inner = (arrays ++ l ∷ []) ++ r ∷ [] in
-        let known' = (r, true) ∷ (l, true) ∷ known in
+        let known' = (r, name_kind.Array) ∷ (l, name_kind.Array) ∷ known in
         let test = unless (is_cut program known a e l r) line in
         let cut = cut_kept program known a e l r (kept (is_cut program known a e l r) line (left_none test (faults_in_block program Nowhere known' b) typed)) in
         let one = both_true (can_evaluate c e) _ can in

@@ -17,7 +17,8 @@ use Rattle.cw_code.specs.Run.{synced, settled, full}
 use Rattle.cw_gen.specs.Emit.{most_jump, first_list, emitted_end}
 use Rattle.cw_gen.proofs.Held.{held_after_all}
 use Rattle.cw_gen.proofs.Decided.{taken, not_taken}
-use Rattle.cw_gen.proofs.Fine.{Begins}
+use Rattle.cw_gen.proofs.Marked.{owned, told_at}
+use Rattle.cw_gen.proofs.Fine.{Begins, marks_for}
 use Rattle.cw_gen.proofs.Traces.{resume, joined_quiet, resume_then}
 use Rattle.cw_gen.proofs.Places.{HasAt, has_front, has_back}
 use Rattle.cw_gen.proofs.Scopes.{locals_after_all, names_extend}
@@ -37,12 +38,13 @@ module _ (code : Code) (fs : List Function) (lists : Lists) (small : length code
   }
 
   -- a call that begins has all its slots
-  first_fills : (f : Function) (fn : Func) → Compiled code fs lists f fn → (vs : List ℤ) (xss : List (List ℤ)) → length vs ≡ fn.params → length xss ≡ fn.array_params → Fills (first_store fn vs xss) (room_of_func f fn)
+  first_fills : (f : Function) (fn : Func) → Compiled code fs lists f fn → (vs : List ℤ) (xss : List (List ℤ)) → length vs ≡ fn.params → length xss ≡ fn.array_params + fn.readers → Fills (marks_for f.params) (first_store fn vs xss) (room_of_func f fn)
   first_fills f fn compiled vs xss n m =
       let none : List ℤ = [] in
       record {
         ints = length-map (vs ++ replicate (fn.slots - fn.params) (pos 0)) (λ v. Some v) ∙ omega (arith, length-append vs (replicate (fn.slots - fn.params) (pos 0)), length-replicate (fn.slots - fn.params) (pos 0), compiled.room, n);
         arrays = length-map (xss ++ replicate (fn.arrays - fn.array_params) none) (λ v. Some v) ∙ omega (arith, length-append xss (replicate (fn.arrays - fn.array_params) none), length-replicate (fn.arrays - fn.array_params) none, compiled.array_room, m);
+        own = tt;
       }
 
   -- a function gives what its returns may
@@ -78,12 +80,13 @@ module _ (code : Code) (fs : List Function) (lists : Lists) (small : length code
         let inner = depth_of entry depth in
         let size = room_of_func f fn in
         let params = locals_of f.params in
-        let body = block_code (first_list code.sites) lists params f.body in
+        let marks = marks_for f.params in
+        let body = block_code (first_list code.sites) marks lists params f.body in
         let end = fn.start + length body in
         let store = first_store fn vs xss in
         let ext = names_extend f.body params in
         let calls : Calls = λ e g given' line' left'. call bound inner fs e g given' line' left' in
-        block_runs code fs lists small least table reducers_are tags_are inner h bound calls (calls_run table reducers_are tags_are bound inner)
+        block_runs code fs lists small least table reducers_are tags_are marks inner h bound calls (calls_run table reducers_are tags_are bound inner)
         around (returns_of f) 1 params [] f.body fn.start size store [] given t left (λ way l u. resume u (end_of_call way l) next)
         refl (outside_of f.gives_int) (omega arith) (has_front code.instrs fn.start body (emitted_end f.gives_int) compiled.stands) compiled.fine (params_agree f fn compiled vs xss given bound_frame)
         (first_fills f fn compiled vs xss n m)
@@ -91,8 +94,8 @@ module _ (code : Code) (fs : List Function) (lists : Lists) (small : length code
         let nothing = goes_without f fn compiled goes in
         let there : HasAt code.instrs end (emitted_end false) = subst (λ b. HasAt code.instrs end (emitted_end b)) nothing (has_back code.instrs fn.start body (emitted_end f.gives_int) compiled.stands) in
         let begins : Begins size.given (locals_after_all params f.body).arrays = record { more = ext.arrays; is = ap (λ ls. ls.arrays) ext.same } in
-        syncs code (None, g) (here inner around end [] st u) u l next (λ l' below'.
-        one code (here inner around end [] st u) instr.Return there.0 l' ∙ k None g (settled st.arrived st.arrays) l' (synced u) nothing (gives_back size (locals_after_all params f.body) (held_after_all fs 1 f.body []) g st [] refl begins ag) (omega arith)))
+        syncs code (None, g) (here marks inner around end [] st u) u l next (λ l' below'.
+        one code (here marks inner around end [] st u) instr.Return there.0 l' ∙ k None g (settled (told_at marks st.arrived) (owned marks st.arrays)) l' (synced u) nothing (gives_back marks size (locals_after_all params f.body) (held_after_all fs 1 f.body []) g st [] refl begins ag ln.own) (omega arith)))
         (λ v g arrays l u may gives le. k v g arrays l u (given_by f v f.gives_int refl may) gives le ∙ ap (next (v, g) l) (sym (joined_quiet u)))
         ∙ sym (resume_then t (run_all f.body fs calls given left) (λ way. end_of_call way) next)
         ∙ sym (ap (λ (piece : Piece Returned). resume t (piece left) next) (not_taken (nat_lt MOST_DEPTH inner) (λ left'. Trapped trap.TooDeep line []) (λ left'. then_do (run_all f.body fs calls given left') (λ way. end_of_call way)) h));

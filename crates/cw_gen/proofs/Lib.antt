@@ -1,8 +1,11 @@
 pub mod Decided
+pub mod Frozen
 pub mod Places
 pub mod Held
+pub mod Marked
 pub mod Fine
 pub mod Ordered
+pub mod PlacesTold
 pub mod Told
 pub mod Kept
 pub mod Texts
@@ -23,6 +26,7 @@ pub mod KnownPlaces
 pub mod KnownStatements
 pub mod KnownLoops
 pub mod KnownLowered
+pub mod OwnNames
 pub mod FreeTurns
 pub mod FreeTexts
 pub mod FreeMembers
@@ -42,6 +46,8 @@ pub mod Scopes
 pub mod Cutting
 pub mod Codes
 pub mod CodedReducers
+pub mod MarkedParams
+pub mod MarkedCuts
 pub mod Steps
 pub mod Values
 pub mod Simple

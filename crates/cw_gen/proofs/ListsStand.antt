@@ -1,6 +1,6 @@
 -- Each call of a lowered program has its list of array slots at its number.
 use Rattle.std.proofs.Common.{◌≡◌, ℕ, zero, suc, ◌+◌, ◌*◌, ◌≤◌, ◌<◌, Bool, true, false, List, [], ◌∷◌, ◌++◌, length, map, refl, sym, ◌∙◌, ap, subst, arith, length-append}
-use Rattle.std.specs.Prelude.{if◌then◌else◌, nat_eq}
+use Rattle.std.specs.Prelude.{if◌then◌else◌, nat_eq, replicate}
 use Rattle.std.specs.List.{list_all}
 use Rattle.std.proofs.Math.Nat.{min-eq_left}
 use Rattle.std.proofs.lemmas.Bool.Decides.{nat_tests}
@@ -22,7 +22,10 @@ use Rattle.cw_gen.specs.Emit.{Tables, first_list, most_jump, whole_list, half_li
 use Rattle.cw_gen.proofs.Decided.{first_true, second_true}
 use Rattle.cw_gen.proofs.Texts.{tables_in, code_of}
 use Rattle.cw_gen.proofs.Told.{PassesStmt, PassesBlock, AllPass}
-use Rattle.cw_gen.proofs.ListsPut.{Entry, entries, entries_in, entries_of, puts_of, is_at, one_where, times, AllFound, found_front, found_back, all_found}
+use Rattle.cw_code.specs.declared.code.Loan.{Loan}
+use Rattle.cw_gen.specs.Marks.{Marks}
+use Rattle.cw_gen.proofs.Fine.{marks_for}
+use Rattle.cw_gen.proofs.ListsPut.{Entry, entries, entries_in, entries_of, loans, loans_in, loans_of, puts_of, lends_of, is_at, one_where, times, AllFound, found_front, found_back, all_found}
 use Rattle.cw_gen.proofs.ListsWeighed.{Weights, weight, weight_in, weight_of, sites_weigh, loop_weighs, loops_weigh, lowered_weigh}
 
 -- calls pass where all that the text puts is found
@@ -32,34 +35,42 @@ module _ (lists : Lists) (tables : Tables) where
   first = first_list tables.sites
 
   mutual
-    passes : (locals : Locals) (s : Stmt) → AllFound tables.passed (entries first (slotted_stmt lists locals s)) → PassesStmt lists tables locals s
-    passes locals (Call kind site target f es) h = h.0
-    passes locals (Start kind f es) h = h.0
-    passes locals (Begin f from to captured over) h = h.0
-    passes locals (If e b) h = passes_in locals b h
-    passes locals (IfElse e b c) h =
-        let here = entries_in first (slotted_block lists locals b) in
-        let there = entries_in first (slotted_block lists locals c) in
-        (passes_in locals b (found_front tables.passed here there h), passes_in locals c (found_back tables.passed here there h))
-    passes locals (While e b) h = passes_in locals b h
-    passes locals (Scope b) h = passes_in locals b h
-    passes locals (Cut a e l r b) h = passes_in (with_array r (with_array l locals)) b h
-    passes locals (Region tag b) h = passes_in locals b h
-    passes locals _ h = tt
+    passes : (marks : Marks) (locals : Locals) (s : Stmt) → AllFound tables.passed (entries first marks (slotted_stmt lists locals s)) → AllFound tables.lent (loans marks (slotted_stmt lists locals s)) → PassesStmt lists tables marks locals s
+    passes marks locals (Call kind site target f es) h k = (h.0, k.0)
+    passes marks locals (Start kind f es) h k = h.0
+    passes marks locals (Begin f from to captured over) h k = h.0
+    passes marks locals (If e b) h k = passes_in marks locals b h k
+    passes marks locals (IfElse e b c) h k =
+        let one = slotted_block lists locals b in
+        let other = slotted_block lists locals c in (
+          passes_in marks locals b (found_front tables.passed (entries_in first marks one) (entries_in first marks other) h) (found_front tables.lent (loans_in marks one) (loans_in marks other) k),
+          passes_in marks locals c (found_back tables.passed (entries_in first marks one) (entries_in first marks other) h) (found_back tables.lent (loans_in marks one) (loans_in marks other) k),
+        )
+    passes marks locals (While e b) h k = passes_in marks locals b h k
+    passes marks locals (Scope b) h k = passes_in marks locals b h k
+    passes marks locals (Cut a e l r b) h k = passes_in marks (with_array r (with_array l locals)) b h k
+    passes marks locals (Region tag b) h k = passes_in marks locals b h k
+    passes marks locals _ h k = tt
 
-    passes_in : (locals : Locals) (b : Block) → AllFound tables.passed (entries_in first (slotted_block lists locals b)) → PassesBlock lists tables locals b
-    passes_in locals End h = tt
-    passes_in locals (Then line s b) h =
-        let here = entries first (slotted_stmt lists locals s) in
-        let there = entries_in first (slotted_block lists (locals_after locals s) b) in
-        (passes locals s (found_front tables.passed here there h), passes_in (locals_after locals s) b (found_back tables.passed here there h))
+    passes_in : (marks : Marks) (locals : Locals) (b : Block) → AllFound tables.passed (entries_in first marks (slotted_block lists locals b)) → AllFound tables.lent (loans_in marks (slotted_block lists locals b)) → PassesBlock lists tables marks locals b
+    passes_in marks locals End h k = tt
+    passes_in marks locals (Then line s b) h k =
+        let one = slotted_stmt lists locals s in
+        let other = slotted_block lists (locals_after locals s) b in (
+          passes marks locals s (found_front tables.passed (entries first marks one) (entries_in first marks other) h) (found_front tables.lent (loans marks one) (loans_in marks other) k),
+          passes_in marks (locals_after locals s) b (found_back tables.passed (entries first marks one) (entries_in first marks other) h) (found_back tables.lent (loans marks one) (loans_in marks other) k),
+        )
 
-  passes_of : (fs : List Function) → AllFound tables.passed (entries_of first (map (slotted_function lists) fs)) → AllPass lists tables fs
-  passes_of [] h = tt
-  passes_of (f ∷ fs) h =
-      let here = entries_in first (slotted_block lists (locals_of f.params) f.body) in
-      let there = entries_of first (map (slotted_function lists) fs) in
-      (passes_in (locals_of f.params) f.body (found_front tables.passed here there h), passes_of fs (found_back tables.passed here there h))
+  passes_of : (fs : List Function) → AllFound tables.passed (entries_of first (map (slotted_function lists) fs)) → AllFound tables.lent (loans_of (map (slotted_function lists) fs)) → AllPass lists tables fs
+  passes_of [] h k = tt
+  passes_of (f ∷ fs) h k =
+      let body = slotted_block lists (locals_of f.params) f.body in
+      let rest = map (slotted_function lists) fs in (
+        passes_in (marks_for f.params) (locals_of f.params) f.body
+            (found_front tables.passed (entries_in first (marks_for f.params) body) (entries_of first rest) h)
+            (found_front tables.lent (loans_in (marks_for f.params) body) (loans_of rest) k),
+        passes_of fs (found_back tables.passed (entries_in first (marks_for f.params) body) (entries_of first rest) h) (found_back tables.lent (loans_in (marks_for f.params) body) (loans_of rest) k),
+      )
 
 -- a call weighs one where its list is put at this number
 abbrev weights_at : (first : ℕ) → (names : List Name) → (key : ℕ) → Weights
@@ -69,7 +80,15 @@ weights_at first names key = record {
   half = λ kind f. is_at key (half_list first kind (slot_of f names));
 }
 
-both_times : (key : ℕ) (xs ys : List Entry) → times key (xs ++ ys) ≡ times key xs + times key ys
+-- one where its loans are
+abbrev lending_at : (key : ℕ) → Weights
+lending_at key = record {
+  site = λ n. is_at key n;
+  whole = λ f. 0;
+  half = λ kind f. 0;
+}
+
+both_times : {X : Type 0} (key : ℕ) (xs ys : List (Entry X)) → times key (xs ++ ys) ≡ times key xs + times key ys
 both_times key [] ys = omega arith
 both_times key (x ∷ xs) ys = omega (arith, both_times key xs ys)
 
@@ -78,42 +97,83 @@ module _ (first : ℕ) (lists : Lists) (key : ℕ) where
   weights = weights_at first lists.functions key
 
   mutual
-    used : (locals : Locals) (s : Stmt) → times key (entries first (slotted_stmt lists locals s)) ≡ weight weights s
-    used locals (Call kind site target f es) = omega arith
-    used locals (Start kind f es) = omega arith
-    used locals (Begin f from to captured over) = omega arith
-    used locals (If e b) = used_in locals b
-    used locals (IfElse e b c) =
-        let here = entries_in first (slotted_block lists locals b) in
-        let there = entries_in first (slotted_block lists locals c) in
-        omega (arith, used_in locals b, used_in locals c, both_times key here there)
-    used locals (While e b) = used_in locals b
-    used locals (Scope b) = used_in locals b
-    used locals (Cut a e l r b) = used_in (with_array r (with_array l locals)) b
-    used locals (Region tag b) = used_in locals b
-    used locals (For x y z from to grain over b) = refl
-    used locals (Declare x e) = refl
-    used locals (DeclareArray x e) = refl
-    used locals (Assign x e) = refl
-    used locals (AssignElement x i e) = refl
-    used locals (Reduce how x e) = refl
-    used locals Sync = refl
-    used locals (Print e) = refl
-    used locals (Return e) = refl
+    used : (marks : Marks) (locals : Locals) (s : Stmt) → times key (entries first marks (slotted_stmt lists locals s)) ≡ weight weights s
+    used marks locals (Call kind site target f es) = omega arith
+    used marks locals (Start kind f es) = omega arith
+    used marks locals (Begin f from to captured over) = omega arith
+    used marks locals (If e b) = used_in marks locals b
+    used marks locals (IfElse e b c) =
+        let here = entries_in first marks (slotted_block lists locals b) in
+        let there = entries_in first marks (slotted_block lists locals c) in
+        omega (arith, used_in marks locals b, used_in marks locals c, both_times key here there)
+    used marks locals (While e b) = used_in marks locals b
+    used marks locals (Scope b) = used_in marks locals b
+    used marks locals (Cut a e l r b) = used_in marks (with_array r (with_array l locals)) b
+    used marks locals (Region tag b) = used_in marks locals b
+    used marks locals (For x y z from to grain over b) = refl
+    used marks locals (Declare x e) = refl
+    used marks locals (DeclareArray x e) = refl
+    used marks locals (Assign x e) = refl
+    used marks locals (AssignElement x i e) = refl
+    used marks locals (Reduce how x e) = refl
+    used marks locals Sync = refl
+    used marks locals (Print e) = refl
+    used marks locals (Return e) = refl
 
-    used_in : (locals : Locals) (b : Block) → times key (entries_in first (slotted_block lists locals b)) ≡ weight_in weights b
-    used_in locals End = refl
-    used_in locals (Then line s b) =
-        let here = entries first (slotted_stmt lists locals s) in
-        let there = entries_in first (slotted_block lists (locals_after locals s) b) in
-        omega (arith, used locals s, used_in (locals_after locals s) b, both_times key here there)
+    used_in : (marks : Marks) (locals : Locals) (b : Block) → times key (entries_in first marks (slotted_block lists locals b)) ≡ weight_in weights b
+    used_in marks locals End = refl
+    used_in marks locals (Then line s b) =
+        let here = entries first marks (slotted_stmt lists locals s) in
+        let there = entries_in first marks (slotted_block lists (locals_after locals s) b) in
+        omega (arith, used marks locals s, used_in marks (locals_after locals s) b, both_times key here there)
 
   used_of : (fs : List Function) → times key (entries_of first (map (slotted_function lists) fs)) ≡ weight_of weights fs
   used_of [] = refl
   used_of (f ∷ fs) =
-      let here = entries_in first (slotted_block lists (locals_of f.params) f.body) in
+      let here = entries_in first (marks_for f.params) (slotted_block lists (locals_of f.params) f.body) in
       let there = entries_of first (map (slotted_function lists) fs) in
-      omega (arith, used_in (locals_of f.params) f.body, used_of fs, both_times key here there)
+      omega (arith, used_in (marks_for f.params) (locals_of f.params) f.body, used_of fs, both_times key here there)
+
+  abbrev lending : Weights
+  lending = lending_at key
+
+  mutual
+    lent_by : (marks : Marks) (locals : Locals) (s : Stmt) → times key (loans marks (slotted_stmt lists locals s)) ≡ weight lending s
+    lent_by marks locals (Call kind site target f es) = omega arith
+    lent_by marks locals (Start kind f es) = refl
+    lent_by marks locals (Begin f from to captured over) = refl
+    lent_by marks locals (If e b) = lent_by_block marks locals b
+    lent_by marks locals (IfElse e b c) =
+        let here = loans_in marks (slotted_block lists locals b) in
+        let there = loans_in marks (slotted_block lists locals c) in
+        omega (arith, lent_by_block marks locals b, lent_by_block marks locals c, both_times key here there)
+    lent_by marks locals (While e b) = lent_by_block marks locals b
+    lent_by marks locals (Scope b) = lent_by_block marks locals b
+    lent_by marks locals (Cut a e l r b) = lent_by_block marks (with_array r (with_array l locals)) b
+    lent_by marks locals (Region tag b) = lent_by_block marks locals b
+    lent_by marks locals (For x y z from to grain over b) = refl
+    lent_by marks locals (Declare x e) = refl
+    lent_by marks locals (DeclareArray x e) = refl
+    lent_by marks locals (Assign x e) = refl
+    lent_by marks locals (AssignElement x i e) = refl
+    lent_by marks locals (Reduce how x e) = refl
+    lent_by marks locals Sync = refl
+    lent_by marks locals (Print e) = refl
+    lent_by marks locals (Return e) = refl
+
+    lent_by_block : (marks : Marks) (locals : Locals) (b : Block) → times key (loans_in marks (slotted_block lists locals b)) ≡ weight_in lending b
+    lent_by_block marks locals End = refl
+    lent_by_block marks locals (Then line s b) =
+        let here = loans marks (slotted_stmt lists locals s) in
+        let there = loans_in marks (slotted_block lists (locals_after locals s) b) in
+        omega (arith, lent_by marks locals s, lent_by_block marks (locals_after locals s) b, both_times key here there)
+
+  lent_by_all : (fs : List Function) → times key (loans_of (map (slotted_function lists) fs)) ≡ weight_of lending fs
+  lent_by_all [] = refl
+  lent_by_all (f ∷ fs) =
+      let here = loans_in (marks_for f.params) (slotted_block lists (locals_of f.params) f.body) in
+      let there = loans_of (map (slotted_function lists) fs) in
+      omega (arith, lent_by_block (marks_for f.params) (locals_of f.params) f.body, lent_by_all fs, both_times key here there)
 
 -- a number is used at most once, and only where it is in this range
 record Within (count key low high : ℕ) : Type 0 where
@@ -160,6 +220,16 @@ sites_within first names key n (s ∷ sites) h =
 
     later : (i : ℕ) → suc (suc n) + i ≡ suc n + suc i
     later i = omega arith
+
+-- as many loans
+sites_same : (from : ℕ) (names : List Name) (key : ℕ) (sites : List CallSite) → sites_weigh (lending_at key) sites ≡ sites_weigh (weights_at from names key) sites
+sites_same from names key [] = refl
+sites_same from names key (s ∷ sites) = ap (λ n. is_at key s.number + n) (sites_same from names key sites)
+
+-- the calls of loops' functions have none
+loops_lend_none : (key k count : ℕ) → loops_weigh (lending_at key) k count ≡ 0
+loops_lend_none key k zero = refl
+loops_lend_none key k (suc count) = omega (arith, loops_lend_none key k count)
 
 -- the slots of generated functions are behind those of the source
 
@@ -281,13 +351,31 @@ module _ (program : Program) (source_like : list_all is_source_function program.
       total : times key (entries_of first (slotted_functions program)) ≡ sites_part + loops_part
       total = used_of first (lowered_lists program) key (lowered program).functions ∙ lowered_weigh here program.functions source_like
 
--- each call of a lowered program has its list at its number
+  -- each number has loans once at most, and is in range
+  all_lent : (first key : ℕ) → are_numbered 0 (call_sites program) ≡ true → suc (length (call_sites program)) ≡ first → Within (times key (loans_of (slotted_functions program))) key 1 first
+  all_lent first key numbered is =
+      let names = (lowered_lists program).functions in
+      let sites = sites_within first names key 0 (call_sites program) numbered in
+      let end : suc 0 + length (call_sites program) ≡ first = omega (arith, is) in
+      let total =
+      lent_by_all first (lowered_lists program) key (lowered program).functions
+      ∙ lowered_weigh (lending_at key) program.functions source_like
+      ∙ only (sites_weigh (lending_at key) (call_sites program)) (loops_weigh (lending_at key) 0 loops) (loops_lend_none key 0 loops)
+      ∙ sites_same first names key (call_sites program) in
+      subst (λ n. Within n key 1 first) (sym total) (subst (Within (sites_weigh (weights_at first names key) (call_sites program)) key 1) end sites)
+    where
+      only : (a b : ℕ) → b ≡ 0 → a + b ≡ a
+      only a b h' = omega (arith, h')
+
+-- each call of a lowered program has its lists at its number
 pub all_pass : (program : Program) → IsOwnedSource program → are_numbered 0 (call_sites program) ≡ true → length (call_sites program) ≤ MOST_CALL_STATEMENTS → length (lowered program).functions ≤ 8192 →
     length (emitted_sites_of (resolved program).functions) ≡ length (call_sites program) → AllPass (lowered_lists program) (tables_in (code_of program)) (lowered program).functions
 all_pass program owned numbered few_sites few_functions as_many_sites =
     passes_of (lowered_lists program) (tables_in (code_of program)) (lowered program).functions
     (subst (λ passed. AllFound passed all) (sym (puts_of first (slotted_functions program) empty))
     (all_found all empty (λ key. (within key).once) (λ key u. let q = (within key).below u in omega (arith, q, many, room))))
+    (subst (λ lent. AllFound lent loaned) (sym (lends_of (slotted_functions program) unlent))
+    (all_found loaned unlent (λ key. (within_sites key).once) (λ key u. let q = (within_sites key).below u in let n : length unlent ≡ first = length-replicate first [] in omega (arith, q, n))))
   where
     first : ℕ
     first = first_list (emitted_sites_of (resolved program).functions)
@@ -295,8 +383,14 @@ all_pass program owned numbered few_sites few_functions as_many_sites =
     empty : List (List ℕ)
     empty = no_lists first (length (slotted_functions program))
 
-    all : List Entry
+    unlent : List (List Loan)
+    unlent = replicate first []
+
+    all : List (Entry ℕ)
     all = entries_of first (slotted_functions program)
+
+    loaned : List (Entry Loan)
+    loaned = loans_of (slotted_functions program)
 
     many : length (slotted_functions program) ≡ length program.functions + count_of program.functions
     many = as_many program owned.source_like
@@ -309,3 +403,6 @@ all_pass program owned numbered few_sites few_functions as_many_sites =
 
     within : (key : ℕ) → Within (times key all) key 1 (first + 3 * (length program.functions + count_of program.functions))
     within key = all_within program owned.source_like first key numbered (ap suc (sym as_many_sites)) (omega (arith, many, few, few_sites, as_many_sites))
+
+    within_sites : (key : ℕ) → Within (times key loaned) key 1 first
+    within_sites key = all_lent program owned.source_like first key numbered (ap suc (sym as_many_sites))

@@ -1,17 +1,22 @@
 -- What the function of a loop is made of: the code of its text is what is written, part by part.
-use Rattle.std.proofs.Common.{◌≡◌, ℕ, zero, suc, ◌+◌, ◌-◌, ◌*◌, ◌<◌, true, false, List, [], ◌∷◌, ◌++◌, length, map, refl, sym, ap, ◌∙◌, arith, append_assoc, length-append}
-use Rattle.std.specs.Prelude.{max, replicate, slice_set}
+use Rattle.std.proofs.Common.{◌≡◌, ℕ, zero, suc, ◌+◌, ◌-◌, ◌*◌, ◌<◌, Bool, true, false, if◌then◌else◌, cond, filter, List, [], ◌∷◌, ◌++◌, length, map, refl, sym, ap, ◌∙◌, arith, append_assoc, length-append}
+use Rattle.std.specs.Prelude.{◌==◌, max, replicate, slice_set}
 use Rattle.std.proofs.lemmas.List.{append-nil}
 use Rattle.cw_model.specs.declared.syntax.CallKind.{CallKind}
+use Rattle.cw_model.specs.declared.syntax.NameKind.{NameKind}
+use Rattle.cw_model.specs.declared.syntax.NameKind.TheVariants as kind
+use Rattle.cw_model.specs.Syntax.{is_array_kind, is_written_kind, is_const_kind}
 use Rattle.cw_model.specs.declared.syntax.CallKind.TheVariants.{Plain, Spawned}
 use Rattle.cw_model.specs.declared.syntax.Operator.TheVariants.{Less, Minus}
 use Rattle.cw_loops.specs.Slotted.{Variable, Int, Array, Start, Block}
 use Rattle.cw_loops.specs.Moved.{Loop}
 use Rattle.cw_loops.specs.Expanded.{low, high, turn_slot, left_slot, right_slot, numbers, leaf, half, both_halves, in_cuts, node, loop_text}
 use Rattle.cw_code.specs.declared.code.Func.{Func}
+use Rattle.cw_code.specs.declared.code.Loan.{Loan}
 use Rattle.cw_code.specs.declared.code.Instr.{Instr}
 use Rattle.cw_code.specs.declared.code.Instr.TheVariants as instr
-use Rattle.cw_gen.specs.Emit.{halves_of, emitted_args, emitted_loads, emitted_alone, emitted_block, emitted_turn, passed_in, half_of, half_list, count_ints, count_arrays, ints_in_block, arrays_in_block, put_lists_in, emitted_func, emitted_function}
+use Rattle.cw_gen.specs.Emit.{halves_of, emitted_args, emitted_loads, emitted_alone, emitted_block, emitted_turn, passed_in, half_of, half_list, ints_in_block, arrays_in_block, put_lists_in, put_loans_in, emitted_func, emitted_function}
+use Rattle.cw_gen.specs.Marks.{marks_in, marks_of, readers_in, count_such, count_ints, count_arrays, count_taken, count_readers, is_integer_kind}
 use Rattle.cw_gen.specs.Written.{turn_text, written_cuts, written_ends, written_half, written_middle, written_func}
 
 -- numbers from one on begin with it
@@ -33,17 +38,17 @@ step_next g items now whole one from next i n lt is_next is_now split before =
     ∙ before
 
 -- arrays have no instructions, and are what is passed
-args_of_arrays : (line : ℕ) (arrays : List ℕ) → emitted_args line (map Array arrays) ≡ []
+args_of_arrays : (line : ℕ) (arrays : List ℕ) → emitted_args [] line (map Array arrays) ≡ []
 args_of_arrays line [] = refl
 args_of_arrays line (a ∷ arrays) = args_of_arrays line arrays
 
-args_of_half : (line : ℕ) (ints arrays : List ℕ) → emitted_args line (map (λ s. Int (Variable s)) ints ++ map Array arrays) ≡ emitted_loads ints
+args_of_half : (line : ℕ) (ints arrays : List ℕ) → emitted_args [] line (map (λ s. Int (Variable s)) ints ++ map Array arrays) ≡ emitted_loads ints
 args_of_half line [] arrays = args_of_arrays line arrays
 args_of_half line (s ∷ ints) arrays = ap (λ is. instr.Load s ∷ is) (args_of_half line ints arrays)
 
 -- a call on one half
 pub half_emitted : (first line : ℕ) (kind : CallKind) (index from to k : ℕ) (arrays : List ℕ) →
-    emitted_alone first line (Start kind index (half from to (numbers 2 k) arrays)) ≡ written_half kind (half_of first kind index) from to k
+    emitted_alone first [] line (Start kind index (half from to (numbers 2 k) arrays)) ≡ written_half kind (half_of first kind index) from to k
 half_emitted first line kind index from to k arrays =
     ap (λ is. instr.Load from ∷ instr.Load to ∷ (is ++ instr.Recur kind (half_of first kind index) ∷ [])) (args_of_half line (numbers 2 k) arrays)
 
@@ -54,11 +59,11 @@ ends_turned (n ∷ arrays) = ap (λ is. instr.EndCut ∷ is) (ends_turned arrays
 
 -- what stands inside cuts
 pub cuts_emitted : (first : ℕ) (l : Loop) (arrays : List ℕ) (inside : Block) →
-    emitted_block first (in_cuts l arrays inside) ≡ written_cuts l arrays ++ (emitted_block first inside ++ written_ends arrays)
-cuts_emitted first l [] inside = sym (append-nil (emitted_block first inside))
+    emitted_block first [] (in_cuts l arrays inside) ≡ written_cuts l arrays ++ (emitted_block first [] inside ++ written_ends arrays)
+cuts_emitted first l [] inside = sym (append-nil (emitted_block first [] inside))
 cuts_emitted first l (n ∷ arrays) inside =
     let cuts = written_cuts l arrays in
-    let code = emitted_block first inside in
+    let code = emitted_block first [] inside in
     let ends = written_ends arrays in
     let regrouped : ((cuts ++ (code ++ ends)) ++ instr.EndCut ∷ []) ++ [] ≡ cuts ++ (code ++ instr.EndCut ∷ ends) =
     append-nil ((cuts ++ (code ++ ends)) ++ instr.EndCut ∷ [])
@@ -72,7 +77,7 @@ cuts_emitted first l (n ∷ arrays) inside =
 pub node_emitted : (first index : ℕ) (l : Loop) →
     let m = turn_slot l.captured in
     let arrays = numbers 0 l.over in
-    emitted_block first (node index l)
+    emitted_block first [] (node index l)
     ≡ written_middle l ++ (written_cuts l arrays ++ ((written_half Spawned (half_of first Spawned index) low m l.captured ++ written_half Plain (half_of first Plain index) m high l.captured) ++ written_ends arrays))
 node_emitted first index l =
     let m = turn_slot l.captured in
@@ -81,7 +86,7 @@ node_emitted first index l =
     let rights = map (right_slot l.over) arrays in
     let one = half_emitted first l.line Spawned index low m l.captured lefts in
     let other = half_emitted first l.line Plain index m high l.captured rights in
-    let right_code = emitted_alone first l.line (Start Plain index (half m high (numbers 2 l.captured) rights)) in
+    let right_code = emitted_alone first [] l.line (Start Plain index (half m high (numbers 2 l.captured) rights)) in
     let both =
     ap (λ is. is ++ (right_code ++ [])) one
     ∙ ap (λ is. written_half Spawned (half_of first Spawned index) low m l.captured ++ is) (append-nil right_code ∙ other) in
@@ -89,27 +94,48 @@ node_emitted first index l =
 
 -- a leaf
 pub leaf_emitted : (first : ℕ) (l : Loop) →
-    emitted_block first (leaf l)
-    ≡ instr.Load low ∷ instr.Store (turn_slot l.captured) ∷ instr.Load (turn_slot l.captured) ∷ instr.Load high ∷ instr.Binary Less l.line ∷ emitted_turn 3 (emitted_block first (turn_text l))
+    emitted_block first [] (leaf l)
+    ≡ instr.Load low ∷ instr.Store (turn_slot l.captured) ∷ instr.Load (turn_slot l.captured) ∷ instr.Load high ∷ instr.Binary Less l.line ∷ emitted_turn 3 (emitted_block first [] (turn_text l))
 leaf_emitted first l =
-    ap (λ is. instr.Load low ∷ instr.Store (turn_slot l.captured) ∷ instr.Load (turn_slot l.captured) ∷ instr.Load high ∷ instr.Binary Less l.line ∷ is) (append-nil (emitted_turn 3 (emitted_block first (turn_text l))))
+    ap (λ is. instr.Load low ∷ instr.Store (turn_slot l.captured) ∷ instr.Load (turn_slot l.captured) ∷ instr.Load high ∷ instr.Binary Less l.line ∷ is) (append-nil (emitted_turn 3 (emitted_block first [] (turn_text l))))
 
--- parameters
-ints_of_arrays : (q : ℕ) → count_ints (replicate q true) ≡ 0
-ints_of_arrays zero = refl
-ints_of_arrays (suc q) = ints_of_arrays q
+-- what is counted of parameters, of which integers come first
+count_behind : (such : NameKind → Bool) (k : NameKind) (q : ℕ) → such k ≡ true → count_such such (replicate q k) ≡ q
+count_behind such k zero is = refl
+count_behind such k (suc q) is = ap (λ b. length (cond b (k ∷ filter such (replicate q k)) (filter such (replicate q k)))) is ∙ ap suc (count_behind such k q is)
 
-loop_ints : (k q : ℕ) → count_ints (replicate k false ++ replicate q true) ≡ k
-loop_ints zero q = ints_of_arrays q
+count_none : (such : NameKind → Bool) (k : NameKind) (q : ℕ) → such k ≡ false → count_such such (replicate q k) ≡ 0
+count_none such k zero is = refl
+count_none such k (suc q) is = ap (λ b. length (cond b (k ∷ filter such (replicate q k)) (filter such (replicate q k)))) is ∙ count_none such k q is
+
+loop_ints : (k q : ℕ) → count_ints (replicate k kind.Integer ++ replicate q kind.Array) ≡ k
+loop_ints zero q = count_none is_integer_kind kind.Array q refl
 loop_ints (suc k) q = ap suc (loop_ints k q)
 
-arrays_of_arrays : (q : ℕ) → count_arrays (replicate q true) ≡ q
-arrays_of_arrays zero = refl
-arrays_of_arrays (suc q) = ap suc (arrays_of_arrays q)
-
-loop_arrays : (k q : ℕ) → count_arrays (replicate k false ++ replicate q true) ≡ q
-loop_arrays zero q = arrays_of_arrays q
+loop_arrays : (k q : ℕ) → count_arrays (replicate k kind.Integer ++ replicate q kind.Array) ≡ q
+loop_arrays zero q = count_behind is_array_kind kind.Array q refl
 loop_arrays (suc k) q = loop_arrays k q
+
+loop_taken : (k q : ℕ) → count_taken (replicate k kind.Integer ++ replicate q kind.Array) ≡ q
+loop_taken zero q = count_behind is_written_kind kind.Array q refl
+loop_taken (suc k) q = loop_taken k q
+
+loop_readers : (k q : ℕ) → count_readers (replicate k kind.Integer ++ replicate q kind.Array) ≡ 0
+loop_readers zero q = count_none is_const_kind kind.Array q refl
+loop_readers (suc k) q = loop_readers k q
+
+-- no array of a loop's function is only read
+none_read : (k q : ℕ) → readers_in (marks_in (replicate k kind.Integer ++ replicate q kind.Array)) ≡ 0
+none_read zero zero = refl
+none_read zero (suc q) = none_read zero q
+none_read (suc k) q = none_read k q
+
+pub loop_marks : (index : ℕ) (l : Loop) → marks_of (loop_text index l).params ≡ []
+loop_marks index l = ap (λ n. if n == 0 then [] else marks_in (replicate l.captured kind.Integer ++ replicate l.over kind.Array)) (none_read l.captured l.over)
+
+-- so its code is that of its text as it stands
+pub text_emitted : (first index : ℕ) (l : Loop) → emitted_function first (loop_text index l) ≡ emitted_block first [] (loop_text index l).body ++ instr.Return ∷ []
+text_emitted first index l = ap (λ ms. emitted_block first ms (loop_text index l).body ++ instr.Return ∷ []) (loop_marks index l)
 
 -- no cut has an integer
 ints_in_cuts : (n index : ℕ) (l : Loop) (arrays : List ℕ) → ints_in_block n (in_cuts l arrays (both_halves index l)) ≡ n
@@ -136,8 +162,8 @@ all_parts zero = refl
 all_parts (suc q) = let e : suc q + 2 * (0 + suc q) ≡ 3 * suc q = omega arith in e
 
 -- what the code keeps of a function that gives no integer
-abbrev func_with : (start end params slots array_params arrays : ℕ) → Func
-func_with s e p n q a = record { start = s; end = e; gives_int = false; params = p; slots = n; array_params = q; arrays = a }
+abbrev func_with : (start end params slots array_params arrays readers : ℕ) → Func
+func_with s e p n q a r = record { start = s; end = e; gives_int = false; params = p; slots = n; array_params = q; arrays = a; readers = r }
 
 -- what the code keeps of a loop's function
 pub func_emitted : (first start index : ℕ) (l : Loop) →
@@ -159,37 +185,42 @@ func_emitted first start index l =
     ∙ ap (max (ints_in_block (3 + k) l.body)) three in
     let parts : arrays_in_block q f.body ≡ max (arrays_in_block q l.body) (3 * q) =
     arrays_in_cuts (arrays_in_block q l.body) index l 0 q ∙ ap (max (arrays_in_block q l.body)) (all_parts q) in
-    ap (λ n. func_with start end n (ints_in_block n f.body) (count_arrays f.params) (arrays_in_block (count_arrays f.params) f.body)) ints
-    ∙ ap (λ n. func_with start end (2 + k) (ints_in_block (2 + k) f.body) n (arrays_in_block n f.body)) arrays
-    ∙ ap (λ n. func_with start end (2 + k) n q (arrays_in_block q f.body)) slots
-    ∙ ap (func_with start end (2 + k) (max (ints_in_block (3 + k) l.body) (3 + k)) q) parts
+    let all = arrays_in_block (count_arrays f.params) f.body in
+    let readers : count_readers f.params ≡ 0 = loop_readers k q in
+    let less : all - 0 ≡ all = omega arith in
+    ap (λ n. func_with start end n (ints_in_block n f.body) (count_taken f.params) (all - count_readers f.params) (count_readers f.params)) ints
+    ∙ ap (λ n. func_with start end (2 + k) (ints_in_block (2 + k) f.body) n (all - count_readers f.params) (count_readers f.params)) (loop_taken k q)
+    ∙ ap (λ n. func_with start end (2 + k) (ints_in_block (2 + k) f.body) q (all - n) n) readers
+    ∙ ap (λ n. func_with start end (2 + k) (ints_in_block (2 + k) f.body) q n 0) (less ∙ ap (λ n. arrays_in_block n f.body) arrays)
+    ∙ ap (λ n. func_with start end (2 + k) n q (arrays_in_block q f.body) 0) slots
+    ∙ ap (λ n. func_with start end (2 + k) (max (ints_in_block (3 + k) l.body) (3 + k)) q n 0) parts
 
 -- cuts have no lists
-lists_in_cuts : (first : ℕ) (l : Loop) (arrays : List ℕ) (inside : Block) (lists : List (List ℕ)) → put_lists_in first (in_cuts l arrays inside) lists ≡ put_lists_in first inside lists
+lists_in_cuts : (first : ℕ) (l : Loop) (arrays : List ℕ) (inside : Block) (lists : List (List ℕ)) → put_lists_in first [] (in_cuts l arrays inside) lists ≡ put_lists_in first [] inside lists
 lists_in_cuts first l [] inside lists = refl
 lists_in_cuts first l (a ∷ arrays) inside lists = lists_in_cuts first l arrays inside lists
 
-passed_arrays : (arrays : List ℕ) → passed_in (map Array arrays) ≡ arrays
+passed_arrays : (arrays : List ℕ) → passed_in [] (map Array arrays) ≡ arrays
 passed_arrays [] = refl
 passed_arrays (a ∷ arrays) = ap (λ rest. a ∷ rest) (passed_arrays arrays)
 
-passed_by_half : (ints arrays : List ℕ) → passed_in (map (λ s. Int (Variable s)) ints ++ map Array arrays) ≡ arrays
+passed_by_half : (ints arrays : List ℕ) → passed_in [] (map (λ s. Int (Variable s)) ints ++ map Array arrays) ≡ arrays
 passed_by_half [] arrays = passed_arrays arrays
 passed_by_half (s ∷ ints) arrays = passed_by_half ints arrays
 
 -- the lists of a loop's function
 pub lists_emitted : (first index : ℕ) (l : Loop) (lists : List (List ℕ)) →
     let arrays = numbers 0 l.over in
-    put_lists_in first (loop_text index l).body lists
-    ≡ slice_set (slice_set (put_lists_in first l.body lists) (half_list first Spawned index) (map (left_slot l.over) arrays)) (half_list first Plain index) (map (right_slot l.over) arrays)
+    put_lists_in first [] (loop_text index l).body lists
+    ≡ slice_set (slice_set (put_lists_in first [] l.body lists) (half_list first Spawned index) (map (left_slot l.over) arrays)) (half_list first Plain index) (map (right_slot l.over) arrays)
 lists_emitted first index l lists =
     let arrays = numbers 0 l.over in
     let lefts = map (left_slot l.over) arrays in
     let rights = map (right_slot l.over) arrays in
     let ints = numbers 2 l.captured in
-    let before = put_lists_in first l.body lists in
+    let before = put_lists_in first [] l.body lists in
     lists_in_cuts first l arrays (both_halves index l) before
-    ∙ ap (λ slots. slice_set (slice_set before (half_list first Spawned index) slots) (half_list first Plain index) (passed_in (map (λ s. Int (Variable s)) ints ++ map Array rights))) (passed_by_half ints lefts)
+    ∙ ap (λ slots. slice_set (slice_set before (half_list first Spawned index) slots) (half_list first Plain index) (passed_in [] (map (λ s. Int (Variable s)) ints ++ map Array rights))) (passed_by_half ints lefts)
     ∙ ap (λ slots. slice_set (slice_set before (half_list first Spawned index) lefts) (half_list first Plain index) slots) (passed_by_half ints rights)
 
 -- the slots of the parts of a cut, as they are counted
@@ -203,17 +234,17 @@ cut_row l i =
 
 -- a leaf, from what each step of the emission leaves
 pub leaf_written : (old set tested new : List Instr) (first start v : ℕ) (l : Loop) → v ≡ turn_slot l.captured → set ≡ old ++ instr.Load 0 ∷ instr.Store v ∷ [] → start ≡ length set →
-    tested ≡ set ++ instr.Load v ∷ instr.Load 1 ∷ instr.Binary Less l.line ∷ [] → new ≡ tested ++ emitted_turn (length tested - start) (emitted_block first (turn_text l)) → new ≡ old ++ emitted_block first (leaf l)
+    tested ≡ set ++ instr.Load v ∷ instr.Load 1 ∷ instr.Binary Less l.line ∷ [] → new ≡ tested ++ emitted_turn (length tested - start) (emitted_block first [] (turn_text l)) → new ≡ old ++ emitted_block first [] (leaf l)
 leaf_written old set tested new first start v l is_v is_set is_start is_tested is_new =
     let x = turn_slot l.captured in
     let one = instr.Load 0 ∷ instr.Store x ∷ [] in
     let other = instr.Load x ∷ instr.Load 1 ∷ instr.Binary Less l.line ∷ [] in
-    let turn = emitted_turn 3 (emitted_block first (turn_text l)) in
+    let turn = emitted_turn 3 (emitted_block first [] (turn_text l)) in
     let n : length tested - start ≡ 3 = omega (arith, ap length is_tested, length-append set (instr.Load v ∷ instr.Load 1 ∷ instr.Binary Less l.line ∷ []), is_start) in
     let set_is : set ≡ old ++ one = is_set ∙ ap (λ u. old ++ instr.Load 0 ∷ instr.Store u ∷ []) is_v in
     let tested_is : tested ≡ set ++ other = is_tested ∙ ap (λ u. set ++ instr.Load u ∷ instr.Load 1 ∷ instr.Binary Less l.line ∷ []) is_v in
     is_new
-    ∙ ap (λ k. tested ++ emitted_turn k (emitted_block first (turn_text l))) n
+    ∙ ap (λ k. tested ++ emitted_turn k (emitted_block first [] (turn_text l))) n
     ∙ ap (λ is. is ++ turn) tested_is
     ∙ append_assoc set other turn
     ∙ ap (λ is. is ++ (other ++ turn)) set_is
@@ -229,3 +260,13 @@ five_joined old a b c d e all is =
     ∙ append_assoc (old ++ a) b (c ++ (d ++ e))
     ∙ append_assoc old a (b ++ (c ++ (d ++ e)))
     ∙ ap (λ is. old ++ (a ++ (b ++ is))) (sym (append_assoc c d e))
+
+-- no loan stands but in the body of a loop's function
+loans_in_cuts : (l : Loop) (arrays : List ℕ) (inside : Block) (lists : List (List Loan)) → put_loans_in [] (in_cuts l arrays inside) lists ≡ put_loans_in [] inside lists
+loans_in_cuts l [] inside lists = refl
+loans_in_cuts l (a ∷ arrays) inside lists = loans_in_cuts l arrays inside lists
+
+pub loans_emitted : (index : ℕ) (l : Loop) (lists : List (List Loan)) → put_loans_in (marks_of (loop_text index l).params) (loop_text index l).body lists ≡ put_loans_in [] l.body lists
+loans_emitted index l lists =
+    ap (λ ms. put_loans_in ms (loop_text index l).body lists) (loop_marks index l)
+    ∙ loans_in_cuts l (numbers 0 l.over) (both_halves index l) (put_loans_in [] l.body lists)

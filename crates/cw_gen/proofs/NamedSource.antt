@@ -1,4 +1,5 @@
 -- What a program of right types names: its reducers, tags and call sites are told by its code.
+use Rattle.cw_model.specs.declared.syntax.NameKind.TheVariants as name_kind
 use Rattle.std.proofs.Common.{◌≡◌, ℕ, List, [], ◌∷◌, ◌++◌, Bool, true, false, not, ◌&&◌, ◌||◌, if◌then◌else◌, Option, Some, None, refl, sym, ap, ◌∙◌, subst}
 use Rattle.std.specs.Prelude.{map, flat_map}
 use Rattle.std.proofs.lemmas.Slice.Eq.{bytes_eq-Decides}
@@ -108,10 +109,10 @@ module _ (program : Program) (lists : Lists) (tables : Tables) (reducers_are : l
     stmt_named returns known locals line (While e b) typed tags sites =
         block_named returns known locals b (right_none (unless (is_fine known e) line) _ typed) tags sites
     stmt_named returns known locals line (For x y z from to grain over b) typed tags sites =
-        block_named Nowhere ((x, false) ∷ known) (with_int x locals) b (right_none (unless (is_head_of_loop program known x y z from to grain over) line) _ typed) tags sites
+        block_named Nowhere ((x, name_kind.Integer) ∷ known) (with_int x locals) b (right_none (unless (is_head_of_loop program known x y z from to grain over) line) _ typed) tags sites
     stmt_named returns known locals line (Scope b) typed tags sites = block_named Nowhere known locals b typed tags sites
     stmt_named returns known locals line (Cut a e l r b) typed tags sites =
-        block_named Nowhere ((r, true) ∷ (l, true) ∷ known) (with_array r (with_array l locals)) b (right_none (unless (is_cut program known a e l r) line) _ typed) tags sites
+        block_named Nowhere ((r, name_kind.Array) ∷ (l, name_kind.Array) ∷ known) (with_array r (with_array l locals)) b (right_none (unless (is_cut program known a e l r) line) _ typed) tags sites
     stmt_named returns known locals line (Region tag b) typed tags sites = (tags.0, block_named Nowhere known locals b typed tags.1 sites)
     stmt_named returns known locals line _ typed tags sites = tt
 

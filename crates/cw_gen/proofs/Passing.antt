@@ -3,22 +3,30 @@ use Rattle.std.proofs.Common.{◌≡◌, ℕ, suc, List, [], ◌∷◌, ◌++◌
 use Rattle.std.specs.Prelude.{slice_get, slice_set, map}
 use Rattle.std.proofs.lemmas.List.{length-set, set-set, set_comm}
 use Rattle.std.proofs.lemmas.Slice.Eq.{bytes_eq-Decides}
-use Rattle.cw_model.specs.Syntax.{Name, Expr, Variable, Param}
+use Rattle.std.specs.List.{list_any}
+use Rattle.std.specs.Prelude.{◌||◌}
+use Rattle.cw_model.specs.declared.syntax.NameKind.{NameKind}
+use Rattle.cw_model.specs.declared.syntax.NameKind.TheVariants.{Integer, Array, Const}
+use Rattle.cw_model.specs.Syntax.{Name, Expr, Number, Variable, Element, Length, Negative, Not, Binary, Param, takes_array, is_written_kind, is_const_kind}
 use Rattle.cw_model.specs.Names.{same_name, is_among, differ, find, put}
 use Rattle.cw_model.specs.declared.syntax.CallKind.{CallKind}
 use Rattle.cw_model.specs.declared.syntax.CallKind.TheVariants.{Plain, Spawned}
 use Rattle.cw_model.specs.Frames.{Frame, array_of, set_array, set_result}
 use Rattle.cw_model.specs.Meaning.{returned_array, returned_arrays}
-use Rattle.cw_model.specs.Ownership.{Taken, names_in, arrays_given}
+use Rattle.cw_model.specs.Ownership.{Taken, names_in, arrays_given, arrays_lent}
+use Rattle.cw_code.specs.Run as run
 use Rattle.cw_code.specs.Run.{Slots, Results, Whole, moved_out, and_array, arrays_in, and_result, settled, full, given_back}
-use Rattle.cw_tree.specs.Resolved.{Locals, slot_of, locals_of}
-use Rattle.cw_loops.specs.Slotted.{slotted_argument}
+use Rattle.cw_tree.specs.Resolved.{Locals, slot_of}
+use Rattle.cw_loops.specs.Slotted.{slotted_expr, slotted_argument, slotted_arguments}
 use Rattle.cw_loops.specs.Slotted as slotted
-use Rattle.cw_gen.specs.Emit.{passed_in}
+use Rattle.cw_gen.specs.Emit.{passed_in, lent_in}
+use Rattle.cw_gen.specs.Marks.{Marks, place_of, array_at}
+use Rattle.cw_gen.proofs.Marked.{owned, read_in, OwnSlots, numbers_at, AllOwn, loan_found}
+use Rattle.cw_gen.proofs.Texts.{taken_params}
 use Rattle.cw_gen.proofs.Decided.{first_true, second_true}
-use Rattle.cw_gen.proofs.Fine.{IsUsable, AllUsable, ArgFine, ArgsFine}
+use Rattle.cw_gen.proofs.Fine.{IsUsable, AllUsable, AllWritable, NotBoth, ArrayAlone, ArgFine, given_alone, ArgsFine}
 use Rattle.cw_gen.proofs.Takens.{holds}
-use Rattle.cw_gen.proofs.Names.{Entries, values_in, all_of, get-other, length-settled, slots_apart, settled_append, AgreesOf, AllHeld, HeldBy}
+use Rattle.cw_gen.proofs.Names.{Entries, values_in, all_of, get-other, length-settled, slots_apart, settled_append, AgreesOf, AllHeld}
 use Rattle.cw_gen.proofs.Names as holding
 use Rattle.cw_gen.proofs.Stores.{Store, Outside, int_waits, array_waits, Agrees}
 
@@ -26,43 +34,124 @@ use Rattle.cw_gen.proofs.Stores.{Store, Outside, int_waits, array_waits, Agrees}
 abbrev pub slots_for : (names given : List Name) → List ℕ
 slots_for names given = map (λ a. slot_of a names) given
 
--- the arrays among arguments may be used
-pub usable_args : (locals : Locals) (taken : Taken) (ps : List Param) (es : List Expr) → ArgsFine locals taken ps es → AllUsable locals.arrays taken (arrays_given ps es)
-usable_args locals taken [] [] fine = tt
-usable_args locals taken [] (e ∷ es) fine = absurd fine
-usable_args locals taken (p ∷ ps) [] fine = absurd fine
-usable_args locals taken (p ∷ ps) (e ∷ es) fine = one (arrays_given ps es) p.is_array e fine.0 (usable_args locals taken ps es fine.1)
-  where
-    one : (rest : List Name) (b : Bool) (e : Expr) → ArgFine b locals taken e → AllUsable locals.arrays taken rest → AllUsable locals.arrays taken ((if b then names_in e else []) ++ rest)
-    one rest false e h k = k
-    one rest true (Variable a) h k = (h, k)
-    one rest true _ h k = absurd h
+-- arrays that may be written may be used
+pub all_usable : (marks : Marks) (names : List Name) (taken : Taken) (xs : List Name) → AllWritable marks names taken xs → AllUsable names taken xs
+all_usable marks names taken [] h = tt
+all_usable marks names taken (x ∷ xs) h = (h.0.usable, all_usable marks names taken xs h.1)
 
--- the list of a call is the slots of its arrays
-pub passed_slots : (locals : Locals) (taken : Taken) (ps : List Param) (es : List Expr) → ArgsFine locals taken ps es → passed_in (map (slotted_argument locals) es) ≡ slots_for locals.arrays (arrays_given ps es)
-passed_slots locals taken [] [] fine = refl
-passed_slots locals taken [] (e ∷ es) fine = absurd fine
-passed_slots locals taken (p ∷ ps) [] fine = absurd fine
-passed_slots locals taken (p ∷ ps) (e ∷ es) fine = one (map (slotted_argument locals) es) (arrays_given ps es) (passed_slots locals taken ps es fine.1) p.is_array e fine.0
-  where
-    one : (args : List slotted.Argument) (rest : List Name) → passed_in args ≡ slots_for locals.arrays rest → (b : Bool) (e : Expr) → ArgFine b locals taken e → passed_in (slotted_argument locals e ∷ args) ≡ slots_for locals.arrays ((if b then names_in e else []) ++ rest)
-    one args rest more false (Variable x) h = ap (λ c. passed_in ((if c then slotted.Array (slot_of x locals.arrays) else slotted.Int (slotted.Variable (slot_of x locals.ints))) ∷ args)) h.1 ∙ more
-    one args rest more false _ h = more
-    one args rest more true (Variable a) h = ap (λ c. passed_in ((if c then slotted.Array (slot_of a locals.arrays) else slotted.Int (slotted.Variable (slot_of a locals.ints))) ∷ args)) h.declared ∙ ap (λ l. slot_of a locals.arrays ∷ l) more
-    one args rest more true _ h = absurd h
+-- their slots are not only read
+pub own_slots : (marks : Marks) (names : List Name) (taken : Taken) (xs : List Name) → AllWritable marks names taken xs → OwnSlots marks (slots_for names xs)
+own_slots marks names taken [] h = tt
+own_slots marks names taken (x ∷ xs) h = (h.0.own, own_slots marks names taken xs h.1)
 
--- as many arrays are given given are taken
-pub as_many_arrays : (locals : Locals) (taken : Taken) (ps : List Param) (es : List Expr) → ArgsFine locals taken ps es → length (arrays_given ps es) ≡ length (locals_of ps).arrays
-as_many_arrays locals taken [] [] fine = refl
-as_many_arrays locals taken [] (e ∷ es) fine = absurd fine
-as_many_arrays locals taken (p ∷ ps) [] fine = absurd fine
-as_many_arrays locals taken (p ∷ ps) (e ∷ es) fine = one p.is_array e fine.0 (as_many_arrays locals taken ps es fine.1)
+-- the arrays among arguments that are given away may be written
+pub writable_args : (marks : Marks) (locals : Locals) (taken : Taken) (ps : List Param) (es : List Expr) → ArgsFine marks locals taken ps es → AllWritable marks locals.arrays taken (arrays_given ps es)
+writable_args marks locals taken [] [] fine = tt
+writable_args marks locals taken [] (e ∷ es) fine = absurd fine
+writable_args marks locals taken (p ∷ ps) [] fine = absurd fine
+writable_args marks locals taken (p ∷ ps) (e ∷ es) fine = one (arrays_given ps es) p.kind e fine.0 (writable_args marks locals taken ps es fine.1)
   where
-    one : (b : Bool) (e : Expr) → ArgFine b locals taken e → length (arrays_given ps es) ≡ length (locals_of ps).arrays →
-        length ((if b then names_in e else []) ++ arrays_given ps es) ≡ length (map (λ (q : Param). q.name) (cond b (p ∷ filter (λ q. q.is_array) ps) (filter (λ q. q.is_array) ps)))
-    one false e h k = k
-    one true (Variable a) h k = ap suc k
-    one true _ h k = absurd h
+    one : (rest : List Name) (k : NameKind) (e : Expr) → ArgFine k marks locals taken e → AllWritable marks locals.arrays taken rest → AllWritable marks locals.arrays taken ((if is_written_kind k then names_in e else []) ++ rest)
+    one rest Integer e h r = r
+    one rest Const e h r = r
+    one rest Array (Variable a) h r = (h, r)
+    one rest Array _ h r = absurd h
+
+-- those that are only read may be used
+pub usable_lent : (marks : Marks) (locals : Locals) (taken : Taken) (ps : List Param) (es : List Expr) → ArgsFine marks locals taken ps es → AllUsable locals.arrays taken (arrays_lent ps es)
+usable_lent marks locals taken [] [] fine = tt
+usable_lent marks locals taken [] (e ∷ es) fine = absurd fine
+usable_lent marks locals taken (p ∷ ps) [] fine = absurd fine
+usable_lent marks locals taken (p ∷ ps) (e ∷ es) fine = one (arrays_lent ps es) p.kind e fine.0 (usable_lent marks locals taken ps es fine.1)
+  where
+    one : (rest : List Name) (k : NameKind) (e : Expr) → ArgFine k marks locals taken e → AllUsable locals.arrays taken rest → AllUsable locals.arrays taken ((if is_const_kind k then names_in e else []) ++ rest)
+    one rest Integer e h r = r
+    one rest Array e h r = r
+    one rest Const (Variable a) h r = (h, r)
+    one rest Const _ h r = absurd h
+
+-- the list of a call is the slots of its arrays, by the numbers of the code
+pub passed_slots : (marks : Marks) (locals : Locals) (taken : Taken) (ps : List Param) (es : List Expr) → ArgsFine marks locals taken ps es →
+    passed_in marks (slotted_arguments locals ps es) ≡ numbers_at marks (slots_for locals.arrays (arrays_given ps es))
+passed_slots marks locals taken [] [] fine = refl
+passed_slots marks locals taken [] (e ∷ es) fine = absurd fine
+passed_slots marks locals taken (p ∷ ps) [] fine = absurd fine
+passed_slots marks locals taken (p ∷ ps) (e ∷ es) fine = one (slotted_arguments locals ps es) (arrays_given ps es) (passed_slots marks locals taken ps es fine.1) p.kind e fine.0
+  where
+    -- an argument for a parameter of this kind
+    at_kind : NameKind → Expr → slotted.Argument
+    at_kind k (Variable x) = if is_among x locals.arrays then (if is_const_kind k then slotted.Shared (slot_of x locals.arrays) else slotted.Array (slot_of x locals.arrays)) else slotted.Int (slotted.Variable (slot_of x locals.ints))
+    at_kind k e = slotted.Int (slotted_expr locals e)
+
+    same : (e : Expr) → slotted_argument locals (p ∷ ps) e ≡ at_kind p.kind e
+    same (Number n) = refl
+    same (Variable x) = refl
+    same (Element a e) = refl
+    same (Length a) = refl
+    same (Negative e) = refl
+    same (Not e) = refl
+    same (Binary o d e) = refl
+
+    kinds : (args : List slotted.Argument) (rest : List Name) → passed_in marks args ≡ numbers_at marks (slots_for locals.arrays rest) → (k : NameKind) (e : Expr) → ArgFine k marks locals taken e →
+        passed_in marks (at_kind k e ∷ args) ≡ numbers_at marks (slots_for locals.arrays ((if is_written_kind k then names_in e else []) ++ rest))
+    kinds args rest more Integer (Variable x) h = ap (λ c. passed_in marks ((if c then slotted.Array (slot_of x locals.arrays) else slotted.Int (slotted.Variable (slot_of x locals.ints))) ∷ args)) h.1 ∙ more
+    kinds args rest more Integer _ h = more
+    kinds args rest more Array (Variable a) h = ap (λ c. passed_in marks ((if c then slotted.Array (slot_of a locals.arrays) else slotted.Int (slotted.Variable (slot_of a locals.ints))) ∷ args)) h.usable.declared ∙ ap (λ l. array_at marks (slot_of a locals.arrays) ∷ l) more
+    kinds args rest more Array _ h = absurd h
+    kinds args rest more Const (Variable a) h = ap (λ c. passed_in marks ((if c then slotted.Shared (slot_of a locals.arrays) else slotted.Int (slotted.Variable (slot_of a locals.ints))) ∷ args)) h.declared ∙ more
+    kinds args rest more Const _ h = absurd h
+
+    one : (args : List slotted.Argument) (rest : List Name) → passed_in marks args ≡ numbers_at marks (slots_for locals.arrays rest) → (k : NameKind) (e : Expr) → ArgFine p.kind marks locals taken e →
+        passed_in marks (slotted_argument locals (p ∷ ps) e ∷ args) ≡ numbers_at marks (slots_for locals.arrays ((if is_written_kind p.kind then names_in e else []) ++ rest))
+    one args rest more k e h = ap (λ a. passed_in marks (a ∷ args)) (same e) ∙ kinds args rest more p.kind e h
+
+-- its loans are the places of the arrays that are only read
+pub lent_slots : (marks : Marks) (locals : Locals) (taken : Taken) (ps : List Param) (es : List Expr) → ArgsFine marks locals taken ps es →
+    lent_in marks (slotted_arguments locals ps es) ≡ map (place_of marks) (slots_for locals.arrays (arrays_lent ps es))
+lent_slots marks locals taken [] [] fine = refl
+lent_slots marks locals taken [] (e ∷ es) fine = absurd fine
+lent_slots marks locals taken (p ∷ ps) [] fine = absurd fine
+lent_slots marks locals taken (p ∷ ps) (e ∷ es) fine = one (slotted_arguments locals ps es) (arrays_lent ps es) (lent_slots marks locals taken ps es fine.1) e fine.0
+  where
+    at_kind : NameKind → Expr → slotted.Argument
+    at_kind k (Variable x) = if is_among x locals.arrays then (if is_const_kind k then slotted.Shared (slot_of x locals.arrays) else slotted.Array (slot_of x locals.arrays)) else slotted.Int (slotted.Variable (slot_of x locals.ints))
+    at_kind k e = slotted.Int (slotted_expr locals e)
+
+    same : (e : Expr) → slotted_argument locals (p ∷ ps) e ≡ at_kind p.kind e
+    same (Number n) = refl
+    same (Variable x) = refl
+    same (Element a e) = refl
+    same (Length a) = refl
+    same (Negative e) = refl
+    same (Not e) = refl
+    same (Binary o d e) = refl
+
+    kinds : (args : List slotted.Argument) (rest : List Name) → lent_in marks args ≡ map (place_of marks) (slots_for locals.arrays rest) → (k : NameKind) (e : Expr) → ArgFine k marks locals taken e →
+        lent_in marks (at_kind k e ∷ args) ≡ map (place_of marks) (slots_for locals.arrays ((if is_const_kind k then names_in e else []) ++ rest))
+    kinds args rest more Integer (Variable x) h = ap (λ c. lent_in marks ((if c then slotted.Array (slot_of x locals.arrays) else slotted.Int (slotted.Variable (slot_of x locals.ints))) ∷ args)) h.1 ∙ more
+    kinds args rest more Integer _ h = more
+    kinds args rest more Array (Variable a) h = ap (λ c. lent_in marks ((if c then slotted.Array (slot_of a locals.arrays) else slotted.Int (slotted.Variable (slot_of a locals.ints))) ∷ args)) h.usable.declared ∙ more
+    kinds args rest more Array _ h = absurd h
+    kinds args rest more Const (Variable a) h = ap (λ c. lent_in marks ((if c then slotted.Shared (slot_of a locals.arrays) else slotted.Int (slotted.Variable (slot_of a locals.ints))) ∷ args)) h.declared ∙ ap (λ l. place_of marks (slot_of a locals.arrays) ∷ l) more
+    kinds args rest more Const _ h = absurd h
+
+    one : (args : List slotted.Argument) (rest : List Name) → lent_in marks args ≡ map (place_of marks) (slots_for locals.arrays rest) → (e : Expr) → ArgFine p.kind marks locals taken e →
+        lent_in marks (slotted_argument locals (p ∷ ps) e ∷ args) ≡ map (place_of marks) (slots_for locals.arrays ((if is_const_kind p.kind then names_in e else []) ++ rest))
+    one args rest more e h = ap (λ a. lent_in marks (a ∷ args)) (same e) ∙ kinds args rest more p.kind e h
+
+-- as many arrays are given as are taken
+pub as_many_arrays : (marks : Marks) (locals : Locals) (taken : Taken) (ps : List Param) (es : List Expr) → ArgsFine marks locals taken ps es → length (arrays_given ps es) ≡ length (taken_params ps)
+as_many_arrays marks locals taken [] [] fine = refl
+as_many_arrays marks locals taken [] (e ∷ es) fine = absurd fine
+as_many_arrays marks locals taken (p ∷ ps) [] fine = absurd fine
+as_many_arrays marks locals taken (p ∷ ps) (e ∷ es) fine = one p.kind e fine.0 (as_many_arrays marks locals taken ps es fine.1)
+  where
+    one : (k : NameKind) (e : Expr) → ArgFine k marks locals taken e → length (arrays_given ps es) ≡ length (taken_params ps) →
+        length ((if is_written_kind k then names_in e else []) ++ arrays_given ps es) ≡ length (map (λ (q : Param). q.name) (cond (is_written_kind k) (p ∷ filter (λ q. takes_array q) ps) (filter (λ q. takes_array q) ps)))
+    one Integer e h k = k
+    one Const e h k = k
+    one Array (Variable a) h k = ap suc k
+    one Array _ h k = absurd h
 
 -- a name that is not among others has another slot
 pub not_same : (x : Name) (given : List Name) (b : Name) → is_among x (b ∷ given) ≡ false → (same_name x b ≡ false) × (is_among x given ≡ false)
@@ -107,11 +196,35 @@ arrays_found names taken entries slots waits (a ∷ given) agrees us apart =
     ap (λ o. and_array o (arrays_in (slots_for names given) slots)) (get-moved names taken a given slots us.0 us.1 other ∙ holding.loads true [] names taken a entries slots waits us.0 agrees)
     ∙ ap (λ o. and_array (Some (Some (find [] a entries))) o) (arrays_found names taken entries slots waits given agrees us.1 (second_true (not (is_among a given)) (differ given) apart))
 
+-- a call is lent what it reads, which it does not take too
+pub loans_found : (marks : Marks) (names : List Name) (taken : Taken) (entries : Entries (List ℤ)) (slots : Slots (List ℤ)) (waits : List (Results (List ℤ))) (given read : List Name) → AgreesOf true names taken entries slots waits → AllWritable marks names taken given → AllUsable names taken read → NotBoth given read →
+    run.lent_in (map (place_of marks) (slots_for names read)) (moved_out (numbers_at marks (slots_for names given)) (owned marks slots)) (read_in marks slots) ≡ Some (map (λ a. find [] a entries) read)
+loans_found marks names taken entries slots waits given [] agrees ws us apart = refl
+loans_found marks names taken entries slots waits given (a ∷ read) agrees ws us apart =
+    let us' = all_usable marks names taken given ws in
+    let here = get-moved names taken a given slots us.0 us' (first_no (is_among a given) (list_any (λ b. is_among b given) read) apart) ∙ holding.loads true [] names taken a entries slots waits us.0 agrees in
+    ap (λ o. and_array o (run.lent_in (map (place_of marks) (slots_for names read)) (moved_out (numbers_at marks (slots_for names given)) (owned marks slots)) (read_in marks slots))) (loan_found marks (slots_for names given) (slot_of a names) slots (find [] a entries) (own_slots marks names taken given ws) here)
+    ∙ ap (and_array (Some (Some (find [] a entries)))) (loans_found marks names taken entries slots waits given read agrees ws us.1 (second_no (is_among a given) (list_any (λ b. is_among b given) read) apart))
+  where
+    first_no : (b c : Bool) → (b || c) ≡ false → b ≡ false
+    first_no true c h = cc
+    first_no false c h = refl
+
+    second_no : (b c : Bool) → (b || c) ≡ false → c ≡ false
+    second_no true c h = cc
+    second_no false c h = h
+
 -- these values go back into the slots of these names
 abbrev pub backs : (names given : List Name) → List (List ℤ) → Results (List ℤ)
 backs names [] vs = []
 backs names (a ∷ given) [] = []
 backs names (a ∷ given) (v ∷ vs) = (slot_of a names, v) ∷ backs names given vs
+
+-- none of these slots is only read
+pub backs_own : (marks : Marks) (names : List Name) (taken : Taken) (given : List Name) (vs : List (List ℤ)) → AllWritable marks names taken given → AllOwn marks (backs names given vs)
+backs_own marks names taken [] vs h = tt
+backs_own marks names taken (a ∷ given) [] h = tt
+backs_own marks names taken (a ∷ given) (v ∷ vs) h = (h.0.own, backs_own marks names taken given vs h.1)
 
 -- the same of a frame
 abbrev pub put_backs : (given : List Name) → List (List ℤ) → Entries (List ℤ) → Entries (List ℤ)
@@ -127,18 +240,29 @@ left_in g qs = map (λ q. array_of g q) qs
 abbrev pub with_arrays : Frame → Entries (List ℤ) → Frame
 with_arrays frame entries = record { ints = frame.ints; arrays = entries; sliced = frame.sliced }
 
+-- an array that a call takes stands alone as an argument
+taken_alone : (k : NameKind) (marks : Marks) (locals : Locals) (taken : Taken) (e : Expr) → is_written_kind k ≡ true → ArgFine k marks locals taken e → ArrayAlone locals e
+taken_alone Integer marks locals taken e is h = cc
+taken_alone Array marks locals taken e is h = given_alone marks locals taken e h
+taken_alone Const marks locals taken e is h = cc
+
 -- the arrays of a call go back under their names
-pub returned_are : (locals : Locals) (taken : Taken) (ps : List Param) (es : List Expr) (g frame : Frame) → ArgsFine locals taken ps es → returned_arrays ps es g frame ≡ with_arrays frame (put_backs (arrays_given ps es) (left_in g (locals_of ps).arrays) frame.arrays)
-returned_are locals taken [] [] g frame fine = refl
-returned_are locals taken [] (e ∷ es) g frame fine = absurd fine
-returned_are locals taken (p ∷ ps) [] g frame fine = absurd fine
-returned_are locals taken (p ∷ ps) (e ∷ es) g frame fine = returned_are locals taken ps es g (returned_array p e g frame) fine.1 ∙ one p.is_array refl e fine.0
+pub returned_are : (marks : Marks) (locals : Locals) (taken : Taken) (ps : List Param) (es : List Expr) (g frame : Frame) → ArgsFine marks locals taken ps es → returned_arrays ps es g frame ≡ with_arrays frame (put_backs (arrays_given ps es) (left_in g (taken_params ps)) frame.arrays)
+returned_are marks locals taken [] [] g frame fine = refl
+returned_are marks locals taken [] (e ∷ es) g frame fine = absurd fine
+returned_are marks locals taken (p ∷ ps) [] g frame fine = absurd fine
+returned_are marks locals taken (p ∷ ps) (e ∷ es) g frame fine = returned_are marks locals taken ps es g (returned_array p e g frame) fine.1 ∙ one (takes_array p) refl e (λ is. taken_alone p.kind marks locals taken e is fine.0)
   where
-    one : (b : Bool) → p.is_array ≡ b → (e : Expr) → ArgFine b locals taken e → with_arrays (returned_array p e g frame) (put_backs (arrays_given ps es) (left_in g (locals_of ps).arrays) (returned_array p e g frame).arrays)
-        ≡ with_arrays frame (put_backs ((if b then names_in e else []) ++ arrays_given ps es) (left_in g (map (λ (q : Param). q.name) (cond b (p ∷ filter (λ q. q.is_array) ps) (filter (λ q. q.is_array) ps)))) frame.arrays)
-    one true is (Variable a) h = ap (λ c. let f = if c then set_array a (array_of g p.name) frame else frame in with_arrays f (put_backs (arrays_given ps es) (left_in g (locals_of ps).arrays) f.arrays)) is
-    one true is _ h = absurd h
-    one false is (Variable a) h = ap (λ c. let f = if c then set_array a (array_of g p.name) frame else frame in with_arrays f (put_backs (arrays_given ps es) (left_in g (locals_of ps).arrays) f.arrays)) is
+    one : (b : Bool) → takes_array p ≡ b → (e : Expr) → (b ≡ true → ArrayAlone locals e) → with_arrays (returned_array p e g frame) (put_backs (arrays_given ps es) (left_in g (taken_params ps)) (returned_array p e g frame).arrays)
+        ≡ with_arrays frame (put_backs ((if b then names_in e else []) ++ arrays_given ps es) (left_in g (map (λ (q : Param). q.name) (cond b (p ∷ filter (λ q. takes_array q) ps) (filter (λ q. takes_array q) ps)))) frame.arrays)
+    one true is (Variable a) h = ap (λ c. let f = if c then set_array a (array_of g p.name) frame else frame in with_arrays f (put_backs (arrays_given ps es) (left_in g (taken_params ps)) f.arrays)) is
+    one true is (Number n) h = absurd (h refl)
+    one true is (Element a e) h = absurd (h refl)
+    one true is (Length a) h = absurd (h refl)
+    one true is (Negative e) h = absurd (h refl)
+    one true is (Not e) h = absurd (h refl)
+    one true is (Binary o d e) h = absurd (h refl)
+    one false is (Variable a) h = ap (λ c. let f = if c then set_array a (array_of g p.name) frame else frame in with_arrays f (put_backs (arrays_given ps es) (left_in g (taken_params ps)) f.arrays)) is
     one false is _ h = refl
 
 -- what the slots of a call that ends hold, by its parameters' names
@@ -221,7 +345,7 @@ agree_await names taken taken' given vs entries slots arrived outer us apart n m
     each (x ∷ given) [] us is h = h
     each (x ∷ given) (v ∷ vs) us is h = (record { name = x; declared = us.0.declared; slot = refl; held = is x (among_here x given) }, each given vs us.1 (λ y k. is y (further y x given k)) h)
 
-none_of_some : (p : Param → Bool) (x : Name) (ps : List Param) → is_among x (map (λ (z : Param). z.name) ps) ≡ false → is_among x (map (λ (z : Param). z.name) (filter p ps)) ≡ false
+pub none_of_some : (p : Param → Bool) (x : Name) (ps : List Param) → is_among x (map (λ (z : Param). z.name) ps) ≡ false → is_among x (map (λ (z : Param). z.name) (filter p ps)) ≡ false
 none_of_some p x [] h = refl
 none_of_some p x (z ∷ ps) h = cases (none_of_some p x ps) (same_name x z.name) (p z) refl h
   where

@@ -1,5 +1,5 @@
 -- The code of a program does what its lowered program does.
-use Rattle.std.proofs.Common.{◌≡◌, ℕ, suc, ◌+◌, ◌≤◌, List, [], ◌∷◌, ◌++◌, length, Bool, true, false, not, cond, filter, ◌&&◌, if◌then◌else◌, Some, refl, sym, ap, ◌∙◌, subst, arith, append_assoc, length-append, true≢false, ℤ}
+use Rattle.std.proofs.Common.{◌≡◌, ℕ, suc, ◌+◌, ◌-◌, ◌≤◌, List, [], ◌∷◌, ◌++◌, length, Bool, true, false, not, cond, filter, ◌&&◌, if◌then◌else◌, Some, refl, sym, ap, ◌∙◌, subst, arith, append_assoc, length-append, true≢false, ℤ}
 use Rattle.std.specs.Prelude.{slice_get, nat_eq, nat_le, option_map, map}
 use Rattle.std.proofs.lemmas.List.{map-append}
 use Rattle.cw_model.specs.Syntax.{Name, Stmt, If, IfElse, While, For, Scope, Cut, Region, Block, End, Then, Param, Function, Reducer, Program}
@@ -19,37 +19,20 @@ use Rattle.cw_code.specs.declared.code.Instr.{Instr}
 use Rattle.cw_code.specs.Code.{Code}
 use Rattle.cw_code.specs.Run.{RunOutcome, On, Stuck, first_state, reducers_of, go_on, steps, first_transition, code_serial}
 use Rattle.cw_code.specs.Fits.{params_of, main_params}
-use Rattle.cw_gen.specs.Emit.{most_jump, first_list, count_ints, count_arrays, ints_in_block, arrays_in_block, emitted_instrs, emitted_funcs}
+use Rattle.cw_gen.specs.Marks.{count_ints, count_arrays, count_taken, count_readers}
+use Rattle.cw_gen.proofs.Marked.{owned, read_in}
+use Rattle.cw_gen.proofs.MarkedParams.{marks_short, counted_ints, counted_arrays, counted_taken, counted_readers, both_counted}
+use Rattle.cw_gen.specs.Emit.{most_jump, first_list, ints_in_block, arrays_in_block, emitted_instrs, emitted_funcs}
 use Rattle.cw_gen.specs.Generates.{main_count}
 use Rattle.cw_gen.proofs.KnownNames.{in_second}
-use Rattle.cw_gen.proofs.Fine.{is_function, FunctionFine, FunctionsFine, ProgramFine}
+use Rattle.cw_gen.proofs.Fine.{is_function, BlockFine, marks_for, room_of, FunctionFine, FunctionsFine, ProgramFine}
 use Rattle.cw_gen.proofs.Traces.{resume}
 use Rattle.cw_gen.proofs.Places.{HasAt, has_all}
 use Rattle.cw_gen.proofs.Decided.{taken, both_true, at_most, equal}
 use Rattle.cw_gen.proofs.Codes.{bound_main, main_locals}
-use Rattle.cw_gen.proofs.Texts.{function_code, tables_in, Compiled, Table, code_of, TurnsClose}
+use Rattle.cw_gen.proofs.Texts.{returns_of, room_of_func, function_code, tables_in, Compiled, Table, code_of, TurnsClose}
 use Rattle.cw_gen.proofs.Laws.{calls_run}
 use Rattle.cw_gen.proofs.CodedReducers.{names_kept, same_totals}
-
--- as many integers and arrays are counted as there are names of them
-counted_ints : (ps : List Param) → length (locals_of ps).ints ≡ count_ints (map (λ p. p.is_array) ps)
-counted_ints [] = refl
-counted_ints (p ∷ ps) = test p.is_array (counted_ints ps)
-  where
-    test : (b : Bool) → length (locals_of ps).ints ≡ count_ints (map (λ p. p.is_array) ps) →
-        length (map (λ (q : Param). q.name) (cond (not b) (p ∷ filter (λ q. not q.is_array) ps) (filter (λ q. not q.is_array) ps))) ≡ length (cond (not b) (b ∷ filter (λ is_array. not is_array) (map (λ p. p.is_array) ps)) (filter (λ is_array. not is_array) (map (λ p. p.is_array) ps)))
-    test true more = more
-    test false more = ap suc more
-
--- the same of arrays
-counted_arrays : (ps : List Param) → length (locals_of ps).arrays ≡ count_arrays (map (λ p. p.is_array) ps)
-counted_arrays [] = refl
-counted_arrays (p ∷ ps) = test p.is_array (counted_arrays ps)
-  where
-    test : (b : Bool) → length (locals_of ps).arrays ≡ count_arrays (map (λ p. p.is_array) ps) →
-        length (map (λ (q : Param). q.name) (cond b (p ∷ filter (λ q. q.is_array) ps) (filter (λ q. q.is_array) ps))) ≡ length (cond b (b ∷ filter (λ is_array. is_array) (map (λ p. p.is_array) ps)) (filter (λ is_array. is_array) (map (λ p. p.is_array) ps)))
-    test true more = ap suc more
-    test false more = more
 
 module _ (code : Code) (all : List Function) (lists : Lists) where
   abbrev first : ℕ
@@ -64,8 +47,8 @@ module _ (code : Code) (all : List Function) (lists : Lists) where
   funcs_from start fs = emitted_funcs first start (map (slotted_function lists) fs)
 
   -- the entry of a function with so many parameters
-  abbrev entry_of : (start : ℕ) → Function → (ints arrays : ℕ) → Func
-  entry_of start f ints arrays =
+  abbrev entry_of : (start : ℕ) → Function → (ints arrays taken readers : ℕ) → Func
+  entry_of start f ints arrays taken readers =
       let body = slotted_block lists (locals_of f.params) f.body in
       record {
         start = start;
@@ -73,27 +56,46 @@ module _ (code : Code) (all : List Function) (lists : Lists) where
         gives_int = f.gives_int;
         params = ints;
         slots = ints_in_block ints body;
-        array_params = arrays;
-        arrays = arrays_in_block arrays body;
+        array_params = taken;
+        arrays = arrays_in_block arrays body - readers;
+        readers = readers;
       }
+
+  -- that of a function
+  abbrev own_entry : (start : ℕ) → Function → Func
+  own_entry start f =
+      let kinds = map (λ p. p.kind) f.params in
+      entry_of start f (count_ints kinds) (count_arrays kinds) (count_taken kinds) (count_readers kinds)
 
   -- a function has its code where its entry says
   compiled_so : (start : ℕ) (f : Function) → HasAt code.instrs start (function_code first lists f) → FunctionFine all lists (tables_in code) f →
-      Compiled code all lists f (entry_of start f (count_ints (map (λ p. p.is_array) f.params)) (count_arrays (map (λ p. p.is_array) f.params)))
+      Compiled code all lists f (own_entry start f)
   compiled_so start f there fine =
-      subst (λ n. Compiled code all lists f (entry_of start f n (count_arrays (map (λ p. p.is_array) f.params)))) (counted_ints f.params)
-      (subst (λ n. Compiled code all lists f (entry_of start f (length (locals_of f.params).ints) n)) (counted_arrays f.params)
-      (record {
-        params = refl;
-        array_params = refl;
-        room = fine.room;
-        array_room = fine.array_room;
+      let kinds = map (λ p. p.kind) f.params in
+      let ints = counted_ints f.params in
+      let arrays = counted_arrays f.params in
+      let taken = counted_taken f.params in
+      let readers = counted_readers f.params in
+      let both = both_counted kinds in
+      let body = slotted_block lists (locals_of f.params) f.body in
+      let wide : arrays_in_block (length (locals_of f.params).arrays) body ≡ arrays_in_block (count_arrays kinds) body = ap (λ n. arrays_in_block n body) arrays in
+      let all_ints : ints_in_block (length (locals_of f.params).ints) body ≡ ints_in_block (count_ints kinds) body = ap (λ n. ints_in_block n body) ints in
+      let same : room_of lists f ≡ room_of_func f (own_entry start f) =
+      ap (λ n. record { ints = n; arrays = arrays_in_block (length (locals_of f.params).arrays) body; given = (locals_of f.params).arrays; marks = marks_for f.params }) all_ints
+      ∙ ap (λ n. record { ints = ints_in_block (count_ints kinds) body; arrays = n; given = (locals_of f.params).arrays; marks = marks_for f.params }) (omega (arith, wide, fine.array_room, arrays, both)) in
+      record {
+        params = sym ints;
+        array_params = sym taken;
+        readers = both ∙ sym arrays;
+        marked = readers;
+        room = omega (arith, fine.room, ints, all_ints);
+        array_room = omega (arith, fine.array_room, arrays, wide, both);
         apart = fine.apart;
         gives = refl;
         stands = there;
-        fine = fine.body;
+        fine = subst (λ r. BlockFine all lists (tables_in code) (marks_for f.params) r (returns_of f) 1 (locals_of f.params) [] f.body) same fine.body;
         returns = fine.returns;
-      }))
+      }
 
   -- a function of this name has its entry and its code
   abbrev Entry : (start : ℕ) → List Function → Name → Type 0
@@ -109,7 +111,7 @@ module _ (code : Code) (all : List Function) (lists : Lists) where
       test : (is_function name fs ≡ true → Entry (length pre + length (function_code first lists f)) fs name) → (b : Bool) → (if b then true else is_function name fs) ≡ true →
           (fn : Func) × (slice_get (funcs_from (length pre) (f ∷ fs)) (if b then 0 else suc (slot_of name (function_names fs))) ≡ Some fn) × Compiled code all lists (if b then f else function_named name fs) fn
       test more true h' = (
-        entry_of (length pre) f (count_ints (map (λ p. p.is_array) f.params)) (count_arrays (map (λ p. p.is_array) f.params)),
+        own_entry (length pre) f,
         refl,
         compiled_so (length pre) f (subst (λ l. HasAt l (length pre) (function_code first lists f)) (sym e) (has_all pre (function_code first lists f) (codes fs))) fine.0,
       )
@@ -179,6 +181,11 @@ pub main_place : (program : Program) → is_function main_name (lowered program)
 main_place program h =
     sym (slot_stays main_name (function_names program.functions) (function_names (made_of 0 program.functions)) (main_there program h)) ∙ sym (ap (slot_of main_name) (names_are program))
 
+-- a list of no items
+no_items : {A : Type 0} (xs : List A) → length xs ≡ 0 → xs ≡ []
+no_items [] h = refl
+no_items (x ∷ xs) h = absurd (omega (arith, h))
+
 -- the answer of the code is that of the program
 same_answer : (program : Program) (o : Outcome Returned) → option_map (λ o'. answer_of (reducers_of (code_of program)) o') (resume quiet o (λ r l u. Some (Done (r.0, no_frame) l u))) ≡ Some (answer_of program.reducers o)
 same_answer program (Done r l u) = ap (λ totals. Some (Ended (int_given r.0) u.lines totals (normal (Marked (Invocation 0) (tree_of u.events))))) (same_totals program.reducers u.updates)
@@ -198,17 +205,21 @@ same_run program small least fine args m n =
     let entry = table.entry main_name fine.main in
     let fn = entry.0 in
     let counts = main_locals main.params fine.ints in
-    let begin = On (first_state fn args []) in
+    let begin = On (first_state fn args [] []) in
     let many : length args ≡ fn.params = m ∙ sym counts.0 ∙ sym entry.2.params in
-    let none : 0 ≡ fn.array_params = sym (entry.2.array_params ∙ counts.1) in
-    let fits : (nat_eq (length args) fn.params && (nat_le fn.params fn.slots && nat_eq fn.array_params 0)) ≡ true =
-    both_true (nat_eq (length args) fn.params) (nat_le fn.params fn.slots && nat_eq fn.array_params 0) (equal (length args) fn.params many)
-    (both_true (nat_le fn.params fn.slots) (nat_eq fn.array_params 0) (at_most fn.params fn.slots entry.2.room) (equal fn.array_params 0 (sym none))) in
+    let none : 0 ≡ fn.array_params + fn.readers = sym (entry.2.readers ∙ counts.1) in
+    let arrays_fit = both_true (nat_eq fn.array_params 0) (nat_eq fn.readers 0) (equal fn.array_params 0 (omega (arith, none))) (equal fn.readers 0 (omega (arith, none))) in
+    let fits : (nat_eq (length args) fn.params && (nat_le fn.params fn.slots && (nat_eq fn.array_params 0 && nat_eq fn.readers 0))) ≡ true =
+    both_true (nat_eq (length args) fn.params) (nat_le fn.params fn.slots && (nat_eq fn.array_params 0 && nat_eq fn.readers 0)) (equal (length args) fn.params many)
+    (both_true (nat_le fn.params fn.slots) (nat_eq fn.array_params 0 && nat_eq fn.readers 0) (at_most fn.params fn.slots entry.2.room) arrays_fit) in
+    let no_marks : length (marks_for main.params) ≡ 0 = omega (arith, marks_short main.params, counts.1) in
+    let first = first_state fn args [] [] in
     let answer = λ (o : RunOutcome). option_map (λ o'. answer_of (reducers_of code) o') o in
     let given = main_frame main.params args no_frame in
     ap (λ i. answer (go_on (first_transition (slice_get code.funcs i) args) n (λ s. steps code n s))) (main_place program fine.main)
     ∙ ap (λ o. answer (go_on (first_transition o args) n (λ s. steps code n s))) entry.1
-    ∙ ap (λ w. answer (go_on w n (λ s. steps code n s))) (taken (nat_eq (length args) fn.params && (nat_le fn.params fn.slots && nat_eq fn.array_params 0)) begin Stuck fits)
+    ∙ ap (λ w. answer (go_on w n (λ s. steps code n s))) (taken (nat_eq (length args) fn.params && (nat_le fn.params fn.slots && (nat_eq fn.array_params 0 && nat_eq fn.readers 0))) begin Stuck fits)
+    ∙ ap (λ ms. answer (steps code n (record first { arrays = owned ms first.arrays; readers = read_in ms first.arrays }))) (sym (no_items (marks_for main.params) no_marks))
     ∙ ap answer ((calls_run code fs lists small least table (names_kept program.reducers) refl (suc n) 0).enters Deeper refl main fn entry.2 args [] given many none (bound_main main.params args no_frame fine.ints m) [] main.line n quiet (λ r l u. Some (Done (r.0, no_frame) l u)) (omega arith) (λ v g arrays l u gives_int gives le. refl))
     ∙ same_answer program (call (suc n) 0 fs Deeper main (main_frame main.params args no_frame) main.line n)
 

@@ -1,38 +1,28 @@
 -- Which slots may be empty where certain names are taken.
-use Rattle.std.proofs.Common.{◌≡◌, ◌≢◌, ℕ, zero, suc, ◌+◌, ◌<◌, ◌≤◌, Option, Some, None, not, length-append, List, [], ◌∷◌, ◌++◌, length, Bool, true, false, ◌&&◌, if◌then◌else◌, refl, sym, ap, ◌∙◌, subst, arith, true≢false, ◌⊎◌, inl, inr}
+use Rattle.std.proofs.Common.{◌≡◌, ◌≢◌, ℕ, zero, suc, ◌+◌, ◌<◌, ◌≤◌, Option, Some, None, not, length-append, List, [], ◌∷◌, ◌++◌, length, Bool, true, false, ◌&&◌, if◌then◌else◌, refl, sym, ap, ◌∙◌, subst, arith, true≢false}
 use Rattle.std.specs.Prelude.{slice_get, slice_set, nat_eq}
 use Rattle.std.proofs.lemmas.Bool.Decides.{nat_tests}
 use Rattle.std.proofs.lemmas.List.{append-nil}
 use Rattle.std.proofs.lemmas.Slice.Eq.{bytes_eq-Decides}
 use Rattle.cw_model.specs.Syntax.{Name}
 use Rattle.cw_model.specs.Names.{same_name, is_among}
-use Rattle.cw_model.specs.Ownership.{Holder, CutOf, Taken, is_taken}
+use Rattle.cw_model.specs.Ownership.{CutOf, Taken, is_taken, is_held}
 use Rattle.cw_tree.specs.Resolved.{Locals, slot_of, with_int, with_array}
 use Rattle.cw_tree.specs.lemmas.NamedSlots.{slot_stays, slot_in}
 use Rattle.cw_code.specs.declared.code.Halves.{Halves}
-use Rattle.cw_code.specs.Fits.{Row, Outer, Shape, empty_rows, gone_rows, is_full_in, full_in_all, has_slot, has_array, is_no_part, none_empty, Covers, CoversEach}
+use Rattle.cw_code.specs.Fits.{Row, Outer, Shape, empty_rows, gone_rows, is_full_in, full_in_all, has_slot, has_array, frozen_rows, is_no_part, none_empty, Covers, CoversEach}
 use Rattle.cw_loops.specs.lemmas.Naming.{among_left}
 use Rattle.cw_gen.specs.Emit.{halves_of}
 use Rattle.cw_gen.proofs.Takens.{holds, not_held}
 use Rattle.cw_gen.proofs.Decided.{both_true}
-use Rattle.cw_gen.proofs.Fine.{IsUsable, Room}
+use Rattle.cw_gen.proofs.Fine.{IsUsable, IsWritable, Room}
+use Rattle.cw_gen.specs.Marks.{Marks, array_at}
+use Rattle.cw_gen.proofs.Marked.{owned, IsOwn, get_owned, at_apart, own_behind}
+use Rattle.cw_gen.proofs.MarkedCuts.{cut_numbers}
+use Rattle.cw_gen.proofs.Frozen.{frozen_of, loose_thawed}
+use Rattle.cw_gen.proofs.FreeMembers.{In, in_taken}
 use Rattle.cw_gen.proofs.Names.{get-other, slots_apart}
 use Rattle.cw_gen.proofs.Scopes.{extended, same_locals}
-
--- it is one of what is taken
-abbrev pub In : (Name × Holder) → Taken → Type 0
-In t [] = ⊥
-In t (u ∷ us) = (u ≡ t) ⊎ In t us
-
--- then its name is taken
-pub in_taken : (x : Name) (k : Holder) (us : Taken) → In (x, k) us → is_taken us x ≡ true
-in_taken x k [] h = absurd h
-in_taken x k (u ∷ us) (inl e) = ap (λ b. if b then true else is_taken us x) (ap (λ (t : Name × Holder). same_name x t.0) e ∙ (bytes_eq-Decides x x).1 refl)
-in_taken x k (u ∷ us) (inr h) = test (same_name x u.0) (in_taken x k us h)
-  where
-    test : (b : Bool) → is_taken us x ≡ true → (if b then true else is_taken us x) ≡ true
-    test true e = refl
-    test false e = e
 
 -- for each of so many slots whether a spawn of the sync block at this depth holds the name that lies there
 abbrev pub row : ℕ → (depth : ℕ) → List Name → Taken → Row
@@ -188,28 +178,68 @@ Opened = List (Option Halves)
 abbrev pub depth_in : Opened → ℕ
 depth_in opened = suc (length opened)
 
+-- the row of arrays, with the numbers that the code has: those of slots that are only read are left out
+abbrev pub array_row : Room → (depth : ℕ) → List Name → Taken → Row
+array_row size depth names taken = owned size.marks (row size.arrays depth names taken)
+
+-- a cut with those numbers
+abbrev pub told_cut : Marks → Option Halves → Option Halves
+told_cut marks None = None
+told_cut marks (Some h) = Some (cut_numbers marks h)
+
 -- what they find
 abbrev pub outers : Room → Opened → Locals → Taken → List Outer
 outers size [] locals taken = []
 outers size (c ∷ opened) locals taken =
-    record { empty = row size.ints (depth_in opened) locals.ints taken; gone = with_cut c (row size.arrays (depth_in opened) locals.arrays taken); cut = c } ∷ outers size opened locals taken
+    record {
+      empty = row size.ints (depth_in opened) locals.ints taken;
+      gone = with_cut (told_cut size.marks c) (array_row size (depth_in opened) locals.arrays taken);
+      frozen = array_row size (depth_in opened) locals.arrays (frozen_of taken);
+      cut = told_cut size.marks c;
+    } ∷ outers size opened locals taken
 
 -- what a place finds in these sync blocks, where these names are known and taken
 abbrev pub shape_at : Room → Opened → Locals → Taken → (operands : ℕ) → Shape
 shape_at size opened locals taken n = record {
   operands = n;
   empty = row size.ints (depth_in opened) locals.ints taken;
-  gone = row size.arrays (depth_in opened) locals.arrays taken;
+  gone = array_row size (depth_in opened) locals.arrays taken;
+  frozen = array_row size (depth_in opened) locals.arrays (frozen_of taken);
   outer = outers size opened locals taken;
 }
 
+-- rows cover each other where slots are left out
+pub covers_owned : (marks : Marks) (r s : Row) → Covers r s → Covers (owned marks r) (owned marks s)
+covers_owned [] r s h = h
+covers_owned (m ∷ marks) [] [] h = tt
+covers_owned (m ∷ marks) [] (b ∷ s) h = absurd h
+covers_owned (m ∷ marks) (a ∷ r) [] h = absurd h
+covers_owned (true ∷ marks) (a ∷ r) (b ∷ s) h = covers_owned marks r s h.1
+covers_owned (false ∷ marks) (a ∷ r) (b ∷ s) h = (h.0, covers_owned marks r s h.1)
+
+pub array_covers : (size : Room) (depth other : ℕ) (names names' : List Name) (taken taken' : Taken) → Covers (row size.arrays depth names taken) (row size.arrays other names' taken') → Covers (array_row size depth names taken) (array_row size other names' taken')
+array_covers size depth other names names' taken taken' h = covers_owned size.marks (row size.arrays depth names taken) (row size.arrays other names' taken') h
+
+-- as many slots are left
+pub same_length_owned : (marks : Marks) (r s : Row) → length r ≡ length s → length (owned marks r) ≡ length (owned marks s)
+same_length_owned [] r s h = h
+same_length_owned (m ∷ marks) [] [] h = refl
+same_length_owned (m ∷ marks) [] (b ∷ s) h = absurd (omega (arith, h))
+same_length_owned (m ∷ marks) (a ∷ r) [] h = absurd (omega (arith, h))
+same_length_owned (true ∷ marks) (a ∷ r) (b ∷ s) h = same_length_owned marks r s (omega (arith, h))
+same_length_owned (false ∷ marks) (a ∷ r) (b ∷ s) h = ap suc (same_length_owned marks r s (omega (arith, h)))
+
+pub length_array_row : (size : Room) (depth other : ℕ) (names names' : List Name) (taken taken' : Taken) → length (array_row size depth names taken) ≡ length (array_row size other names' taken')
+length_array_row size depth other names names' taken taken' =
+    same_length_owned size.marks (row size.arrays depth names taken) (row size.arrays other names' taken') (length-row size.arrays depth names taken ∙ sym (length-row size.arrays other names' taken'))
+
 -- a shape that takes another one
 abbrev pub Over : Shape → Shape → Type 0
-Over many few = Covers many.empty few.empty × Covers many.gone few.gone × CoversEach many.outer few.outer
+Over many few = Covers many.empty few.empty × Covers many.gone few.gone × Covers many.frozen few.frozen × CoversEach many.outer few.outer
 
 pub each_covers_itself : (os : List Outer) → CoversEach os os
 each_covers_itself [] = tt
-each_covers_itself (o ∷ os) = (covers_itself o.empty, covers_itself o.gone, refl, each_covers_itself os)
+each_covers_itself (o ∷ os) = (covers_itself o.empty, covers_itself o.gone, covers_itself o.frozen, refl, each_covers_itself os)
 
 pub each_covers_after : (rs ss ts : List Outer) → CoversEach rs ss → CoversEach ss ts → CoversEach rs ts
 each_covers_after [] [] [] h k = tt
@@ -217,90 +247,142 @@ each_covers_after [] [] (t ∷ ts) h k = absurd k
 each_covers_after [] (s ∷ ss) ts h k = absurd h
 each_covers_after (r ∷ rs) [] ts h k = absurd h
 each_covers_after (r ∷ rs) (s ∷ ss) [] h k = absurd k
-each_covers_after (r ∷ rs) (s ∷ ss) (t ∷ ts) h k = (covers_after r.empty s.empty t.empty h.0 k.0, covers_after r.gone s.gone t.gone h.1 k.1, h.2 ∙ k.2, each_covers_after rs ss ts h.3 k.3)
+each_covers_after (r ∷ rs) (s ∷ ss) (t ∷ ts) h k = (covers_after r.empty s.empty t.empty h.0 k.0, covers_after r.gone s.gone t.gone h.1 k.1, covers_after r.frozen s.frozen t.frozen h.2 k.2, h.3 ∙ k.3, each_covers_after rs ss ts h.4 k.4)
 
 pub over_itself : (s : Shape) → Over s s
-over_itself s = (covers_itself s.empty, covers_itself s.gone, each_covers_itself s.outer)
+over_itself s = (covers_itself s.empty, covers_itself s.gone, covers_itself s.frozen, each_covers_itself s.outer)
 
 pub over_after : (r s t : Shape) → Over r s → Over s t → Over r t
-over_after r s t h k = (covers_after r.empty s.empty t.empty h.0 k.0, covers_after r.gone s.gone t.gone h.1 k.1, each_covers_after r.outer s.outer t.outer h.2 k.2)
+over_after r s t h k = (covers_after r.empty s.empty t.empty h.0 k.0, covers_after r.gone s.gone t.gone h.1 k.1, covers_after r.frozen s.frozen t.frozen h.2 k.2, each_covers_after r.outer s.outer t.outer h.3 k.3)
+
+-- what is held up to a depth stays so, and so does what is frozen
+abbrev pub KeepsHeld : (taken taken' : Taken) → ℕ → Type 0
+KeepsHeld taken taken' depth = (d : ℕ) (x : Name) → d ≤ depth → holds false d x taken ≡ true → holds false d x taken' ≡ true
+
+-- none of these names is held up to a depth
+abbrev pub NoneHeld : List Name → Taken → ℕ → Type 0
+NoneHeld names taken depth = (d : ℕ) (x : Name) → d ≤ depth → is_among x names ≡ true → holds false d x taken ≡ false
 
 -- where more is held, and fewer names are there, of which none of the others is held
-pub outers_held : (size : Room) (opened : Opened) (locals : Locals) (ints arrays : List Name) (taken taken' : Taken) → ((d : ℕ) (x : Name) → d ≤ length opened → holds false d x taken ≡ true → holds false d x taken' ≡ true) →
-    ((d : ℕ) (x : Name) → d ≤ length opened → is_among x ints ≡ true → holds false d x taken ≡ false) → ((d : ℕ) (x : Name) → d ≤ length opened → is_among x arrays ≡ true → holds false d x taken ≡ false) →
-    CoversEach (outers size opened locals taken') (outers size opened (extended locals ints arrays) taken)
-outers_held size [] locals ints arrays taken taken' h k m = tt
-outers_held size (c ∷ opened) locals ints arrays taken taken' h k m = (
-  covers_held size.ints (depth_in opened) locals.ints ints taken taken' (λ x a. h (depth_in opened) x (omega arith)) (λ x. k (depth_in opened) x (omega arith)),
-  covers_cut c (row size.arrays (depth_in opened) locals.arrays taken') (row size.arrays (depth_in opened) (locals.arrays ++ arrays) taken) (covers_held size.arrays (depth_in opened) locals.arrays arrays taken taken' (λ x a. h (depth_in opened) x (omega arith)) (λ x. m (depth_in opened) x (omega arith))),
-  refl,
-  outers_held size opened locals ints arrays taken taken' (λ d x le. h d x (omega (arith, le))) (λ d x le. k d x (omega (arith, le))) (λ d x le. m d x (omega (arith, le))),
-)
+pub outers_held : (size : Room) (opened : Opened) (locals : Locals) (ints arrays : List Name) (taken taken' : Taken) → KeepsHeld taken taken' (length opened) → KeepsHeld (frozen_of taken) (frozen_of taken') (length opened) →
+    NoneHeld ints taken (length opened) → NoneHeld arrays taken (length opened) → NoneHeld arrays (frozen_of taken) (length opened) → CoversEach (outers size opened locals taken') (outers size opened (extended locals ints arrays) taken)
+outers_held size [] locals ints arrays taken taken' h f k m z = tt
+outers_held size (c ∷ opened) locals ints arrays taken taken' h f k m z =
+    let depth = depth_in opened in
+    let all = locals.arrays ++ arrays in (
+      covers_held size.ints depth locals.ints ints taken taken' (λ x a. h depth x (omega arith)) (λ x. k depth x (omega arith)),
+      covers_cut (told_cut size.marks c) (array_row size depth locals.arrays taken') (array_row size depth all taken)
+          (array_covers size depth depth locals.arrays all taken' taken (covers_held size.arrays depth locals.arrays arrays taken taken' (λ x a. h depth x (omega arith)) (λ x. m depth x (omega arith)))),
+      array_covers size depth depth locals.arrays all (frozen_of taken') (frozen_of taken) (covers_held size.arrays depth locals.arrays arrays (frozen_of taken) (frozen_of taken') (λ x a. f depth x (omega arith)) (λ x. z depth x (omega arith))),
+      refl,
+      outers_held size opened locals ints arrays taken taken' (λ d x le. h d x (omega (arith, le))) (λ d x le. f d x (omega (arith, le))) (λ d x le. k d x (omega (arith, le))) (λ d x le. m d x (omega (arith, le))) (λ d x le. z d x (omega (arith, le))),
+    )
 
-pub outers_more : (size : Room) (opened : Opened) (locals : Locals) (taken taken' : Taken) → ((d : ℕ) (x : Name) → d ≤ length opened → holds false d x taken ≡ true → holds false d x taken' ≡ true) → CoversEach (outers size opened locals taken') (outers size opened locals taken)
-outers_more size opened locals taken taken' h =
+pub outers_more : (size : Room) (opened : Opened) (locals : Locals) (taken taken' : Taken) → KeepsHeld taken taken' (length opened) → KeepsHeld (frozen_of taken) (frozen_of taken') (length opened) → CoversEach (outers size opened locals taken') (outers size opened locals taken)
+outers_more size opened locals taken taken' h f =
     subst (λ ls. CoversEach (outers size opened locals taken') (outers size opened ls taken)) (same_locals (locals.ints ++ []) locals.ints (locals.arrays ++ []) locals.arrays (append-nil locals.ints) (append-nil locals.arrays))
-    (outers_held size opened locals [] [] taken taken' h (λ d x le a. cc) (λ d x le a. cc))
+    (outers_held size opened locals [] [] taken taken' h f (λ d x le a. cc) (λ d x le a. cc) (λ d x le a. cc))
 
-pub over_more : (size : Room) (opened : Opened) (locals : Locals) (taken taken' : Taken) (n m : ℕ) → ((d : ℕ) (x : Name) → holds false d x taken ≡ true → holds false d x taken' ≡ true) → Over (shape_at size opened locals taken' n) (shape_at size opened locals taken m)
-over_more size opened locals taken taken' n m h = (
-  row_more size.ints (depth_in opened) locals.ints taken taken' (h (depth_in opened)),
-  row_more size.arrays (depth_in opened) locals.arrays taken taken' (h (depth_in opened)),
-  outers_more size opened locals taken taken' (λ d x le. h d x),
-)
+-- what is held stays so, and so does what is frozen
+abbrev pub Keeps : (taken taken' : Taken) → Type 0
+Keeps taken taken' = (d : ℕ) (x : Name) → holds false d x taken ≡ true → holds false d x taken' ≡ true
+
+pub over_more : (size : Room) (opened : Opened) (locals : Locals) (taken taken' : Taken) (n m : ℕ) → Keeps taken taken' → Keeps (frozen_of taken) (frozen_of taken') → Over (shape_at size opened locals taken' n) (shape_at size opened locals taken m)
+over_more size opened locals taken taken' n m h f =
+    let depth = depth_in opened in (
+      row_more size.ints depth locals.ints taken taken' (h depth),
+      array_covers size depth depth locals.arrays locals.arrays taken' taken (row_more size.arrays depth locals.arrays taken taken' (h depth)),
+      array_covers size depth depth locals.arrays locals.arrays (frozen_of taken') (frozen_of taken) (row_more size.arrays depth locals.arrays (frozen_of taken) (frozen_of taken') (f depth)),
+      outers_more size opened locals taken taken' (λ d x le. h d x) (λ d x le. f d x),
+    )
 
 -- one more name of a kind
 pub outers_int : (size : Room) (opened : Opened) (locals : Locals) (x : Name) (taken : Taken) → CoversEach (outers size opened (with_int x locals) taken) (outers size opened locals taken)
 outers_int size [] locals x taken = tt
-outers_int size (c ∷ opened) locals x taken = (covers_declared size.ints (depth_in opened) locals.ints x taken, covers_itself (with_cut c (row size.arrays (depth_in opened) locals.arrays taken)), refl, outers_int size opened locals x taken)
+outers_int size (c ∷ opened) locals x taken = (
+  covers_declared size.ints (depth_in opened) locals.ints x taken,
+  covers_itself (with_cut (told_cut size.marks c) (array_row size (depth_in opened) locals.arrays taken)),
+  covers_itself (array_row size (depth_in opened) locals.arrays (frozen_of taken)),
+  refl,
+  outers_int size opened locals x taken,
+)
+
+-- one more array in a row
+pub array_declared : (size : Room) (depth : ℕ) (names : List Name) (x : Name) (taken : Taken) → Covers (array_row size depth (names ++ x ∷ []) taken) (array_row size depth names taken)
+array_declared size depth names x taken = array_covers size depth depth (names ++ x ∷ []) names taken taken (covers_declared size.arrays depth names x taken)
 
 pub outers_array : (size : Room) (opened : Opened) (locals : Locals) (x : Name) (taken : Taken) → CoversEach (outers size opened (with_array x locals) taken) (outers size opened locals taken)
 outers_array size [] locals x taken = tt
 outers_array size (c ∷ opened) locals x taken = (
   covers_itself (row size.ints (depth_in opened) locals.ints taken),
-  covers_cut c (row size.arrays (depth_in opened) (locals.arrays ++ x ∷ []) taken) (row size.arrays (depth_in opened) locals.arrays taken) (covers_declared size.arrays (depth_in opened) locals.arrays x taken),
+  covers_cut (told_cut size.marks c) (array_row size (depth_in opened) (locals.arrays ++ x ∷ []) taken) (array_row size (depth_in opened) locals.arrays taken) (array_declared size (depth_in opened) locals.arrays x taken),
+  array_declared size (depth_in opened) locals.arrays x (frozen_of taken),
   refl,
   outers_array size opened locals x taken,
 )
 
 pub over_int : (size : Room) (opened : Opened) (locals : Locals) (x : Name) (taken : Taken) (n m : ℕ) → Over (shape_at size opened (with_int x locals) taken n) (shape_at size opened locals taken m)
-over_int size opened locals x taken n m = (covers_declared size.ints (depth_in opened) locals.ints x taken, covers_itself (row size.arrays (depth_in opened) locals.arrays taken), outers_int size opened locals x taken)
+over_int size opened locals x taken n m = (
+  covers_declared size.ints (depth_in opened) locals.ints x taken,
+  covers_itself (array_row size (depth_in opened) locals.arrays taken),
+  covers_itself (array_row size (depth_in opened) locals.arrays (frozen_of taken)),
+  outers_int size opened locals x taken,
+)
 
 pub over_array : (size : Room) (opened : Opened) (locals : Locals) (x : Name) (taken : Taken) (n m : ℕ) → Over (shape_at size opened (with_array x locals) taken n) (shape_at size opened locals taken m)
-over_array size opened locals x taken n m = (covers_itself (row size.ints (depth_in opened) locals.ints taken), covers_declared size.arrays (depth_in opened) locals.arrays x taken, outers_array size opened locals x taken)
+over_array size opened locals x taken n m = (
+  covers_itself (row size.ints (depth_in opened) locals.ints taken),
+  array_declared size (depth_in opened) locals.arrays x taken,
+  array_declared size (depth_in opened) locals.arrays x (frozen_of taken),
+  outers_array size opened locals x taken,
+)
+
+-- an array that is held may be empty, at its number
+pub covers_array : (size : Room) (depth : ℕ) (names : List Name) (x : Name) (r : Row) (taken : Taken) → length names ≤ size.arrays → IsOwn size.marks (slot_of x names) → Covers (array_row size depth names taken) r → holds false depth x taken ≡ true → is_among x names ≡ true →
+    Covers (array_row size depth names taken) (slice_set r (array_at size.marks (slot_of x names)) true)
+covers_array size depth names x r taken le own h held declared =
+    let s = slot_of x names in
+    covers_raise (array_row size depth names taken) r (array_at size.marks s)
+    (get_owned size.marks s (row size.arrays depth names taken) own ∙ row_at size.arrays depth names taken x le declared ∙ ap (λ b. Some b) held) h
 
 -- the slots of a cut of an array, where these names are known
 abbrev pub halves_at : Locals → (array : Name) → Halves
 halves_at locals a = halves_of (slot_of a locals.arrays) (length locals.arrays) (suc (length locals.arrays))
 
--- a cut that is open: its array is a name that is taken, and its parts are names that are known
-pub record CutAt (h : Halves) (locals : Locals) (taken : Taken) : Type 0 where
+-- a cut that is open: its array is a name that is taken, its parts are names that are known, and none of them is only read
+pub record CutAt (marks : Marks) (h : Halves) (locals : Locals) (taken : Taken) : Type 0 where
   pub name : Name
   pub declared : is_among name locals.arrays ≡ true
   pub slot : slot_of name locals.arrays ≡ h.array
   pub cut : In (name, CutOf) taken
+  pub own : IsOwn marks h.array
   pub left : h.left < length locals.arrays
   pub right : h.right < length locals.arrays
+  pub left_behind : length marks ≤ h.left
+  pub right_behind : length marks ≤ h.right
 
-abbrev pub CutsOpen : Opened → Locals → Taken → Type 0
-CutsOpen [] locals taken = Unit {0}
-CutsOpen (None ∷ opened) locals taken = CutsOpen opened locals taken
-CutsOpen (Some h ∷ opened) locals taken = CutAt h locals taken × CutsOpen opened locals taken
+abbrev pub CutsOpen : Marks → Opened → Locals → Taken → Type 0
+CutsOpen marks [] locals taken = Unit {0}
+CutsOpen marks (None ∷ opened) locals taken = CutsOpen marks opened locals taken
+CutsOpen marks (Some h ∷ opened) locals taken = CutAt marks h locals taken × CutsOpen marks opened locals taken
 
-pub cuts_kept : (opened : Opened) (locals locals' : Locals) (more : List Name) (taken taken' : Taken) → locals'.arrays ≡ locals.arrays ++ more → ((x : Name) → In (x, CutOf) taken → In (x, CutOf) taken') → CutsOpen opened locals taken → CutsOpen opened locals' taken'
-cuts_kept [] locals locals' more taken taken' e keep h = tt
-cuts_kept (None ∷ opened) locals locals' more taken taken' e keep h = cuts_kept opened locals locals' more taken taken' e keep h
-cuts_kept (Some c ∷ opened) locals locals' more taken taken' e keep h =
+pub cuts_kept : (marks : Marks) (opened : Opened) (locals locals' : Locals) (more : List Name) (taken taken' : Taken) → locals'.arrays ≡ locals.arrays ++ more → ((x : Name) → In (x, CutOf) taken → In (x, CutOf) taken') → CutsOpen marks opened locals taken → CutsOpen marks opened locals' taken'
+cuts_kept marks [] locals locals' more taken taken' e keep h = tt
+cuts_kept marks (None ∷ opened) locals locals' more taken taken' e keep h = cuts_kept marks opened locals locals' more taken taken' e keep h
+cuts_kept marks (Some c ∷ opened) locals locals' more taken taken' e keep h =
     let n : length locals'.arrays ≡ length locals.arrays + length more = ap length e ∙ length-append locals.arrays more in (
       record {
         name = h.0.name;
         declared = ap (is_among h.0.name) e ∙ among_left h.0.name locals.arrays more h.0.declared;
         slot = ap (slot_of h.0.name) e ∙ slot_stays h.0.name locals.arrays more h.0.declared ∙ h.0.slot;
         cut = keep h.0.name h.0.cut;
+        own = h.0.own;
         left = omega (arith, h.0.left, n);
         right = omega (arith, h.0.right, n);
+        left_behind = h.0.left_behind;
+        right_behind = h.0.right_behind;
       },
-      cuts_kept opened locals locals' more taken taken' e keep h.1,
+      cuts_kept marks opened locals locals' more taken taken' e keep h.1,
     )
 
 -- a name that is free is full in all rows
@@ -325,51 +407,107 @@ NotCut i [] = Unit {0}
 NotCut i (None ∷ opened) = NotCut i opened
 NotCut i (Some h ∷ opened) = (i ≢ h.array) × NotCut i opened
 
-pub not_cut : (opened : Opened) (locals : Locals) (taken : Taken) (x : Name) → IsUsable locals.arrays taken x → CutsOpen opened locals taken → NotCut (slot_of x locals.arrays) opened
-not_cut [] locals taken x u h = tt
-not_cut (None ∷ opened) locals taken x u h = not_cut opened locals taken x u h
-not_cut (Some c ∷ opened) locals taken x u h = ((λ e. slots_apart x h.0.name locals.arrays u.declared h.0.declared (other (same_name x h.0.name) refl) (e ∙ sym h.0.slot)), not_cut opened locals taken x u h.1)
+pub not_cut : (marks : Marks) (opened : Opened) (locals : Locals) (taken : Taken) (x : Name) → IsUsable locals.arrays taken x → CutsOpen marks opened locals taken → NotCut (slot_of x locals.arrays) opened
+not_cut marks [] locals taken x u h = tt
+not_cut marks (None ∷ opened) locals taken x u h = not_cut marks opened locals taken x u h
+not_cut marks (Some c ∷ opened) locals taken x u h = ((λ e. slots_apart x h.0.name locals.arrays u.declared h.0.declared (other (same_name x h.0.name) refl) (e ∙ sym h.0.slot)), not_cut marks opened locals taken x u h.1)
   where
     other : (b : Bool) → same_name x h.0.name ≡ b → b ≡ false
-    other true e = absurd (true≢false (sym (in_taken h.0.name CutOf taken h.0.cut) ∙ ap (is_taken taken) (sym ((bytes_eq-Decides x h.0.name).0 e)) ∙ u.free))
+    other true e = absurd (true≢false (sym (in_taken (h.0.name, CutOf) taken h.0.cut refl) ∙ ap (is_taken taken) (sym ((bytes_eq-Decides x h.0.name).0 e)) ∙ u.free))
     other false e = refl
 
-pub not_cut_behind : (opened : Opened) (locals : Locals) (taken : Taken) (i : ℕ) → length locals.arrays ≤ i → CutsOpen opened locals taken → NotCut i opened
-not_cut_behind [] locals taken i le h = tt
-not_cut_behind (None ∷ opened) locals taken i le h = not_cut_behind opened locals taken i le h
-not_cut_behind (Some c ∷ opened) locals taken i le h = ((λ e. omega (arith, le, e, slot_in h.0.name locals.arrays h.0.declared, h.0.slot)), not_cut_behind opened locals taken i le h.1)
+pub not_cut_behind : (marks : Marks) (opened : Opened) (locals : Locals) (taken : Taken) (i : ℕ) → length locals.arrays ≤ i → CutsOpen marks opened locals taken → NotCut i opened
+not_cut_behind marks [] locals taken i le h = tt
+not_cut_behind marks (None ∷ opened) locals taken i le h = not_cut_behind marks opened locals taken i le h
+not_cut_behind marks (Some c ∷ opened) locals taken i le h = ((λ e. omega (arith, le, e, slot_in h.0.name locals.arrays h.0.declared, h.0.slot)), not_cut_behind marks opened locals taken i le h.1)
+
+-- no cut that is open is of an array that is only read
+abbrev pub OwnCuts : Marks → Opened → Type 0
+OwnCuts marks [] = Unit {0}
+OwnCuts marks (None ∷ opened) = OwnCuts marks opened
+OwnCuts marks (Some h ∷ opened) = IsOwn marks h.array × OwnCuts marks opened
+
+pub own_cuts : (marks : Marks) (opened : Opened) (locals : Locals) (taken : Taken) → CutsOpen marks opened locals taken → OwnCuts marks opened
+own_cuts marks [] locals taken h = tt
+own_cuts marks (None ∷ opened) locals taken h = own_cuts marks opened locals taken h
+own_cuts marks (Some c ∷ opened) locals taken h = (h.0.own, own_cuts marks opened locals taken h.1)
+
+-- a slot that is not only read, at its number
+full_at : (size : Room) (depth : ℕ) (names : List Name) (taken : Taken) (s : ℕ) → IsOwn size.marks s → is_full_in (slice_get (row size.arrays depth names taken) s) ≡ true → is_full_in (slice_get (array_row size depth names taken) (array_at size.marks s)) ≡ true
+full_at size depth names taken s own h = ap is_full_in (get_owned size.marks s (row size.arrays depth names taken) own) ∙ h
 
 -- the rows of arrays round the innermost sync block
-pub outside_full : (size : Room) (opened : Opened) (locals : Locals) (taken : Taken) (i : ℕ) → NotCut i opened → ((d : ℕ) → d ≤ length opened → is_full_in (slice_get (row size.arrays d locals.arrays taken) i) ≡ true) → full_in_all (gone_rows (outers size opened locals taken)) i ≡ true
-outside_full size [] locals taken i apart h = refl
-outside_full size (None ∷ opened) locals taken i apart h =
-    both_true (is_full_in (slice_get (row size.arrays (depth_in opened) locals.arrays taken) i)) (full_in_all (gone_rows (outers size opened locals taken)) i) (h (depth_in opened) (omega arith)) (outside_full size opened locals taken i apart (λ d le. h d (omega (arith, le))))
-outside_full size (Some c ∷ opened) locals taken i apart h =
-    both_true (is_full_in (slice_get (slice_set (row size.arrays (depth_in opened) locals.arrays taken) c.array true) i)) (full_in_all (gone_rows (outers size opened locals taken)) i)
-    (ap is_full_in (get-other (row size.arrays (depth_in opened) locals.arrays taken) i c.array true apart.0) ∙ h (depth_in opened) (omega arith)) (outside_full size opened locals taken i apart.1 (λ d le. h d (omega (arith, le))))
+pub outside_full : (size : Room) (opened : Opened) (locals : Locals) (taken : Taken) (i : ℕ) → IsOwn size.marks i → OwnCuts size.marks opened → NotCut i opened → ((d : ℕ) → d ≤ length opened → is_full_in (slice_get (row size.arrays d locals.arrays taken) i) ≡ true) →
+    full_in_all (gone_rows (outers size opened locals taken)) (array_at size.marks i) ≡ true
+outside_full size [] locals taken i own cuts apart h = refl
+outside_full size (None ∷ opened) locals taken i own cuts apart h =
+    both_true (is_full_in (slice_get (array_row size (depth_in opened) locals.arrays taken) (array_at size.marks i))) (full_in_all (gone_rows (outers size opened locals taken)) (array_at size.marks i))
+    (full_at size (depth_in opened) locals.arrays taken i own (h (depth_in opened) (omega arith))) (outside_full size opened locals taken i own cuts apart (λ d le. h d (omega (arith, le))))
+outside_full size (Some c ∷ opened) locals taken i own cuts apart h =
+    let r = array_row size (depth_in opened) locals.arrays taken in
+    let n = array_at size.marks i in
+    both_true (is_full_in (slice_get (slice_set r (array_at size.marks c.array) true) n)) (full_in_all (gone_rows (outers size opened locals taken)) n)
+    (ap is_full_in (get-other r n (array_at size.marks c.array) true (at_apart size.marks i c.array own cuts.0 apart.0)) ∙ full_at size (depth_in opened) locals.arrays taken i own (h (depth_in opened) (omega arith)))
+    (outside_full size opened locals taken i own cuts.1 apart.1 (λ d le. h d (omega (arith, le))))
 
-pub array_is_full : (size : Room) (opened : Opened) (locals : Locals) (taken : Taken) (x : Name) (n : ℕ) → length locals.arrays ≤ size.arrays → IsUsable locals.arrays taken x → CutsOpen opened locals taken → has_array (shape_at size opened locals taken n) (slot_of x locals.arrays) ≡ true
-array_is_full size opened locals taken x n le u cuts =
-    both_true (is_full_in (slice_get (row size.arrays (depth_in opened) locals.arrays taken) (slot_of x locals.arrays))) (full_in_all (gone_rows (outers size opened locals taken)) (slot_of x locals.arrays)) (row_free size.arrays (depth_in opened) locals.arrays taken x le u)
-    (outside_full size opened locals taken (slot_of x locals.arrays) (not_cut opened locals taken x u cuts) (λ d le'. row_free size.arrays d locals.arrays taken x le u))
+-- the rows of frozen arrays there
+pub outside_thawed : (size : Room) (opened : Opened) (locals : Locals) (taken : Taken) (i : ℕ) → IsOwn size.marks i → ((d : ℕ) → d ≤ length opened → is_full_in (slice_get (row size.arrays d locals.arrays (frozen_of taken)) i) ≡ true) →
+    full_in_all (frozen_rows (outers size opened locals taken)) (array_at size.marks i) ≡ true
+outside_thawed size [] locals taken i own h = refl
+outside_thawed size (c ∷ opened) locals taken i own h =
+    both_true (is_full_in (slice_get (array_row size (depth_in opened) locals.arrays (frozen_of taken)) (array_at size.marks i))) (full_in_all (frozen_rows (outers size opened locals taken)) (array_at size.marks i))
+    (full_at size (depth_in opened) locals.arrays (frozen_of taken) i own (h (depth_in opened) (omega arith))) (outside_thawed size opened locals taken i own (λ d le. h d (omega (arith, le))))
 
-pub next_array_is_full : (size : Room) (opened : Opened) (locals : Locals) (taken : Taken) (i n : ℕ) → length locals.arrays ≤ i → i < size.arrays → CutsOpen opened locals taken → has_array (shape_at size opened locals taken n) i ≡ true
-next_array_is_full size opened locals taken i n le below cuts =
-    both_true (is_full_in (slice_get (row size.arrays (depth_in opened) locals.arrays taken) i)) (full_in_all (gone_rows (outers size opened locals taken)) i) (row_behind size.arrays (depth_in opened) locals.arrays taken i le below)
-    (outside_full size opened locals taken i (not_cut_behind opened locals taken i le cuts) (λ d le'. row_behind size.arrays d locals.arrays taken i le below))
+pub array_is_full : (size : Room) (opened : Opened) (locals : Locals) (taken : Taken) (x : Name) (n : ℕ) → length locals.arrays ≤ size.arrays → IsUsable locals.arrays taken x → IsOwn size.marks (slot_of x locals.arrays) → CutsOpen size.marks opened locals taken →
+    has_array (shape_at size opened locals taken n) (array_at size.marks (slot_of x locals.arrays)) ≡ true
+array_is_full size opened locals taken x n le u own cuts =
+    let s = slot_of x locals.arrays in
+    let i = array_at size.marks s in
+    both_true (is_full_in (slice_get (array_row size (depth_in opened) locals.arrays taken) i)) (full_in_all (gone_rows (outers size opened locals taken)) i) (full_at size (depth_in opened) locals.arrays taken s own (row_free size.arrays (depth_in opened) locals.arrays taken x le u))
+    (outside_full size opened locals taken s own (own_cuts size.marks opened locals taken cuts) (not_cut size.marks opened locals taken x u cuts) (λ d le'. row_free size.arrays d locals.arrays taken x le u))
+
+pub next_array_is_full : (size : Room) (opened : Opened) (locals : Locals) (taken : Taken) (i n : ℕ) → length locals.arrays ≤ i → i < size.arrays → IsOwn size.marks i → CutsOpen size.marks opened locals taken → has_array (shape_at size opened locals taken n) (array_at size.marks i) ≡ true
+next_array_is_full size opened locals taken i n le below own cuts =
+    let k = array_at size.marks i in
+    both_true (is_full_in (slice_get (array_row size (depth_in opened) locals.arrays taken) k)) (full_in_all (gone_rows (outers size opened locals taken)) k) (full_at size (depth_in opened) locals.arrays taken i own (row_behind size.arrays (depth_in opened) locals.arrays taken i le below))
+    (outside_full size opened locals taken i own (own_cuts size.marks opened locals taken cuts) (not_cut_behind size.marks opened locals taken i le cuts) (λ d le'. row_behind size.arrays d locals.arrays taken i le below))
+
+-- an array that may be written is not frozen
+pub frozen_usable : (names : List Name) (taken : Taken) (x : Name) → IsUsable names taken x → is_held taken x ≡ false → IsUsable names (frozen_of taken) x
+frozen_usable names taken x u loose = record { declared = u.declared; free = loose_thawed x taken loose }
+
+pub array_is_thawed : (size : Room) (opened : Opened) (locals : Locals) (taken : Taken) (x : Name) → length locals.arrays ≤ size.arrays → IsWritable size.marks locals.arrays taken x →
+    full_in_all (array_row size (depth_in opened) locals.arrays (frozen_of taken) ∷ frozen_rows (outers size opened locals taken)) (array_at size.marks (slot_of x locals.arrays)) ≡ true
+array_is_thawed size opened locals taken x le w =
+    let s = slot_of x locals.arrays in
+    let u = frozen_usable locals.arrays taken x w.usable w.loose in
+    both_true (is_full_in (slice_get (array_row size (depth_in opened) locals.arrays (frozen_of taken)) (array_at size.marks s))) (full_in_all (frozen_rows (outers size opened locals taken)) (array_at size.marks s))
+    (full_at size (depth_in opened) locals.arrays (frozen_of taken) s w.own (row_free size.arrays (depth_in opened) locals.arrays (frozen_of taken) x le u))
+    (outside_thawed size opened locals taken s w.own (λ d le'. row_free size.arrays d locals.arrays (frozen_of taken) x le u))
+
+pub next_array_is_thawed : (size : Room) (opened : Opened) (locals : Locals) (taken : Taken) (i : ℕ) → length locals.arrays ≤ i → i < size.arrays → IsOwn size.marks i →
+    full_in_all (array_row size (depth_in opened) locals.arrays (frozen_of taken) ∷ frozen_rows (outers size opened locals taken)) (array_at size.marks i) ≡ true
+next_array_is_thawed size opened locals taken i le below own =
+    both_true (is_full_in (slice_get (array_row size (depth_in opened) locals.arrays (frozen_of taken)) (array_at size.marks i))) (full_in_all (frozen_rows (outers size opened locals taken)) (array_at size.marks i))
+    (full_at size (depth_in opened) locals.arrays (frozen_of taken) i own (row_behind size.arrays (depth_in opened) locals.arrays (frozen_of taken) i le below))
+    (outside_thawed size opened locals taken i own (λ d le'. row_behind size.arrays d locals.arrays (frozen_of taken) i le below))
 
 -- a slot behind the names is no part of a cut
-pub no_part : (size : Room) (opened : Opened) (locals now : Locals) (taken taken' : Taken) (i : ℕ) → length locals.arrays ≤ i → CutsOpen opened locals taken → is_no_part i (outers size opened now taken') ≡ true
-no_part size [] locals now taken taken' i le h = refl
-no_part size (None ∷ opened) locals now taken taken' i le h = no_part size opened locals now taken taken' i le h
-no_part size (Some c ∷ opened) locals now taken taken' i le h =
-    both_true (not (nat_eq i c.left) && not (nat_eq i c.right)) (is_no_part i (outers size opened now taken'))
-    (both_true (not (nat_eq i c.left)) (not (nat_eq i c.right)) (ap not (not_equal i c.left (λ e. omega (arith, le, e, h.0.left)))) (ap not (not_equal i c.right (λ e. omega (arith, le, e, h.0.right)))))
-    (no_part size opened locals now taken taken' i le h.1)
+pub no_part : (size : Room) (opened : Opened) (locals now : Locals) (taken taken' : Taken) (i : ℕ) → length locals.arrays ≤ i → IsOwn size.marks i → CutsOpen size.marks opened locals taken → is_no_part (array_at size.marks i) (outers size opened now taken') ≡ true
+no_part size [] locals now taken taken' i le own h = refl
+no_part size (None ∷ opened) locals now taken taken' i le own h = no_part size opened locals now taken taken' i le own h
+no_part size (Some c ∷ opened) locals now taken taken' i le own h =
+    let n = array_at size.marks i in
+    let l = array_at size.marks c.left in
+    let r = array_at size.marks c.right in
+    both_true (not (nat_eq n l) && not (nat_eq n r)) (is_no_part n (outers size opened now taken'))
+    (both_true (not (nat_eq n l)) (not (nat_eq n r)) (ap not (not_equal n l (at_apart size.marks i c.left own (own_behind size.marks c.left h.0.left_behind) (λ e. omega (arith, le, e, h.0.left)))))
+    (ap not (not_equal n r (at_apart size.marks i c.right own (own_behind size.marks c.right h.0.right_behind) (λ e. omega (arith, le, e, h.0.right))))))
+    (no_part size opened locals now taken taken' i le own h.1)
   where
     not_equal : (a b : ℕ) → a ≢ b → nat_eq a b ≡ false
-    not_equal a b h = cases (nat_eq a b) refl
+    not_equal a b h' = cases (nat_eq a b) refl
       where
         cases : (c : Bool) → nat_eq a b ≡ c → c ≡ false
-        cases true e = absurd (h (is_equal a b e))
+        cases true e = absurd (h' (is_equal a b e))
         cases false e = refl

@@ -8,9 +8,10 @@ use Rattle.cw_tree.specs.Resolved.{Lists, Locals}
 use Rattle.cw_code.specs.declared.code.Func.{Func}
 use Rattle.cw_code.specs.declared.code.Instr.{Instr}
 use Rattle.cw_code.specs.Code.{Code, reducer_names}
-use Rattle.cw_code.specs.Fits.{names_well, Shape, is_ready, leaves, nexts, Table, FlowsInto, FlowsIntoEach}
+use Rattle.cw_code.specs.Fits.{names_well, Shape, is_ready, is_thawed, leaves, nexts, Table, FlowsInto, FlowsIntoEach}
 use Rattle.cw_gen.specs.Emit.{Tables, first_list}
 use Rattle.cw_gen.proofs.Decided.{below}
+use Rattle.cw_gen.specs.Marks.{Marks, readers_in}
 use Rattle.cw_gen.proofs.Fine.{Room}
 use Rattle.cw_gen.proofs.Texts as texts
 use Rattle.cw_gen.proofs.Texts.{expr_code, args_code, stmt_code, block_code, tables_in, TurnsClose}
@@ -45,13 +46,13 @@ table_of tab = λ place. flat (slice_get tab place)
 
 -- a place takes the shape that stands there
 pub exact : (tab : Shapes) (place : ℕ) (shape : Shape) → slice_get tab place ≡ Some (Some shape) → FlowsInto (table_of tab) place shape
-exact tab place shape e = record { there = shape; found = ap flat e; as_many = refl; covers = (over_itself shape).0; covers_gone = (over_itself shape).1; covers_outer = (over_itself shape).2 }
+exact tab place shape e = record { there = shape; found = ap flat e; as_many = refl; covers = (over_itself shape).0; covers_gone = (over_itself shape).1; covers_frozen = (over_itself shape).2; covers_outer = (over_itself shape).3 }
 
 -- a place that takes a shape takes one of which less is empty
 pub takes_less : (table : Table) (place : ℕ) (few many : Shape) → FlowsInto table place many → many.operands ≡ few.operands → Over many few → FlowsInto table place few
 takes_less table place few many h e over =
-    let all = over_after h.there many few (h.covers, h.covers_gone, h.covers_outer) over in
-    record { there = h.there; found = h.found; as_many = h.as_many ∙ e; covers = all.0; covers_gone = all.1; covers_outer = all.2 }
+    let all = over_after h.there many few (h.covers, h.covers_gone, h.covers_frozen, h.covers_outer) over in
+    record { there = h.there; found = h.found; as_many = h.as_many ∙ e; covers = all.0; covers_gone = all.1; covers_frozen = all.2; covers_outer = all.3 }
 
 -- where a return may stand: outside every block of the call, and as the function gives
 abbrev pub Returning : Returns → Opened → Bool → Type 0
@@ -70,7 +71,10 @@ pub record Setting : Type 0 where
   pub least : TurnsClose fs
   pub f : Func
   pub given_arrays : List Name
-  pub few_given : f.array_params ≡ length given_arrays
+  pub marks : Marks
+  pub few_given : f.array_params + f.readers ≡ length given_arrays
+  pub many_read : readers_in marks ≡ f.readers
+  pub marks_fit : length marks ≤ f.arrays + f.readers
   pub tab : Shapes
   pub within : (place : ℕ) (shape : Shape) → table_of tab place ≡ Some shape → (f.start ≤ place) × (place < f.end)
 
@@ -86,7 +90,7 @@ module _ (setting : Setting) where
   table = table_of setting.tab
 
   abbrev pub size : Room
-  size = record { ints = setting.f.slots; arrays = setting.f.arrays; given = setting.given_arrays }
+  size = record { ints = setting.f.slots; arrays = setting.f.arrays + setting.f.readers; given = setting.given_arrays; marks = setting.marks }
 
   -- there is a slot for each name
   abbrev pub HasRoom : Locals → Type 0
@@ -95,7 +99,7 @@ module _ (setting : Setting) where
   -- an instruction of a place that finds a shape, or that is not reached
   abbrev pub FitsAt : ℕ → Option Shape → Instr → Type 0
   FitsAt place None i = names_well setting.code setting.f place i ≡ true
-  FitsAt place (Some shape) i = (names_well setting.code setting.f place i ≡ true) × (is_ready setting.code shape i ≡ true) × FlowsIntoEach table (leaves setting.code shape i) (nexts place i)
+  FitsAt place (Some shape) i = (names_well setting.code setting.f place i ≡ true) × (is_ready setting.code shape i ≡ true) × FlowsIntoEach table (leaves setting.code shape i) (nexts place i) × (is_thawed setting.code shape i ≡ true)
 
   abbrev pub AllFit : ℕ → Shapes → List Instr → Type 0
   AllFit place [] [] = Unit {0}

@@ -5,7 +5,7 @@ use Rattle.std.specs.Prelude.{map, take, drop}
 use Rattle.std.specs.List.{list_all}
 use Rattle.std.proofs.lemmas.List.{length-map}
 use Rattle.std.proofs.lemmas.Slice.Eq.{bytes_eq-Decides}
-use Rattle.cw_model.specs.Syntax.{Name, Param, Function}
+use Rattle.cw_model.specs.Syntax.{Name, Param, Function, wants_array}
 use Rattle.cw_model.specs.Names.{same_name, is_among, differ, find, put}
 use Rattle.cw_model.specs.Ints.{natural}
 use Rattle.cw_model.specs.Frames.{Frame, no_frame, int_of, array_of, new_int, new_array, set_array}
@@ -16,7 +16,9 @@ use Rattle.cw_code.specs.Run.{and_result, full, Part, parts_of, slot_taken, give
 use Rattle.cw_tree.specs.Resolved.{Lists, Locals, slot_of, locals_of}
 use Rattle.cw_code.specs.Code.{Code}
 use Rattle.cw_gen.proofs.Decided.{first_true, second_true}
-use Rattle.cw_gen.proofs.Fine.{AllUsable, ints_first, TakesRange}
+use Rattle.cw_gen.specs.Marks.{Marks}
+use Rattle.cw_gen.proofs.Marked.{owned}
+use Rattle.cw_gen.proofs.Fine.{AllWritable, ints_first, TakesRange}
 use Rattle.cw_gen.proofs.Names.{Entries, values_in}
 use Rattle.cw_gen.proofs.Names as holding
 use Rattle.cw_gen.proofs.Texts.{Compiled}
@@ -25,23 +27,23 @@ use Rattle.cw_gen.proofs.Passing.{slots_for, negated, not_same, backs, put_backs
 use Rattle.cw_gen.proofs.Calling.{Hands}
 
 -- arrays alone are in order, and none of them is an integer
-arrays_alone : (ps : List Param) → list_all (λ (q : Param). q.is_array) ps ≡ true → (ints_first ps ≡ true) × (length (locals_of ps).ints ≡ 0)
+arrays_alone : (ps : List Param) → list_all (λ (q : Param). (wants_array q)) ps ≡ true → (ints_first ps ≡ true) × (length (locals_of ps).ints ≡ 0)
 arrays_alone [] h = (refl, refl)
 arrays_alone (p ∷ ps) h =
-    let rest = second_true p.is_array (list_all (λ (q : Param). q.is_array) ps) h in
-    test p.is_array (first_true p.is_array (list_all (λ (q : Param). q.is_array) ps) h) rest (arrays_alone ps rest).1
+    let rest = second_true (wants_array p) (list_all (λ (q : Param). (wants_array q)) ps) h in
+    test (wants_array p) (first_true (wants_array p) (list_all (λ (q : Param). (wants_array q)) ps) h) rest (arrays_alone ps rest).1
   where
-    test : (b : Bool) → b ≡ true → list_all (λ (q : Param). q.is_array) ps ≡ true → length (locals_of ps).ints ≡ 0 →
-        ((if b then list_all (λ (q : Param). q.is_array) ps else ints_first ps) ≡ true) × (length (map (λ (q : Param). q.name) (cond (not b) (p ∷ filter (λ q. not q.is_array) ps) (filter (λ q. not q.is_array) ps))) ≡ 0)
+    test : (b : Bool) → b ≡ true → list_all (λ (q : Param). (wants_array q)) ps ≡ true → length (locals_of ps).ints ≡ 0 →
+        ((if b then list_all (λ (q : Param). (wants_array q)) ps else ints_first ps) ≡ true) × (length (map (λ (q : Param). q.name) (cond (not b) (p ∷ filter (λ q. not (wants_array q)) ps) (filter (λ q. not (wants_array q)) ps))) ≡ 0)
     test true e rest none = (rest, none)
     test false e rest none = cc
 
 -- how many integers, and how many arrays, there are with one parameter more
 abbrev more_ints : List Param → Param → Bool → ℕ
-more_ints ps p b = length (map (λ (q : Param). q.name) (cond (not b) (p ∷ filter (λ q. not q.is_array) ps) (filter (λ q. not q.is_array) ps)))
+more_ints ps p b = length (map (λ (q : Param). q.name) (cond (not b) (p ∷ filter (λ q. not (wants_array q)) ps) (filter (λ q. not (wants_array q)) ps)))
 
 abbrev more_arrays : List Param → Param → Bool → ℕ
-more_arrays ps p b = length (map (λ (q : Param). q.name) (cond b (p ∷ filter (λ q. q.is_array) ps) (filter (λ q. q.is_array) ps)))
+more_arrays ps p b = length (map (λ (q : Param). q.name) (cond b (p ∷ filter (λ q. (wants_array q)) ps) (filter (λ q. (wants_array q)) ps)))
 
 -- these parameters are bound by a loop's function
 abbrev LoopBound : List Param → Type 0
@@ -53,19 +55,19 @@ pub bound_loop : (ps : List Param) (vs : List ℤ) (xss : List (List ℤ)) (g : 
 bound_loop [] [] [] g order n m = bound_none g
 bound_loop [] [] (xs ∷ xss) g order n m = absurd (omega (arith, m))
 bound_loop [] (v ∷ vs) xss g order n m = absurd (omega (arith, n))
-bound_loop (p ∷ ps) vs xss g order n m = test (λ vs' xss' g' order' n' m'. bound_loop ps vs' xss' g' order' n' m') p.is_array refl order n m
+bound_loop (p ∷ ps) vs xss g order n m = test (λ vs' xss' g' order' n' m'. bound_loop ps vs' xss' g' order' n' m') (wants_array p) refl order n m
   where
-    an_array : LoopBound ps → p.is_array ≡ true → (ints_first ps ≡ true) × (length (locals_of ps).ints ≡ 0) → (vs : List ℤ) (xss : List (List ℤ)) → length vs ≡ 0 → length xss ≡ suc (length (locals_of ps).arrays) → Bound (p ∷ ps) vs xss g (loop_frame (p ∷ ps) vs xss g)
+    an_array : LoopBound ps → (wants_array p) ≡ true → (ints_first ps ≡ true) × (length (locals_of ps).ints ≡ 0) → (vs : List ℤ) (xss : List (List ℤ)) → length vs ≡ 0 → length xss ≡ suc (length (locals_of ps).arrays) → Bound (p ∷ ps) vs xss g (loop_frame (p ∷ ps) vs xss g)
     an_array more is alone (v ∷ vs) xss n m = absurd (omega (arith, n))
     an_array more is alone [] [] n m = absurd (omega (arith, m))
     an_array more is alone [] (xs ∷ xss) n m =
         bound_array p ps xs [] xss g (loop_frame ps [] xss (new_array p.name xs g)) is (more [] xss (new_array p.name xs g) alone.0 (sym alone.1) (omega (arith, m)))
 
-    an_int : LoopBound ps → p.is_array ≡ false → ints_first ps ≡ true → (vs : List ℤ) → length vs ≡ suc (length (locals_of ps).ints) → length xss ≡ length (locals_of ps).arrays → Bound (p ∷ ps) vs xss g (loop_frame (p ∷ ps) vs xss g)
+    an_int : LoopBound ps → (wants_array p) ≡ false → ints_first ps ≡ true → (vs : List ℤ) → length vs ≡ suc (length (locals_of ps).ints) → length xss ≡ length (locals_of ps).arrays → Bound (p ∷ ps) vs xss g (loop_frame (p ∷ ps) vs xss g)
     an_int more is rest [] n m = absurd (omega (arith, n))
     an_int more is rest (v ∷ vs) n m = bound_int p ps v vs xss g (loop_frame ps vs xss (new_int p.name v g)) is (more vs xss (new_int p.name v g) rest (omega (arith, n)) m)
 
-    test : LoopBound ps → (b : Bool) → p.is_array ≡ b → (if b then list_all (λ (q : Param). q.is_array) ps else ints_first ps) ≡ true → length vs ≡ more_ints ps p b → length xss ≡ more_arrays ps p b → Bound (p ∷ ps) vs xss g (loop_frame (p ∷ ps) vs xss g)
+    test : LoopBound ps → (b : Bool) → (wants_array p) ≡ b → (if b then list_all (λ (q : Param). (wants_array q)) ps else ints_first ps) ≡ true → length vs ≡ more_ints ps p b → length xss ≡ more_arrays ps p b → Bound (p ∷ ps) vs xss g (loop_frame (p ∷ ps) vs xss g)
     test more true is rest n m = an_array more is (arrays_alone ps rest) vs xss (n ∙ (arrays_alone ps rest).1) m
     test more false is rest n m = an_int more is rest vs n m
 
@@ -142,9 +144,9 @@ slices_put (a ∷ over) from g frame apart =
     ∙ ap (λ vs. with_arrays frame (put_backs over vs (put a v frame.arrays))) (sliced_other frame g from a v over other)
 
 -- what a loop hands to its function: so many turns from a number on
-unfoldable pub hands_of_loop : (code : Code) (fs : List Function) (lists : Lists) (locals : Locals) (taken' : Taken) (frame : Frame) (f : Function) (fn : Func) (captured over : List Name) (low turns : ℤ) →
-    Compiled code fs lists f fn → TakesRange f captured over → AllUsable locals.arrays taken' over → differ over ≡ true → Hands locals taken' frame f fn
-hands_of_loop code fs lists locals taken' frame f fn captured over low turns compiled takes us apart =
+unfoldable pub hands_of_loop : (code : Code) (fs : List Function) (lists : Lists) (marks : Marks) (locals : Locals) (taken' : Taken) (frame : Frame) (f : Function) (fn : Func) (captured over : List Name) (low turns : ℤ) →
+    Compiled code fs lists f fn → TakesRange f captured over → AllWritable marks locals.arrays taken' over → differ over ≡ true → Hands marks locals taken' frame f fn
+hands_of_loop code fs lists marks locals taken' frame f fn captured over low turns compiled takes us apart =
     let from = natural low in
     let ints = low ∷ (low +ℤ turns) ∷ map (int_of frame) captured in
     let slices = map (λ a. take (natural turns) (drop from (array_of frame a))) over in
@@ -159,14 +161,14 @@ hands_of_loop code fs lists locals taken' frame f fn captured over low turns com
       left = λ g. sliced_back frame from g over;
       returned = λ g. slices_back over from g frame;
       as_ints = n ∙ sym compiled.params;
-      as_arrays = m ∙ sym compiled.array_params;
+      as_arrays = m ∙ sym compiled.readers;
       bound = bound_loop f.params ints slices no_frame takes.order n m;
-      usable = us;
+      writable = us;
       apart = apart;
       many = λ g. sym (length-map over (λ a. with_slice (array_of frame a) from (array_of g a)));
       moved = part_slots from frame (λ a. slot_of a locals.arrays) over;
       found = λ g slots gives.
-          ap (given_back (parts_of from (slots_for locals.arrays over) (map (λ a. array_of frame a) over))) gives.are
+          ap (given_back (parts_of from (slots_for locals.arrays over) (map (λ a. array_of frame a) over))) (gives.are ∙ ap (λ ms. owned ms (full (values_in g.arrays ++ gives.rest))) takes.unread)
           ∙ slices_found locals.arrays over gives.more from frame g g.arrays gives.rest (gives.named ∙ ap (λ qs. qs ++ gives.more) takes.arrays) apart (λ q h. refl);
       back = λ g. slices_put over from g frame apart;
     }

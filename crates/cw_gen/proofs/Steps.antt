@@ -12,8 +12,6 @@ use Rattle.cw_code.specs.Code.{Code}
 use Rattle.cw_code.specs.Run.{State, Transition, Stops, RunOutcome, ticked, synced, operated, act, go_on, steps}
 use Rattle.cw_gen.proofs.Decided.{not_below}
 use Rattle.cw_gen.proofs.Traces.{resume, joined_quiet, resume_then, paid_one}
-use Rattle.cw_gen.proofs.Stores.{Store}
-use Rattle.cw_gen.proofs.Codes.{here}
 
 module _ (code : Code) where
   -- one instruction
@@ -43,14 +41,10 @@ module _ (code : Code) where
   syncs a s u (suc l) next h =
       h l (omega arith) ∙ sym (ap (λ o. resume u (after (shows (Join ∷ [])) (then_do o (λ _. gives a))) next) (paid_one tt l (shows (works 1))))
 
-  -- the slots of a state
-  abbrev pub store_at : State → Store
-  store_at s = record { slots = s.slots; arrays = s.arrays; results = s.results; arrived = s.arrived }
-
   -- an operator's instruction
   pub operates : (s : State) (line : ℕ) (rest : List ℤ) (r : Result) (i : Instr) (left : ℕ) (next : ℤ → ℕ → Trace → RunOutcome) →
       slice_get code.instrs s.place ≡ Some i → act code s (Some i) ≡ operated s line rest r →
-      ((v : ℤ) (l : ℕ) → l < left → steps code l (here s.depth s.around (s.place + 1) (v ∷ rest) (store_at s) (ticked s.trace)) ≡ next v l (ticked s.trace)) →
+      ((v : ℤ) (l : ℕ) → l < left → steps code l (record s { place = s.place + 1; operands = v ∷ rest; trace = ticked s.trace }) ≡ next v l (ticked s.trace)) →
       steps code left s ≡ resume s.trace (pay_for (done_at 1 r) line left) next
   operates s line rest (Value v) i left next has acts k =
       pays v s s.trace left next (λ l below. one s i has l ∙ ap (λ w. go_on w l (λ s'. steps code l s')) acts ∙ k v l below)

@@ -8,6 +8,8 @@ use Rattle.cw_model.specs.Frames.{Frame, int_of, array_of, new_int, new_array, s
 use Rattle.cw_model.specs.Ownership.{Taken, is_taken, freed, without}
 use Rattle.cw_code.specs.Run.{Slots, Results, is_full, settled}
 use Rattle.cw_tree.specs.Resolved.{Locals, slot_of, with_int, with_array}
+use Rattle.cw_gen.specs.Marks.{Marks}
+use Rattle.cw_gen.proofs.Marked.{AllOwn}
 use Rattle.cw_gen.proofs.Fine.{IsUsable, Room}
 use Rattle.cw_gen.proofs.Takens.{holds}
 use Rattle.cw_gen.proofs.Names.{Entries, names_in, values_in, NotAwaited, all_of, get-other, length-settled, slot_new, AgreesOf, is_free, is_later, can_write, count_slots}
@@ -52,10 +54,11 @@ pub record Agrees (locals : Locals) (taken : Taken) (frame : Frame) (store : Sto
   pub arrays : AgreesOf true locals.arrays taken frame.arrays store.arrays (store.arrived ∷ array_waits outer)
   pub whole : frame.sliced ≡ []
 
--- there are as many slots as a call has
-pub record Fills (store : Store) (room : Room) : Type 0 where
+-- there are as many slots as a call has, and no array that waits is only read
+pub record Fills (marks : Marks) (store : Store) (room : Room) : Type 0 where
   pub ints : length store.slots ≡ room.ints
   pub arrays : length store.arrays ≡ room.arrays
+  pub own : AllOwn marks store.arrived
 
 -- an integer that is not taken
 pub loads : (locals : Locals) (taken : Taken) (x : Name) (frame : Frame) (store : Store) (outer : Outside) → IsUsable locals.ints taken x → Agrees locals taken frame store outer → slice_get store.slots (slot_of x locals.ints) ≡ Some (Some (int_of frame x))
@@ -85,14 +88,14 @@ with_slot i v store = record { slots = slice_set store.slots i v; arrays = store
 abbrev pub with_array_slot : ℕ → Option (List ℤ) → Store → Store
 with_array_slot i v store = record { slots = store.slots; arrays = slice_set store.arrays i v; results = store.results; arrived = store.arrived }
 
-pub fills_slot : (i : ℕ) (v : Option ℤ) (store : Store) (room : Room) → Fills store room → Fills (with_slot i v store) room
-fills_slot i v store room n = record { ints = length-set store.slots i v ∙ n.ints; arrays = n.arrays }
+pub fills_slot : (marks : Marks) (i : ℕ) (v : Option ℤ) (store : Store) (room : Room) → Fills marks store room → Fills marks (with_slot i v store) room
+fills_slot marks i v store room n = record { ints = length-set store.slots i v ∙ n.ints; arrays = n.arrays; own = n.own }
 
-pub fills_array : (i : ℕ) (v : Option (List ℤ)) (store : Store) (room : Room) → Fills store room → Fills (with_array_slot i v store) room
-fills_array i v store room n = record { ints = n.ints; arrays = length-set store.arrays i v ∙ n.arrays }
+pub fills_array : (marks : Marks) (i : ℕ) (v : Option (List ℤ)) (store : Store) (room : Room) → Fills marks store room → Fills marks (with_array_slot i v store) room
+fills_array marks i v store room n = record { ints = n.ints; arrays = length-set store.arrays i v ∙ n.arrays; own = n.own }
 
-pub fills_joined : (store : Store) (w : Waits) (room : Room) → Fills store room → Fills (joined_with store w) room
-fills_joined store w room n = record { ints = length-settled store.results store.slots ∙ n.ints; arrays = length-settled store.arrived store.arrays ∙ n.arrays }
+pub fills_joined : (marks : Marks) (store : Store) (w : Waits) (room : Room) → AllOwn marks w.arrays → Fills marks store room → Fills marks (joined_with store w) room
+fills_joined marks store w room own n = record { ints = length-settled store.results store.slots ∙ n.ints; arrays = length-settled store.arrived store.arrays ∙ n.arrays; own = own }
 
 pub assigns : (locals : Locals) (taken : Taken) (x : Name) (v : ℤ) (frame : Frame) (store : Store) (outer : Outside) → IsUsable locals.ints taken x → Agrees locals taken frame store outer →
     Agrees locals taken (set_int x v frame) (with_slot (slot_of x locals.ints) (Some v) store) outer

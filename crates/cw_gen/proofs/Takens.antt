@@ -7,13 +7,47 @@ use Rattle.std.proofs.lemmas.Slice.Eq.{bytes_eq-Decides}
 use Rattle.cw_model.specs.Syntax.{Name, Stmt, Declare, DeclareArray, Block, End, Then, Function}
 use Rattle.cw_model.specs.Names.{same_name, is_among}
 use Rattle.cw_model.specs.Lines.{unless}
-use Rattle.cw_model.specs.Ownership.{Holder, SpawnIn, CutOf, Taken, is_taken, is_spawn_in, is_cut_of, cut_ended, freed, without, taken_by, own_names, taken_after, taken_after_all, IsLeastClosed, Around, Declared, left_taken, declared_by, known_after, Closing, at_end, owner_faults, owner_faults_in}
+use Rattle.cw_model.specs.Ownership.{Holder, SpawnIn, ReaderIn, CutOf, Taken, is_taken, is_held, is_spawn_in, is_cut_of, cut_ended, freed, without, taken_by, own_names, taken_after, taken_after_all, IsLeastClosed, Around, Declared, left_taken, declared_by, known_after, Closing, at_end, owner_faults, owner_faults_in}
 use Rattle.cw_gen.proofs.Decided.{first_true, second_true}
 
 -- whether a holder is a spawn of the sync block at a depth, or, where cuts count, a cut
 abbrev pub held_in : Bool → ℕ → Holder → Bool
 held_in cuts depth (SpawnIn d) = d == depth
+held_in cuts depth (ReaderIn d) = false
 held_in cuts depth CutOf = cuts
+
+-- what is taken of others is taken with one more
+taken_further : (x : Name) (t : Name × Holder) (taken : Taken) → is_taken taken x ≡ true → is_taken (t ∷ taken) x ≡ true
+taken_further x (y, SpawnIn d) taken h = test (same_name x y)
+  where
+    test : (b : Bool) → (if b then true else is_taken taken x) ≡ true
+    test true = refl
+    test false = h
+taken_further x (y, CutOf) taken h = test (same_name x y)
+  where
+    test : (b : Bool) → (if b then true else is_taken taken x) ≡ true
+    test true = refl
+    test false = h
+taken_further x (y, ReaderIn d) taken h = h
+
+-- what nothing holds is not taken
+pub loose_free : (x : Name) (taken : Taken) → is_held taken x ≡ false → is_taken taken x ≡ false
+loose_free x [] h = refl
+loose_free x ((y, ReaderIn d) ∷ taken) h = test (loose_free x taken) (same_name x y) h
+  where
+    test : (is_held taken x ≡ false → is_taken taken x ≡ false) → (b : Bool) → (if b then true else is_held taken x) ≡ false → is_taken taken x ≡ false
+    test more true h' = cc
+    test more false h' = more h'
+loose_free x ((y, SpawnIn d) ∷ taken) h = test (loose_free x taken) (same_name x y) h
+  where
+    test : (is_held taken x ≡ false → is_taken taken x ≡ false) → (b : Bool) → (if b then true else is_held taken x) ≡ false → (if b then true else is_taken taken x) ≡ false
+    test more true h' = cc
+    test more false h' = more h'
+loose_free x ((y, CutOf) ∷ taken) h = test (loose_free x taken) (same_name x y) h
+  where
+    test : (is_held taken x ≡ false → is_taken taken x ≡ false) → (b : Bool) → (if b then true else is_held taken x) ≡ false → (if b then true else is_taken taken x) ≡ false
+    test more true h' = cc
+    test more false h' = more h'
 
 module _ (cuts : Bool) where
   abbrev pub is_held_in : ℕ → Holder → Bool
@@ -47,10 +81,20 @@ module _ (cuts : Bool) where
   -- a name that is held is taken
   pub held_is_taken : (depth : ℕ) (x : Name) (taken : Taken) → holds depth x taken ≡ true → is_taken taken x ≡ true
   held_is_taken depth x [] h = cc
-  held_is_taken depth x (t ∷ taken) h = test (held_is_taken depth x taken) (same_name x t.0) h
+  held_is_taken depth x ((y, SpawnIn d) ∷ taken) h = test (held_is_taken depth x taken) (same_name x y) h
     where
-      test : (holds depth x taken ≡ true → is_taken taken x ≡ true) → (b : Bool) → (if b && is_held_in depth t.1 then true else holds depth x taken) ≡ true → (if b then true else is_taken taken x) ≡ true
+      test : (holds depth x taken ≡ true → is_taken taken x ≡ true) → (b : Bool) → (if b && (d == depth) then true else holds depth x taken) ≡ true → (if b then true else is_taken taken x) ≡ true
       test more true h' = refl
+      test more false h' = more h'
+  held_is_taken depth x ((y, CutOf) ∷ taken) h = test (held_is_taken depth x taken) (same_name x y) h
+    where
+      test : (holds depth x taken ≡ true → is_taken taken x ≡ true) → (b : Bool) → (if b && cuts then true else holds depth x taken) ≡ true → (if b then true else is_taken taken x) ≡ true
+      test more true h' = refl
+      test more false h' = more h'
+  held_is_taken depth x ((y, ReaderIn d) ∷ taken) h = test (held_is_taken depth x taken) (same_name x y) h
+    where
+      test : (holds depth x taken ≡ true → is_taken taken x ≡ true) → (b : Bool) → (if b && false then true else holds depth x taken) ≡ true → is_taken taken x ≡ true
+      test more true h' = more h'
       test more false h' = more h'
 
   pub not_held : (depth : ℕ) (x : Name) (taken : Taken) → is_taken taken x ≡ false → holds depth x taken ≡ false
@@ -71,6 +115,7 @@ module _ (cuts : Bool) where
           cases : (b : Bool) → (d == other) ≡ b → b ≡ false
           cases true e' = absurd (apart (sym (eqb-true d other e') ∙ eqb-true d depth e))
           cases false e' = refl
+      both (ReaderIn d) e = refl
       both CutOf e = cc
 
       test : (holds other x taken ≡ true → holds other x (freed depth taken) ≡ true) → (b c : Bool) → is_spawn_in depth t.1 ≡ b → has other x t ≡ c → (if c then true else holds other x taken) ≡ true → holds other x (cond (not b) (t ∷ freed depth taken) (freed depth taken)) ≡ true
@@ -142,6 +187,7 @@ module _ (cuts : Bool) where
     where
       other : (t : Name × Holder) → is_cut_of a t ≡ true → has depth x t ≡ true → true ≡ false
       other (y, SpawnIn d) e e' = cc
+      other (y, ReaderIn d) e e' = cc
       other (y, CutOf) e e' =
           let same : x ≡ y = (bytes_eq-Decides x y).0 (first_true (same_name x y) cuts e') in
           sym (ap (same_name a) same ∙ e) ∙ apart
@@ -159,6 +205,7 @@ spawn_past_cut depth a x (t ∷ taken) h = test (spawn_past_cut depth a x taken)
   where
     other : (t : Name × Holder) → is_cut_of a t ≡ true → has false depth x t ≡ true → true ≡ false
     other (y, SpawnIn d) e e' = cc
+    other (y, ReaderIn d) e e' = cc
     other (y, CutOf) e e' = sym (second_true (same_name x y) false e')
 
     test : (holds false depth x taken ≡ true → holds false depth x (cut_ended a taken) ≡ true) → (b c : Bool) → is_cut_of a t ≡ b → has false depth x t ≡ c → (if c then true else holds false depth x taken) ≡ true → holds false depth x (cond (not b) (t ∷ cut_ended a taken) (cut_ended a taken)) ≡ true
@@ -175,29 +222,29 @@ more_left : (b : Bool) (line : ℕ) (more : List ℕ) → unless b line ++ more 
 more_left true line more h = h
 more_left false line more h = cc
 
--- the names that a block declared so far are not taken
-left_free : (declared : Declared) (taken : Taken) (x : Name) → left_taken declared taken ≡ [] → is_among x (map (λ d. d.0) declared) ≡ true → is_taken taken x ≡ false
+-- the names that a block declared so far are not held
+left_free : (declared : Declared) (taken : Taken) (x : Name) → left_taken declared taken ≡ [] → is_among x (map (λ d. d.0) declared) ≡ true → is_held taken x ≡ false
 left_free [] taken x h among = cc
-left_free (d ∷ declared) taken x h among = test (left_free declared taken x (more_left (not (is_taken taken d.0)) d.1 (left_taken declared taken) h)) (same_name x d.0) refl among
+left_free (d ∷ declared) taken x h among = test (left_free declared taken x (more_left (not (is_held taken d.0)) d.1 (left_taken declared taken) h)) (same_name x d.0) refl among
   where
-    free : is_taken taken d.0 ≡ false
-    free = negated (is_taken taken d.0) (none_left (not (is_taken taken d.0)) d.1 (left_taken declared taken) h)
+    free : is_held taken d.0 ≡ false
+    free = negated (is_held taken d.0) (none_left (not (is_held taken d.0)) d.1 (left_taken declared taken) h)
       where
         negated : (b : Bool) → not b ≡ true → b ≡ false
         negated true e = cc
         negated false e = refl
 
-    test : (is_among x (map (λ d'. d'.0) declared) ≡ true → is_taken taken x ≡ false) → (b : Bool) → same_name x d.0 ≡ b → (if b then true else is_among x (map (λ d'. d'.0) declared)) ≡ true → is_taken taken x ≡ false
-    test more true e h' = ap (is_taken taken) ((bytes_eq-Decides x d.0).0 e) ∙ free
+    test : (is_among x (map (λ d'. d'.0) declared) ≡ true → is_held taken x ≡ false) → (b : Bool) → same_name x d.0 ≡ b → (if b then true else is_among x (map (λ d'. d'.0) declared)) ≡ true → is_held taken x ≡ false
+    test more true e h' = ap (is_held taken) ((bytes_eq-Decides x d.0).0 e) ∙ free
     test more false e h' = more h'
 
 second_empty : (a b : List ℕ) → a ++ b ≡ [] → b ≡ []
 second_empty [] b h = h
 second_empty (x ∷ a) b h = cc
 
--- at the end of a block none of the names that it declared is taken
+-- at the end of a block none of the names that it declared is held
 pub ends_free : (fs : List Function) (around : Around) (known : List Name) (depth : ℕ) (closing : Closing) (taken : Taken) (declared : Declared) (b : Block) → owner_faults_in fs around known depth closing taken declared b ≡ [] → (x : Name) →
-    is_among x (map (λ d. d.0) declared) ≡ true ⊎ is_among x (own_names b) ≡ true → is_taken (at_end closing depth (taken_after_all fs depth b taken)) x ≡ false
+    is_among x (map (λ d. d.0) declared) ≡ true ⊎ is_among x (own_names b) ≡ true → is_held (at_end closing depth (taken_after_all fs depth b taken)) x ≡ false
 ends_free fs around known depth closing taken declared End h x (inl among) = left_free declared (at_end closing depth taken) x h among
 ends_free fs around known depth closing taken declared End h x (inr among) = cc
 ends_free fs around known depth closing taken declared (Then line s b) h x among =

@@ -1,36 +1,38 @@
 -- What the code of a lowered program tells of its text: rooms, lists of array slots, sites, reducers and tags.
 use Rattle.std.specs.Prelude.{suc, ◌<◌, ◌≤◌, List, [], ◌∷◌, length, map}
 use Rattle.cw_model.specs.Syntax.{Stmt, Declare, DeclareArray, Reduce, Call, Start, Begin, If, IfElse, While, Scope, Cut, Region, Block, End, Then, Function}
-use Rattle.cw_tree.specs.Resolved.{Lists, Locals, slot_of, with_array, locals_after, locals_of}
-use Rattle.cw_loops.specs.Slotted.{slotted_argument}
-use Rattle.cw_gen.specs.Emit.{Tables, first_list, whole_list, half_list, passed_in}
-use Rattle.cw_gen.proofs.Fine.{Room, room_of, IsListed, IsPassed, HasSite}
+use Rattle.cw_tree.specs.Resolved.{Lists, params_of, Locals, slot_of, with_array, locals_after, locals_of}
+use Rattle.cw_loops.specs.Slotted.{slotted_arguments}
+use Rattle.cw_gen.specs.Emit.{Tables, first_list, whole_list, half_list, passed_in, lent_in}
+use Rattle.cw_gen.specs.Marks.{Marks, array_at}
+use Rattle.cw_gen.proofs.Fine.{marks_for, Room, room_of, IsListed, IsPassed, HasSite}
 
 abbrev mutual
   -- each call of a statement has its list of array slots
-  pub PassesStmt : Lists → Tables → Locals → Stmt → Type 0
-  PassesStmt lists tables locals (Call kind site target f es) = IsPassed tables.passed site (passed_in (map (slotted_argument locals) es))
-  PassesStmt lists tables locals (Start kind f es) =
-      IsPassed tables.passed (half_list (first_list tables.sites) kind (slot_of f lists.functions)) (passed_in (map (slotted_argument locals) es))
-  PassesStmt lists tables locals (Begin f from to captured over) =
-      IsPassed tables.passed (whole_list (first_list tables.sites) (slot_of f lists.functions)) (map (λ a. slot_of a locals.arrays) over)
-  PassesStmt lists tables locals (If e b) = PassesBlock lists tables locals b
-  PassesStmt lists tables locals (IfElse e b c) = PassesBlock lists tables locals b × PassesBlock lists tables locals c
-  PassesStmt lists tables locals (While e b) = PassesBlock lists tables locals b
-  PassesStmt lists tables locals (Scope b) = PassesBlock lists tables locals b
-  PassesStmt lists tables locals (Cut a e l r b) = PassesBlock lists tables (with_array r (with_array l locals)) b
-  PassesStmt lists tables locals (Region tag b) = PassesBlock lists tables locals b
-  PassesStmt lists tables locals _ = Unit {0}
+  pub PassesStmt : Lists → Tables → Marks → Locals → Stmt → Type 0
+  PassesStmt lists tables marks locals (Call kind site target f es) =
+      IsPassed tables.passed site (passed_in marks (slotted_arguments locals (params_of lists f) es)) × IsPassed tables.lent site (lent_in marks (slotted_arguments locals (params_of lists f) es))
+  PassesStmt lists tables marks locals (Start kind f es) =
+      IsPassed tables.passed (half_list (first_list tables.sites) kind (slot_of f lists.functions)) (passed_in marks (slotted_arguments locals (params_of lists f) es))
+  PassesStmt lists tables marks locals (Begin f from to captured over) =
+      IsPassed tables.passed (whole_list (first_list tables.sites) (slot_of f lists.functions)) (map (array_at marks) (map (λ a. slot_of a locals.arrays) over))
+  PassesStmt lists tables marks locals (If e b) = PassesBlock lists tables marks locals b
+  PassesStmt lists tables marks locals (IfElse e b c) = PassesBlock lists tables marks locals b × PassesBlock lists tables marks locals c
+  PassesStmt lists tables marks locals (While e b) = PassesBlock lists tables marks locals b
+  PassesStmt lists tables marks locals (Scope b) = PassesBlock lists tables marks locals b
+  PassesStmt lists tables marks locals (Cut a e l r b) = PassesBlock lists tables marks (with_array r (with_array l locals)) b
+  PassesStmt lists tables marks locals (Region tag b) = PassesBlock lists tables marks locals b
+  PassesStmt lists tables marks locals _ = Unit {0}
 
   -- each call of a block
-  pub PassesBlock : Lists → Tables → Locals → Block → Type 0
-  PassesBlock lists tables locals End = Unit {0}
-  PassesBlock lists tables locals (Then line s b) = PassesStmt lists tables locals s × PassesBlock lists tables (locals_after locals s) b
+  pub PassesBlock : Lists → Tables → Marks → Locals → Block → Type 0
+  PassesBlock lists tables marks locals End = Unit {0}
+  PassesBlock lists tables marks locals (Then line s b) = PassesStmt lists tables marks locals s × PassesBlock lists tables marks (locals_after locals s) b
 
 -- each call of each function
 abbrev pub AllPass : Lists → Tables → List Function → Type 0
 AllPass lists tables [] = Unit {0}
-AllPass lists tables (f ∷ fs) = PassesBlock lists tables (locals_of f.params) f.body × AllPass lists tables fs
+AllPass lists tables (f ∷ fs) = PassesBlock lists tables (marks_for f.params) (locals_of f.params) f.body × AllPass lists tables fs
 
 abbrev mutual
   -- there is a slot for each name that a statement declares

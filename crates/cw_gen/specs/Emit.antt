@@ -9,8 +9,8 @@ use Rattle.cw_model.specs.Syntax as model
 use Rattle.cw_tree.specs.Resolved.{Listed, Resolved}
 use Rattle.cw_tree.specs.Resolved as source
 use Rattle.cw_loops.specs.Slotted.{Expr, Number, Variable, Element, Length, Negative, Not, Binary, Argument, Int}
-use Rattle.cw_loops.specs.Slotted.{Array, Stmt, Declare, DeclareArray, Assign, AssignElement, Reduce, Call, Start}
-use Rattle.cw_loops.specs.Slotted.{Begin, Sync, If, IfElse, While, Scope, Cut, Region, Print, Return, Block, End}
+use Rattle.cw_loops.specs.Slotted.{Array, Shared, Stmt, Declare, DeclareArray, Assign, AssignElement, Reduce, Call}
+use Rattle.cw_loops.specs.Slotted.{Start, Begin, Sync, If, IfElse, While, Scope, Cut, Region, Print, Return, Block, End}
 use Rattle.cw_loops.specs.Slotted.{Then, Function}
 use Rattle.cw_code.specs.declared.code.UnaryOperator.TheVariants as unary
 use Rattle.cw_code.specs.declared.code.BlockKind.{BlockKind}
@@ -21,8 +21,12 @@ use Rattle.cw_code.specs.declared.code.Func.{Func}
 use Rattle.cw_code.specs.declared.code.Halves.{Halves}
 use Rattle.cw_code.specs.declared.code.Instr.{Instr}
 use Rattle.cw_code.specs.declared.code.Instr.TheVariants as instr
+use Rattle.cw_code.specs.declared.code.Loan.{Loan}
+use Rattle.cw_code.specs.declared.code.Loan.TheVariants as loan
 use Rattle.cw_code.specs.declared.code.Reducer.{Reducer}
 use Rattle.cw_code.specs.Code.{CodeSite, Code}
+use Rattle.cw_gen.specs.Marks.{Marks, marks_of, place_of, array_at}
+use Rattle.cw_gen.specs.Marks.{count_ints, count_arrays, count_taken, count_readers}
 
 -- the greatest distance of a jump
 abbrev pub most_jump : ℕ
@@ -44,41 +48,58 @@ abbrev pub half_list : (first : ℕ) → CallKind → (callee : ℕ) → ℕ
 half_list first Spawned callee = distance (first + 3 * callee + 1)
 half_list first Plain callee = distance (first + 3 * callee + 2)
 
--- the instructions of an expression in a line, operands from left to right
-abbrev pub emitted_expr : (line : ℕ) → Expr → List Instr
-emitted_expr line (Number n) = instr.Push n ∷ []
-emitted_expr line (Variable u) = instr.Load u ∷ []
-emitted_expr line (Element u e) = emitted_expr line e ++ instr.Element u line ∷ []
-emitted_expr line (Length u) = instr.Length u ∷ []
-emitted_expr line (Negative e) = emitted_expr line e ++ instr.Unary unary.Negative line ∷ []
-emitted_expr line (Not e) = emitted_expr line e ++ instr.Unary unary.Not line ∷ []
-emitted_expr line (Binary operator d e) =
-    emitted_expr line d ++ (emitted_expr line e ++ instr.Binary operator line ∷ [])
+-- an element of an array, and its length
+abbrev pub element_at : Loan → (line : ℕ) → Instr
+element_at (loan.Array a) line = instr.Element a line
+element_at (loan.Reader r) line = instr.ReadElement r line
+
+abbrev pub length_at : Loan → Instr
+length_at (loan.Array a) = instr.Length a
+length_at (loan.Reader r) = instr.ReadLength r
+
+-- the instructions of an expression in a line, operands from left to right, where these array slots are only read
+abbrev pub emitted_expr : Marks → (line : ℕ) → Expr → List Instr
+emitted_expr marks line (Number n) = instr.Push n ∷ []
+emitted_expr marks line (Variable u) = instr.Load u ∷ []
+emitted_expr marks line (Element u e) = emitted_expr marks line e ++ element_at (place_of marks u) line ∷ []
+emitted_expr marks line (Length u) = length_at (place_of marks u) ∷ []
+emitted_expr marks line (Negative e) = emitted_expr marks line e ++ instr.Unary unary.Negative line ∷ []
+emitted_expr marks line (Not e) = emitted_expr marks line e ++ instr.Unary unary.Not line ∷ []
+emitted_expr marks line (Binary operator d e) =
+    emitted_expr marks line d ++ (emitted_expr marks line e ++ instr.Binary operator line ∷ [])
 
 -- the instructions of an argument; an array has none
-abbrev pub emitted_arg : (line : ℕ) → Argument → List Instr
-emitted_arg line (Int e) = emitted_expr line e
-emitted_arg line (Array u) = []
+abbrev pub emitted_arg : Marks → (line : ℕ) → Argument → List Instr
+emitted_arg marks line (Int e) = emitted_expr marks line e
+emitted_arg marks line (Array u) = []
+emitted_arg marks line (Shared u) = []
 
 -- arguments from left to right
-abbrev pub emitted_args : (line : ℕ) → List Argument → List Instr
-emitted_args line [] = []
-emitted_args line (e ∷ es) = emitted_arg line e ++ emitted_args line es
+abbrev pub emitted_args : Marks → (line : ℕ) → List Argument → List Instr
+emitted_args marks line [] = []
+emitted_args marks line (e ∷ es) = emitted_arg marks line e ++ emitted_args marks line es
 
 -- the integers in these slots
 abbrev pub emitted_loads : List ℕ → List Instr
 emitted_loads slots = map (λ u. instr.Load u) slots
 
--- the slots of the arrays among arguments, in order
-abbrev pub passed_in : List Argument → List ℕ
-passed_in [] = []
-passed_in (Int e ∷ es) = passed_in es
-passed_in (Array u ∷ es) = u ∷ passed_in es
+-- the array slots among arguments that are given away, in order, and the loans of those that are only read
+abbrev pub passed_in : Marks → List Argument → List ℕ
+passed_in marks [] = []
+passed_in marks (Int e ∷ es) = passed_in marks es
+passed_in marks (Array u ∷ es) = array_at marks u ∷ passed_in marks es
+passed_in marks (Shared u ∷ es) = passed_in marks es
 
--- what the instruction of a call carries; its list of array slots is the one at the number of its site
+abbrev pub lent_in : Marks → List Argument → List Loan
+lent_in marks [] = []
+lent_in marks (Int e ∷ es) = lent_in marks es
+lent_in marks (Array u ∷ es) = lent_in marks es
+lent_in marks (Shared u ∷ es) = place_of marks u ∷ lent_in marks es
+
+-- what the instruction of a call carries; its lists of array slots and of loans are those at the number of its site
 abbrev pub callee_of : (line site : ℕ) → Option ℕ → (callee : ℕ) → Callee
 callee_of line site target callee =
-    record { function = callee; site = site; line = line; target = target; passed = site }
+    record { function = callee; site = site; line = line; target = target; passed = site; lent = site }
 
 -- what the first call of a loop's function carries, and what a call on one half
 abbrev pub whole_of : (first callee : ℕ) → Inner
@@ -90,6 +111,9 @@ half_of first kind callee = record { function = callee; passed = half_list first
 -- the slots of a cut
 abbrev pub halves_of : (array left right : ℕ) → Halves
 halves_of array left right = record { array = array; left = left; right = right }
+
+abbrev pub halves_at : Marks → (array left right : ℕ) → Halves
+halves_at marks array left right = halves_of (array_at marks array) (array_at marks left) (array_at marks right)
 
 -- code that is passed over where the last operand is 0
 abbrev pub emitted_over : List Instr → List Instr
@@ -116,31 +140,33 @@ abbrev pub emitted_cut : (line : ℕ) → Halves → List Instr → List Instr
 emitted_cut line h body = instr.Cut h line ∷ (body ++ instr.EndCut ∷ [])
 
 -- the first call of a loop's function: the ends of its range, the integers that it takes along, and its instruction
-abbrev pub emitted_begin : (first line callee : ℕ) → (from to : Expr) → (captured : List ℕ) → List Instr
-emitted_begin first line callee from to captured =
-    emitted_expr line from
-    ++ (emitted_expr line to ++ (emitted_loads captured ++ instr.Start (whole_of first callee) line ∷ []))
+abbrev pub emitted_begin : (first : ℕ) → Marks → (line callee : ℕ) → (from to : Expr) → (captured : List ℕ) → List Instr
+emitted_begin first marks line callee from to captured =
+    emitted_expr marks line from
+    ++ (emitted_expr marks line to ++ (emitted_loads captured ++ instr.Start (whole_of first callee) line ∷ []))
 
 -- the instructions of a statement of a line with no block in it and no return; an index comes before its value
-abbrev pub emitted_alone : (first line : ℕ) → Stmt → List Instr
-emitted_alone first line (Declare u e) = emitted_expr line e ++ instr.Store u ∷ []
-emitted_alone first line (DeclareArray u e) = emitted_expr line e ++ instr.NewArray u line ∷ []
-emitted_alone first line (AssignElement u i e) =
-    emitted_expr line i ++ (emitted_expr line e ++ instr.SetElement u line ∷ [])
-emitted_alone first line (Assign u e) = emitted_expr line e ++ instr.Store u ∷ []
-emitted_alone first line (Reduce how s e) = emitted_expr line e ++ instr.Reduce s ∷ []
-emitted_alone first line (Print e) = emitted_expr line e ++ instr.Print ∷ []
-emitted_alone first line (Call kind site target f es) =
-    emitted_args line es ++ instr.Call kind (callee_of line site target f) ∷ []
-emitted_alone first line (Start kind f es) = emitted_args line es ++ instr.Recur kind (half_of first kind f) ∷ []
-emitted_alone first line (Begin f from to captured over) = emitted_begin first line f from to captured
-emitted_alone first line Sync = instr.Sync ∷ []
-emitted_alone first line _ = []
+abbrev pub emitted_alone : (first : ℕ) → Marks → (line : ℕ) → Stmt → List Instr
+emitted_alone first marks line (Declare u e) = emitted_expr marks line e ++ instr.Store u ∷ []
+emitted_alone first marks line (DeclareArray u e) =
+    emitted_expr marks line e ++ instr.NewArray (array_at marks u) line ∷ []
+emitted_alone first marks line (AssignElement u i e) =
+    emitted_expr marks line i ++ (emitted_expr marks line e ++ instr.SetElement (array_at marks u) line ∷ [])
+emitted_alone first marks line (Assign u e) = emitted_expr marks line e ++ instr.Store u ∷ []
+emitted_alone first marks line (Reduce how s e) = emitted_expr marks line e ++ instr.Reduce s ∷ []
+emitted_alone first marks line (Print e) = emitted_expr marks line e ++ instr.Print ∷ []
+emitted_alone first marks line (Call kind site target f es) =
+    emitted_args marks line es ++ instr.Call kind (callee_of line site target f) ∷ []
+emitted_alone first marks line (Start kind f es) =
+    emitted_args marks line es ++ instr.Recur kind (half_of first kind f) ∷ []
+emitted_alone first marks line (Begin f from to captured over) = emitted_begin first marks line f from to captured
+emitted_alone first marks line Sync = instr.Sync ∷ []
+emitted_alone first marks line _ = []
 
 -- a return
-abbrev pub emitted_return : (line : ℕ) → Option Expr → List Instr
-emitted_return line None = instr.Return ∷ []
-emitted_return line (Some e) = emitted_expr line e ++ instr.ReturnValue ∷ []
+abbrev pub emitted_return : Marks → (line : ℕ) → Option Expr → List Instr
+emitted_return marks line None = instr.Return ∷ []
+emitted_return marks line (Some e) = emitted_expr marks line e ++ instr.ReturnValue ∷ []
 
 abbrev mutual
   -- whether a statement surely returns
@@ -157,23 +183,24 @@ abbrev mutual
 
 abbrev mutual
   -- the instructions of a statement of a line
-  pub emitted_stmt : (first line : ℕ) → Stmt → List Instr
-  emitted_stmt first line (If e b) = emitted_expr line e ++ emitted_over (emitted_block first b)
-  emitted_stmt first line (IfElse e b c) =
-      emitted_expr line e ++ emitted_branches (returns b) (emitted_block first b) (emitted_block first c)
-  emitted_stmt first line (While e b) =
-      emitted_expr line e ++ emitted_turn (length (emitted_expr line e)) (emitted_block first b)
-  emitted_stmt first line (Scope b) = emitted_inside block.Scope (emitted_block first b)
-  emitted_stmt first line (Cut a e l r b) =
-      emitted_expr line e ++ emitted_cut line (halves_of a l r) (emitted_block first b)
-  emitted_stmt first line (Region tag b) = emitted_inside (block.Region tag) (emitted_block first b)
-  emitted_stmt first line (Return e) = emitted_return line e
-  emitted_stmt first line s = emitted_alone first line s
+  pub emitted_stmt : (first : ℕ) → Marks → (line : ℕ) → Stmt → List Instr
+  emitted_stmt first marks line (If e b) = emitted_expr marks line e ++ emitted_over (emitted_block first marks b)
+  emitted_stmt first marks line (IfElse e b c) =
+      emitted_expr marks line e
+      ++ emitted_branches (returns b) (emitted_block first marks b) (emitted_block first marks c)
+  emitted_stmt first marks line (While e b) =
+      emitted_expr marks line e ++ emitted_turn (length (emitted_expr marks line e)) (emitted_block first marks b)
+  emitted_stmt first marks line (Scope b) = emitted_inside block.Scope (emitted_block first marks b)
+  emitted_stmt first marks line (Cut a e l r b) =
+      emitted_expr marks line e ++ emitted_cut line (halves_at marks a l r) (emitted_block first marks b)
+  emitted_stmt first marks line (Region tag b) = emitted_inside (block.Region tag) (emitted_block first marks b)
+  emitted_stmt first marks line (Return e) = emitted_return marks line e
+  emitted_stmt first marks line s = emitted_alone first marks line s
 
   -- the instructions of a block, statement by statement
-  pub emitted_block : (first : ℕ) → Block → List Instr
-  emitted_block first End = []
-  emitted_block first (Then line s b) = emitted_stmt first line s ++ emitted_block first b
+  pub emitted_block : (first : ℕ) → Marks → Block → List Instr
+  emitted_block first marks End = []
+  emitted_block first marks (Then line s b) = emitted_stmt first marks line s ++ emitted_block first marks b
 
 -- a function that gives no integer ends with a return
 abbrev pub emitted_end : (gives_int : Bool) → List Instr
@@ -181,7 +208,7 @@ emitted_end gives_int = if gives_int then [] else instr.Return ∷ []
 
 -- the instructions of a function
 abbrev pub emitted_function : (first : ℕ) → Function → List Instr
-emitted_function first f = emitted_block first f.body ++ emitted_end f.gives_int
+emitted_function first f = emitted_block first (marks_of f.params) f.body ++ emitted_end f.gives_int
 
 -- the instructions of all functions in a row
 abbrev pub emitted_instrs : (first : ℕ) → List Function → List Instr
@@ -220,13 +247,6 @@ abbrev mutual
   arrays_in_block n End = n
   arrays_in_block n (Then line s b) = arrays_in_block (arrays_in n s) b
 
--- how many parameters are integers, and how many are arrays
-abbrev pub count_ints : List Bool → ℕ
-count_ints params = length (filter (λ is_array. not is_array) params)
-
-abbrev pub count_arrays : List Bool → ℕ
-count_arrays params = length (filter (λ is_array. is_array) params)
-
 -- what the code keeps of a function that begins at a place
 abbrev pub emitted_func : (first start : ℕ) → Function → Func
 emitted_func first start f =
@@ -236,8 +256,9 @@ emitted_func first start f =
       gives_int = f.gives_int;
       params = count_ints f.params;
       slots = ints_in_block (count_ints f.params) f.body;
-      array_params = count_arrays f.params;
-      arrays = arrays_in_block (count_arrays f.params) f.body;
+      array_params = count_taken f.params;
+      arrays = arrays_in_block (count_arrays f.params) f.body - count_readers f.params;
+      readers = count_readers f.params;
     }
 
 -- functions one after another, from a place on
@@ -274,9 +295,10 @@ abbrev pub emitted_sites_of : List source.Function → List CodeSite
 emitted_sites_of [] = []
 emitted_sites_of (f ∷ fs) = emitted_sites_in f.body ++ emitted_sites_of fs
 
--- what the instructions of calls rely on: the lists of array slots, and the call sites
+-- what the instructions of calls rely on: the lists of array slots and of loans, and the call sites
 pub record Tables : Type 0 where
   pub passed : List (List ℕ)
+  pub lent : List (List Loan)
   pub sites : List CodeSite
 
 -- the number of the first list of a function, behind the lists of the call sites
@@ -285,27 +307,28 @@ first_list sites = suc (length sites)
 
 abbrev mutual
   -- the list of each call in a statement is put at its number
-  pub put_lists : (first : ℕ) → Stmt → List (List ℕ) → List (List ℕ)
-  put_lists first (Call kind site target f es) lists = slice_set lists site (passed_in es)
-  put_lists first (Start kind f es) lists = slice_set lists (half_list first kind f) (passed_in es)
-  put_lists first (Begin f from to captured over) lists = slice_set lists (whole_list first f) over
-  put_lists first (If e b) lists = put_lists_in first b lists
-  put_lists first (IfElse e b c) lists = put_lists_in first c (put_lists_in first b lists)
-  put_lists first (While e b) lists = put_lists_in first b lists
-  put_lists first (Scope b) lists = put_lists_in first b lists
-  put_lists first (Cut a e l r b) lists = put_lists_in first b lists
-  put_lists first (Region tag b) lists = put_lists_in first b lists
-  put_lists first _ lists = lists
+  pub put_lists : (first : ℕ) → Marks → Stmt → List (List ℕ) → List (List ℕ)
+  put_lists first marks (Call kind site target f es) lists = slice_set lists site (passed_in marks es)
+  put_lists first marks (Start kind f es) lists = slice_set lists (half_list first kind f) (passed_in marks es)
+  put_lists first marks (Begin f from to captured over) lists =
+      slice_set lists (whole_list first f) (map (array_at marks) over)
+  put_lists first marks (If e b) lists = put_lists_in first marks b lists
+  put_lists first marks (IfElse e b c) lists = put_lists_in first marks c (put_lists_in first marks b lists)
+  put_lists first marks (While e b) lists = put_lists_in first marks b lists
+  put_lists first marks (Scope b) lists = put_lists_in first marks b lists
+  put_lists first marks (Cut a e l r b) lists = put_lists_in first marks b lists
+  put_lists first marks (Region tag b) lists = put_lists_in first marks b lists
+  put_lists first marks _ lists = lists
 
   -- of each statement of a block
-  pub put_lists_in : (first : ℕ) → Block → List (List ℕ) → List (List ℕ)
-  put_lists_in first End lists = lists
-  put_lists_in first (Then line s b) lists = put_lists_in first b (put_lists first s lists)
+  pub put_lists_in : (first : ℕ) → Marks → Block → List (List ℕ) → List (List ℕ)
+  put_lists_in first marks End lists = lists
+  put_lists_in first marks (Then line s b) lists = put_lists_in first marks b (put_lists first marks s lists)
 
 -- of each function
 abbrev pub put_lists_of : (first : ℕ) → List Function → List (List ℕ) → List (List ℕ)
 put_lists_of first [] lists = lists
-put_lists_of first (f ∷ fs) lists = put_lists_of first fs (put_lists_in first f.body lists)
+put_lists_of first (f ∷ fs) lists = put_lists_of first fs (put_lists_in first (marks_of f.params) f.body lists)
 
 -- one list for no call, one for each site, and three for each function, all of them empty
 abbrev pub no_lists : (first functions : ℕ) → List (List ℕ)
@@ -314,6 +337,32 @@ no_lists first functions = replicate (first + 3 * functions) []
 -- the lists of functions
 abbrev pub emitted_lists : (first : ℕ) → List Function → List (List ℕ)
 emitted_lists first functions = put_lists_of first functions (no_lists first (length functions))
+
+abbrev mutual
+  -- the loans of each call in a statement are put at its number
+  pub put_loans : Marks → Stmt → List (List Loan) → List (List Loan)
+  put_loans marks (Call kind site target f es) lists = slice_set lists site (lent_in marks es)
+  put_loans marks (If e b) lists = put_loans_in marks b lists
+  put_loans marks (IfElse e b c) lists = put_loans_in marks c (put_loans_in marks b lists)
+  put_loans marks (While e b) lists = put_loans_in marks b lists
+  put_loans marks (Scope b) lists = put_loans_in marks b lists
+  put_loans marks (Cut a e l r b) lists = put_loans_in marks b lists
+  put_loans marks (Region tag b) lists = put_loans_in marks b lists
+  put_loans marks _ lists = lists
+
+  -- of each statement of a block
+  pub put_loans_in : Marks → Block → List (List Loan) → List (List Loan)
+  put_loans_in marks End lists = lists
+  put_loans_in marks (Then line s b) lists = put_loans_in marks b (put_loans marks s lists)
+
+-- of each function
+abbrev pub put_loans_of : List Function → List (List Loan) → List (List Loan)
+put_loans_of [] lists = lists
+put_loans_of (f ∷ fs) lists = put_loans_of fs (put_loans_in (marks_of f.params) f.body lists)
+
+-- one list for no call, and one for each site
+abbrev pub emitted_loans : (first : ℕ) → List Function → List (List Loan)
+emitted_loans first functions = put_loans_of functions (replicate first [])
 
 -- the line of a function's head, where the function is there
 abbrev pub head_line : Option source.Function → ℕ
@@ -342,4 +391,5 @@ emitted tree functions =
       reducers = coded_reducers tree.reducers;
       tags = tree.tags;
       passed = emitted_lists first functions;
+      lent = emitted_loans first functions;
     }

@@ -1,3 +1,4 @@
 pub mod Emit
 pub mod Generates
+pub mod Marks
 pub mod Written

@@ -3,6 +3,7 @@ use Rattle.std.specs.Prelude.{◌≡◌, ℕ, ◌+◌, ◌-◌, ◌*◌, pos, ma
 use Rattle.std.specs.Prelude.{option_map, slice_set, Result, OnOk}
 use Rattle.std.specs.Global.{Vec}
 use Rattle.cw_model.specs.declared.syntax.CallKind.{CallKind}
+use Rattle.cw_model.specs.declared.syntax.NameKind.{NameKind}
 use Rattle.cw_model.specs.declared.syntax.Operator.TheVariants.{AtMost, Plus, Minus, Divide}
 use Rattle.cw_tree.specs.declared.resolved.Call as code_call
 use Rattle.cw_tree.specs.declared.resolved.Function as code
@@ -27,6 +28,7 @@ use Rattle.cw_loops.specs.Expanded.{leaf, loop_text, loop_texts, low, high, node
 use Rattle.cw_loops.specs.Expanded.{numbers, range, on_line, with_bodies}
 use Rattle.cw_loops.specs.Moved.{Loop}
 use Rattle.cw_code.specs.declared.code.Func.{Func}
+use Rattle.cw_code.specs.declared.code.Loan.{Loan}
 use Rattle.cw_code.specs.declared.code.Inner.{Inner}
 use Rattle.cw_code.specs.declared.code.Instr.{Instr}
 use Rattle.cw_code.specs.declared.code.Instr.TheVariants as instr
@@ -34,26 +36,28 @@ use Rattle.cw_code.specs.declared.code.BlockKind.{BlockKind}
 use Rattle.cw_code.specs.declared.code.Reducer as code_reducer
 use Rattle.cw_code.specs.declared.code.Site.{Site}
 use Rattle.cw_code.specs.Code.{Code, CodeSite, site_view}
+use Rattle.cw_gen.specs.Marks.{Marks}
 use Rattle.cw_gen.specs.Emit.{callee_of, coded_reducers, distance, past, halves_of, passed_in, put_lists_in}
-use Rattle.cw_gen.specs.Emit.{ints_in_block, arrays_in_block, site_of}
+use Rattle.cw_gen.specs.Emit.{ints_in_block, arrays_in_block, site_of, halves_at, lent_in, put_lists_of, put_loans_of}
 use Rattle.cw_gen.specs.Emit.{emitted, emitted_args, emitted_begin, emitted_block, emitted_cut, emitted_expr}
 use Rattle.cw_gen.specs.Emit.{emitted_func, emitted_funcs, emitted_function}
-use Rattle.cw_gen.specs.Emit.{emitted_inside, emitted_instrs, emitted_lists, emitted_loads, emitted_return}
-use Rattle.cw_gen.specs.Emit.{emitted_sites_of, emitted_stmt, emitted_turn}
+use Rattle.cw_gen.specs.Emit.{emitted_alone, emitted_arg, emitted_inside, emitted_instrs, emitted_lists, emitted_loads}
+use Rattle.cw_gen.specs.Emit.{emitted_loans, emitted_over, emitted_return, emitted_sites_of, emitted_stmt, emitted_turn}
+use Rattle.cw_gen.specs.Emit.{put_lists, put_loans, put_loans_in}
 
 -- these stand behind what stood there before, where memory did not run out
 abbrev pub Adds : {A R E : Type 0} → (old new : Vec A) → List A → Result R E → Type 0
 Adds old new more r = OnOk r (new.items ≡ old.items ++ more)
 
 -- lists of the code as those of the definitions, and bodies as blocks
-abbrev pub lists_of : List (Vec ℕ) → List (List ℕ)
+abbrev pub lists_of : {A : Type 0} → List (Vec A) → List (List A)
 lists_of lists = map (λ slots. slots.items) lists
 
 abbrev pub blocks_of : List (Vec Line) → List Block
 blocks_of bodies = map (λ b. block_of b.items) bodies
 
--- the lists of array slots are those before with this change, where memory did not run out
-abbrev pub Puts : {R E : Type 0} → (old new : Vec (Vec ℕ)) → (List (List ℕ) → List (List ℕ)) → Result R E → Type 0
+-- the lists are those before with this change, where memory did not run out
+abbrev pub Puts : {A R E : Type 0} → (old new : Vec (Vec A)) → (List (List A) → List (List A)) → Result R E → Type 0
 Puts old new change r = OnOk r (lists_of new.items ≡ change (lists_of old.items))
 
 -- call sites as those of the definitions
@@ -75,13 +79,16 @@ call_site line c = site_of line c.kind c.site (listed_of c.callee)
 abbrev pub kept_reducers : List Reducer → List code_reducer.Reducer
 kept_reducers reducers = coded_reducers (map reducer_of reducers)
 
--- which parameters are arrays
-abbrev pub are_arrays : List Param → List Bool
-are_arrays params = map (λ p. p.is_array) (map param_of params)
+-- the kinds of parameters
+abbrev pub kinds_of : List Param → List NameKind
+kinds_of params = map (λ p. p.kind) (map param_of params)
 
--- the slots of the arrays among arguments, in order
-abbrev pub slots_passed : List Argument → List ℕ
-slots_passed arguments = passed_in (map argument_of arguments)
+-- the array slots among arguments that are given away, in order, and the loans of those that are only read
+abbrev pub slots_passed : Marks → List Argument → List ℕ
+slots_passed marks arguments = passed_in marks (map argument_of arguments)
+
+abbrev pub loans_passed : Marks → List Argument → List Loan
+loans_passed marks arguments = lent_in marks (map argument_of arguments)
 
 -- a place filled with a test that leads behind all that stands, and with a jump there
 abbrev pub landed : (place : ℕ) → List Instr → List Instr
@@ -99,7 +106,7 @@ abbrev pub function_with : code.Function → List Line → Function
 function_with f body =
     record {
       gives_int = (function_of f).gives_int;
-      params = map (λ p. p.is_array) (function_of f).params;
+      params = map (λ p. p.kind) (function_of f).params;
       body = block_of body;
     }
 
@@ -146,50 +153,68 @@ all_funcs first tree made = emitted_funcs first 0 (functions_of tree made)
 abbrev pub all_lists : (first : ℕ) → source.Tree → Tree → List (List ℕ)
 all_lists first tree made = emitted_lists first (functions_of tree made)
 
+-- their lists of loans
+abbrev pub all_loans : (first : ℕ) → source.Tree → Tree → List (List Loan)
+all_loans first tree made = emitted_loans first (functions_of tree made)
+
 -- the whole code of a program whose loops are lowered
 abbrev pub code_of_core : Core → Code
 code_of_core core = emitted (resolved_of core.source.typed.tree) (functions_of core.source.typed.tree core.tree)
 
 -- the instructions of arguments, and of an expression with an instruction on its value
-abbrev pub written_args : (line : ℕ) → List Argument → List Instr
-written_args line es = emitted_args line (map argument_of es)
+abbrev pub written_args : Marks → (line : ℕ) → List Argument → List Instr
+written_args marks line es = emitted_args marks line (map argument_of es)
 
-abbrev pub written_valued : (line : ℕ) → Expr → Instr → List Instr
-written_valued line e i = emitted_expr line (expr_of e) ++ i ∷ []
+abbrev pub written_expr : Marks → (line : ℕ) → Expr → List Instr
+written_expr marks line e = emitted_expr marks line (expr_of e)
+
+abbrev pub written_arg : Marks → (line : ℕ) → Argument → List Instr
+written_arg marks line e = emitted_arg marks line (argument_of e)
+
+abbrev pub written_valued : Marks → (line : ℕ) → Expr → Instr → List Instr
+written_valued marks line e i = emitted_expr marks line (expr_of e) ++ i ∷ []
 
 -- the instructions of a block, of a statement of a line, and of a return
-abbrev pub written_block : (first : ℕ) → List Line → List Instr
-written_block first lines = emitted_block first (block_of lines)
+abbrev pub written_block : (first : ℕ) → Marks → List Line → List Instr
+written_block first marks lines = emitted_block first marks (block_of lines)
 
-abbrev pub written_stmt : (first line : ℕ) → Stmt → List Instr
-written_stmt first line s = emitted_stmt first line (stmt_of s)
+abbrev pub written_over : (first : ℕ) → Marks → List Line → List Instr
+written_over first marks lines = emitted_over (written_block first marks lines)
 
-abbrev pub written_return : (line : ℕ) → Option Expr → List Instr
-written_return line e = emitted_return line (option_map expr_of e)
+abbrev pub written_alone : (first : ℕ) → Marks → (line : ℕ) → Stmt → List Instr
+written_alone first marks line s = emitted_alone first marks line (stmt_of s)
+
+abbrev pub written_stmt : (first : ℕ) → Marks → (line : ℕ) → Stmt → List Instr
+written_stmt first marks line s = emitted_stmt first marks line (stmt_of s)
+
+abbrev pub written_return : Marks → (line : ℕ) → Option Expr → List Instr
+written_return marks line e = emitted_return marks line (option_map expr_of e)
 
 -- a sync block, and a block that goes back to its test, which starts at a place of these instructions
-abbrev pub written_inside : BlockKind → (first : ℕ) → List Line → List Instr
-written_inside kind first lines = emitted_inside kind (written_block first lines)
+abbrev pub written_inside : BlockKind → (first : ℕ) → Marks → List Line → List Instr
+written_inside kind first marks lines = emitted_inside kind (written_block first marks lines)
 
-abbrev pub written_turn : (start : ℕ) → Vec Instr → (first : ℕ) → List Line → List Instr
-written_turn start instrs first lines = emitted_turn (length instrs.items - start) (written_block first lines)
+abbrev pub written_turn : (start : ℕ) → Vec Instr → (first : ℕ) → Marks → List Line → List Instr
+written_turn start instrs first marks lines =
+    emitted_turn (length instrs.items - start) (written_block first marks lines)
 
 -- a call of a line, the beginning of a loop, and a cut with its block
-abbrev pub written_call : (line : ℕ) → Call → List Instr
-written_call line c =
-    emitted_args line (map argument_of c.arguments.items)
+abbrev pub written_call : Marks → (line : ℕ) → Call → List Instr
+written_call marks line c =
+    emitted_args marks line (map argument_of c.arguments.items)
     ++ instr.Call c.kind (callee_of line c.site c.target c.callee) ∷ []
 
-abbrev pub written_begin : (first line : ℕ) → Begin → List Instr
-written_begin first line b = emitted_begin first line b.callee (expr_of b.from) (expr_of b.to) b.captured.items
+abbrev pub written_begin : (first : ℕ) → Marks → (line : ℕ) → Begin → List Instr
+written_begin first marks line b =
+    emitted_begin first marks line b.callee (expr_of b.from) (expr_of b.to) b.captured.items
 
-abbrev pub written_cut : (first line : ℕ) → Cut → List Line → List Instr
-written_cut first line c body =
-    emitted_cut line (halves_of c.array c.left c.right) (emitted_block first (block_of body))
+abbrev pub written_cut : (first : ℕ) → Marks → (line : ℕ) → Cut → List Line → List Instr
+written_cut first marks line c body =
+    emitted_cut line (halves_at marks c.array c.left c.right) (emitted_block first marks (block_of body))
 
 -- the test of a loop's function: whether its range is a leaf
 abbrev pub written_test : Loop → List Instr
-written_test l = emitted_expr l.line (Binary AtMost range (Number (pos l.grain)))
+written_test l = emitted_expr [] l.line (Binary AtMost range (Number (pos l.grain)))
 
 -- one turn of a leaf, and the variable's next value
 abbrev pub turn_text : Loop → Block
@@ -200,14 +225,14 @@ turn_text l =
 -- the turns of a leaf, whose test starts at a place of these instructions
 abbrev pub leaf_turn : (start : ℕ) → Vec Instr → (first : ℕ) → lowered.Loop → List Instr
 leaf_turn start instrs first l =
-    emitted_turn (length instrs.items - start) (emitted_block first (turn_text (loop_of l)))
+    emitted_turn (length instrs.items - start) (emitted_block first [] (turn_text (loop_of l)))
 
 -- a leaf, and a node
 abbrev pub written_leaf : (first : ℕ) → Loop → List Instr
-written_leaf first l = emitted_block first (leaf l)
+written_leaf first l = emitted_block first [] (leaf l)
 
 abbrev pub written_node : (first index : ℕ) → Loop → List Instr
-written_node first index l = emitted_block first (node index l)
+written_node first index l = emitted_block first [] (node index l)
 
 -- the variable's next value, into its slot
 abbrev pub written_step : Loop → List Instr
@@ -252,12 +277,31 @@ written_func start end l = record {
   slots = max (ints_in_block (3 + l.captured) l.body) (3 + l.captured);
   array_params = l.over;
   arrays = max (arrays_in_block l.over l.body) (3 * l.over);
+  readers = 0;
 }
 
--- the lists of bodies, each put at its number
-abbrev pub put_lists_of_bodies : (first : ℕ) → List Block → List (List ℕ) → List (List ℕ)
-put_lists_of_bodies first [] lists = lists
-put_lists_of_bodies first (b ∷ bodies) lists = put_lists_of_bodies first bodies (put_lists_in first b lists)
+-- the lists of functions of the source with their bodies, each put at its number, and their loans
+abbrev pub put_lists_with : (first : ℕ) → List code.Function → List (Vec Line) → List (List ℕ) → List (List ℕ)
+put_lists_with first functions bodies lists = put_lists_of first (functions_with functions bodies) lists
+
+abbrev pub put_loans_with : List code.Function → List (Vec Line) → List (List Loan) → List (List Loan)
+put_loans_with functions bodies lists = put_loans_of (functions_with functions bodies) lists
+
+-- the lists of a statement, of a block and of the function of a loop, each put at its number, and the loans of a block
+abbrev pub put_stmt : (first : ℕ) → Marks → Stmt → List (List ℕ) → List (List ℕ)
+put_stmt first marks s lists = put_lists first marks (stmt_of s) lists
+
+abbrev pub put_block : (first : ℕ) → Marks → List Line → List (List ℕ) → List (List ℕ)
+put_block first marks lines lists = put_lists_in first marks (block_of lines) lists
+
+abbrev pub put_text : (first index : ℕ) → lowered.Loop → List (List ℕ) → List (List ℕ)
+put_text first index l lists = put_lists_in first [] (text_of index l).body lists
+
+abbrev pub put_lent : Marks → Stmt → List (List Loan) → List (List Loan)
+put_lent marks s lists = put_loans marks (stmt_of s) lists
+
+abbrev pub put_all_lent : Marks → List Line → List (List Loan) → List (List Loan)
+put_all_lent marks lines lists = put_loans_in marks (block_of lines) lists
 
 -- the slots of the left part of each array of a loop over so many, and of the right part
 abbrev pub left_slots : (over : ℕ) → List ℕ

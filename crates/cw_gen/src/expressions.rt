@@ -1,75 +1,108 @@
 //! From expressions and arguments to instructions.
 
+ghost use Rattle.std.specs.Prelude.{◌≡◌};
 ghost use Rattle.cw_gen.specs.Emit as spec;
-ghost use Rattle.cw_gen.specs.Written.{Adds, written_args, written_valued};
-ghost use Rattle.cw_loops.specs.View as view;
+ghost use Rattle.cw_gen.specs.Written.{Adds, written_arg, written_args, written_expr, written_valued};
 
+use crate::array_places::Places;
 use crate::jumps::put;
-use cw_code::code::{Instr, UnaryOperator};
+use cw_code::code::{Instr, Loan, UnaryOperator};
 use cw_loops::tree::{Argument, Expr};
 use std::alloc::AllocError;
 
 /// The code of an expression of this line, operands from left to right.
-pub(crate) fn expression(instrs: &mut Vec<Instr>, line: u32, e: &Expr) -> Result<(), AllocError>
-    ensures { Adds instrs.old instrs.new (spec.emitted_expr line (view.expr_of e.now)) result }
+pub(crate) fn expression(
+    instrs: &mut Vec<Instr>,
+    places: &Places,
+    line: u32,
+    e: &Expr,
+) -> Result<(), AllocError>
+    ensures { Adds instrs.old instrs.new (written_expr places.now line e.now) result }
 {
     match e {
         Expr::Number(n) => put(instrs, Instr::Push(*n)),
         Expr::Variable(u) => put(instrs, Instr::Load(*u)),
         Expr::Element(u, e) => {
-            expression(instrs, line, e)?;
-            put(instrs, Instr::Element(*u, line))
+            expression(instrs, places, line, e)?;
+            put(instrs, element_at(places.place(*u), line))
         }
-        Expr::Length(u) => put(instrs, Instr::Length(*u)),
+        Expr::Length(u) => put(instrs, length_at(places.place(*u))),
         Expr::Negative(e) => {
-            expression(instrs, line, e)?;
+            expression(instrs, places, line, e)?;
             put(instrs, Instr::Unary(UnaryOperator::Negative, line))
         }
         Expr::Not(e) => {
-            expression(instrs, line, e)?;
+            expression(instrs, places, line, e)?;
             put(instrs, Instr::Unary(UnaryOperator::Not, line))
         }
         Expr::Binary(operator, d, e) => {
-            expression(instrs, line, d)?;
-            expression(instrs, line, e)?;
+            expression(instrs, places, line, d)?;
+            expression(instrs, places, line, e)?;
             put(instrs, Instr::Binary(*operator, line))
         }
+    }
+}
+
+// An element of an array, at the last operand.
+fn element_at(place: Loan, line: u32) -> Instr
+    ensures { result ≡ spec.element_at place line }
+{
+    match place {
+        Loan::Array(a) => Instr::Element(a, line),
+        Loan::Reader(r) => Instr::ReadElement(r, line),
+    }
+}
+
+// The length of an array.
+fn length_at(place: Loan) -> Instr
+    ensures { result ≡ spec.length_at place }
+{
+    match place {
+        Loan::Array(a) => Instr::Length(a),
+        Loan::Reader(r) => Instr::ReadLength(r),
     }
 }
 
 /// An expression, and an instruction on its value.
 pub(crate) fn valued(
     instrs: &mut Vec<Instr>,
+    places: &Places,
     line: u32,
     e: &Expr,
     instr: Instr,
 ) -> Result<(), AllocError>
-    ensures { Adds instrs.old instrs.new (written_valued line e.now instr) result }
+    ensures { Adds instrs.old instrs.new (written_valued places.now line e.now instr) result }
 {
-    expression(instrs, line, e)?;
+    expression(instrs, places, line, e)?;
     put(instrs, instr)
 }
 
 // The code of an argument. An array has none.
-fn argument(instrs: &mut Vec<Instr>, line: u32, e: &Argument) -> Result<(), AllocError>
-    ensures { Adds instrs.old instrs.new (spec.emitted_arg line (view.argument_of e.now)) result }
+fn argument(
+    instrs: &mut Vec<Instr>,
+    places: &Places,
+    line: u32,
+    e: &Argument,
+) -> Result<(), AllocError>
+    ensures { Adds instrs.old instrs.new (written_arg places.now line e.now) result }
 {
     match e {
-        Argument::Int(e) => expression(instrs, line, e),
-        Argument::Array(_) => Ok(()),
+        Argument::Int(e) => expression(instrs, places, line, e),
+        Argument::Array(_) | Argument::Shared(_) => Ok(()),
     }
 }
 
 /// The code of arguments, from left to right.
 pub(crate) fn arguments(
     instrs: &mut Vec<Instr>,
+    places: &Places,
     line: u32,
     es: &[Argument],
 ) -> Result<(), AllocError>
-    ensures { Adds instrs.old instrs.new (written_args line es.now) result }
+    ensures { Adds instrs.old instrs.new (written_args places.now line es.now) result }
 {
     for e in es {
-        argument(instrs, line, e)?;
+        argument(instrs, places, line, e)?;
     }
     Ok(())
 }

@@ -1,11 +1,12 @@
 //! The code of the turns of a loop, one after another.
 
-ghost use Rattle.std.specs.Prelude.{◌≤◌, length};
+ghost use Rattle.std.specs.Prelude.{◌≡◌, ◌≤◌, [], length};
 ghost use Rattle.cw_gen.specs.Written as written;
 ghost use Rattle.cw_gen.specs.Written.{Adds};
 ghost use Rattle.cw_loops.specs.Small.{IsSmallLoop};
 ghost use Rattle.cw_loops.specs.View as view;
 
+use crate::array_places::Places;
 use crate::jumps::{distance, hole, land, put, row};
 use crate::statements::inside;
 use cw_code::code::{BlockKind, Instr};
@@ -14,8 +15,14 @@ use cw_model::syntax::Operator;
 use std::alloc::AllocError;
 
 /// The code of a leaf: its variable goes from the lower end of the range up to the upper one.
-pub(crate) fn leaf(instrs: &mut Vec<Instr>, first: usize, l: &Loop) -> Result<(), AllocError>
-    requires { IsSmallLoop (view.loop_of l.now) }
+pub(crate) fn leaf(
+    instrs: &mut Vec<Instr>,
+    first: usize,
+    places: &Places,
+    l: &Loop,
+) -> Result<(), AllocError>
+    requires small { IsSmallLoop (view.loop_of l.now) }
+    requires places { places.now ≡ [] }
     ensures { Adds instrs.old instrs.new (written.written_leaf first (view.loop_of l.now)) result }
 {
     let variable = l.captured + 2;
@@ -23,18 +30,25 @@ pub(crate) fn leaf(instrs: &mut Vec<Instr>, first: usize, l: &Loop) -> Result<()
     let start = instrs.len();
     let less = Instr::Binary(Operator::Less, l.line);
     row(instrs, &[Instr::Load(variable), Instr::Load(1), less])?;
-    turn(instrs, first, start, l)?;
+    turn(instrs, first, places, start, l)?;
     Ok(())
 }
 
 // The code of one turn, which goes back to its test, and that starts at this place.
-fn turn(instrs: &mut Vec<Instr>, first: usize, start: usize, l: &Loop) -> Result<(), AllocError>
+fn turn(
+    instrs: &mut Vec<Instr>,
+    first: usize,
+    places: &Places,
+    start: usize,
+    l: &Loop,
+) -> Result<(), AllocError>
+    requires places { places.now ≡ [] }
     requires small { IsSmallLoop (view.loop_of l.now) }
     requires start { start ≤ length instrs.old.items }
     ensures { Adds instrs.old instrs.new (written.leaf_turn start instrs.old first l.now) result }
 {
     let test = hole(instrs)?;
-    inside(instrs, first, BlockKind::Scope, &l.body)?;
+    inside(instrs, first, places, BlockKind::Scope, &l.body)?;
     step(instrs, l)?;
     let n = distance(instrs.len() - start);
     put(instrs, Instr::GoBack(n))?;

@@ -6,14 +6,18 @@
 
 ghost use Rattle.std.specs.Prelude.{◌≡◌, ◌+◌, ◌<◌, ◌^◌, [], length, map, replicate, slice_set, IfOk};
 ghost use Rattle.cw_gen.specs.Emit as spec;
-ghost use Rattle.cw_gen.specs.Written.{Puts, blocks_of, left_slots, lists_of, put_lists_of_bodies};
-ghost use Rattle.cw_gen.specs.Written.{right_slots, slots_passed, text_of, texts_of};
+ghost use Rattle.cw_gen.specs.Marks.{array_at};
+ghost use Rattle.cw_gen.specs.Written.{Puts, left_slots, lists_of, put_block, put_lists_with};
+ghost use Rattle.cw_gen.specs.Written.{put_stmt, put_text, right_slots, slots_passed, texts_of};
 ghost use Rattle.cw_loops.specs.Small.{AreSmallLoops, IsSmallLoop};
 ghost use Rattle.cw_loops.specs.View as view;
 
+use crate::array_places::Places;
 use crate::jumps::distance;
+use crate::marks::places_of;
 use cw_loops::tree::{Argument, Line, Loop, Stmt};
 use cw_model::syntax::CallKind;
+use cw_tree::resolved::Function;
 use std::alloc::{AllocError, Global};
 
 /// The number of the list of the first call of a loop's function.
@@ -35,7 +39,7 @@ pub(crate) fn half_list(first: usize, kind: CallKind, callee: u32) -> u32
 }
 
 /// So many empty lists.
-pub(crate) fn no_lists(alloc: Global, count: usize) -> Result<Vec<Vec<u32>>, AllocError>
+pub(crate) fn no_lists<T: Drop>(alloc: Global, count: usize) -> Result<Vec<Vec<T>>, AllocError>
     ensures { IfOk result (λ lists. lists_of lists.items ≡ replicate count []) }
 {
     let mut lists = Vec::new(alloc);
@@ -45,8 +49,8 @@ pub(crate) fn no_lists(alloc: Global, count: usize) -> Result<Vec<Vec<u32>>, All
     Ok(lists)
 }
 
-// Puts a list at its number. One past the end is left out.
-fn put_list(lists: &mut Vec<Vec<u32>>, number: u32, slots: Vec<u32>)
+/// Puts a list at its number. One past the end is left out.
+pub(crate) fn put_list<T: Drop>(lists: &mut Vec<Vec<T>>, number: u32, slots: Vec<T>)
     ensures { lists_of lists.new.items ≡ slice_set (lists_of lists.old.items) number slots.items }
 {
     let at = number as usize;
@@ -55,17 +59,19 @@ fn put_list(lists: &mut Vec<Vec<u32>>, number: u32, slots: Vec<u32>)
     }
 }
 
-/// Puts the lists of bodies at their numbers.
+/// Puts the lists of functions of the source, each with its body, at their numbers.
 pub(crate) fn lists_of_bodies(
     alloc: Global,
     first: usize,
+    functions: &[Function],
     bodies: &[Vec<Line>],
     lists: &mut Vec<Vec<u32>>,
 ) -> Result<(), AllocError>
-    ensures { Puts lists.old lists.new (put_lists_of_bodies first (blocks_of bodies.now)) result }
+    ensures { Puts lists.old lists.new (put_lists_with first functions.now bodies.now) result }
 {
-    for body in bodies {
-        lists_in(alloc, first, body, lists)?;
+    for (f, body) in functions.iter().zip(bodies) {
+        let places = places_of(alloc, &f.params)?;
+        lists_in(alloc, first, &places, body, lists)?;
     }
     Ok(())
 }
@@ -82,9 +88,10 @@ pub(crate) fn lists_of_loops(
     requires room { index + length loops.now < 2 ^ 32 }
     ensures { Puts lists.old lists.new (spec.put_lists_of first (texts_of index loops.now)) result }
 {
+    let places = Places::none(alloc);
     let mut at = index;
     for l in loops {
-        lists_of_loop(alloc, first, at, l, lists)?;
+        lists_of_loop(alloc, first, &places, at, l, lists)?;
         at += 1;
     }
     Ok(())
@@ -94,14 +101,16 @@ pub(crate) fn lists_of_loops(
 fn lists_of_loop(
     alloc: Global,
     first: usize,
+    places: &Places,
     index: u32,
     l: &Loop,
     lists: &mut Vec<Vec<u32>>,
 ) -> Result<(), AllocError>
-    requires { IsSmallLoop (view.loop_of l.now) }
-    ensures { Puts lists.old lists.new (spec.put_lists_in first (text_of index l.now).body) result }
+    requires places { places.now ≡ [] }
+    requires small { IsSmallLoop (view.loop_of l.now) }
+    ensures { Puts lists.old lists.new (put_text first index l.now) result }
 {
-    lists_in(alloc, first, &l.body, lists)?;
+    lists_in(alloc, first, places, &l.body, lists)?;
     let left = lefts(alloc, l)?;
     put_list(lists, half_list(first, CallKind::Spawned, index), left);
     let right = rights(alloc, l)?;
@@ -138,13 +147,14 @@ fn rights(alloc: Global, l: &Loop) -> Result<Vec<u32>, AllocError>
 fn lists_in(
     alloc: Global,
     first: usize,
+    places: &Places,
     lines: &[Line],
     lists: &mut Vec<Vec<u32>>,
 ) -> Result<(), AllocError>
-    ensures { Puts lists.old lists.new (spec.put_lists_in first (view.block_of lines.now)) result }
+    ensures { Puts lists.old lists.new (put_block first places.now lines.now) result }
 {
     for line in lines {
-        lists_at(alloc, first, &line.stmt, lists)?;
+        lists_at(alloc, first, places, &line.stmt, lists)?;
     }
     Ok(())
 }
@@ -154,30 +164,31 @@ fn lists_in(
 fn lists_at(
     alloc: Global,
     first: usize,
+    places: &Places,
     stmt: &Stmt,
     lists: &mut Vec<Vec<u32>>,
 ) -> Result<(), AllocError>
-    ensures { Puts lists.old lists.new (spec.put_lists first (view.stmt_of stmt.now)) result }
+    ensures { Puts lists.old lists.new (put_stmt first places.now stmt.now) result }
 {
     match stmt {
         Stmt::Call(c) => {
-            let slots = slots_in(alloc, &c.arguments)?;
+            let slots = slots_in(alloc, places, &c.arguments)?;
             put_list(lists, c.site, slots);
             Ok(())
         }
         Stmt::Begin(b) => {
-            let slots = Vec::from_slice(alloc, &b.over)?;
+            let slots = numbers_in(alloc, places, &b.over)?;
             put_list(lists, whole_list(first, b.callee), slots);
             Ok(())
         }
-        Stmt::If(_, b) | Stmt::While(_, b) => lists_in(alloc, first, b, lists),
+        Stmt::If(_, b) | Stmt::While(_, b) => lists_in(alloc, first, places, b, lists),
         Stmt::IfElse(_, b, c) => {
-            lists_in(alloc, first, b, lists)?;
-            lists_in(alloc, first, c, lists)
+            lists_in(alloc, first, places, b, lists)?;
+            lists_in(alloc, first, places, c, lists)
         }
-        Stmt::Scope(b) => lists_in(alloc, first, b, lists),
-        Stmt::Cut(_, b) => lists_in(alloc, first, b, lists),
-        Stmt::Region(_, b) => lists_in(alloc, first, b, lists),
+        Stmt::Scope(b) => lists_in(alloc, first, places, b, lists),
+        Stmt::Cut(_, b) => lists_in(alloc, first, places, b, lists),
+        Stmt::Region(_, b) => lists_in(alloc, first, places, b, lists),
         Stmt::Declare(_, _)
         | Stmt::DeclareArray(_, _)
         | Stmt::Assign(_, _)
@@ -189,14 +200,25 @@ fn lists_at(
     }
 }
 
-// The slots of the arrays among arguments.
-fn slots_in(alloc: Global, arguments: &[Argument]) -> Result<Vec<u32>, AllocError>
-    ensures { IfOk result (λ slots. slots.items ≡ slots_passed arguments.now) }
+// The numbers of array slots.
+fn numbers_in(alloc: Global, places: &Places, slots: &[u32]) -> Result<Vec<u32>, AllocError>
+    ensures { IfOk result (λ numbers. numbers.items ≡ map (array_at places.now) slots.now) }
+{
+    let mut numbers = Vec::new(alloc);
+    for slot in slots {
+        numbers.push(places.array(*slot))?;
+    }
+    Ok(numbers)
+}
+
+// The slots of the arrays among arguments that are given away.
+fn slots_in(alloc: Global, places: &Places, arguments: &[Argument]) -> Result<Vec<u32>, AllocError>
+    ensures { IfOk result (λ slots. slots.items ≡ slots_passed places.now arguments.now) }
 {
     let mut slots = Vec::new(alloc);
     for argument in arguments {
         if let Argument::Array(slot) = argument {
-            slots.push(*slot)?;
+            slots.push(places.array(*slot))?;
         }
     }
     Ok(slots)

@@ -1,6 +1,6 @@
 //! The code of the function of a loop, written out from its numbers and its body.
 
-ghost use Rattle.std.specs.Prelude.{◌≡◌};
+ghost use Rattle.std.specs.Prelude.{◌≡◌, []};
 ghost use Rattle.cw_gen.specs.Emit as spec;
 ghost use Rattle.cw_gen.specs.Emit.{emitted_function};
 ghost use Rattle.cw_gen.specs.Written as written;
@@ -9,6 +9,7 @@ ghost use Rattle.cw_loops.specs.Expanded.{numbers};
 ghost use Rattle.cw_loops.specs.Small.{IsSmallLoop};
 ghost use Rattle.cw_loops.specs.View as view;
 
+use crate::array_places::Places;
 use crate::jumps::{hole, land, land_past, put, row};
 use crate::leaves::leaf;
 use crate::lists::half_list;
@@ -22,15 +23,17 @@ use std::alloc::AllocError;
 pub(crate) fn loop_function(
     instrs: &mut Vec<Instr>,
     first: usize,
+    places: &Places,
     index: u32,
     l: &Loop,
 ) -> Result<(), AllocError>
-    requires { IsSmallLoop (view.loop_of l.now) }
+    requires small { IsSmallLoop (view.loop_of l.now) }
+    requires places { places.now ≡ [] }
     ensures { Adds instrs.old instrs.new (emitted_function first (text_of index l.now)) result }
 {
     test(instrs, l)?;
     let fits = hole(instrs)?;
-    leaf(instrs, first, l)?;
+    leaf(instrs, first, places, l)?;
     let end = hole(instrs)?;
     land(instrs, fits);
     node(instrs, first, index, l)?;
@@ -56,6 +59,7 @@ pub(crate) fn loop_func(start: usize, end: usize, l: &Loop) -> Func
         slots: ints.max(captured + 3),
         array_params: over,
         arrays: arrays.max(over * 3),
+        readers: 0,
     }
 }
 

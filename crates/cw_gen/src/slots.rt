@@ -3,18 +3,20 @@
 ghost use Rattle.std.specs.Prelude.{◌≡◌, suc, max};
 ghost use Rattle.cw_gen.specs.Emit as spec;
 ghost use Rattle.cw_loops.specs.View as view;
-ghost use Rattle.cw_gen.specs.Written.{are_arrays};
+ghost use Rattle.cw_gen.specs.Marks as marks;
+ghost use Rattle.cw_gen.specs.Written.{kinds_of};
 
 use cw_loops::tree::{Line, Stmt};
+use cw_model::syntax::NameKind;
 use cw_tree::resolved::Param;
 
 /// How many parameters are integers.
 pub(crate) fn count_ints(params: &[Param]) -> usize
-    ensures { result ≡ spec.count_ints (are_arrays params.now) }
+    ensures { result ≡ marks.count_ints (kinds_of params.now) }
 {
     let mut count = 0;
     for p in params {
-        if !p.is_array {
+        if let NameKind::Integer = p.kind {
             count += 1;
         }
     }
@@ -23,11 +25,38 @@ pub(crate) fn count_ints(params: &[Param]) -> usize
 
 /// How many parameters are arrays.
 pub(crate) fn count_arrays(params: &[Param]) -> usize
-    ensures { result ≡ spec.count_arrays (are_arrays params.now) }
+    ensures { result ≡ marks.count_arrays (kinds_of params.now) }
 {
     let mut count = 0;
     for p in params {
-        if p.is_array {
+        match p.kind {
+            NameKind::Integer => {}
+            NameKind::Array | NameKind::Const => count += 1,
+        }
+    }
+    count
+}
+
+/// How many parameters are arrays that a call takes.
+pub(crate) fn count_taken(params: &[Param]) -> usize
+    ensures { result ≡ marks.count_taken (kinds_of params.now) }
+{
+    let mut count = 0;
+    for p in params {
+        if let NameKind::Array = p.kind {
+            count += 1;
+        }
+    }
+    count
+}
+
+/// How many parameters are arrays that a call is lent.
+pub(crate) fn count_readers(params: &[Param]) -> usize
+    ensures { result ≡ marks.count_readers (kinds_of params.now) }
+{
+    let mut count = 0;
+    for p in params {
+        if let NameKind::Const = p.kind {
             count += 1;
         }
     }

@@ -3,7 +3,7 @@
 ghost use Rattle.std.specs.Prelude.{◌≡◌, ◌+◌, ◌≤◌, [], length, map, slice_get, IfOk, OnOk};
 ghost use Rattle.cw_code.specs.Code as code;
 ghost use Rattle.cw_gen.specs.Emit as spec;
-ghost use Rattle.cw_gen.specs.Written.{all_code, all_funcs, all_lists, code_of_core, lists_of};
+ghost use Rattle.cw_gen.specs.Written.{all_code, all_funcs, all_lists, all_loans, code_of_core, lists_of};
 ghost use Rattle.cw_gen.specs.Written.{kept_reducers, seen_sites, sites_of};
 ghost use Rattle.cw_loops.specs.Small.{IsSmallTree};
 ghost use Rattle.cw_model.specs.declared.limits.TheConstants.{MOST_CALL_STATEMENTS};
@@ -11,7 +11,8 @@ ghost use Rattle.cw_tree.specs.ResolvedView as view;
 
 use crate::functions::{functions_with, loop_functions};
 use crate::lists::{lists_of_bodies, lists_of_loops, no_lists};
-use cw_code::code::{Code, Func, Instr, Reducer, Site};
+use crate::loans::{loans_of_bodies, loans_of_loops};
+use cw_code::code::{Code, Func, Instr, Loan, Reducer, Site};
 use cw_loops::{Core, tree};
 use cw_model::syntax::Name;
 use cw_tree::resolved::{self, Function, Tree};
@@ -28,8 +29,9 @@ pub(crate) fn emit(alloc: Global, core: &Core, sites: Vec<Site>) -> Result<Code,
     let first = sites.len() + 1;
     let mut instrs = Vec::new(alloc);
     let mut funcs = Vec::new(alloc);
-    functions(&mut instrs, &mut funcs, first, source, &core.tree)?;
+    functions(alloc, &mut instrs, &mut funcs, first, source, &core.tree)?;
     let passed = lists(alloc, first, source, &core.tree)?;
+    let lent = loans(alloc, first, source, &core.tree)?;
     let reducers = reducers_of(alloc, &source.reducers)?;
     let tags = tags_of(alloc, &source.tags)?;
     Ok(Code {
@@ -41,11 +43,13 @@ pub(crate) fn emit(alloc: Global, core: &Core, sites: Vec<Site>) -> Result<Code,
         reducers,
         tags,
         passed,
+        lent,
     })
 }
 
 // The code of all functions of a tree.
 fn functions(
+    alloc: Global,
     instrs: &mut Vec<Instr>,
     funcs: &mut Vec<Func>,
     first: usize,
@@ -59,8 +63,15 @@ fn functions(
     ensures funcs { OnOk result (funcs.new.items ≡ all_funcs first source.now lowered.now) }
 {
     let index = source.functions.len() as u32;
-    functions_with(instrs, funcs, first, &source.functions, &lowered.bodies)?;
-    loop_functions(instrs, funcs, first, index, &lowered.loops)?;
+    functions_with(
+        alloc,
+        instrs,
+        funcs,
+        first,
+        &source.functions,
+        &lowered.bodies,
+    )?;
+    loop_functions(alloc, instrs, funcs, first, index, &lowered.loops)?;
     Ok(())
 }
 
@@ -78,10 +89,28 @@ fn lists(
     let index = source.functions.len() as u32;
     let functions = source.functions.len() + lowered.loops.len();
     let mut lists = no_lists(alloc, first + 3 * functions)?;
-    lists_of_bodies(alloc, first, &lowered.bodies, &mut lists)?;
+    let fs = &source.functions;
+    lists_of_bodies(alloc, first, fs, &lowered.bodies, &mut lists)?;
     lists_of_loops(alloc, first, index, &lowered.loops, &mut lists)?;
     Ok(lists)
 }
+
+// The loans of all functions of a tree.
+fn loans(
+    alloc: Global,
+    first: usize,
+    source: &Tree,
+    lowered: &tree::Tree,
+) -> Result<Vec<Vec<Loan>>, AllocError>
+    requires small { IsSmallTree source.now lowered.now }
+    ensures { IfOk result (λ lists. lists_of lists.items ≡ all_loans first source.now lowered.now) }
+{
+    let mut lists = no_lists(alloc, first)?;
+    loans_of_bodies(alloc, &source.functions, &lowered.bodies, &mut lists)?;
+    loans_of_loops(alloc, &lowered.loops, &mut lists)?;
+    Ok(lists)
+}
+
 // The line of the head of a function; 0 where there is none.
 fn head_line(functions: &[Function], function: u32) -> u32
     ensures { result ≡ spec.head_line (slice_get (map view.function_of functions.now) function) }

@@ -9,7 +9,7 @@ use Rattle.cw_model.specs.declared.limits.TheConstants.{MOST_LIMIT, MOST_BURDEN}
 use Rattle.cw_code.specs.declared.code.Func.{Func}
 use Rattle.cw_code.specs.Code.{code_view}
 use Rattle.cw_code.specs.Run.{full, slots_of, arrays_of, first_state}
-use Rattle.cw_code.specs.Fits.{params_of, array_params_of, gives_value, main_params}
+use Rattle.cw_code.specs.Fits.{params_of, array_params_of, readers_of, gives_value, main_params}
 use Rattle.cw_verify.specs.declared.verified.Verified.{Verified}
 use Rattle.cw_strands.specs.Jobs.{root_job}
 use Rattle.cw_jobs.specs.declared.call.Extent.TheVariants as extent
@@ -73,6 +73,9 @@ module _ (v : Verified) (f : Func) (args : List ℤ) (r : Rest) (ok : Ok v) (fou
   none_taken : f.array_params ≡ 0
   none_taken = sym (ap array_params_of found) ∙ ok.fits.of_integers
 
+  none_read : f.readers ≡ 0
+  none_read = sym (ap readers_of found) ∙ ok.fits.reads_none
+
   cells_are : r.cells.items ≡ args ++ replicate (f.slots - f.params) (pos 0)
   cells_are = first.cells ∙ ap (λ n. args ++ replicate (f.slots - n) (pos 0)) count
 
@@ -101,6 +104,7 @@ module _ (v : Verified) (f : Func) (args : List ℤ) (r : Rest) (ok : Ok v) (fou
     keeps = keeps;
     as_many = first.as_many ∙ sym (ap length arrays_are ∙ length-map (replicate f.arrays []) (λ (x : List ℤ). Some x) ∙ length-replicate f.arrays []);
     has = has;
+    reads_none = refl;
   }
 
   pub root_is : (p : Parts) (n : ℕ) → p.extent ≡ extent.WholeCall → p.rest ≡ r → p.limit ≡ n → p.before ≡ 0 → IsJob v ok p (root_job f args n)
@@ -109,10 +113,10 @@ module _ (v : Verified) (f : Func) (args : List ℤ) (r : Rest) (ok : Ok v) (fou
     limit = sym limit;
     before = sym before;
     holds = subst (λ (q : Rest). HoldsCall q (root_job f args n)) (sym same) (holds n);
-    base = first_state f args [];
+    base = first_state f args [] [];
     begins = refl;
     blocks = tt;
-    good = ok.begins v.code.main f args [] found count (sym none_taken);
+    good = ok.begins v.code.main f args [] [] found count (sym none_taken) (sym none_read);
     own = subst (λ (q : Rest). AreOwn q.slices.items) (sym same) owned;
     bare = λ k a slice e there. cc;
     cuts = λ seat. tt;

@@ -6,9 +6,10 @@ ghost use Rattle.cw_model.specs.Tokens.{lookup, word_kind};
 
 use cw_model::token::Kind;
 
-const KEYWORDS: [(&[u8], Kind); 21] = [
+const KEYWORDS: [(&[u8], Kind); 22] = [
     (b"int", Kind::Int),
     (b"void", Kind::Void),
+    (b"const", Kind::Const),
     (b"if", Kind::If),
     (b"else", Kind::Else),
     (b"while", Kind::While),

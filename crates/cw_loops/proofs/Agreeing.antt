@@ -1,6 +1,7 @@
 -- What types and ownership know of the names where a statement stands, and what the test of what can be lowered knows.
 use Rattle.std.proofs.Common.{◌≡◌, Bool, true, false, List, [], ◌∷◌, ◌++◌, refl, sym, ◌∙◌, ap, append_assoc}
 use Rattle.std.specs.Prelude.{if◌then◌else◌, not, ◌&&◌, ◌||◌, Option}
+use Rattle.cw_model.specs.declared.syntax.NameKind.TheVariants as name_kind
 use Rattle.cw_model.specs.Syntax.{Name, Expr, Number, Variable, Element, Length, Negative, Not, Binary}
 use Rattle.cw_model.specs.Names.{same_name, is_among}
 use Rattle.cw_model.specs.Captured.{read_by}
@@ -113,7 +114,7 @@ head_keeps (InLoop outer i over) (Binary operator d e) h =
     all_of (keeps_loop (InLoop outer i over) d) (keeps_loop (InLoop outer i over) e) (head_keeps (InLoop outer i over) d k.0) (head_keeps (InLoop outer i over) e k.1)
 
 module _ {c : Surroundings} {ints arrays : List Name} {known : Known} {owners : List Name} {around : Around} {returns : Returns} (agree : Agree c ints arrays known owners around returns) where
-  pub with_int : (y : Name) → Unknown known y → Agree c (ints ++ y ∷ []) arrays ((y, false) ∷ known) (y ∷ owners) around returns
+  pub with_int : (y : Name) → Unknown known y → Agree c (ints ++ y ∷ []) arrays ((y, name_kind.Integer) ∷ known) (y ∷ owners) around returns
   with_int y fresh = record {
     ints_are = λ x. pushed x y (c.outer ++ ints) (is_int known x) (agree.ints_are x) ∙ ap (is_among x) (append_assoc c.outer ints (y ∷ []));
     arrays_are = λ x. passed x y (c.arrays ++ arrays) (is_array known x) (agree.arrays_are x) (sym (agree.arrays_are y) ∙ fresh.no_array);
@@ -127,7 +128,7 @@ module _ {c : Surroundings} {ints arrays : List Name} {known : Known} {owners : 
     may = agree.may;
   }
 
-  pub with_array : (y : Name) → Unknown known y → Agree c ints (arrays ++ y ∷ []) ((y, true) ∷ known) (y ∷ owners) around returns
+  pub with_array : (y : Name) → Unknown known y → Agree c ints (arrays ++ y ∷ []) ((y, name_kind.Array) ∷ known) (y ∷ owners) around returns
   with_array y fresh = record {
     ints_are = λ x. passed x y (c.outer ++ ints) (is_int known x) (agree.ints_are x) (sym (agree.ints_are y) ∙ fresh.no_int);
     arrays_are = λ x. pushed x y (c.arrays ++ arrays) (is_array known x) (agree.arrays_are x) ∙ ap (is_among x) (append_assoc c.arrays arrays (y ∷ []));

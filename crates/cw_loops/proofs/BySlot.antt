@@ -1,12 +1,13 @@
 -- Lowering by slot makes of each statement what lowering by name makes, each name looked up.
-use Rattle.std.proofs.Common.{◌≡◌, ℕ, suc, ◌+◌, ◌≤◌, ◌<◌, nat_lt, Bool, true, false, List, [], ◌∷◌, ◌++◌, length, map, arith, refl, sym, ◌∙◌, ap, subst, append_assoc, append-nil, length-append}
+use Rattle.std.proofs.Common.{◌≡◌, ℕ, suc, ◌+◌, ◌≤◌, ◌<◌, nat_lt, Bool, true, false, List, [], ◌∷◌, ◌++◌, length, map, arith, refl, sym, ◌∙◌, ap, subst, append_assoc, append-nil, length-append, drop}
 use Rattle.std.specs.Prelude.{if◌then◌else◌, not, nat_le, ◌==◌, ◌&&◌, ◌||◌, Option, Some, None, option_map}
 use Rattle.std.specs.List.{list_all}
 use Rattle.std.proofs.lemmas.Bool.Decides.{nat_tests}
 use Rattle.std.proofs.lemmas.List.{map-append, length-map}
 use Rattle.cw_model.specs.declared.syntax.CallKind.{CallKind}
 use Rattle.cw_model.specs.declared.syntax.Operator.TheVariants.{Minus}
-use Rattle.cw_model.specs.Syntax.{Name, Expr, Number, Variable, Element, Length, Negative, Not, Binary, Stmt, Declare, DeclareArray, Assign, AssignElement, Reduce, Call, Start, Begin, Sync, If, IfElse, While, For, Scope, Cut, Region, Print, Return, Block, End, Then, Program}
+use Rattle.cw_model.specs.declared.syntax.NameKind.TheVariants as name_kind
+use Rattle.cw_model.specs.Syntax.{Name, Expr, Number, Variable, Element, Length, Negative, Not, Binary, Stmt, Declare, DeclareArray, Assign, AssignElement, Reduce, Call, Start, Begin, Sync, If, IfElse, While, For, Scope, Cut, Region, Print, Return, Block, End, Then, Program, Param}
 use Rattle.cw_model.specs.Syntax as model
 use Rattle.cw_model.specs.Lines.{unless}
 use Rattle.cw_model.specs.Names.{same_name, is_among}
@@ -14,12 +15,12 @@ use Rattle.cw_model.specs.Meaning.{function_named}
 use Rattle.cw_model.specs.Captured.{captured}
 use Rattle.cw_model.specs.Typing.{Known, is_int, is_array, is_fine, is_new, is_head_of_loop, faults_in, faults_in_block, declares, ends_block, surely_returns, Returns, Nowhere}
 use Rattle.cw_model.specs.lemmas.Kept.{left_none, right_none, kept}
-use Rattle.cw_tree.specs.Resolved.{Lists, Locals, Use, slot_of, use_of, resolved_expr, resolved_argument, resolved_stmt, resolved_block, with_int, with_array, locals_after, head_with}
+use Rattle.cw_tree.specs.Resolved.{Lists, Locals, Use, slot_of, use_of, resolved_expr, resolved_argument, resolved_stmt, resolved_block, with_int, with_array, locals_after, head_with, resolved_arguments}
 use Rattle.cw_tree.specs.Resolved as source
 use Rattle.cw_tree.specs.Bounds.{Counts, fits_expr, fits_head, fits_parts, fits_stmt, fits_block}
 use Rattle.cw_loops.specs.Lowered.{is_plain, low, high, loop_name, lower_index, lower_expr, lower_exprs, lower_option, loop_count, loop_count_in, lower_stmt, lower_block, made_by, made_in, loop_function}
 use Rattle.cw_loops.specs.Lowerable.{Surroundings, can_write, can_read, is_local, is_variable, can_evaluate, can_pass, can_pass_all, can_target, new_integers, new_arrays, can_loop, inside, can_lower, can_lower_all}
-use Rattle.cw_loops.specs.Slotted.{slotted_expr, slotted_argument, slotted_stmt, slotted_block, slotted_function}
+use Rattle.cw_loops.specs.Slotted.{slotted_expr, slotted_argument, slotted_stmt, slotted_block, slotted_function, slotted_arguments}
 use Rattle.cw_loops.specs.Slotted as slotted
 use Rattle.cw_loops.specs.Moved.{slot, Moves, slots_of, moves_of, moved_int, moved_array, is_over, from_low, moved_expr, moved_argument, moved_target, moved_return, moved_ints, moved_arrays, arrays_after, Loop, moved_head, loop_with, loop_index, Made, MadeAll, made_stmt, made_block}
 use Rattle.cw_loops.specs.Expanded.{loop_text, loop_texts}
@@ -32,6 +33,7 @@ use Rattle.cw_loops.proofs.Shifting.{small_slot}
 use Rattle.cw_loops.proofs.Entering.{joined, at, lowered_at, two_lists, Entered, entered, variable_can, after_stmt, after_array}
 use Rattle.cw_loops.proofs.OuterReads.{captured_in_order}
 use Rattle.cw_loops.proofs.Tracking.{no_more, slots_are, Tracks, outside_not_arrays, outside_not_over, tracks_inside}
+use Rattle.cw_loops.proofs.Readers.{reads_none}
 use Rattle.cw_loops.proofs.LoopTexts.{loop_text_is}
 
 module _ (m : Moves) (c : Surroundings) (t : Tracks m c) (ints arrays : List Name) (few_ints : length (c.outer ++ ints) ≤ 256) (few_arrays : length (c.arrays ++ arrays) ≤ 256) where
@@ -85,32 +87,37 @@ module _ (m : Moves) (c : Surroundings) (t : Tracks m c) (ints arrays : List Nam
   same_kind_there y h =
       among_join y c.arrays arrays ∙ ap (λ b. b || is_among y arrays) (outside_not_arrays c y h ∙ sym (outside_not_over c y h)) ∙ sym (among_join y c.over arrays)
 
-  name_moved : (y : Name) → can_pass c (Variable y) ≡ true → moved_argument m (resolved_argument at_source (Variable y)) ≡ slotted_argument at_target (Variable y)
-  name_moved y h =
-      ap (λ b. moved_argument m (if b then source.Array (use_of (c.arrays ++ arrays) y) else source.Int (source.Variable (use_of (c.outer ++ ints) y)))) (same_kind_there y g.1)
+  name_moved : (y : Name) (ps : List Param) → can_pass c (Variable y) ≡ true → moved_argument m (resolved_argument at_source ps (Variable y)) ≡ slotted_argument at_target ps (Variable y)
+  name_moved y ps h =
+      ap (λ b. moved_argument m (if b then source.passed_to ps (use_of (c.arrays ++ arrays) y) else source.Int (source.Variable (use_of (c.outer ++ ints) y)))) (same_kind_there y g.1)
       ∙ go (is_among y (c.over ++ arrays))
     where
       g : (can_read c y ≡ true) × (is_local c y ≡ true)
       g = both_true (can_read c y) (is_local c y) h
 
-      go : (b : Bool) → moved_argument m (if b then source.Array (use_of (c.arrays ++ arrays) y) else source.Int (source.Variable (use_of (c.outer ++ ints) y))) ≡ (if b then slotted.Array (slot_of y (c.over ++ arrays)) else slotted.Int (slotted.Variable (slot_of y (c.given ++ ints))))
-      go true = ap (λ s. slotted.Array s) (t.array_local y arrays g.1 few_arrays)
+      passed : (r : Bool) → moved_array m (slot_of y (c.arrays ++ arrays)) ≡ slot_of y (c.over ++ arrays) →
+          moved_argument m (if r then source.Shared (use_of (c.arrays ++ arrays) y) else source.Array (use_of (c.arrays ++ arrays) y)) ≡ (if r then slotted.Shared (slot_of y (c.over ++ arrays)) else slotted.Array (slot_of y (c.over ++ arrays)))
+      passed true e = ap (λ s. slotted.Shared s) e
+      passed false e = ap (λ s. slotted.Array s) e
+
+      go : (b : Bool) → moved_argument m (if b then source.passed_to ps (use_of (c.arrays ++ arrays) y) else source.Int (source.Variable (use_of (c.outer ++ ints) y))) ≡ (if b then slotted.slot_to ps (slot_of y (c.over ++ arrays)) else slotted.Int (slotted.Variable (slot_of y (c.given ++ ints))))
+      go true = passed (source.is_reader ps) (t.array_local y arrays g.1 few_arrays)
       go false = ap (λ s. slotted.Int (slotted.Variable s)) (t.int_read y ints g.0 few_ints)
 
-  argument_moved : (e : Expr) → can_pass c e ≡ true → moved_argument m (resolved_argument at_source e) ≡ slotted_argument at_target (lower_expr c.over e)
-  argument_moved (Number n) h = refl
-  argument_moved (Variable y) h = name_moved y h
-  argument_moved (Element a e) h = ap (λ i. slotted.Int i) (expr_moved (Element a e) h)
-  argument_moved (Length a) h = ap (λ i. slotted.Int i) (expr_moved (Length a) h)
-  argument_moved (Negative e) h = ap (λ i. slotted.Int i) (expr_moved (Negative e) h)
-  argument_moved (Not e) h = ap (λ i. slotted.Int i) (expr_moved (Not e) h)
-  argument_moved (Binary operator d e) h = ap (λ i. slotted.Int i) (expr_moved (Binary operator d e) h)
+  argument_moved : (e : Expr) (ps : List Param) → can_pass c e ≡ true → moved_argument m (resolved_argument at_source ps e) ≡ slotted_argument at_target ps (lower_expr c.over e)
+  argument_moved (Number n) ps h = refl
+  argument_moved (Variable y) ps h = name_moved y ps h
+  argument_moved (Element a e) ps h = ap (λ i. slotted.Int i) (expr_moved (Element a e) h)
+  argument_moved (Length a) ps h = ap (λ i. slotted.Int i) (expr_moved (Length a) h)
+  argument_moved (Negative e) ps h = ap (λ i. slotted.Int i) (expr_moved (Negative e) h)
+  argument_moved (Not e) ps h = ap (λ i. slotted.Int i) (expr_moved (Not e) h)
+  argument_moved (Binary operator d e) ps h = ap (λ i. slotted.Int i) (expr_moved (Binary operator d e) h)
 
-  arguments_moved : (es : List Expr) → can_pass_all c es ≡ true → map (moved_argument m) (map (resolved_argument at_source) es) ≡ map (slotted_argument at_target) (lower_exprs c.over es)
-  arguments_moved [] h = refl
-  arguments_moved (e ∷ es) h =
+  arguments_moved : (es : List Expr) (ps : List Param) → can_pass_all c es ≡ true → map (moved_argument m) (resolved_arguments at_source ps es) ≡ slotted_arguments at_target ps (lower_exprs c.over es)
+  arguments_moved [] ps h = refl
+  arguments_moved (e ∷ es) ps h =
       let g = both_true (can_pass c e) (can_pass_all c es) h in
-      ap (λ y. y ∷ map (moved_argument m) (map (resolved_argument at_source) es)) (argument_moved e g.0) ∙ ap (λ r. slotted_argument at_target (lower_expr c.over e) ∷ r) (arguments_moved es g.1)
+      ap (λ y. y ∷ map (moved_argument m) (resolved_arguments at_source (drop 1 ps) es)) (argument_moved e ps g.0) ∙ ap (λ r. slotted_argument at_target ps (lower_expr c.over e) ∷ r) (arguments_moved es (drop 1 ps) g.1)
 
   write_moved : (x : Name) → can_write c x ≡ true → moved_int m (slot_of x (c.outer ++ ints)) ≡ slot_of x (c.given ++ ints)
   write_moved x h = t.int_read x ints (either_right (is_among x c.shared) (can_write c x) h) few_ints
@@ -148,7 +155,7 @@ pub record Here (n : ℕ) (m : Moves) (c : Surroundings) (ints arrays : List Nam
 was_below : (k n most : ℕ) → nat_lt k n ≡ true → n ≤ most → k < most
 was_below k n most h few = grind (arith, nat_tests, h, few)
 
-known_more : (x : Name) (ints : List Name) (known : Known) → ((y : Name) → is_among y ints ≡ true → is_int known y ≡ true) → (y : Name) → is_among y (ints ++ x ∷ []) ≡ true → is_int ((x, false) ∷ known) y ≡ true
+known_more : (x : Name) (ints : List Name) (known : Known) → ((y : Name) → is_among y ints ≡ true → is_int known y ≡ true) → (y : Name) → is_among y (ints ++ x ∷ []) ≡ true → is_int ((x, name_kind.Integer) ∷ known) y ≡ true
 known_more x ints known h y o = go (told (same_name y x)) (side y ints (x ∷ []) o)
   where
     go : Told (same_name y x) → Side y ints (x ∷ []) → (if same_name y x then true else is_int known y) ≡ true
@@ -156,7 +163,7 @@ known_more x ints known h y o = go (told (same_name y x)) (side y ints (x ∷ []
     go (no_is e) (in_first p) = ap (λ b. if b then true else is_int known y) e ∙ h y p
     go (no_is e) (in_second p) = never (is_among y (x ∷ [])) p (ap (λ b. if b then true else false) e)
 
-known_past : (a : Name) (ints : List Name) (known : Known) → is_int known a ≡ false → ((y : Name) → is_among y ints ≡ true → is_int known y ≡ true) → (y : Name) → is_among y ints ≡ true → is_int ((a, true) ∷ known) y ≡ true
+known_past : (a : Name) (ints : List Name) (known : Known) → is_int known a ≡ false → ((y : Name) → is_among y ints ≡ true → is_int known y ≡ true) → (y : Name) → is_among y ints ≡ true → is_int ((a, name_kind.Array) ∷ known) y ≡ true
 known_past a ints known new h y o = go (told (same_name y a))
   where
     go : Told (same_name y a) → (if same_name y a then false else is_int known y) ≡ true
@@ -166,7 +173,7 @@ known_past a ints known new h y o = go (told (same_name y a))
 here_as : {n : ℕ} {m : Moves} {c : Surroundings} {ints ints' arrays arrays' : List Name} {known : Known} {counts : Counts} → ints ≡ ints' → arrays ≡ arrays' → Here n m c ints arrays known counts → Here n m c ints' arrays' known counts
 here_as {n} {m} {c} {ints} {ints'} {arrays} {arrays'} {known} {counts} e f h = subst (λ w. Here n m c ints' w known counts) f (subst (λ w. Here n m c w arrays known counts) e h)
 
-here_int : {n : ℕ} {m : Moves} {c : Surroundings} {ints arrays : List Name} {known : Known} {counts : Counts} (x : Name) → nat_lt (length (c.outer ++ ints)) counts.ints ≡ true → Here n m c ints arrays known counts → Here n m c (ints ++ x ∷ []) arrays ((x, false) ∷ known) counts
+here_int : {n : ℕ} {m : Moves} {c : Surroundings} {ints arrays : List Name} {known : Known} {counts : Counts} (x : Name) → nat_lt (length (c.outer ++ ints)) counts.ints ≡ true → Here n m c ints arrays known counts → Here n m c (ints ++ x ∷ []) arrays ((x, name_kind.Integer) ∷ known) counts
 here_int {n} {m} {c} {ints} {arrays} {known} {counts} x h here = record {
   tracks = here.tracks;
   few_ints = let p = was_below (length (c.outer ++ ints)) counts.ints 256 h here.most_ints in let q = ap length (append_assoc c.outer ints (x ∷ [])) in let r = length-append (c.outer ++ ints) (x ∷ []) in omega (arith, p, q, r);
@@ -177,7 +184,7 @@ here_int {n} {m} {c} {ints} {arrays} {known} {counts} x h here = record {
   functions_are = here.functions_are;
 }
 
-here_array : {n : ℕ} {m : Moves} {c : Surroundings} {ints arrays : List Name} {known : Known} {counts : Counts} (a : Name) → nat_lt (length (c.arrays ++ arrays)) counts.arrays ≡ true → is_int known a ≡ false → Here n m c ints arrays known counts → Here n m c ints (arrays ++ a ∷ []) ((a, true) ∷ known) counts
+here_array : {n : ℕ} {m : Moves} {c : Surroundings} {ints arrays : List Name} {known : Known} {counts : Counts} (a : Name) → nat_lt (length (c.arrays ++ arrays)) counts.arrays ≡ true → is_int known a ≡ false → Here n m c ints arrays known counts → Here n m c ints (arrays ++ a ∷ []) ((a, name_kind.Array) ∷ known) counts
 here_array {n} {m} {c} {ints} {arrays} {known} {counts} a h new here = record {
   tracks = here.tracks;
   few_ints = here.few_ints;
@@ -271,13 +278,14 @@ small_two n few = ap (λ i. slot (i + 2)) (small_slot n (omega (arith, few))) �
 small_index : (n k : ℕ) → n ≤ 1024 → k ≤ 4096 → loop_index n k ≡ n + k
 small_index n k few some = ap (λ i. slot (i + n)) (small_slot k (omega (arith, some))) ∙ small_slot (k + n) (omega (arith, few, some)) ∙ omega arith
 
-module _ (program : Program) (fs fs' rs ts : List Name) (n total : ℕ) (few_loops : total ≤ 4096) (few_functions : n ≤ 1024)
-    (callee : (f : Name) → slot_of f fs < n → slot_of f fs' ≡ slot_of f fs) (loops_at : (k : ℕ) → k < total → slot_of (loop_name k) fs' ≡ n + k) where
+module _ (program : Program) (fs fs' rs ts : List Name) (gs gs' : List model.Function) (n total : ℕ) (few_loops : total ≤ 4096) (few_functions : n ≤ 1024)
+    (callee : (f : Name) → slot_of f fs < n → slot_of f fs' ≡ slot_of f fs) (loops_at : (k : ℕ) → k < total → slot_of (loop_name k) fs' ≡ n + k)
+    (params_stay : (f : Name) → is_plain f ≡ true → (function_named f gs').params ≡ (function_named f gs).params) (loops_read : (k : ℕ) → reads_none (function_named (loop_name k) gs').params ≡ true) where
   abbrev Source : Lists
-  Source = record { functions = fs; reducers = rs; tags = ts }
+  Source = record { callees = gs; functions = fs; reducers = rs; tags = ts }
 
   abbrev Target : Lists
-  Target = record { functions = fs'; reducers = rs; tags = ts }
+  Target = record { callees = gs'; functions = fs'; reducers = rs; tags = ts }
 
   abbrev StmtMade : Stmt → Type 0
   StmtMade s =
@@ -358,7 +366,7 @@ module _ (program : Program) (fs fs' rs ts : List Name) (n total : ℕ) (few_loo
       (λ bl. slotted.Cut (slot_of a (c.over ++ arrays)) (slotted_expr (lowered_at c ints arrays) (lower_expr c.over e)) (length (c.over ++ arrays)) (suc (length (c.over ++ arrays))) bl)
       (parts_moved (slotted_block Target (with_array r (with_array l (lowered_at c ints arrays))) (lower_block c.over k b)))
       (as_blocks m c.over loops k b inner_count (sym (twice_after c.outer c.arrays)) (sym (twice_after c.given c.over))
-      (more m c ints ((arrays ++ l ∷ []) ++ r ∷ []) ((r, true) ∷ (l, true) ∷ known) counts Nowhere loops k there can_inner
+      (more m c ints ((arrays ++ l ∷ []) ++ r ∷ []) ((r, name_kind.Array) ∷ (l, name_kind.Array) ∷ known) counts Nowhere loops k there can_inner
       (ap (λ w. fits_block counts (resolved_block Source w b)) (sym (twice_after c.outer c.arrays)) ∙ two.1) (right_none (unless _ line) _ types) len room))
     where
       t : Tracks m c
@@ -389,13 +397,13 @@ module _ (program : Program) (fs fs' rs ts : List Name) (n total : ℕ) (few_loo
       keeps : CutKept program known a e l r
       keeps = cut_kept program known a e l r (kept _ line (left_none _ _ types))
 
-      between : Here n m c ints (arrays ++ l ∷ []) ((l, true) ∷ known) counts
+      between : Here n m c ints (arrays ++ l ∷ []) ((l, name_kind.Array) ∷ known) counts
       between = here_array l left_below (new_unknown program known l keeps.left).no_int here
 
-      right_new : is_int ((l, true) ∷ known) r ≡ false
+      right_new : is_int ((l, name_kind.Array) ∷ known) r ≡ false
       right_new = ap (λ w. if w then false else is_int known r) (same_turned r l ∙ keeps.two) ∙ (new_unknown program known r keeps.right).no_int
 
-      there : Here n m c ints ((arrays ++ l ∷ []) ++ r ∷ []) ((r, true) ∷ (l, true) ∷ known) counts
+      there : Here n m c ints ((arrays ++ l ∷ []) ++ r ∷ []) ((r, name_kind.Array) ∷ (l, name_kind.Array) ∷ known) counts
       there = here_array r (ap (λ w. nat_lt (length w) counts.arrays) (sym (append_assoc c.arrays arrays (l ∷ []))) ∙ right_below) right_new between
 
       inner_count : length (c.arrays ++ ((arrays ++ l ∷ []) ++ r ∷ [])) ≡ slot (length ((c.arrays ++ arrays) ++ l ∷ []) + 1)
@@ -452,7 +460,7 @@ module _ (program : Program) (fs fs' rs ts : List Name) (n total : ℕ) (few_loo
   -- what is known in the body
   for_here : {m : Moves} {c : Surroundings} {ints arrays : List Name} {known : Known} {counts : Counts} (x : Name) (from to : Expr) (grain : ℕ) (over : List Name) (b : Block) → Here n m c ints arrays known counts →
       can_loop c ints arrays x (captured x b) over ≡ true → can_lower_all (inside c ints arrays x (captured x b) over) [] [] b ≡ true → nat_lt (length (c.outer ++ ints)) counts.ints ≡ true →
-      Here n (moves_in c ints arrays x from to grain over b) (inside c ints arrays x (captured x b) over) [] [] ((x, false) ∷ known) counts
+      Here n (moves_in c ints arrays x from to grain over b) (inside c ints arrays x (captured x b) over) [] [] ((x, name_kind.Integer) ∷ known) counts
   for_here {m} {c} {ints} {arrays} {known} {counts} x from to grain over b here can inner below = record {
     tracks = for_tracks c ints arrays x from to grain over b can inner here.few_ints here.few_arrays;
     few_ints =
@@ -469,12 +477,12 @@ module _ (program : Program) (fs fs' rs ts : List Name) (n total : ℕ) (few_loo
 
   for_inner : {m : Moves} {c : Surroundings} {ints arrays : List Name} {known : Known} {counts : Counts} (x : Name) (from to : Expr) (grain : ℕ) (over : List Name) (b : Block) (loops : List Loop) (k : ℕ) → BlockMade b → Here n m c ints arrays known counts →
       can_loop c ints arrays x (captured x b) over ≡ true → can_lower_all (inside c ints arrays x (captured x b) over) [] [] b ≡ true → nat_lt (length (c.outer ++ ints)) counts.ints ≡ true →
-      fits_block counts (resolved_block Source (with_int x (at c ints arrays)) b) ≡ true → faults_in_block program Nowhere ((x, false) ∷ known) b ≡ [] → length loops ≡ k → k + loop_count_in b ≤ total →
+      fits_block counts (resolved_block Source (with_int x (at c ints arrays)) b) ≡ true → faults_in_block program Nowhere ((x, name_kind.Integer) ∷ known) b ≡ [] → length loops ≡ k → k + loop_count_in b ≤ total →
       Blocks (moves_in c ints arrays x from to grain over b) (length (c.arrays ++ arrays)) (with_int x (at c ints arrays)) (joined [] [] ((low ∷ high ∷ captured x b) ++ x ∷ []) over) over loops k b
   for_inner {m} {c} {ints} {arrays} {known} {counts} x from to grain over b loops k more here can inner below fits types len room =
       as_blocks (moves_in c ints arrays x from to grain over b) over loops k b (ap length (append-nil (c.arrays ++ arrays))) same_locals
       (two_lists (((low ∷ high ∷ captured x b) ++ x ∷ []) ++ []) ((low ∷ high ∷ captured x b) ++ x ∷ []) (over ++ []) over (append-nil ((low ∷ high ∷ captured x b) ++ x ∷ [])) (append-nil over))
-      (more (moves_in c ints arrays x from to grain over b) (inside c ints arrays x (captured x b) over) [] [] ((x, false) ∷ known) counts Nowhere loops k (for_here x from to grain over b here can inner below) inner
+      (more (moves_in c ints arrays x from to grain over b) (inside c ints arrays x (captured x b) over) [] [] ((x, name_kind.Integer) ∷ known) counts Nowhere loops k (for_here x from to grain over b here can inner below) inner
       (ap (λ w. fits_block counts (resolved_block Source w b)) same_locals ∙ fits) types len room)
     where
       same_locals : joined ((c.outer ++ ints) ++ x ∷ []) (c.arrays ++ arrays) [] [] ≡ with_int x (at c ints arrays)
@@ -511,7 +519,7 @@ module _ (program : Program) (fs fs' rs ts : List Name) (n total : ℕ) (few_loo
   text_made {m} {c} {ints} {arrays} {known} {counts} x from to grain over b k j line text here can inner known_arrays less text_is =
       ap (λ i. loop_text (n + j) (record { line = line; grain = grain; captured = i; over = slot (length (map (use_of (c.arrays ++ arrays)) over)); body = text })) count
       ∙ ap (λ i. loop_text (n + j) (record { line = line; grain = grain; captured = length (captured x b); over = i; body = text })) over_count
-      ∙ loop_text_is Target line (loop_name j) x grain (captured x b) over (n + j) text (lower_block over k b) entry.plain entry.not_taken entry.taken_plain entry.taken_differ entry.over_plain entry.over_differ kept_apart (loops_at j less) text_is
+      ∙ loop_text_is Target line (loop_name j) x grain (captured x b) over (n + j) text (lower_block over k b) entry.plain entry.not_taken entry.taken_plain entry.taken_differ entry.over_plain entry.over_differ kept_apart (loops_at j less) (loops_read j) text_is
     where
       entry : Entered c ints arrays x (captured x b) over
       entry = entered c ints arrays x (captured x b) over can
@@ -588,9 +596,10 @@ module _ (program : Program) (fs fs' rs ts : List Name) (n total : ℕ) (few_loo
   call_made : (kind : CallKind) (site : ℕ) (target : Option Name) (f : Name) (es : List Expr) → StmtMade (Call kind site target f es)
   call_made kind site target f es m c ints arrays known counts returns loops k line here can fits types len room =
       done_alone n Target _ _ loops k len
-      (ap (λ g. slotted.Call kind site (moved_target m (option_map (use_of (c.outer ++ ints)) target)) g (map (moved_argument m) (map (resolved_argument (at c ints arrays)) es))) (sym (callee f below))
-      ∙ ap (λ g. slotted.Call kind site g (slot_of f fs') (map (moved_argument m) (map (resolved_argument (at c ints arrays)) es))) (target_moved m c here.tracks ints arrays here.few_ints here.few_arrays target three.0)
-      ∙ ap (λ g. slotted.Call kind site (option_map (λ x. slot_of x (c.given ++ ints)) target) (slot_of f fs') g) (arguments_moved m c here.tracks ints arrays here.few_ints here.few_arrays es three.1))
+      (ap (λ g. slotted.Call kind site (moved_target m (option_map (use_of (c.outer ++ ints)) target)) g (map (moved_argument m) (resolved_arguments (at c ints arrays) (function_named f gs).params es))) (sym (callee f below))
+      ∙ ap (λ g. slotted.Call kind site g (slot_of f fs') (map (moved_argument m) (resolved_arguments (at c ints arrays) (function_named f gs).params es))) (target_moved m c here.tracks ints arrays here.few_ints here.few_arrays target three.0)
+      ∙ ap (λ g. slotted.Call kind site (option_map (λ x. slot_of x (c.given ++ ints)) target) (slot_of f fs') g) (arguments_moved m c here.tracks ints arrays here.few_ints here.few_arrays es (function_named f gs).params three.1)
+      ∙ ap (λ ps. slotted.Call kind site (option_map (λ x. slot_of x (c.given ++ ints)) target) (slot_of f fs') (slotted_arguments (lowered_at c ints arrays) ps (lower_exprs c.over es))) (sym (params_stay f (both_true (is_plain f) _ can).0)))
     where
       three : (can_target c target ≡ true) × (can_pass_all c es ≡ true)
       three = both_true (can_target c target) _ (both_true (length es == length (function_named f c.functions).params) _ (both_true (is_plain f) _ can).1).1

@@ -1,11 +1,13 @@
 -- Call statements in the source's frame and in the function's.
 use Rattle.std.proofs.Common.{◌≡◌, ℕ, ◌-◌, ◌≤◌, ◌<◌, Bool, true, false, ℤ, List, [], ◌∷◌, ◌++◌, length, arith, refl, sym, ◌∙◌, ap, append_assoc, append-nil, subst}
 use Rattle.std.specs.Prelude.{if◌then◌else◌, Option, Some, None}
+use Rattle.cw_model.specs.declared.syntax.NameKind.{NameKind}
 use Rattle.cw_model.specs.Trees.{Invocation}
 use Rattle.cw_model.specs.TreeLaws.{in_mark}
 use Rattle.cw_model.specs.declared.syntax.CallKind.{CallKind}
+use Rattle.cw_model.specs.declared.syntax.NameKind.TheVariants as name_kind
 use Rattle.cw_model.specs.declared.syntax.CallKind.TheVariants.{Plain, Spawned}
-use Rattle.cw_model.specs.Syntax.{Name, Expr, Number, Variable, Element, Length, Negative, Not, Binary, Call, Param, Function}
+use Rattle.cw_model.specs.Syntax.{Name, Expr, Number, Variable, Element, Length, Negative, Not, Binary, Call, Param, Function, wants_array, takes_array, is_written_kind, is_array_kind}
 use Rattle.cw_model.specs.Names.{is_among, find}
 use Rattle.cw_model.specs.Frames.{Frame, no_frame, array_of, new_int, new_array, set_array, set_result}
 use Rattle.cw_model.specs.Expressions.{evaluate}
@@ -57,7 +59,7 @@ given_fine (Binary o d e) f g = record { short = omega arith; elements = tt }
 abbrev pub Matches : List Param → List Expr → Frame → List (Name × List ℤ) → Type 0
 Matches [] es f t = Unit {0}
 Matches (p ∷ ps) [] f t = Unit {0}
-Matches (p ∷ ps) (e ∷ es) f t = (p.is_array ≡ true → (is_among p.name (keys t) ≡ true) × (length (find [] p.name t) ≡ length (given_array e f))) × Matches ps es f t
+Matches (p ∷ ps) (e ∷ es) f t = (wants_array p ≡ true → (is_among p.name (keys t) ≡ true) × (length (find [] p.name t) ≡ length (given_array e f))) × Matches ps es f t
 
 -- a call's frame, the same on both sides
 pub record SameGiven (ps : List Param) (es : List Expr) (f start given given' : Frame) : Type 0 where
@@ -77,13 +79,19 @@ among_there a v t u = rw (keys-append t ((a, v) ∷ u)) (there (keys t))
     there [] = front_among a (keys u)
     there (x ∷ xs) = later_among a x (xs ++ a ∷ keys u) (there xs)
 
-fresh_if : (b : Bool) (p : Param) (ps : List Param) (known : List Name) → p.is_array ≡ b → Fresh known (arrays_of (p ∷ ps)) → Fresh known (if b then p.name ∷ arrays_of ps else arrays_of ps)
+-- what is given away is an array
+taken_wanted : (k : NameKind) → is_written_kind k ≡ true → is_array_kind k ≡ true
+taken_wanted name_kind.Array h = refl
+taken_wanted name_kind.Const h = refl
+taken_wanted name_kind.Integer h = cc
+
+fresh_if : (b : Bool) (p : Param) (ps : List Param) (known : List Name) → wants_array p ≡ b → Fresh known (arrays_of (p ∷ ps)) → Fresh known (if b then p.name ∷ arrays_of ps else arrays_of ps)
 fresh_if b p ps known e h = subst (λ x. Fresh known (if x then p.name ∷ arrays_of ps else arrays_of ps)) e h
 
-ints_if : (b : Bool) (p : Param) (ps : List Param) → p.is_array ≡ b → (if b then integers_of ps else p.name ∷ integers_of ps) ≡ integers_of (p ∷ ps)
+ints_if : (b : Bool) (p : Param) (ps : List Param) → wants_array p ≡ b → (if b then integers_of ps else p.name ∷ integers_of ps) ≡ integers_of (p ∷ ps)
 ints_if b p ps e = ap (λ x. if x then integers_of ps else p.name ∷ integers_of ps) (sym e)
 
-arrays_if : (b : Bool) (p : Param) (ps : List Param) → p.is_array ≡ b → (if b then p.name ∷ arrays_of ps else arrays_of ps) ≡ arrays_of (p ∷ ps)
+arrays_if : (b : Bool) (p : Param) (ps : List Param) → wants_array p ≡ b → (if b then p.name ∷ arrays_of ps else arrays_of ps) ≡ arrays_of (p ∷ ps)
 arrays_if b p ps e = ap (λ x. if x then p.name ∷ arrays_of ps else arrays_of ps) (sym e)
 
 module _ (c : Surroundings) (fo go : List (Name × ℤ)) (Slot : (fa ga : List (Name × List ℤ)) → Type 0) (w : World c fo go Slot) (ints arrays : List Name)
@@ -108,9 +116,9 @@ module _ (c : Surroundings) (fo go : List (Name × ℤ)) (Slot : (fa ga : List (
   args_alike [] es as_many can start g fresh line left = alike_done left (record { same = refl; good = g; more = []; is = sym (append-nil start.arrays); matches = tt; sliced_is = refl; ints_are = sym (append-nil (keys start.ints)); arrays_are = sym (append-nil (keys start.arrays)) })
   args_alike (p ∷ ps) [] as_many can start g fresh line left = absurd (omega arith)
   args_alike (p ∷ ps) (e ∷ es) as_many can start g fresh line left =
-      by_kind p.is_array refl (both_true (can_pass c e) (can_pass_all c es) can) (λ start g f l. args_alike ps es (omega arith) (both_true (can_pass c e) (can_pass_all c es) can).1 start g f line l)
+      by_kind (wants_array p) refl (both_true (can_pass c e) (can_pass_all c es) can) (λ start g f l. args_alike ps es (omega arith) (both_true (can_pass c e) (can_pass_all c es) can).1 start g f line l)
     where
-      by_kind : (b : Bool) → p.is_array ≡ b → (can_pass c e ≡ true) × (can_pass_all c es ≡ true) →
+      by_kind : (b : Bool) → wants_array p ≡ b → (can_pass c e ≡ true) × (can_pass_all c es ≡ true) →
           ((start : Frame) → Good start → Fresh (keys start.arrays) (arrays_of ps) → (l : ℕ) → Alike (SameGiven ps es f0 start) l (arguments ps es f0 line start l) (arguments ps (lower_exprs c.over es) g0 line start l)) →
           Alike (SameGiven (p ∷ ps) (e ∷ es) f0 start) left
           ((if b then arguments ps es f0 line (new_array p.name (given_array e f0) start) else (λ left. then_do (pay_for (evaluate e f0) line left) (λ v l. arguments ps es f0 line (new_int p.name v start) l))) left)
@@ -162,16 +170,16 @@ module _ (c : Surroundings) (fo go : List (Name × ℤ)) (Slot : (fa ga : List (
       let one = one_back e cans.0 m.0 in
       back_rel ps es cans.1 t m.1 callee gc k (returned_array p e callee f) (returned_array p (lower_expr c.over e) callee g) one.0 one.1
     where
-      one_back : (e : Expr) → can_pass c e ≡ true → (p.is_array ≡ true → (is_among p.name (keys t) ≡ true) × (length (find [] p.name t) ≡ length (given_array e f0))) →
+      one_back : (e : Expr) → can_pass c e ≡ true → (wants_array p ≡ true → (is_among p.name (keys t) ≡ true) × (length (find [] p.name t) ≡ length (given_array e f0))) →
           Rel c fo go Slot ints arrays (returned_array p e callee f) (returned_array p (lower_expr c.over e) callee g) × (sizes (returned_array p e callee f).arrays ≡ sizes f0.arrays)
-      one_back (Variable a) h n = by_kind p.is_array refl f g rel s
+      one_back (Variable a) h n = by_kind (takes_array p) refl f g rel s
         where
-          by_kind : (b : Bool) → p.is_array ≡ b → (f g : Frame) → Rel c fo go Slot ints arrays f g → sizes f.arrays ≡ sizes f0.arrays →
+          by_kind : (b : Bool) → takes_array p ≡ b → (f g : Frame) → Rel c fo go Slot ints arrays f g → sizes f.arrays ≡ sizes f0.arrays →
               Rel c fo go Slot ints arrays (if b then set_array a (array_of callee p.name) f else f) (if b then set_array a (array_of callee p.name) g else g) × (sizes (if b then set_array a (array_of callee p.name) f else f).arrays ≡ sizes f0.arrays)
           by_kind false q f g rel s = (rel, s)
           by_kind true q f g (related loc' fa' ga' la' slot' ki' ka' good') s =
               let here : is_local c a ≡ true = (both_true (can_read c a) (is_local c a) h).1 in
-              let m = n q in
+              let m = n (taken_wanted p.kind q) in
               let there : is_among p.name (keys (sizes t)) ≡ true = ap (λ ks. is_among p.name ks) (keys-sizes t) ∙ m.0 in
               let same : length (array_of callee p.name) ≡ length (find [] a (fa' ++ la')) =
               find-sizes p.name callee.arrays ∙ ap (λ u. find 0 p.name u) k.is ∙ find_in 0 p.name (sizes t) k.more there ∙ sym (find-sizes p.name t) ∙ m.1 ∙ find-sizes a (fa ++ la) ∙ ap (λ u. find 0 a u) (sym s) ∙ sym (find-sizes a (fa' ++ la')) in (

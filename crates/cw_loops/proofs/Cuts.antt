@@ -8,6 +8,7 @@ use Rattle.cw_model.specs.declared.trap.Trap.TheVariants as trap
 use Rattle.cw_model.specs.declared.syntax.CallKind.TheVariants.{Plain, Spawned}
 use Rattle.cw_model.specs.declared.syntax.Operator.TheVariants.{Minus}
 use Rattle.cw_model.specs.Trees.{Series, Fork}
+use Rattle.cw_model.specs.declared.syntax.NameKind.TheVariants as name_kind
 use Rattle.cw_model.specs.Syntax.{Name, Expr, Variable, Binary, Start, Cut, Block, Function}
 use Rattle.cw_model.specs.Names.{is_among, find, put}
 use Rattle.cw_model.specs.Frames.{Frame, no_frame, new_int, new_array, int_of, array_of, set_array, leave}
@@ -128,7 +129,7 @@ Long h s [] = Unit {0}
 Long h s (a ∷ rest) = (h ≤ length (s a)) × Long h s rest
 
 module _ (name : Name) (line : ℕ) (f : Function) (over : List Name) (fs' : List Function) (cs : List (Name × ℤ))
-    (params : f.params ≡ record { name = low; is_array = false } ∷ record { name = high; is_array = false } ∷ (int_params (keys cs) ++ array_params over))
+    (params : f.params ≡ record { name = low; kind = name_kind.Integer } ∷ record { name = high; kind = name_kind.Integer } ∷ (int_params (keys cs) ++ array_params over))
     (found : function_named name fs' ≡ f) (calls : Calls) (lo m hi : ℤ) (h : ℕ)
     (fresh_ints : Fresh (low ∷ high ∷ []) (keys cs)) (no_middle : is_among middle (keys cs) ≡ false) where
   abbrev node_ints : List (Name × ℤ)
@@ -146,7 +147,7 @@ module _ (name : Name) (line : ℕ) (f : Function) (over : List Name) (fs' : Lis
       ≡ then_do (pay (2 + length cs) left) (λ _ l. Done (record { ints = (low, int_of frame u) ∷ (high, int_of frame v) ∷ cs; arrays = table over (λ a. array_of frame (g a)); sliced = [] }) l quiet)
   args_half u v g frame e left =
       ap (λ ps. arguments ps (Variable u ∷ Variable v ∷ (variables (keys cs) ++ variables (map g over))) frame line no_frame left) params
-      ∙ arg_int low u (record { name = high; is_array = false } ∷ (int_params (keys cs) ++ array_params over)) (Variable v ∷ (variables (keys cs) ++ variables (map g over))) frame line no_frame left
+      ∙ arg_int low u (record { name = high; kind = name_kind.Integer } ∷ (int_params (keys cs) ++ array_params over)) (Variable v ∷ (variables (keys cs) ++ variables (map g over))) frame line no_frame left
       ∙ then_same (pay 1 left) _ _ (λ _ l. arg_int high v (int_params (keys cs) ++ array_params over) (variables (keys cs) ++ variables (map g over)) frame line (new_int low (int_of frame u) no_frame) l)
       ∙ pay_pay 1 1 left _
       ∙ then_same (pay 2 left) _ _ (λ _ l. args_ints cs ((low, lo) ∷ (high, hi) ∷ []) ((middle, m) ∷ []) frame e fresh_ints (array_params over) (variables (map g over)) line (new_int high (int_of frame v) (new_int low (int_of frame u) no_frame)) l

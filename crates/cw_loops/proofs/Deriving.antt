@@ -220,6 +220,7 @@ module _ (text : List ℕ) where
   param_from : {ts rest : List Token} {p : tree.Param} → Plain text ts → ReadsParam text ts p rest → Plain text rest
   param_from plain (grammar.ReadsParam.integer is name) = plain.1.1
   param_from plain (grammar.ReadsParam.array is name left right) = plain.1.1.1.1
+  param_from plain (grammar.ReadsParam.array_to_read first is name left right) = plain.1.1.1.1.1
 
   more_params_from : {ts rest : List Token} {ps : List tree.Param} → Plain text ts → ReadsMoreParams text ts ps rest → Plain text rest
   more_params_from plain (grammar.ReadsMoreParams.close is) = plain.1

@@ -8,7 +8,7 @@ use Rattle.cw_model.specs.declared.syntax.Operator.TheVariants as operator
 use Rattle.cw_model.specs.declared.syntax.Reduction.{Reduction}
 use Rattle.cw_model.specs.declared.syntax.Reduction.TheVariants.{Sum, Max}
 use Rattle.cw_model.specs.Typing.{same_reduction}
-use Rattle.cw_loops.specs.Slotted.{Expr, Number, Variable, Element, Length, Negative, Not, Binary, Argument, Int, Array, Stmt, Declare, DeclareArray, Assign, AssignElement, Reduce, Call, Start, Begin, Sync, If, IfElse, While, Scope, Cut, Region, Print, Return, Block, End, Then}
+use Rattle.cw_loops.specs.Slotted.{Expr, Number, Variable, Element, Length, Negative, Not, Binary, Argument, Int, Array, Stmt, Declare, DeclareArray, Assign, AssignElement, Reduce, Call, Start, Begin, Sync, If, IfElse, While, Scope, Cut, Region, Print, Return, Block, End, Then, Shared}
 use Rattle.cw_loops.specs.Moved.{Loop}
 use Rattle.cw_loops.specs.Lowers.{Bodies}
 use Rattle.cw_loops.specs.Same.{number_of, same_kind, same_int, same_slots, same_target, same_expr, same_argument, same_arguments, same_return, same_stmt, same_block, same_loop, same_loops, same_blocks, same_bodies}
@@ -73,6 +73,7 @@ expr_equal d e h = absurd cc
 argument_equal : (d e : Argument) → same_argument d e ≡ true → d ≡ e
 argument_equal (Int d) (Int e) h = ap Int (expr_equal d e h)
 argument_equal (Array u) (Array v) h = ap Array (eqb-true u v h)
+argument_equal (Shared u) (Shared v) h = ap Shared (eqb-true u v h)
 argument_equal d e h = absurd cc
 
 arguments_equal : (ds es : List Argument) → same_arguments ds es ≡ true → ds ≡ es

@@ -41,6 +41,7 @@ mod Taken
 mod Entering
 mod OuterReads
 mod Tracking
+mod Readers
 mod LoopTexts
 mod BySlot
 mod WholeSlots

@@ -2,15 +2,17 @@
 use Rattle.std.proofs.Common.{◌≡◌, ℕ, zero, suc, ◌+◌, ◌*◌, Bool, true, false, pos, List, [], ◌∷◌, ◌++◌, length, map, arith, refl, sym, ◌∙◌, ap, append_assoc, append-nil, length-append}
 use Rattle.std.specs.Prelude.{if◌then◌else◌, not, ◌||◌, replicate, filter}
 use Rattle.std.proofs.lemmas.List.{map-append}
+use Rattle.cw_model.specs.declared.syntax.NameKind.{NameKind}
+use Rattle.cw_model.specs.declared.syntax.NameKind.TheVariants as name_kind
 use Rattle.cw_model.specs.declared.syntax.CallKind.TheVariants.{Plain, Spawned}
 use Rattle.cw_model.specs.declared.syntax.Operator.TheVariants.{AtMost, Less, Plus, Minus, Divide}
-use Rattle.cw_model.specs.Syntax.{Name, Param}
+use Rattle.cw_model.specs.Syntax.{Name, Param, wants_array}
 use Rattle.cw_model.specs.Syntax as model
 use Rattle.cw_model.specs.Names.{same_name, is_among, differ}
-use Rattle.cw_tree.specs.Resolved.{Lists, Locals, slot_of}
+use Rattle.cw_tree.specs.Resolved.{Lists, Locals, slot_of, params_of}
 use Rattle.cw_tree.specs.lemmas.NamedSlots.{slot_stays}
 use Rattle.cw_loops.specs.Lowered.{is_plain, low, high, middle, left_part, right_part, int_params, array_params, variables, loop_function, leaf_block, node_block, both_halves, in_cuts, left_arguments, right_arguments}
-use Rattle.cw_loops.specs.Slotted.{Expr, Number, Variable, Binary, Int, Array, Declare, Assign, Start, IfElse, While, Scope, Cut, Block, End, Then, Function, slotted_name, slotted_argument, slotted_block, slotted_function}
+use Rattle.cw_loops.specs.Slotted.{Expr, Number, Variable, Binary, Int, Array, Declare, Assign, Start, IfElse, While, Scope, Cut, Block, End, Then, Function, slotted_name, slotted_argument, slotted_block, slotted_function, slotted_arguments}
 use Rattle.cw_loops.specs.Expanded.{turn_slot, left_slot, right_slot, numbers, half, loop_text}
 use Rattle.cw_loops.specs.Expanded as by_slot
 use Rattle.cw_loops.specs.Moved.{Loop}
@@ -19,6 +21,7 @@ use Rattle.cw_loops.specs.lemmas.Apart.{same_are, same_itself, plain_apart, apar
 use Rattle.cw_loops.specs.lemmas.Naming.{Placed, at_front, after_it, placed, among_right, among_join, front_among, later_among}
 use Rattle.cw_loops.proofs.Fresh.{left_left, right_right}
 use Rattle.cw_loops.proofs.Shifting.{slot_past}
+use Rattle.cw_loops.proofs.Readers.{reads_none, all_taken}
 use Rattle.cw_loops.proofs.Entering.{joined}
 
 -- numbers in turn
@@ -127,46 +130,46 @@ generated_free : (z : Name) (over : List Name) → ((a : Name) → is_among a ov
 generated_free z over plain other = refuted (is_among z over) (λ o. never (same_name z z) (same_itself z) (other z (plain z o)))
 
 -- the kinds of the parameters, and the locals that they are
-array_kinds : (over : List Name) → map (λ (p : Param). p.is_array) (array_params over) ≡ replicate (length over) true
+array_kinds : (over : List Name) → map (λ (p : Param). p.kind) (array_params over) ≡ replicate (length over) name_kind.Array
 array_kinds [] = refl
-array_kinds (a ∷ over) = ap (λ r. true ∷ r) (array_kinds over)
+array_kinds (a ∷ over) = ap (λ r. name_kind.Array ∷ r) (array_kinds over)
 
-kinds : (taken over : List Name) → map (λ (p : Param). p.is_array) (int_params taken ++ array_params over) ≡ replicate (length taken) false ++ replicate (length over) true
+kinds : (taken over : List Name) → map (λ (p : Param). p.kind) (int_params taken ++ array_params over) ≡ replicate (length taken) name_kind.Integer ++ replicate (length over) name_kind.Array
 kinds [] over = array_kinds over
-kinds (v ∷ taken) over = ap (λ r. false ∷ r) (kinds taken over)
+kinds (v ∷ taken) over = ap (λ r. name_kind.Integer ∷ r) (kinds taken over)
 
-no_ints : (over : List Name) → map (λ (p : Param). p.name) (filter (λ p. not p.is_array) (array_params over)) ≡ []
+no_ints : (over : List Name) → map (λ (p : Param). p.name) (filter (λ p. not (wants_array p)) (array_params over)) ≡ []
 no_ints [] = refl
 no_ints (a ∷ over) = no_ints over
 
-all_arrays : (over : List Name) → map (λ (p : Param). p.name) (filter (λ p. p.is_array) (array_params over)) ≡ over
+all_arrays : (over : List Name) → map (λ (p : Param). p.name) (filter (λ p. wants_array p) (array_params over)) ≡ over
 all_arrays [] = refl
 all_arrays (a ∷ over) = ap (λ r. a ∷ r) (all_arrays over)
 
-ints_are : (taken over : List Name) → map (λ (p : Param). p.name) (filter (λ p. not p.is_array) (int_params taken ++ array_params over)) ≡ taken
+ints_are : (taken over : List Name) → map (λ (p : Param). p.name) (filter (λ p. not (wants_array p)) (int_params taken ++ array_params over)) ≡ taken
 ints_are [] over = no_ints over
 ints_are (v ∷ taken) over = ap (λ r. v ∷ r) (ints_are taken over)
 
-arrays_are : (taken over : List Name) → map (λ (p : Param). p.name) (filter (λ p. p.is_array) (int_params taken ++ array_params over)) ≡ over
+arrays_are : (taken over : List Name) → map (λ (p : Param). p.name) (filter (λ p. wants_array p) (int_params taken ++ array_params over)) ≡ over
 arrays_are [] over = all_arrays over
 arrays_are (v ∷ taken) over = arrays_are taken over
 
 -- names that stand alone as arguments
-names_are : (l : Locals) (vs : List Name) → map (slotted_argument l) (variables vs) ≡ map (slotted_name l) vs
+names_are : (l : Locals) (vs : List Name) → map (slotted_argument l []) (variables vs) ≡ map (slotted_name l []) vs
 names_are l [] = refl
-names_are l (v ∷ vs) = ap (λ r. slotted_name l v ∷ r) (names_are l vs)
+names_are l (v ∷ vs) = ap (λ r. slotted_name l [] v ∷ r) (names_are l vs)
 
-as_int : (z : Name) (ints arrays : List Name) (s : ℕ) → is_among z arrays ≡ false → slot_of z ints ≡ s → slotted_name (joined [] [] ints arrays) z ≡ Int (Variable s)
+as_int : (z : Name) (ints arrays : List Name) (s : ℕ) → is_among z arrays ≡ false → slot_of z ints ≡ s → slotted_name (joined [] [] ints arrays) [] z ≡ Int (Variable s)
 as_int z ints arrays s e f = ap (λ b. if b then Array (slot_of z arrays) else Int (Variable (slot_of z ints))) e ∙ ap (λ n. Int (Variable n)) f
 
-as_array : (z : Name) (ints arrays : List Name) (s : ℕ) → is_among z arrays ≡ true → slot_of z arrays ≡ s → slotted_name (joined [] [] ints arrays) z ≡ Array s
+as_array : (z : Name) (ints arrays : List Name) (s : ℕ) → is_among z arrays ≡ true → slot_of z arrays ≡ s → slotted_name (joined [] [] ints arrays) [] z ≡ Array s
 as_array z ints arrays s e f = ap (λ b. if b then Array (slot_of z arrays) else Int (Variable (slot_of z ints))) e ∙ ap (λ n. Array n) f
 
 module _ (lists : Lists) (line : ℕ) (name x : Name) (grain : ℕ) (taken over : List Name) (index : ℕ) (text : Block) (body : model.Block)
     (x_plain : is_plain x ≡ true) (x_free : is_among x taken ≡ false)
     (taken_plain : (v : Name) → is_among v taken ≡ true → is_plain v ≡ true) (taken_differ : differ taken ≡ true)
     (over_plain : (a : Name) → is_among a over ≡ true → is_plain a ≡ true) (over_differ : differ over ≡ true)
-    (kept_apart : (v : Name) → is_among v taken ≡ true → is_among v over ≡ false) (index_is : slot_of name lists.functions ≡ index)
+    (kept_apart : (v : Name) → is_among v taken ≡ true → is_among v over ≡ false) (index_is : slot_of name lists.functions ≡ index) (taken_only : reads_none (params_of lists name) ≡ true)
     (text_is : text ≡ slotted_block lists (joined [] [] ((low ∷ high ∷ taken) ++ x ∷ []) over) body) where
   abbrev loop : Loop
   loop = record { line = line; grain = grain; captured = length taken; over = length over; body = text }
@@ -222,45 +225,59 @@ module _ (lists : Lists) (line : ℕ) (name x : Name) (grain : ℕ) (taken over 
   right_no_over a = generated_free (right_part a) over over_plain (λ b p. apart_plain b (62 ∷ a) p)
 
   -- what both halves are given
-  taken_given : map (slotted_argument (joined [] [] node_ints all)) (variables taken) ≡ map (λ s. Int (Variable s)) (numbers 2 (length taken))
+  taken_given : map (slotted_argument (joined [] [] node_ints all) []) (variables taken) ≡ map (λ s. Int (Variable s)) (numbers 2 (length taken))
   taken_given =
       names_are (joined [] [] node_ints all) taken
-      ∙ same_each (slotted_name (joined [] [] node_ints all)) (λ v. Int (Variable (2 + slot_of v taken))) taken (λ v o. as_int v node_ints all (2 + slot_of v taken) (taken_no_array v o) (given_slot v (middle ∷ []) o))
+      ∙ same_each (slotted_name (joined [] [] node_ints all) []) (λ v. Int (Variable (2 + slot_of v taken))) taken (λ v o. as_int v node_ints all (2 + slot_of v taken) (taken_no_array v o) (given_slot v (middle ∷ []) o))
       ∙ in_turn (λ n. Int (Variable (2 + n))) taken [] taken refl taken_differ ∙ shifted (λ n. Int (Variable n)) 0 (length taken)
 
-  lefts_given : map (slotted_argument (joined [] [] node_ints all)) (variables (map left_part over)) ≡ map Array (map (left_slot (length over)) (numbers 0 (length over)))
+  lefts_given : map (slotted_argument (joined [] [] node_ints all) []) (variables (map left_part over)) ≡ map Array (map (left_slot (length over)) (numbers 0 (length over)))
   lefts_given =
-      names_are (joined [] [] node_ints all) (map left_part over) ∙ twice (slotted_name (joined [] [] node_ints all)) left_part over
-      ∙ same_each (λ a. slotted_name (joined [] [] node_ints all) (left_part a)) (λ a. Array (left_slot (length over) (slot_of a over))) over
+      names_are (joined [] [] node_ints all) (map left_part over) ∙ twice (slotted_name (joined [] [] node_ints all) []) left_part over
+      ∙ same_each (λ a. slotted_name (joined [] [] node_ints all) [] (left_part a)) (λ a. Array (left_slot (length over) (slot_of a over))) over
       (λ a o. as_array (left_part a) node_ints all (left_slot (length over) (slot_of a over)) (among_right (left_part a) over (parts over) (left_among a over o))
       (slot_past (left_part a) over (parts over) (left_no_over a) ∙ ap (λ n. length over + n) (left_place a over o)))
       ∙ in_turn (λ n. Array (left_slot (length over) n)) over [] over refl over_differ ∙ sym (twice Array (left_slot (length over)) (numbers 0 (length over)))
 
-  rights_given : map (slotted_argument (joined [] [] node_ints all)) (variables (map right_part over)) ≡ map Array (map (right_slot (length over)) (numbers 0 (length over)))
+  rights_given : map (slotted_argument (joined [] [] node_ints all) []) (variables (map right_part over)) ≡ map Array (map (right_slot (length over)) (numbers 0 (length over)))
   rights_given =
-      names_are (joined [] [] node_ints all) (map right_part over) ∙ twice (slotted_name (joined [] [] node_ints all)) right_part over
-      ∙ same_each (λ a. slotted_name (joined [] [] node_ints all) (right_part a)) (λ a. Array (right_slot (length over) (slot_of a over))) over
+      names_are (joined [] [] node_ints all) (map right_part over) ∙ twice (slotted_name (joined [] [] node_ints all) []) right_part over
+      ∙ same_each (λ a. slotted_name (joined [] [] node_ints all) [] (right_part a)) (λ a. Array (right_slot (length over) (slot_of a over))) over
       (λ a o. as_array (right_part a) node_ints all (right_slot (length over) (slot_of a over)) (among_right (right_part a) over (parts over) (right_among a over o))
       (slot_past (right_part a) over (parts over) (right_no_over a) ∙ ap (λ n. length over + n) (right_place a over o) ∙ omega arith))
       ∙ in_turn (λ n. Array (right_slot (length over) n)) over [] over refl over_differ ∙ sym (twice Array (right_slot (length over)) (numbers 0 (length over)))
 
   arguments_given : (from to : Name) (f t : ℕ) (ends : List Name) (slots : List ℕ) → is_among from all ≡ false → is_among to all ≡ false → slot_of from node_ints ≡ f → slot_of to node_ints ≡ t →
-      map (slotted_argument (joined [] [] node_ints all)) (variables ends) ≡ map Array slots →
-      map (slotted_argument (joined [] [] node_ints all)) (model.Variable from ∷ model.Variable to ∷ (variables taken ++ variables ends)) ≡ half f t (numbers 2 (length taken)) slots
+      map (slotted_argument (joined [] [] node_ints all) []) (variables ends) ≡ map Array slots →
+      map (slotted_argument (joined [] [] node_ints all) []) (model.Variable from ∷ model.Variable to ∷ (variables taken ++ variables ends)) ≡ half f t (numbers 2 (length taken)) slots
   arguments_given from to f t ends slots from_int to_int from_is to_is ends_are =
-      ap (λ y. y ∷ slotted_name (joined [] [] node_ints all) to ∷ map (slotted_argument (joined [] [] node_ints all)) (variables taken ++ variables ends)) (as_int from node_ints all f from_int from_is)
-      ∙ ap (λ y. Int (Variable f) ∷ y ∷ map (slotted_argument (joined [] [] node_ints all)) (variables taken ++ variables ends)) (as_int to node_ints all t to_int to_is)
-      ∙ ap (λ r. Int (Variable f) ∷ Int (Variable t) ∷ r) (map-append (slotted_argument (joined [] [] node_ints all)) (variables taken) (variables ends)
-      ∙ ap (λ r. r ++ map (slotted_argument (joined [] [] node_ints all)) (variables ends)) taken_given
+      ap (λ y. y ∷ slotted_name (joined [] [] node_ints all) [] to ∷ map (slotted_argument (joined [] [] node_ints all) []) (variables taken ++ variables ends)) (as_int from node_ints all f from_int from_is)
+      ∙ ap (λ y. Int (Variable f) ∷ y ∷ map (slotted_argument (joined [] [] node_ints all) []) (variables taken ++ variables ends)) (as_int to node_ints all t to_int to_is)
+      ∙ ap (λ r. Int (Variable f) ∷ Int (Variable t) ∷ r) (map-append (slotted_argument (joined [] [] node_ints all) []) (variables taken) (variables ends)
+      ∙ ap (λ r. r ++ map (slotted_argument (joined [] [] node_ints all) []) (variables ends)) taken_given
       ∙ ap (λ r. map (λ s. Int (Variable s)) (numbers 2 (length taken)) ++ r) ends_are)
 
   halves_are : slotted_block lists (joined [] [] node_ints all) (both_halves line name (left_arguments taken over) (right_arguments taken over)) ≡ by_slot.both_halves index loop
   halves_are =
-      ap (λ i. Then line (Start Spawned i (map (slotted_argument (joined [] [] node_ints all)) (left_arguments taken over))) (Then line (Start Plain i (map (slotted_argument (joined [] [] node_ints all)) (right_arguments taken over))) End)) index_is
-      ∙ ap (λ es. Then line (Start Spawned index es) (Then line (Start Plain index (map (slotted_argument (joined [] [] node_ints all)) (right_arguments taken over))) End))
-      (arguments_given low middle 0 (turn_slot (length taken)) (map left_part over) (map (left_slot (length over)) (numbers 0 (length over))) low_no_array middle_no_array refl middle_slot lefts_given)
+      ap (λ i. Then line (Start Spawned i (slotted_arguments here callee lefts)) (Then line (Start Plain i (slotted_arguments here callee rights)) End)) index_is
+      ∙ ap (λ es. Then line (Start Spawned index es) (Then line (Start Plain index (slotted_arguments here callee rights)) End))
+      (all_taken here callee lefts taken_only
+      ∙ arguments_given low middle 0 (turn_slot (length taken)) (map left_part over) (map (left_slot (length over)) (numbers 0 (length over))) low_no_array middle_no_array refl middle_slot lefts_given)
       ∙ ap (λ es. Then line (Start Spawned index (half 0 (turn_slot (length taken)) (numbers 2 (length taken)) (map (left_slot (length over)) (numbers 0 (length over))))) (Then line (Start Plain index es) End))
-      (arguments_given middle high (turn_slot (length taken)) 1 (map right_part over) (map (right_slot (length over)) (numbers 0 (length over))) middle_no_array high_no_array middle_slot refl rights_given)
+      (all_taken here callee rights taken_only
+      ∙ arguments_given middle high (turn_slot (length taken)) 1 (map right_part over) (map (right_slot (length over)) (numbers 0 (length over))) middle_no_array high_no_array middle_slot refl rights_given)
+    where
+      here : Locals
+      here = joined [] [] node_ints all
+
+      callee : List Param
+      callee = params_of lists name
+
+      lefts : List model.Expr
+      lefts = left_arguments taken over
+
+      rights : List model.Expr
+      rights = right_arguments taken over
 
   -- the cuts of the arrays, in turn
   parts_are : (done : List Name) (a : Name) → ((over ++ parts done) ++ left_part a ∷ []) ++ right_part a ∷ [] ≡ over ++ parts (done ++ a ∷ [])
@@ -327,7 +344,7 @@ module _ (lists : Lists) (line : ℕ) (name x : Name) (grain : ℕ) (taken over 
       two_less : suc (suc (length taken)) ≡ turn_slot (length taken)
       two_less = omega arith
 
-  whole : List Bool → Block → Function
+  whole : List NameKind → Block → Function
   whole ps b = record { gives_int = false; params = ps; body = b }
 
   choice : Block → Block → Block
@@ -336,8 +353,8 @@ module _ (lists : Lists) (line : ℕ) (name x : Name) (grain : ℕ) (taken over 
   pub loop_text_is : loop_text index loop ≡ slotted_function lists (loop_function name line x grain taken over body)
   unfolding choice whole
   loop_text_is =
-      ap (λ ps. whole (false ∷ false ∷ ps) (choice (by_slot.leaf loop) (by_slot.node index loop))) (sym (kinds taken over))
-      ∙ ap (λ b. whole (false ∷ false ∷ map (λ (p : Param). p.is_array) (int_params taken ++ array_params over)) b)
+      ap (λ ps. whole (name_kind.Integer ∷ name_kind.Integer ∷ ps) (choice (by_slot.leaf loop) (by_slot.node index loop))) (sym (kinds taken over))
+      ∙ ap (λ b. whole (name_kind.Integer ∷ name_kind.Integer ∷ map (λ (p : Param). p.kind) (int_params taken ++ array_params over)) b)
       (ap (λ b. choice b (by_slot.node index loop)) (sym leaf_is) ∙ ap (choice (slotted_block lists (joined [] [] given over) (leaf_block line x body))) (sym node_is)
       ∙ ap (λ vs. slotted_block lists (joined [] [] (low ∷ high ∷ vs) over) (loop_function name line x grain taken over body).body) (sym (ints_are taken over))
-      ∙ ap (λ r. slotted_block lists (joined [] [] (low ∷ high ∷ map (λ (p : Param). p.name) (filter (λ p. not p.is_array) (int_params taken ++ array_params over))) r) (loop_function name line x grain taken over body).body) (sym (arrays_are taken over)))
+      ∙ ap (λ r. slotted_block lists (joined [] [] (low ∷ high ∷ map (λ (p : Param). p.name) (filter (λ p. not (wants_array p)) (int_params taken ++ array_params over))) r) (loop_function name line x grain taken over body).body) (sym (arrays_are taken over)))

@@ -3,14 +3,16 @@ use Rattle.std.proofs.Common.{◌≡◌, ℕ, suc, ◌+◌, ◌==◌, Bool, true
 use Rattle.std.specs.Prelude.{if◌then◌else◌, not, ◌&&◌, ◌||◌, nat_le, Option, Some, None}
 use Rattle.std.specs.List.{list_all}
 use Rattle.std.proofs.lemmas.Bool.Decides.{nat_tests}
+use Rattle.cw_model.specs.lemmas.Fits.{fits_kind, fit_kinds, arguments_fit}
 use Rattle.cw_model.specs.declared.syntax.CallKind.{CallKind}
 use Rattle.cw_model.specs.Lines.{unless}
-use Rattle.cw_model.specs.Syntax.{Name, Expr, Number, Variable, Element, Length, Negative, Not, Binary, Stmt, Declare, DeclareArray, Assign, AssignElement, Reduce, Call, Start, Begin, Sync, If, IfElse, While, For, Scope, Cut, Region, Print, Return, Block, End, Then, Param, Function, Program}
+use Rattle.cw_model.specs.declared.syntax.NameKind.TheVariants as name_kind
+use Rattle.cw_model.specs.Syntax.{Name, Expr, Number, Variable, Element, Length, Negative, Not, Binary, Stmt, Declare, DeclareArray, Assign, AssignElement, Reduce, Call, Start, Begin, Sync, If, IfElse, While, For, Scope, Cut, Region, Print, Return, Block, End, Then, Param, Function, Program, wants_array}
 use Rattle.cw_model.specs.Names.{same_name, is_among, differ}
 use Rattle.cw_model.specs.Meaning.{function_named}
 use Rattle.cw_model.specs.Captured.{captured, read_by, read_by_all, read_in, read_in_block, declared_in_block}
 use Rattle.cw_model.specs.Typing.{Known, is_int, is_array, is_fine, is_new, is_argument, are_arguments, is_call, is_head_of_loop, called, may_return, ends_block, surely_returns, faults_in, faults_in_block, declares, Returns, Nowhere}
-use Rattle.cw_model.specs.Ownership.{Around, InLoop, for_head, is_outer, may_index, keeps_loop, may_read, may_write, are_free, are_inner, names_in, arrays_given, target_names, known_after, Taken, Declared, Closing, Leaves, Joins, CutOf, taken_after, declared_by, owner_faults, owner_faults_in}
+use Rattle.cw_model.specs.Ownership.{Around, InLoop, for_head, is_outer, may_index, keeps_loop, may_read, may_write, are_free, are_inner, names_in, target_names, known_after, Taken, Declared, Closing, Leaves, Joins, CutOf, taken_after, declared_by, owner_faults, owner_faults_in, are_loose}
 use Rattle.cw_model.specs.lemmas.Kept.{left_none, right_none, kept}
 use Rattle.cw_loops.specs.Lowered.{is_plain, low, high}
 use Rattle.cw_loops.specs.Lowerable.{Surroundings, can_write, can_read, is_local, is_variable, can_evaluate, can_pass, can_pass_all, can_target, new_integers, new_arrays, can_capture, can_slice, can_loop, inside, can_lower, can_lower_all}
@@ -19,7 +21,7 @@ use Rattle.cw_loops.specs.lemmas.Tests.{both_true, never, refuted, all_of, not_t
 use Rattle.cw_loops.specs.lemmas.Naming.{Placed, at_front, after_it, placed, Side, in_first, in_second, side, each_of, among_left, among_right, front_among, later_among, neither_among, same_turned, new_are_there, new_are_all, new_differ, pushed, passed}
 use Rattle.cw_loops.specs.lemmas.Knowing.{Unknown, new_unknown, Adds, an_int, an_array, nothing, adds, known_more}
 use Rattle.cw_loops.specs.lemmas.Declaring.{HeadKept, head_kept, CutKept, cut_kept, block_new}
-use Rattle.cw_loops.specs.lemmas.Seeing.{CallKept, call_kept, GivenKept, given_kept, AllInner, inner_names, Seen, Home, declared_there, known_before, home, block_seen}
+use Rattle.cw_loops.specs.lemmas.Seeing.{CallKept, call_kept, GivenKept, given_kept, AllInner, inner_names, Seen, Home, declared_there, known_before, home, block_seen, arrays_passed, passed_kept}
 use Rattle.cw_loops.proofs.Agreeing.{Agree, reads_well, AllReadWell, first_well, second_well, outside, local_from, write_from, read_from, int_local, expr_can, head_keeps, with_int, with_array, with_returns}
 
 -- lists that are tested name by name
@@ -43,14 +45,14 @@ one_each : (known : Known) (ps : List Param) (es : List Expr) → are_arguments 
 one_each known [] [] h = refl
 one_each known [] (e ∷ es) h = absurd cc
 one_each known (p ∷ ps) [] h = absurd cc
-one_each known (p ∷ ps) (e ∷ es) h = ap suc (one_each known ps es (both_true (is_argument known p.is_array e) (are_arguments known ps es) h).1)
+one_each known (p ∷ ps) (e ∷ es) h = ap suc (one_each known ps es (both_true (is_argument known p.kind e) (are_arguments known ps es) h).1)
 
 -- an expression that may be read keeps the rule of the loop
 read_keeps : (around : Around) (taken : Taken) (e : Expr) → may_read around taken e ≡ true → keeps_loop around e ≡ true
 read_keeps around taken e h = (both_true (are_free taken (names_in e)) (keeps_loop around e) h).1
 
 write_inner : (around : Around) (taken : Taken) (xs : List Name) → may_write around taken xs ≡ true → AllInner around xs
-write_inner around taken xs h = inner_names around xs (both_true (are_free taken xs) (are_inner around xs) h).1
+write_inner around taken xs h = inner_names around xs (both_true (are_loose taken xs) (are_inner around xs) h).1
 
 module _ {c : Surroundings} {ints arrays : List Name} {known : Known} {owners : List Name} {around : Around} {returns : Returns} (agree : Agree c ints arrays known owners around returns) where
   -- an array of the turn itself
@@ -67,11 +69,11 @@ module _ {c : Surroundings} {ints arrays : List Name} {known : Known} {owners : 
       let n = neither_among a c.arrays arrays (sym (agree.arrays_are a) ∙ u.no_array) in
       (local_from agree a n.0, n.1)
 
-  variable_pass : (array : Bool) (x : Name) → is_plain x ≡ true → is_argument known array (Variable x) ≡ true → AllInner around (if array then x ∷ [] else []) → reads_well c x ≡ true → can_pass c (Variable x) ≡ true
+  variable_pass : (array : Bool) (x : Name) → is_plain x ≡ true → fits_kind known array (Variable x) ≡ true → AllInner around (if array then x ∷ [] else []) → reads_well c x ≡ true → can_pass c (Variable x) ≡ true
   variable_pass false x plain fine inner well = all_of (can_read c x) (is_local c x) (read_from agree x plain well) (int_local agree x fine)
   variable_pass true x plain fine inner well = all_of (can_read c x) (is_local c x) (read_from agree x plain well) (local_from agree x (outside agree x (inner x (front_among x []))).1)
 
-  argument_can : (array : Bool) (e : Expr) → is_source_expr e ≡ true → is_argument known array e ≡ true → keeps_loop around e ≡ true → AllInner around (if array then names_in e else []) → AllReadWell c (read_by e) → can_pass c e ≡ true
+  argument_can : (array : Bool) (e : Expr) → is_source_expr e ≡ true → fits_kind known array e ≡ true → keeps_loop around e ≡ true → AllInner around (if array then names_in e else []) → AllReadWell c (read_by e) → can_pass c e ≡ true
   argument_can array (Variable x) source fine keeps inner well = variable_pass array x source fine inner (well x (front_among x []))
   argument_can array (Number n) source fine keeps inner well = expr_can agree (Number n) source keeps well
   argument_can array (Element a e) source fine keeps inner well = expr_can agree (Element a e) source keeps well
@@ -80,17 +82,17 @@ module _ {c : Surroundings} {ints arrays : List Name} {known : Known} {owners : 
   argument_can array (Not e) source fine keeps inner well = expr_can agree (Not e) source keeps well
   argument_can array (Binary operator d e) source fine keeps inner well = expr_can agree (Binary operator d e) source keeps well
 
-  arguments_can : (taken : Taken) (ps : List Param) (es : List Expr) → list_all is_source_expr es ≡ true → are_arguments known ps es ≡ true → list_all (λ e. may_read around taken e) es ≡ true → AllInner around (arrays_given ps es) → AllReadWell c (read_by_all es) → can_pass_all c es ≡ true
+  arguments_can : (taken : Taken) (ps : List Param) (es : List Expr) → list_all is_source_expr es ≡ true → fit_kinds known ps es ≡ true → list_all (λ e. may_read around taken e) es ≡ true → AllInner around (arrays_passed ps es) → AllReadWell c (read_by_all es) → can_pass_all c es ≡ true
   arguments_can taken [] [] source fine reads inner well = refl
   arguments_can taken [] (e ∷ es) source fine reads inner well = absurd cc
   arguments_can taken (p ∷ ps) [] source fine reads inner well = refl
   arguments_can taken (p ∷ ps) (e ∷ es) source fine reads inner well =
       let s = both_true (is_source_expr e) (list_all is_source_expr es) source in
-      let f = both_true (is_argument known p.is_array e) (are_arguments known ps es) fine in
+      let f = both_true (fits_kind known (wants_array p) e) (fit_kinds known ps es) fine in
       let r = both_true (may_read around taken e) (list_all (λ e. may_read around taken e) es) reads in
       all_of (can_pass c e) (can_pass_all c es)
-      (argument_can p.is_array e s.0 f.0 (read_keeps around taken e r.0) (λ v q. inner v (among_left v (if p.is_array then names_in e else []) (arrays_given ps es) q)) (first_well c (read_by e) (read_by_all es) well))
-      (arguments_can taken ps es s.1 f.1 r.1 (λ v q. inner v (among_right v (if p.is_array then names_in e else []) (arrays_given ps es) q)) (second_well c (read_by e) (read_by_all es) well))
+      (argument_can (wants_array p) e s.0 f.0 (read_keeps around taken e r.0) (λ v q. inner v (among_left v (if wants_array p then names_in e else []) (arrays_passed ps es) q)) (first_well c (read_by e) (read_by_all es) well))
+      (arguments_can taken ps es s.1 f.1 r.1 (λ v q. inner v (among_right v (if wants_array p then names_in e else []) (arrays_passed ps es) q)) (second_well c (read_by e) (read_by_all es) well))
 
   target_can : (target : Option Name) → is_source_target target ≡ true → AllInner around (target_names target) → can_target c target ≡ true
   target_can None source inner = refl
@@ -106,7 +108,7 @@ module _ {c : Surroundings} {ints arrays : List Name} {known : Known} {owners : 
 
   -- inside a loop
   inside_agrees : (x : Name) (taken over : List Name) → Unknown known x → ((a : Name) → is_among a over ≡ true → is_array known a ≡ true) → ((y : Name) → is_among y taken ≡ true → is_among y (c.outer ++ ints) ≡ true) →
-      Agree (inside c ints arrays x taken over) [] [] ((x, false) ∷ known) (x ∷ owners) (InLoop (x ∷ owners) x over) Nowhere
+      Agree (inside c ints arrays x taken over) [] [] ((x, name_kind.Integer) ∷ known) (x ∷ owners) (InLoop (x ∷ owners) x over) Nowhere
   inside_agrees x taken over fresh over_arrays taken_known = record {
     ints_are = λ y. int_is y ∙ ap (is_among y) (sym (append-nil ((c.outer ++ ints) ++ x ∷ [])));
     arrays_are = λ y. array_is y ∙ ap (is_among y) (sym (append-nil (c.arrays ++ arrays)));
@@ -205,7 +207,7 @@ module _ (program : Program) (fs : List Function) (fs_is : program.functions ≡
       let g : GivenKept around taken fs target f es = given_kept around taken fs target f es (kept _ line owns) in
       let count : (length es == length (function_named f c.functions).params) ≡ true = same_number _ _ (one_each known (function_named f fs).params es k.arguments ∙ ap (λ w. length (function_named f w).params) (sym here)) in
       all_of (is_plain f) _ t.0 (all_of (length es == length (function_named f c.functions).params) _ count
-      (all_of (can_target c target) _ (target_can agree target s.0 g.targets) (arguments_can agree taken (function_named f fs).params es t.1 k.arguments g.reads g.arrays well)))
+      (all_of (can_target c target) _ (target_can agree target s.0 g.targets) (arguments_can agree taken (function_named f fs).params es t.1 (arguments_fit known (function_named f fs).params es k.arguments) g.reads (passed_kept around taken fs target f es g) well)))
 
   for_can : (x y z : Name) (from to : Expr) (grain : ℕ) (over : List Name) (b : Block) → BlockCan b → StmtCan (For x y z from to grain over b)
   for_can x y z from to grain over b more c ints arrays known owners around returns here agree depth line taken source types owns well =
@@ -213,12 +215,12 @@ module _ (program : Program) (fs : List Function) (fs_is : program.functions ≡
       (all_of (can_evaluate c to) _ (expr_can agree to s3.0 (head_keeps around to (read_keeps (for_head around) taken to o3.1)) (first_well c (read_by to) _ rest_well))
       (all_of (nat_le 1 grain) _ head.some
       (all_of (can_loop c ints arrays x (captured x b) over) _ loop_can
-      (more (inside c ints arrays x (captured x b) over) [] [] ((x, false) ∷ known) (x ∷ owners) (InLoop (x ∷ owners) x over) Nowhere here within (depth + 1) Joins taken [] s4.1 types' owns' body_well))))
+      (more (inside c ints arrays x (captured x b) over) [] [] ((x, name_kind.Integer) ∷ known) (x ∷ owners) (InLoop (x ∷ owners) x over) Nowhere here within (depth + 1) Joins taken [] s4.1 types' owns' body_well))))
     where
       head : HeadKept program known x from to grain over
       head = head_kept program known x y z from to grain over (kept _ line (left_none (unless (is_head_of_loop program known x y z from to grain over) line) _ types))
 
-      types' : faults_in_block program Nowhere ((x, false) ∷ known) b ≡ []
+      types' : faults_in_block program Nowhere ((x, name_kind.Integer) ∷ known) b ≡ []
       types' = right_none (unless (is_head_of_loop program known x y z from to grain over) line) _ types
 
       owner_rule : Bool
@@ -260,8 +262,8 @@ module _ (program : Program) (fs : List Function) (fs_is : program.functions ≡
       there : (v : Name) → is_among v (captured x b) ≡ true → (is_among v (read_in_block b) ≡ true) × (is_among v (x ∷ declared_in_block b) ≡ false)
       there v o = new_are_there v (read_in_block b) (x ∷ declared_in_block b) o
 
-      seen : (v : Name) → is_among v (captured x b) ≡ true → Seen (InLoop (x ∷ owners) x over) ((x, false) ∷ known) (declared_in_block b) v
-      seen v o = block_seen program fs fs_is b Nowhere ((x, false) ∷ known) (x ∷ owners) (InLoop (x ∷ owners) x over) (λ w. known_more w x owners (is_int known w) (is_array known w) (agree.owners_are w)) (depth + 1) Joins taken [] s4.1 types' owns' v (there v o).0
+      seen : (v : Name) → is_among v (captured x b) ≡ true → Seen (InLoop (x ∷ owners) x over) ((x, name_kind.Integer) ∷ known) (declared_in_block b) v
+      seen v o = block_seen program fs fs_is b Nowhere ((x, name_kind.Integer) ∷ known) (x ∷ owners) (InLoop (x ∷ owners) x over) (λ w. known_more w x owners (is_int known w) (is_array known w) (agree.owners_are w)) (depth + 1) Joins taken [] s4.1 types' owns' v (there v o).0
 
       captured_known : (v : Name) → is_among v (captured x b) ≡ true → is_among v (c.outer ++ ints) ≡ true
       captured_known v o = go (home x known owners agree.owners_are over (declared_in_block b) v (seen v o).place)
@@ -276,7 +278,7 @@ module _ (program : Program) (fs : List Function) (fs_is : program.functions ≡
       over_inner : AllInner around over
       over_inner = write_inner around taken over o2.1
 
-      within : Agree (inside c ints arrays x (captured x b) over) [] [] ((x, false) ∷ known) (x ∷ owners) (InLoop (x ∷ owners) x over) Nowhere
+      within : Agree (inside c ints arrays x (captured x b) over) [] [] ((x, name_kind.Integer) ∷ known) (x ∷ owners) (InLoop (x ∷ owners) x over) Nowhere
       within = inside_agrees agree x (captured x b) over fresh over_arrays captured_known
 
       not_taken : is_among x (captured x b) ≡ false
@@ -292,7 +294,7 @@ module _ (program : Program) (fs : List Function) (fs_is : program.functions ≡
 
       -- what the body reads is captured, or its own
       own : (v : Name) → is_among v (declared_in_block b) ≡ true → is_among v ((c.outer ++ ints) ++ x ∷ []) ≡ false
-      own v o = ap (is_among v) (sym (append-nil ((c.outer ++ ints) ++ x ∷ []))) ∙ sym (within.ints_are v) ∙ (block_new program b Nowhere ((x, false) ∷ known) types' v o).no_int
+      own v o = ap (is_among v) (sym (append-nil ((c.outer ++ ints) ++ x ∷ []))) ∙ sym (within.ints_are v) ∙ (block_new program b Nowhere ((x, name_kind.Integer) ∷ known) types' v o).no_int
 
       body_well : AllReadWell (inside c ints arrays x (captured x b) over) (read_in_block b)
       body_well v o = go (is_among v (x ∷ declared_in_block b)) refl
@@ -322,13 +324,13 @@ module _ (program : Program) (fs : List Function) (fs_is : program.functions ≡
       let left = new_unknown program known l k.left in
       let right = new_unknown program known r k.right in
       let apart : same_name r l ≡ false = same_turned r l ∙ k.two in
-      let right' : Unknown ((l, true) ∷ known) r = record { no_int = ap (λ w. if w then false else is_int known r) apart ∙ right.no_int; no_array = ap (λ w. if w then true else is_array known r) apart ∙ right.no_array } in
+      let right' : Unknown ((l, name_kind.Array) ∷ known) r = record { no_int = ap (λ w. if w then false else is_int known r) apart ∙ right.no_int; no_array = ap (λ w. if w then true else is_array known r) apart ∙ right.no_array } in
       let inner = with_returns (with_array (with_array agree l left) r right') Nowhere (no_returns c) in
       all_of (can_evaluate c e) _ (expr_can agree e s2.0 (read_keeps around taken e o.0) (first_well c (read_by e) (read_in_block b) well))
       (all_of (is_local c a) _ (local_from agree a (outside agree a (write_inner around taken (a ∷ []) o.1 a (front_among a []))).1)
       (all_of (is_local c l) _ (new_local agree l left).0 (all_of (is_local c r) _ (new_local agree r right).0
       (all_of (not (is_among l arrays)) _ (ap not (new_local agree l left).1) (all_of (not (is_among r arrays)) _ (ap not (new_local agree r right).1) (all_of (not (same_name r l)) _ (ap not apart)
-      (more c ints ((arrays ++ l ∷ []) ++ r ∷ []) ((r, true) ∷ (l, true) ∷ known) (r ∷ l ∷ owners) around Nowhere here inner (depth + 1) Joins ((a, CutOf) ∷ taken) [] s3.1 (right_none _ _ types) (right_none _ _ owns) (second_well c (read_by e) (read_in_block b) well))))))))
+      (more c ints ((arrays ++ l ∷ []) ++ r ∷ []) ((r, name_kind.Array) ∷ (l, name_kind.Array) ∷ known) (r ∷ l ∷ owners) around Nowhere here inner (depth + 1) Joins ((a, CutOf) ∷ taken) [] s3.1 (right_none _ _ types) (right_none _ _ owns) (second_well c (read_by e) (read_in_block b) well))))))))
 
   -- what is known after a statement
   after_agrees : (s : Stmt) (c : Surroundings) (ints arrays : List Name) (known : Known) (owners : List Name) (around : Around) (returns : Returns) (line : ℕ) → Agree c ints arrays known owners around returns → faults_in program returns known line s ≡ [] →
@@ -345,8 +347,8 @@ module _ (program : Program) (fs : List Function) (fs_is : program.functions ≡
       array_types x e same = (both_true (is_fine known e) (is_new program known x) (kept _ line (subst (λ t. faults_in program returns known line t ≡ []) same types))).1
 
       go : Adds s → Agree c (ints ++ new_integers s) (arrays ++ new_arrays s) (declares s known) (known_after owners s) around returns
-      go (an_int x e same) = subst After (sym same) (subst (λ w. Agree c (ints ++ x ∷ []) w ((x, false) ∷ known) (x ∷ owners) around returns) (sym (append-nil arrays)) (with_int agree x (new_unknown program known x (int_types x e same))))
-      go (an_array x e same) = subst After (sym same) (subst (λ w. Agree c w (arrays ++ x ∷ []) ((x, true) ∷ known) (x ∷ owners) around returns) (sym (append-nil ints)) (with_array agree x (new_unknown program known x (array_types x e same))))
+      go (an_int x e same) = subst After (sym same) (subst (λ w. Agree c (ints ++ x ∷ []) w ((x, name_kind.Integer) ∷ known) (x ∷ owners) around returns) (sym (append-nil arrays)) (with_int agree x (new_unknown program known x (int_types x e same))))
+      go (an_array x e same) = subst After (sym same) (subst (λ w. Agree c w (arrays ++ x ∷ []) ((x, name_kind.Array) ∷ known) (x ∷ owners) around returns) (sym (append-nil ints)) (with_array agree x (new_unknown program known x (array_types x e same))))
       go (nothing same no_ints no_arrays owners_same) =
           rw (no_ints, no_arrays, append-nil ints, append-nil arrays, same known, owners_same owners) agree
 
@@ -371,7 +373,7 @@ module _ (program : Program) (fs : List Function) (fs_is : program.functions ≡
     stmt_can (AssignElement a i e) c ints arrays known owners around returns here agree depth line taken source types owns well =
         let s = both_true (is_source_expr i) (is_source_expr e) (both_true (is_plain a) _ source).1 in
         let o1 = both_true _ (may_index around a i) (kept _ line owns) in
-        let o2 = both_true _ (are_free taken (a ∷ [])) o1.0 in
+        let o2 = both_true _ (are_loose taken (a ∷ [])) o1.0 in
         let o3 = both_true (may_read around taken i) (may_read around taken e) o2.0 in
         all_of (if is_among a c.over then is_variable c i else (is_local c a && can_evaluate c i)) _
         (spot_can agree a i s.0 o1.1 (read_keeps around taken i o3.0) (first_well c (read_by i) (read_by e) well)) (expr_can agree e s.1 (read_keeps around taken e o3.1) (second_well c (read_by i) (read_by e) well))

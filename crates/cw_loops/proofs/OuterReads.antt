@@ -1,12 +1,12 @@
 -- What a resolved body takes from outside, in the body of a loop that can be lowered.
-use Rattle.std.proofs.Common.{◌≡◌, ℕ, nat_lt, Bool, true, false, List, [], ◌∷◌, ◌++◌, length, map, arith, refl, sym, ◌∙◌, ap, subst, append_assoc, append-nil}
+use Rattle.std.proofs.Common.{◌≡◌, ℕ, nat_lt, Bool, true, false, List, [], ◌∷◌, ◌++◌, length, map, arith, refl, sym, ◌∙◌, ap, subst, append_assoc, append-nil, drop}
 use Rattle.std.specs.Prelude.{if◌then◌else◌, nat_le, ◌==◌, not, ◌&&◌, ◌||◌, Some, None}
-use Rattle.cw_model.specs.Syntax.{Name, Expr, Number, Variable, Element, Length, Negative, Not, Binary, Stmt, Declare, DeclareArray, Assign, AssignElement, Reduce, Call, Start, Begin, Sync, If, IfElse, While, For, Scope, Cut, Region, Print, Return, Block, End, Then}
+use Rattle.cw_model.specs.Syntax.{Name, Expr, Number, Variable, Element, Length, Negative, Not, Binary, Stmt, Declare, DeclareArray, Assign, AssignElement, Reduce, Call, Start, Begin, Sync, If, IfElse, While, For, Scope, Cut, Region, Print, Return, Block, End, Then, Param}
 use Rattle.cw_model.specs.Names.{same_name, is_among, new_names}
 use Rattle.cw_model.specs.Meaning.{function_named}
 use Rattle.cw_loops.specs.Lowered.{is_plain}
 use Rattle.cw_model.specs.Captured.{captured, read_by, read_by_all, read_in, read_in_block, declared_in, declared_in_block}
-use Rattle.cw_tree.specs.Resolved.{Lists, Locals, Use, slot_of, use_of, resolved_expr, resolved_argument, resolved_stmt, resolved_block, with_int, with_array, locals_after, reads, argument_reads, arguments_read, reads_in, reads_in_block, captured_in}
+use Rattle.cw_tree.specs.Resolved.{Lists, Locals, Use, slot_of, use_of, resolved_expr, resolved_argument, resolved_stmt, resolved_block, with_int, with_array, locals_after, reads, argument_reads, arguments_read, reads_in, reads_in_block, captured_in, resolved_arguments}
 use Rattle.cw_tree.specs.Resolved as spec
 use Rattle.cw_tree.specs.lemmas.NamedSlots.{slot_stays}
 use Rattle.cw_loops.specs.Lowerable.{Surroundings, can_write, can_read, is_local, is_variable, can_evaluate, can_pass, can_pass_all, can_target, new_integers, new_arrays, can_loop, inside, can_lower, can_lower_all}
@@ -111,37 +111,41 @@ module _ (c : Surroundings) (ints0 arrays0 : List Name) (x : Name) (total declar
       (expr_in d ints arrays g.0 (first_among (read_by d) (read_by e) total all)) (expr_in e ints arrays g.1 (second_among (read_by d) (read_by e) total all))
 
   -- a name alone is an integer that is read, or an array of the turn
-  alone_in : (y : Name) (ints arrays : List Name) → can_pass turn (Variable y) ≡ true → is_among y total ≡ true → AllAmong arrays (x ∷ declared) → In (argument_reads (resolved_argument (at turn ints arrays) (Variable y))) (y ∷ [])
-  alone_in y ints arrays h there own = go (is_among y (turn.arrays ++ arrays)) refl
+  alone_in : (y : Name) (ps : List Param) (ints arrays : List Name) → can_pass turn (Variable y) ≡ true → is_among y total ≡ true → AllAmong arrays (x ∷ declared) → In (argument_reads (resolved_argument (at turn ints arrays) ps (Variable y))) (y ∷ [])
+  alone_in y ps ints arrays h there own = go (is_among y (turn.arrays ++ arrays)) refl
     where
       g : (can_read turn y ≡ true) × (is_local turn y ≡ true)
       g = both_true (can_read turn y) (is_local turn y) h
 
-      go : (b : Bool) → is_among y (turn.arrays ++ arrays) ≡ b → In (argument_reads (if b then spec.Array (use_of (turn.arrays ++ arrays) y) else spec.Int (spec.Variable (use_of (turn.outer ++ ints) y)))) (y ∷ [])
-      go true e = dropped_match before (x ∷ declared) y (own y (by (side y turn.arrays arrays e)))
+      passed : (r : Bool) → In [] (y ∷ []) → In (argument_reads (if r then spec.Shared (use_of (turn.arrays ++ arrays) y) else spec.Array (use_of (turn.arrays ++ arrays) y))) (y ∷ [])
+      passed true d = d
+      passed false d = d
+
+      go : (b : Bool) → is_among y (turn.arrays ++ arrays) ≡ b → In (argument_reads (if b then spec.passed_to ps (use_of (turn.arrays ++ arrays) y) else spec.Int (spec.Variable (use_of (turn.outer ++ ints) y)))) (y ∷ [])
+      go true e = passed (spec.is_reader ps) (dropped_match before (x ∷ declared) y (own y (by (side y turn.arrays arrays e))))
         where
           by : Side y turn.arrays arrays → is_among y arrays ≡ true
           by (in_first p) = never (is_among y turn.arrays) p (not_true (is_among y turn.arrays) (both_true (not (is_among y turn.arrays)) _ g.1).0)
           by (in_second p) = p
       go false e = name_in y ints g.0 there
 
-  argument_in : (e : Expr) (ints arrays : List Name) → can_pass turn e ≡ true → AllAmong (read_by e) total → AllAmong arrays (x ∷ declared) → In (argument_reads (resolved_argument (at turn ints arrays) e)) (read_by e)
-  argument_in (Number n) ints arrays h all own = λ found. refl
-  argument_in (Variable y) ints arrays h all own = alone_in y ints arrays h (all y (front_among y [])) own
-  argument_in (Element a e) ints arrays h all own = expr_in (Element a e) ints arrays h all
-  argument_in (Length a) ints arrays h all own = λ found. refl
-  argument_in (Negative e) ints arrays h all own = expr_in (Negative e) ints arrays h all
-  argument_in (Not e) ints arrays h all own = expr_in (Not e) ints arrays h all
-  argument_in (Binary operator d e) ints arrays h all own = expr_in (Binary operator d e) ints arrays h all
+  argument_in : (e : Expr) (ps : List Param) (ints arrays : List Name) → can_pass turn e ≡ true → AllAmong (read_by e) total → AllAmong arrays (x ∷ declared) → In (argument_reads (resolved_argument (at turn ints arrays) ps e)) (read_by e)
+  argument_in (Number n) ps ints arrays h all own = λ found. refl
+  argument_in (Variable y) ps ints arrays h all own = alone_in y ps ints arrays h (all y (front_among y [])) own
+  argument_in (Element a e) ps ints arrays h all own = expr_in (Element a e) ints arrays h all
+  argument_in (Length a) ps ints arrays h all own = λ found. refl
+  argument_in (Negative e) ps ints arrays h all own = expr_in (Negative e) ints arrays h all
+  argument_in (Not e) ps ints arrays h all own = expr_in (Not e) ints arrays h all
+  argument_in (Binary operator d e) ps ints arrays h all own = expr_in (Binary operator d e) ints arrays h all
 
-  arguments_in : (es : List Expr) (ints arrays : List Name) → can_pass_all turn es ≡ true → AllAmong (read_by_all es) total → AllAmong arrays (x ∷ declared) →
-      In (arguments_read (map (resolved_argument (at turn ints arrays)) es)) (read_by_all es)
-  arguments_in [] ints arrays h all own = λ found. refl
-  arguments_in (e ∷ es) ints arrays h all own =
+  arguments_in : (es : List Expr) (ps : List Param) (ints arrays : List Name) → can_pass_all turn es ≡ true → AllAmong (read_by_all es) total → AllAmong arrays (x ∷ declared) →
+      In (arguments_read (resolved_arguments (at turn ints arrays) ps es)) (read_by_all es)
+  arguments_in [] ps ints arrays h all own = λ found. refl
+  arguments_in (e ∷ es) ps ints arrays h all own =
       let g = both_true (can_pass turn e) (can_pass_all turn es) h in
-      both_match before (x ∷ declared) (argument_reads (resolved_argument (at turn ints arrays) e)) (arguments_read (map (resolved_argument (at turn ints arrays)) es)) (read_by e) (read_by_all es)
-      (argument_in e ints arrays g.0 (first_among (read_by e) (read_by_all es) total all) own)
-      (arguments_in es ints arrays g.1 (second_among (read_by e) (read_by_all es) total all) own)
+      both_match before (x ∷ declared) (argument_reads (resolved_argument (at turn ints arrays) ps e)) (arguments_read (resolved_arguments (at turn ints arrays) (drop 1 ps) es)) (read_by e) (read_by_all es)
+      (argument_in e ps ints arrays g.0 (first_among (read_by e) (read_by_all es) total all) own)
+      (arguments_in es (drop 1 ps) ints arrays g.1 (second_among (read_by e) (read_by_all es) total all) own)
 
 -- what stands in a statement or a block of the body of a loop
 abbrev ReadsIn : (Surroundings → List Name → List Name → Bool) → (names own : List Name) → (Lists → Locals → List Use) → Type 0
@@ -278,7 +282,7 @@ mutual
       let t = Inner c ints0 arrays0 x total declared over in
       let g = both_true (is_plain f) _ here in
       let g2 = both_true (length es == length (function_named f t.functions).params) _ g.1 in
-      arguments_in c ints0 arrays0 x total declared over can es ints arrays (both_true (can_target t target) (can_pass_all t es) g2.1).1 all arrays_own
+      arguments_in c ints0 arrays0 x total declared over can es (spec.params_of lists f) ints arrays (both_true (can_target t target) (can_pass_all t es) g2.1).1 all arrays_own
   stmt_reads (Start kind f es) c ints0 arrays0 x total declared over can lists ints arrays here all own arrays_own = absurd cc
   stmt_reads (Begin f from to captured' over') c ints0 arrays0 x total declared over can lists ints arrays here all own arrays_own = absurd cc
   stmt_reads Sync c ints0 arrays0 x total declared over can lists ints arrays here all own arrays_own = λ found. refl

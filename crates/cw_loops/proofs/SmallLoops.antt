@@ -1,15 +1,17 @@
 -- What lowering makes has few functions and loops, each loop with small numbers.
-use Rattle.std.proofs.Common.{◌≡◌, ℕ, ◌+◌, ◌≤◌, Bool, true, false, List, [], ◌∷◌, ◌++◌, length, map, flat_map, arith, refl, sym, subst, ◌∙◌, ap, length-append}
+use Rattle.std.proofs.Common.{◌≡◌, ℕ, ◌+◌, ◌≤◌, Bool, true, List, [], ◌∷◌, ◌++◌, length, map, flat_map, arith, refl, sym, subst, ◌∙◌, ap, length-append}
 use Rattle.std.specs.Prelude.{if◌then◌else◌, nat_le, ◌&&◌}
 use Rattle.std.specs.List.{list_all}
 use Rattle.std.proofs.lemmas.Bool.Decides.{nat_tests}
 use Rattle.std.proofs.lemmas.List.{length-map}
+use Rattle.cw_model.specs.declared.syntax.NameKind.{NameKind}
 use Rattle.cw_model.specs.declared.limits.TheConstants.{MOST_FUNCTIONS, MOST_GRAIN, MOST_LOOPS}
 use Rattle.cw_model.specs.Lines.{unless}
-use Rattle.cw_model.specs.Syntax.{Name, Expr, Stmt, Declare, DeclareArray, Assign, AssignElement, Reduce, Call, Start, Begin, Sync, If, IfElse, While, For, Scope, Cut, Region, Print, Return, Block, End, Then, Param, Function, Program}
+use Rattle.cw_model.specs.declared.syntax.NameKind.TheVariants as name_kind
+use Rattle.cw_model.specs.Syntax.{Name, Expr, Stmt, Declare, DeclareArray, Assign, AssignElement, Reduce, Call, Start, Begin, Sync, If, IfElse, While, For, Scope, Cut, Region, Print, Return, Block, End, Then, Param, Function, Program, is_array_kind}
 use Rattle.cw_model.specs.Names.{is_among, differ}
 use Rattle.cw_model.specs.Sizes.{limit_faults, loop_faults, function_limits}
-use Rattle.cw_model.specs.Typing.{Known, is_array, is_fine, is_head_of_loop, is_cut, is_head, declares, faults_in, faults_in_block, faults_of, known_of, Returns, Nowhere, WithInt, Alone, IsWellTyped}
+use Rattle.cw_model.specs.Typing.{Known, is_array, is_fine, is_head_of_loop, is_cut, is_head, declares, faults_in, faults_in_block, faults_of, known_of, Returns, Nowhere, WithInt, Alone, IsWellTyped, is_writable}
 use Rattle.cw_model.specs.Ownership.{Around, NoLoop, InLoop, Taken, CutOf, Declared, Closing, Joins, Leaves, for_head, may_read, may_write, taken_after, declared_by, known_after, owner_faults, owner_faults_in, owner_faults_of, KeepsOwnership}
 use Rattle.cw_model.specs.lemmas.Kept.{left_none, right_none, kept}
 use Rattle.cw_tree.specs.Declares.{declares_in, declares_in_block}
@@ -73,7 +75,7 @@ array_known known a h = go (told (is_among a (names_known known)))
   where
     go : Told (is_among a (names_known known)) → is_among a (names_known known) ≡ true
     go (yes_is e) = e
-    go (no_is e) = never (is_array known a) h (not_there true known a e)
+    go (no_is e) = never (is_array known a) h (not_there is_array_kind known a e)
 
 arrays_known : (known : Known) (over : List Name) → list_all (λ a. is_array known a) over ≡ true → (v : Name) → is_among v over ≡ true → is_among v (names_known known) ≡ true
 arrays_known known [] h v o = absurd cc
@@ -88,7 +90,7 @@ arrays_known known (a ∷ over) h v o =
 few_over : (known : Known) (over : List Name) → differ over ≡ true → list_all (λ a. is_array known a) over ≡ true → length over ≤ length known
 few_over known over apart arrays =
     let few = no_more over (names_known known) apart (arrays_known known over arrays) in
-    let same = length-map known (λ (k : Name × Bool). k.0) in
+    let same = length-map known (λ (k : Name × NameKind). k.0) in
     omega (arith, few, same)
 
 small_count : (n : ℕ) → n ≤ 256 → slot n ≤ 256
@@ -103,7 +105,7 @@ small_last (k ∷ loops) l h one = (h.0, small_last loops l h.1 one)
 
 grain_kept : (program : Program) (known : Known) (x y z : Name) (from to : Expr) (grain : ℕ) (over : List Name) → is_head_of_loop program known x y z from to grain over ≡ true → grain ≤ MOST_GRAIN
 grain_kept program known x y z from to grain over h =
-    let a = both_true _ (list_all (λ a. is_array known a) over) h in
+    let a = both_true _ (list_all (λ a. is_writable known a) over) h in
     let b = both_true _ (nat_le grain MOST_GRAIN) a.0 in
     no_greater grain MOST_GRAIN b.1
 
@@ -140,7 +142,7 @@ module _ (program : Program) (lists : Lists) (n : ℕ) where
   for_small : (x y z : Name) (from to : Expr) (grain : ℕ) (over : List Name) (b : Block) → SmallBlock b → SmallStmt (For x y z from to grain over b)
   for_small x y z from to grain over b inner m arrays line l known returns around owners depth taken loops few_ints few_known types owns h =
       small_last (made_block n (moves_of head arrays) arrays loops body).loops _
-      (inner (moves_of head arrays) arrays (with_int x l) ((x, false) ∷ known) Nowhere (InLoop (x ∷ owners) x over) (x ∷ owners) (depth + 1) Joins taken [] loops
+      (inner (moves_of head arrays) arrays (with_int x l) ((x, name_kind.Integer) ∷ known) Nowhere (InLoop (x ∷ owners) x over) (x ∷ owners) (depth + 1) Joins taken [] loops
       (let p = one_more l.ints x in omega (arith, p, few_ints)) (omega (arith, few_known)) (right_none (unless (is_head_of_loop program known x y z from to grain over) line) _ types) (right_none (unless owner_rule line) _ owns) h)
       (loop_small program l known line x y z from to grain over body (omega (arith, few_ints)) (omega (arith, few_known)) (kept _ line (left_none (unless (is_head_of_loop program known x y z from to grain over) line) _ types)) apart)
     where
@@ -183,7 +185,7 @@ module _ (program : Program) (lists : Lists) (n : ℕ) where
     stmt_small (Scope b) m arrays line l known returns around owners depth taken loops few_ints few_known types owns h =
         block_small b m arrays l known Nowhere around owners (depth + 1) Joins taken [] loops few_ints few_known types owns h
     stmt_small (Cut a e left right b) m arrays line l known returns around owners depth taken loops few_ints few_known types owns h =
-        block_small b m _ (with_array right (with_array left l)) ((right, true) ∷ (left, true) ∷ known) Nowhere around (right ∷ left ∷ owners) (depth + 1) Joins ((a, CutOf) ∷ taken) [] loops (omega (arith, few_ints)) (omega (arith, few_known))
+        block_small b m _ (with_array right (with_array left l)) ((right, name_kind.Array) ∷ (left, name_kind.Array) ∷ known) Nowhere around (right ∷ left ∷ owners) (depth + 1) Joins ((a, CutOf) ∷ taken) [] loops (omega (arith, few_ints)) (omega (arith, few_known))
         (right_none (unless (is_cut program known a e left right) line) _ types) (right_none (unless _ line) _ owns) h
     stmt_small (Region tag b) m arrays line l known returns around owners depth taken loops few_ints few_known types owns h =
         block_small b m arrays l known Nowhere around owners (depth + 1) Joins taken [] loops few_ints few_known types owns h
@@ -257,7 +259,7 @@ module _ (program : Program) (lists : Lists) (n : ℕ) where
   known_count : (ps : List Param) → length (known_of ps) ≡ length ps
   known_count [] = refl
   known_count (p ∷ ps) =
-      let all = length-append (known_of ps) ((p.name, p.is_array) ∷ []) in
+      let all = length-append (known_of ps) ((p.name, p.kind) ∷ []) in
       let more = known_count ps in
       omega (arith, all, more)
 

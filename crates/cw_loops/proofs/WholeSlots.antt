@@ -4,9 +4,10 @@ use Rattle.std.specs.Prelude.{if◌then◌else◌, not, nat_le, ◌&&◌, filter
 use Rattle.std.specs.List.{list_all}
 use Rattle.std.proofs.lemmas.Bool.Decides.{nat_tests}
 use Rattle.std.proofs.lemmas.List.{map-append, length-map}
+use Rattle.cw_model.specs.Meaning.{function_named}
 use Rattle.cw_model.specs.declared.limits.TheConstants.{MOST_DECLARED}
 use Rattle.cw_model.specs.Lines.{unless}
-use Rattle.cw_model.specs.Syntax.{Name, Stmt, Declare, DeclareArray, Assign, AssignElement, Reduce, Call, Start, Begin, Sync, If, IfElse, While, For, Scope, Cut, Region, Print, Return, Block, End, Then, Param, Function, Program}
+use Rattle.cw_model.specs.Syntax.{Name, Stmt, Declare, DeclareArray, Assign, AssignElement, Reduce, Call, Start, Begin, Sync, If, IfElse, While, For, Scope, Cut, Region, Print, Return, Block, End, Then, Param, Function, Program, wants_array}
 use Rattle.cw_model.specs.Names.{same_name, is_among, differ}
 use Rattle.cw_model.specs.Sizes.{loops_in, loops_in_block, limit_faults, loop_faults, function_limits}
 use Rattle.cw_model.specs.Typing.{is_head, faults_of, type_faults, WithInt, Alone, known_of, IsWellTyped}
@@ -35,10 +36,12 @@ use Rattle.cw_loops.specs.lemmas.Tests.{both_true, Told, yes_is, no_is, told}
 use Rattle.cw_loops.specs.lemmas.Apart.{same_itself, apart_plain}
 use Rattle.cw_loops.specs.lemmas.Heads.{int_kind, head_of, heads_kept}
 use Rattle.cw_loops.specs.lemmas.Numbering.{Numbered, Made, count_of, made_functions, loops_apart, names_stay}
+use Rattle.cw_loops.specs.lemmas.Finding as finding
 use Rattle.cw_loops.proofs.Accepting.{owned_can}
 use Rattle.cw_loops.proofs.Shifting.{small_slot, slot_past}
 use Rattle.cw_loops.proofs.Entering.{at, two_lists}
 use Rattle.cw_loops.proofs.Tracking.{tracks_outside}
+use Rattle.cw_loops.proofs.Readers.{reads_none, loop_reads_none}
 use Rattle.cw_loops.proofs.BySlot.{Here, Done, as_blocks, block_made}
 
 -- how many loops there are
@@ -90,31 +93,31 @@ few_loops program h =
 
 -- the parameters of a function
 
-ints_same : (ps : List Param) → map (λ (p : Param). p.name) (filter (λ p. not p.is_array) ps) ≡ integers_of ps
+ints_same : (ps : List Param) → map (λ (p : Param). p.name) (filter (λ p. not (wants_array p)) ps) ≡ integers_of ps
 ints_same [] = refl
-ints_same (p ∷ ps) = go p.is_array (ints_same ps)
+ints_same (p ∷ ps) = go (wants_array p) (ints_same ps)
   where
-    go : (b : Bool) → map (λ (q : Param). q.name) (filter (λ q. not q.is_array) ps) ≡ integers_of ps →
-        map (λ (q : Param). q.name) (if not b then p ∷ filter (λ q. not q.is_array) ps else filter (λ q. not q.is_array) ps) ≡ (if b then integers_of ps else p.name ∷ integers_of ps)
+    go : (b : Bool) → map (λ (q : Param). q.name) (filter (λ q. not (wants_array q)) ps) ≡ integers_of ps →
+        map (λ (q : Param). q.name) (if not b then p ∷ filter (λ q. not (wants_array q)) ps else filter (λ q. not (wants_array q)) ps) ≡ (if b then integers_of ps else p.name ∷ integers_of ps)
     go true e = e
     go false e = ap (λ r. p.name ∷ r) e
 
-arrays_same : (ps : List Param) → map (λ (p : Param). p.name) (filter (λ p. p.is_array) ps) ≡ arrays_of ps
+arrays_same : (ps : List Param) → map (λ (p : Param). p.name) (filter (λ p. wants_array p) ps) ≡ arrays_of ps
 arrays_same [] = refl
-arrays_same (p ∷ ps) = go p.is_array (arrays_same ps)
+arrays_same (p ∷ ps) = go (wants_array p) (arrays_same ps)
   where
-    go : (b : Bool) → map (λ (q : Param). q.name) (filter (λ q. q.is_array) ps) ≡ arrays_of ps →
-        map (λ (q : Param). q.name) (if b then p ∷ filter (λ q. q.is_array) ps else filter (λ q. q.is_array) ps) ≡ (if b then p.name ∷ arrays_of ps else arrays_of ps)
+    go : (b : Bool) → map (λ (q : Param). q.name) (filter (λ q. wants_array q) ps) ≡ arrays_of ps →
+        map (λ (q : Param). q.name) (if b then p ∷ filter (λ q. wants_array q) ps else filter (λ q. wants_array q) ps) ≡ (if b then p.name ∷ arrays_of ps else arrays_of ps)
     go true e = ap (λ r. p.name ∷ r) e
     go false e = e
 
 params_same : (fs : List Function) (ps : List Param) → locals_of ps ≡ at (nothing_around fs) (integers_of ps) (arrays_of ps)
 params_same fs ps =
-    two_lists (map (λ (p : Param). p.name) (filter (λ p. not p.is_array) ps)) (integers_of ps) (map (λ (p : Param). p.name) (filter (λ p. p.is_array) ps)) (arrays_of ps) (ints_same ps) (arrays_same ps)
+    two_lists (map (λ (p : Param). p.name) (filter (λ p. not (wants_array p)) ps)) (integers_of ps) (map (λ (p : Param). p.name) (filter (λ p. wants_array p) ps)) (arrays_of ps) (ints_same ps) (arrays_same ps)
 
 few_kinds : (ps : List Param) → length (integers_of ps) + length (arrays_of ps) ≡ length ps
 few_kinds [] = omega arith
-few_kinds (p ∷ ps) = go p.is_array (few_kinds ps)
+few_kinds (p ∷ ps) = go (wants_array p) (few_kinds ps)
   where
     go : (b : Bool) → length (integers_of ps) + length (arrays_of ps) ≡ length ps → length (if b then integers_of ps else p.name ∷ integers_of ps) + length (if b then p.name ∷ arrays_of ps else arrays_of ps) ≡ suc (length ps)
     go true e = omega (arith, e)
@@ -122,7 +125,7 @@ few_kinds (p ∷ ps) = go p.is_array (few_kinds ps)
 
 arrays_counted : (n : ℕ) (ps : List Param) → n + length (arrays_of ps) ≤ 256 → arrays_from n ps ≡ n + length (arrays_of ps)
 arrays_counted n [] few = omega arith
-arrays_counted n (p ∷ ps) few = go p.is_array few (λ m. arrays_counted m ps)
+arrays_counted n (p ∷ ps) few = go (wants_array p) few (λ m. arrays_counted m ps)
   where
     go : (b : Bool) → n + length (if b then p.name ∷ arrays_of ps else arrays_of ps) ≤ 256 → ((m : ℕ) → m + length (arrays_of ps) ≤ 256 → arrays_from m ps ≡ m + length (arrays_of ps)) →
         arrays_from (if b then slot (n + 1) else n) ps ≡ n + length (if b then p.name ∷ arrays_of ps else arrays_of ps)
@@ -202,6 +205,12 @@ module _ (program : Program) (can : is_lowerable program ≡ true) (within : lim
       none : (i : ℕ) → i ≡ 0 + i
       none i = omega arith
 
+  params_stay : (f : Name) → is_plain f ≡ true → (function_named f (lowered program).functions).params ≡ (function_named f program.functions).params
+  params_stay f plain = finding.params_same program.functions can f plain
+
+  loops_read : (k : ℕ) → reads_none (function_named (loop_name k) (lowered program).functions).params ≡ true
+  loops_read k = loop_reads_none program.functions can k
+
   head_here : (g : Function) → Accepted program g → Here many nothing_moved (nothing_around program.functions) (integers_of g.params) (arrays_of g.params) (known_of g.params) (counts_of (resolved program) (resolved_function (lists_of program) g))
   head_here g h =
       let few = small_head g h.limits in
@@ -227,9 +236,9 @@ module _ (program : Program) (can : is_lowerable program ≡ true) (within : lim
   function_made : (g : Function) → Accepted program g → (loops : List Loop) (k : ℕ) → length loops ≡ k → k + loop_count_in g.body ≤ total →
       Done many (lowered_lists program) (body_of loops g).block (slotted_block (lowered_lists program) (locals_of g.params) (lower_block [] k g.body)) loops (body_of loops g).loops k (loop_count_in g.body) (made_in k g.body)
   function_made g h loops k len room =
-      as_blocks program names names' (reducer_names program.reducers) (tags_of program) many total (few_loops program loops_within) (functions_few program within) callee loops_at nothing_moved [] loops k g.body
+      as_blocks program names names' (reducer_names program.reducers) (tags_of program) program.functions (lowered program).functions many total (few_loops program loops_within) (functions_few program within) callee loops_at params_stay loops_read nothing_moved [] loops k g.body
       (sym (arrays_counted 0 g.params (omega (arith, few, kinds)) ∙ omega arith)) (sym (params_same program.functions g.params)) (sym (params_same program.functions g.params))
-      (block_made program names names' (reducer_names program.reducers) (tags_of program) many total (few_loops program loops_within) (functions_few program within) callee loops_at g.body nothing_moved (nothing_around program.functions)
+      (block_made program names names' (reducer_names program.reducers) (tags_of program) program.functions (lowered program).functions many total (few_loops program loops_within) (functions_few program within) callee loops_at params_stay loops_read g.body nothing_moved (nothing_around program.functions)
       (integers_of g.params) (arrays_of g.params) (known_of g.params) (counts_of (resolved program) (resolved_function (lists_of program) g)) (if g.gives_int then WithInt else Alone) loops k (head_here g h) body_can
       (ap (λ l. fits_block (counts_of (resolved program) (resolved_function (lists_of program) g)) (resolved_block (lists_of program) l g.body)) (sym (params_same program.functions g.params)) ∙ body_fits)
       (right_none (unless (is_head program g) g.line) _ h.types) len room)
@@ -248,7 +257,7 @@ module _ (program : Program) (can : is_lowerable program ≡ true) (within : lim
       body_fits = (both_true (nat_le (resolved_function (lists_of program) g).ints MOST_DECLARED && nat_le (resolved_function (lists_of program) g).arrays MOST_DECLARED) _ h.fit).1
 
   whole : Function → slotted.Block → slotted.Function
-  whole g b = record { gives_int = g.gives_int; params = map (λ (p : Param). p.is_array) g.params; body = b }
+  whole g b = record { gives_int = g.gives_int; params = map (λ (p : Param). p.kind) g.params; body = b }
 
   abbrev all_of_them : (loops : List Loop) → List Function → Bodies
   all_of_them loops gs = made_bodies many loops (map (resolved_function (lists_of program)) gs)

@@ -5,6 +5,7 @@ use Rattle.cw_model.specs.declared.trap.Trap.{Trap}
 use Rattle.cw_model.specs.declared.trap.Trap.TheVariants as trap
 use Rattle.cw_model.specs.Loops.{loop_cost}
 use Rattle.cw_model.specs.Answers.{Answer, Ended, TrappedAt, OverLimit}
+use Rattle.cw_model.specs.declared.syntax.NameKind.TheVariants as kind
 use Rattle.cw_model.specs.declared.syntax.Operator.TheVariants.{Plus, Minus, Times}
 use Rattle.cw_model.specs.declared.syntax.Reduction.TheVariants.{Sum, Max}
 use Rattle.cw_model.specs.declared.total.Total.{Total}
@@ -30,7 +31,7 @@ nested trap_at = record {
         name = example.f;
         line = 2;
         gives_int = true;
-        params = record { name = example.n; is_array = false } ∷ [];
+        params = record { name = example.n; kind = kind.Integer } ∷ [];
         body = example.block (Return (Some (Binary Times (Variable example.n) (Variable example.n))) ∷ []);
       }
       ∷ record {
@@ -58,6 +59,29 @@ nested trap_at = record {
       }
       ∷ [];
 }
+
+-- a loop whose turns have two arrays of their own: a call takes one and reads the other, which a spawned call then
+-- reads while the turn does
+abbrev pub readers : Program
+readers =
+    example.of_functions (
+    example.void_function example.h (example.array_param example.a ∷ example.const_param example.b ∷ [])
+    (example.block (AssignElement example.a (Number (pos 0)) (Element example.b (Number (pos 1))) ∷ []))
+    ∷ example.int_function example.g 1 (example.const_param example.a ∷ example.int_param example.v ∷ [])
+    (example.block (Return (Some (Element example.a (Variable example.v))) ∷ []))
+    ∷ example.main_of (
+    DeclareArray example.a (Number (pos 4))
+    ∷ For example.i example.i example.i (Number (pos 0)) (Number (pos 4)) 1 (example.a ∷ []) (
+    example.block (
+    DeclareArray example.y (Number (pos 2)) ∷ DeclareArray example.z (Number (pos 1))
+    ∷ Declare example.x (Number (pos 0)) ∷ AssignElement example.y (Number (pos 1)) (Variable example.i)
+    ∷ example.call 1 example.h (Variable example.z ∷ Variable example.y ∷ [])
+    ∷ example.spawn_into example.x 2 example.g (Variable example.y ∷ Number (pos 1) ∷ [])
+    ∷ Print (Element example.y (Number (pos 1))) ∷ Sync
+    ∷ AssignElement example.a (Variable example.i)
+    (Binary Plus (Variable example.x) (Element example.z (Number (pos 0)))) ∷ []))
+    ∷ Return (Some (Element example.a (Number (pos 3)))) ∷ [])
+    ∷ [])
 
 -- a loop of so many turns and this grain that adds its variable to a sum
 abbrev pub turns_program : (turns grain : ℕ) → Program
@@ -156,6 +180,9 @@ pub record LoweredExamples : Type 0 where
   pub most : Same (example.idle_loop (Number (pos 0)) 2147483647) (3 ∷ 300 ∷ [])
   pub twice : Same (nested 2) (5000 ∷ 900 ∷ 700 ∷ 500 ∷ 300 ∷ 100 ∷ [])
   pub twice_traps : Same (nested 4) (5000 ∷ 700 ∷ [])
+  -- arrays that a turn and its spawn read together: the last turn comes to 3 + 3
+  pub together : Same readers (5000 ∷ 300 ∷ 200 ∷ 100 ∷ [])
+  pub together_comes_to : value_answered (serial (lowered readers) [] 5000) ≡ Some (pos 6)
   -- these can be lowered, by the test
   pub sums_can : is_lowerable (example.sum_program 0 4) ≡ true
   pub greatest_can : is_lowerable (greatest_program 0 4) ≡ true
@@ -164,5 +191,6 @@ pub record LoweredExamples : Type 0 where
   pub cut_can : is_lowerable (example.cut_program 3) ≡ true
   pub fib_can : is_lowerable example.fib_program ≡ true
   pub twice_can : is_lowerable (nested 2) ≡ true
+  pub together_can : is_lowerable readers ≡ true
   -- an outer integer that is written in a turn is no program that can be lowered
   pub outer_cannot : is_lowerable example.outer_program ≡ false

@@ -1,6 +1,7 @@
 -- The functions that a tree holds: those of the source, each with its body, and then those of its loops, written out.
-use Rattle.std.specs.Prelude.{ℕ, zero, suc, ◌+◌, ◌*◌, pos, true, false, List, [], ◌∷◌, ◌++◌, length, map, replicate}
+use Rattle.std.specs.Prelude.{ℕ, zero, suc, ◌+◌, ◌*◌, pos, false, List, [], ◌∷◌, ◌++◌, length, map, replicate}
 use Rattle.cw_model.specs.declared.syntax.CallKind.TheVariants.{Plain, Spawned}
+use Rattle.cw_model.specs.declared.syntax.NameKind.TheVariants as kind
 use Rattle.cw_model.specs.declared.syntax.Operator.TheVariants.{AtMost, Less, Plus, Minus, Divide}
 use Rattle.cw_tree.specs.Resolved as source
 use Rattle.cw_loops.specs.Slotted.{Expr, Number, Variable, Binary, Argument, Int, Array, Stmt, Declare, Assign, Start}
@@ -78,7 +79,7 @@ node callee l =
 abbrev pub loop_text : (index : ℕ) → Loop → Function
 loop_text index l = record {
   gives_int = false;
-  params = false ∷ false ∷ (replicate l.captured false ++ replicate l.over true);
+  params = kind.Integer ∷ kind.Integer ∷ (replicate l.captured kind.Integer ++ replicate l.over kind.Array);
   body = on_line l.line (IfElse (Binary AtMost range (Number (pos l.grain))) (leaf l) (node index l));
 }
 
@@ -92,7 +93,7 @@ abbrev pub with_bodies : List source.Function → List Block → List Function
 with_bodies [] bodies = []
 with_bodies (f ∷ fs) [] = []
 with_bodies (f ∷ fs) (b ∷ bodies) =
-    record { gives_int = f.gives_int; params = map (λ p. p.is_array) f.params; body = b } ∷ with_bodies fs bodies
+    record { gives_int = f.gives_int; params = map (λ p. p.kind) f.params; body = b } ∷ with_bodies fs bodies
 
 -- the functions of a lowered tree
 abbrev pub expanded : source.Resolved → Bodies → List Function

@@ -2,6 +2,7 @@
 use Rattle.std.specs.Prelude.{ℕ, ◌+◌, ◌==◌, not, pos, true, false, Bool, List, [], ◌∷◌, ◌++◌, map, Option, Some, None}
 use Rattle.cw_model.specs.declared.syntax.Operator.TheVariants.{AtMost, Less, Plus, Minus, Divide}
 use Rattle.cw_model.specs.declared.syntax.CallKind.TheVariants.{Plain, Spawned}
+use Rattle.cw_model.specs.declared.syntax.NameKind.TheVariants as kind
 use Rattle.cw_model.specs.Syntax.{Name, Expr, Number, Variable, Element, Length, Negative, Not, Binary, Stmt, Declare}
 use Rattle.cw_model.specs.Syntax.{DeclareArray, Assign, AssignElement, Reduce, Call, Start, Begin, Sync, If, IfElse}
 use Rattle.cw_model.specs.Syntax.{While, For, Scope, Cut, Region, Print, Return, Block, End, Then, Param, Function}
@@ -64,11 +65,11 @@ lower_option over (Some e) = Some (lower_expr over e)
 -- the parameters of a generated function
 abbrev pub int_params : List Name → List Param
 int_params [] = []
-int_params (x ∷ xs) = record { name = x; is_array = false } ∷ int_params xs
+int_params (x ∷ xs) = record { name = x; kind = kind.Integer } ∷ int_params xs
 
 abbrev pub array_params : List Name → List Param
 array_params [] = []
-array_params (a ∷ rest) = record { name = a; is_array = true } ∷ array_params rest
+array_params (a ∷ rest) = record { name = a; kind = kind.Array } ∷ array_params rest
 
 abbrev pub variables : List Name → List Expr
 variables [] = []
@@ -119,7 +120,7 @@ loop_function name line x grain ints over body = record {
   line = line;
   gives_int = false;
   params =
-      record { name = low; is_array = false } ∷ record { name = high; is_array = false }
+      record { name = low; kind = kind.Integer } ∷ record { name = high; kind = kind.Integer }
       ∷ (int_params ints ++ array_params over);
   body =
       on_line line

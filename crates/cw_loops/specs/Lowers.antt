@@ -1,6 +1,6 @@
 -- What lowering makes of the functions of a resolved tree, and how code is seen as that.
 use Rattle.std.specs.Prelude.{ℕ, ◌+◌, if◌then◌else◌, List, [], ◌∷◌, length, map}
-use Rattle.cw_model.specs.Syntax.{Param}
+use Rattle.cw_model.specs.Syntax.{Param, wants_array}
 use Rattle.cw_tree.specs.Resolved as source
 use Rattle.cw_loops.specs.declared.tree.Tree.{Tree}
 use Rattle.cw_loops.specs.Slotted.{Block}
@@ -19,7 +19,7 @@ with_body b rest = record { blocks = b ∷ rest.blocks; loops = rest.loops }
 -- how many parameters are arrays, from a number on
 abbrev pub arrays_from : ℕ → List Param → ℕ
 arrays_from n [] = n
-arrays_from n (p ∷ ps) = arrays_from (if p.is_array then slot (n + 1) else n) ps
+arrays_from n (p ∷ ps) = arrays_from (if wants_array p then slot (n + 1) else n) ps
 
 -- the bodies of functions, behind these loops, where so many functions are in the source
 abbrev pub made_bodies : (functions : ℕ) → List Loop → List source.Function → Bodies

@@ -5,7 +5,8 @@ use Rattle.cw_model.specs.declared.syntax.Operator.TheVariants.{Minus}
 use Rattle.cw_tree.specs.Resolved.{Use, is_slot_in}
 use Rattle.cw_tree.specs.Resolved as source
 use Rattle.cw_loops.specs.Slotted.{Expr, Number, Variable, Element, Length, Negative, Not, Binary, Argument, Int}
-use Rattle.cw_loops.specs.Slotted.{Array, Stmt, Declare, DeclareArray, Assign, AssignElement, Reduce, Call, Begin}
+use Rattle.cw_loops.specs.Slotted.{Array, Shared, Stmt, Declare, DeclareArray, Assign, AssignElement, Reduce, Call}
+use Rattle.cw_loops.specs.Slotted.{Begin}
 use Rattle.cw_loops.specs.Slotted.{Sync, If, IfElse, While, Scope, Cut, Region, Print, Return, Block, End, Then}
 
 -- the greatest slot or index that a tree can tell
@@ -82,6 +83,7 @@ moved_expr m (source.Binary operator d e) = Binary operator (moved_expr m d) (mo
 abbrev pub moved_argument : Moves → source.Argument → Argument
 moved_argument m (source.Int e) = Int (moved_expr m e)
 moved_argument m (source.Array u) = Array (moved_array m u.slot)
+moved_argument m (source.Shared u) = Shared (moved_array m u.slot)
 
 -- the target of a call, where it went
 abbrev pub moved_target : Moves → Option Use → Option ℕ

@@ -9,7 +9,7 @@ use Rattle.cw_model.specs.Typing.{same_reduction}
 use Rattle.cw_loops.specs.Slotted.{Expr, Number, Variable, Element, Length, Negative, Not, Binary, Argument, Int}
 use Rattle.cw_loops.specs.Slotted.{Array, Stmt, Declare, DeclareArray, Assign, AssignElement, Reduce, Call, Start}
 use Rattle.cw_loops.specs.Slotted.{Begin, Sync, If, IfElse, While, Scope, Cut, Region, Print, Return, Block, End}
-use Rattle.cw_loops.specs.Slotted.{Then}
+use Rattle.cw_loops.specs.Slotted.{Then, Shared}
 use Rattle.cw_loops.specs.Moved.{Loop}
 use Rattle.cw_loops.specs.Lowers.{Bodies}
 
@@ -66,6 +66,7 @@ same_expr _ _ = false
 abbrev pub same_argument : Argument → Argument → Bool
 same_argument (Int d) (Int e) = same_expr d e
 same_argument (Array u) (Array v) = u == v
+same_argument (Shared u) (Shared v) = u == v
 same_argument _ _ = false
 
 -- the same arguments

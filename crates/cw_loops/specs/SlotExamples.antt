@@ -1,11 +1,11 @@
 -- Worked examples: lowering by slot gives the lowered program, each name looked up.
-use Rattle.std.specs.Prelude.{◌≡◌, pos}
-use Rattle.cw_model.specs.Syntax.{Number, Program}
+use Rattle.std.specs.Prelude.{◌≡◌, [], ◌∷◌, pos}
+use Rattle.cw_model.specs.Syntax.{Number, Variable, Program}
 use Rattle.cw_model.specs.ExamplePrograms as example
 use Rattle.cw_tree.specs.Resolved.{resolved}
-use Rattle.cw_loops.specs.Slotted.{slotted_functions}
+use Rattle.cw_loops.specs.Slotted.{Array, Shared, slotted_arguments, slotted_functions}
 use Rattle.cw_loops.specs.Expanded.{lowered_by_slot}
-use Rattle.cw_loops.specs.Examples.{nested, greatest_program}
+use Rattle.cw_loops.specs.Examples.{nested, readers, greatest_program}
 
 -- a program is lowered by slot as by name
 abbrev pub LowersBySlot : Program → Type 0
@@ -21,3 +21,10 @@ pub record SlotExamples : Type 0 where
   pub fib : LowersBySlot example.fib_program
   -- a loop in a loop, over an array of the turn, with captured integers at both levels, a call and a sync
   pub inner : LowersBySlot (nested 2)
+  -- calls of a turn that only read one of its arrays
+  pub together : LowersBySlot readers
+  pub given_and_read :
+      slotted_arguments (record { ints = []; arrays = example.y ∷ example.z ∷ [] })
+      (example.array_param example.a ∷ example.const_param example.b ∷ [])
+      (Variable example.z ∷ Variable example.y ∷ [])
+      ≡ Array 1 ∷ Shared 0 ∷ []

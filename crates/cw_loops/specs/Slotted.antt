@@ -6,15 +6,16 @@
 -- of the source come first, at their indices there, and then those of the loops, by number. A loop's function has the
 -- slots 0 and 1 for the two ends of its range, then its captured integers, then its variable or its middle, then what a
 -- turn declares; and of arrays first those of the loop, then what a turn declares, or the two parts of each.
-use Rattle.std.specs.Prelude.{ℕ, suc, ℤ, Bool, List, length, map, Option, option_map, if◌then◌else◌}
+use Rattle.std.specs.Prelude.{ℕ, suc, ℤ, Bool, List, [], ◌∷◌, length, drop, map, Option, option_map, if◌then◌else◌}
 use Rattle.cw_model.specs.declared.syntax.CallKind.{CallKind}
+use Rattle.cw_model.specs.declared.syntax.NameKind.{NameKind}
 use Rattle.cw_model.specs.declared.syntax.Operator.{Operator}
 use Rattle.cw_model.specs.declared.syntax.Reduction.{Reduction}
-use Rattle.cw_model.specs.Syntax.{Name, Program}
+use Rattle.cw_model.specs.Syntax.{Name, Param, Program}
 use Rattle.cw_model.specs.Syntax as model
 use Rattle.cw_model.specs.Names.{is_among}
 use Rattle.cw_tree.specs.Resolved.{Lists, Locals, slot_of, with_array, locals_after, locals_of, function_names}
-use Rattle.cw_tree.specs.Resolved.{reducer_names, tags_of}
+use Rattle.cw_tree.specs.Resolved.{is_reader, params_of, reducer_names, tags_of}
 use Rattle.cw_loops.specs.Lowered.{lowered}
 
 -- an expression
@@ -30,7 +31,10 @@ pub data Expr : Type 0 where
 -- what is given for a parameter
 pub data Argument : Type 0 where
   Int : Expr → Argument
+  -- an array that is given away
   Array : ℕ → Argument
+  -- an array that is only read
+  Shared : ℕ → Argument
 
 mutual
   -- a statement
@@ -58,10 +62,10 @@ mutual
     End : Block
     Then : (line : ℕ) → Stmt → Block → Block
 
--- a function, with the kinds of its parameters: whether each is an array
+-- a function, with the kinds of its parameters
 pub record Function : Type 0 where
   pub gives_int : Bool
-  pub params : List Bool
+  pub params : List NameKind
   pub body : Block
 
 -- an expression with each name looked up
@@ -74,15 +78,24 @@ slotted_expr locals (model.Negative e) = Negative (slotted_expr locals e)
 slotted_expr locals (model.Not e) = Not (slotted_expr locals e)
 slotted_expr locals (model.Binary operator d e) = Binary operator (slotted_expr locals d) (slotted_expr locals e)
 
--- a name alone is an array where an array is known by it
-abbrev pub slotted_name : Locals → Name → Argument
-slotted_name locals x =
-    if is_among x locals.arrays then Array (slot_of x locals.arrays) else Int (Variable (slot_of x locals.ints))
+-- an array in the place of the first of these parameters
+abbrev pub slot_to : List Param → ℕ → Argument
+slot_to ps slot = if is_reader ps then Shared slot else Array slot
 
--- an argument with each name looked up
-abbrev pub slotted_argument : Locals → model.Expr → Argument
-slotted_argument locals (model.Variable x) = slotted_name locals x
-slotted_argument locals e = Int (slotted_expr locals e)
+-- a name alone is an array where an array is known by it
+abbrev pub slotted_name : Locals → List Param → Name → Argument
+slotted_name locals ps x =
+    if is_among x locals.arrays then slot_to ps (slot_of x locals.arrays) else Int (Variable (slot_of x locals.ints))
+
+-- an argument for the first of these parameters, with each name looked up
+abbrev pub slotted_argument : Locals → List Param → model.Expr → Argument
+slotted_argument locals ps (model.Variable x) = slotted_name locals ps x
+slotted_argument locals ps e = Int (slotted_expr locals e)
+
+-- arguments for these parameters, in their order
+abbrev pub slotted_arguments : Locals → List Param → List model.Expr → List Argument
+slotted_arguments locals ps [] = []
+slotted_arguments locals ps (e ∷ es) = slotted_argument locals ps e ∷ slotted_arguments locals (drop 1 ps) es
 
 abbrev mutual
   -- a statement with each name looked up, where these locals are known
@@ -95,9 +108,9 @@ abbrev mutual
   slotted_stmt lists locals (model.Reduce how s e) = Reduce how (slot_of s lists.reducers) (slotted_expr locals e)
   slotted_stmt lists locals (model.Call kind site target f es) =
       Call kind site (option_map (λ x. slot_of x locals.ints) target) (slot_of f lists.functions)
-      (map (slotted_argument locals) es)
+      (slotted_arguments locals (params_of lists f) es)
   slotted_stmt lists locals (model.Start kind f es) =
-      Start kind (slot_of f lists.functions) (map (slotted_argument locals) es)
+      Start kind (slot_of f lists.functions) (slotted_arguments locals (params_of lists f) es)
   slotted_stmt lists locals (model.Begin f from to captured over) =
       Begin (slot_of f lists.functions) (slotted_expr locals from) (slotted_expr locals to)
       (map (λ x. slot_of x locals.ints) captured) (map (λ a. slot_of a locals.arrays) over)
@@ -126,13 +139,14 @@ abbrev mutual
 abbrev pub slotted_function : Lists → model.Function → Function
 slotted_function lists f = record {
   gives_int = f.gives_int;
-  params = map (λ p. p.is_array) f.params;
+  params = map (λ p. p.kind) f.params;
   body = slotted_block lists (locals_of f.params) f.body;
 }
 
--- the names that a program lists where its loops are lowered: tags are in the order of the source
+-- what a program lists where its loops are lowered: tags are in the order of the source
 abbrev pub lowered_lists : Program → Lists
 lowered_lists program = record {
+  callees = (lowered program).functions;
   functions = function_names (lowered program).functions;
   reducers = reducer_names program.reducers;
   tags = tags_of program;

@@ -3,7 +3,7 @@ use Rattle.std.specs.Prelude.{ℕ, List, [], ◌∷◌, map, option_map}
 use Rattle.cw_loops.specs.declared.tree.Expr.{Expr}
 use Rattle.cw_loops.specs.declared.tree.Expr.TheVariants.{Number, Variable, Element', Length, Negative', Not', Binary'}
 use Rattle.cw_loops.specs.declared.tree.Argument.{Argument}
-use Rattle.cw_loops.specs.declared.tree.Argument.TheVariants.{Int, Array}
+use Rattle.cw_loops.specs.declared.tree.Argument.TheVariants.{Int, Array, Shared}
 use Rattle.cw_loops.specs.declared.tree.Stmt.{Stmt, fold-Stmt}
 use Rattle.cw_loops.specs.declared.tree.Line.{Line, fold-Line}
 use Rattle.cw_loops.specs.declared.tree.Stmt.TheOpen.{Stmt-F, Line-F}
@@ -25,6 +25,7 @@ expr_of (Binary' o p d q e) = spec.Binary o (expr_of d) (expr_of e)
 abbrev pub argument_of : Argument → spec.Argument
 argument_of (Int e) = spec.Int (expr_of e)
 argument_of (Array u) = spec.Array u
+argument_of (Shared u) = spec.Shared u
 
 -- statements in order, each beside its line
 abbrev pub block_from : List (ℕ × spec.Stmt) → spec.Block

@@ -64,6 +64,7 @@ fn argument(alloc: Global, moves: Moves, e: &Argument) -> Result<tree::Argument,
             Ok(tree::Argument::Int(value))
         }
         Argument::Array(a) => Ok(tree::Argument::Array(moves.array(a.slot))),
+        Argument::Shared(a) => Ok(tree::Argument::Shared(moves.array(a.slot))),
     }
 }
 

@@ -12,6 +12,7 @@ use crate::limits::limits;
 use crate::moves::{nothing_moved, slot};
 use crate::program::Core;
 use crate::tree::Tree;
+use cw_model::syntax::NameKind;
 use cw_own::Owned;
 use cw_text::{Fault, Place};
 use cw_tree::laws::resolved_is_fitting;
@@ -67,8 +68,9 @@ fn arrays_taken(params: &[Param]) -> u32
 {
     let mut arrays: u32 = 0;
     for param in params {
-        if param.is_array {
-            arrays = arrays.saturating_add(1);
+        match param.kind {
+            NameKind::Integer => {}
+            NameKind::Array | NameKind::Const => arrays = arrays.saturating_add(1),
         }
     }
     arrays

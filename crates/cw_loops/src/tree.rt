@@ -30,8 +30,10 @@ pub enum Expr {
 pub enum Argument {
     /// The value of an expression.
     Int(Expr),
-    /// The array in a slot itself.
+    /// The array in a slot itself, which is given away.
     Array(u32),
+    /// The array in a slot, which is only read.
+    Shared(u32),
 }
 
 /// A call statement.

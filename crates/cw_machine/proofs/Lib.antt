@@ -7,6 +7,7 @@ pub mod Order
 pub mod Stepping
 pub mod Blocks
 pub mod Still
+pub mod Reading
 pub mod Remaining
 pub mod Under
 pub mod Rows
@@ -17,6 +18,7 @@ pub mod Lends
 pub mod Back
 pub mod Begun
 pub mod Lending
+pub mod Goes
 pub mod Entering
 pub mod Starting
 pub mod Totals
@@ -50,6 +52,7 @@ pub mod Unwinds
 pub mod Inner
 pub mod SpawnRounds
 pub mod Nothing
+pub mod Kept
 pub mod Striding
 pub mod Bursting
 pub mod BurstingIn

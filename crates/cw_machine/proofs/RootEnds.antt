@@ -34,7 +34,7 @@ use Rattle.cw_machine.specs.Arrays.{IsFit}
 use Rattle.cw_machine.specs.Runs.{is_asked, IsEndOf, Runs}
 use Rattle.cw_machine.proofs.Updates.{ReturnsWithin, travelled, totals_are}
 use Rattle.cw_machine.proofs.Metering.{gauge_of}
-use Rattle.cw_machine.proofs.FromMain.{Main, main_of, asked_of, told, IsEnded, IsEnded-prop, IsTrapped, IsTrapped-prop, was_trapped, is_over, was_over, same_as, same_totals_as, first_is, asked_count, asked_limit, asked_burden, main_room, main_arrays}
+use Rattle.cw_machine.proofs.FromMain.{Main, main_of, asked_of, told, IsEnded, IsEnded-prop, IsTrapped, IsTrapped-prop, was_trapped, is_over, was_over, same_as, same_totals_as, first_is, asked_count, asked_limit, asked_burden, main_room, main_arrays, main_readers}
 
 -- an effect that means the job of a whole run means what the definitions have as that job
 pub means_root : (v : Verified) (args : List ℤ) (n : ℕ) (burden : Burden) (root : Job) (e : Effect) → IsRoot v args n burden root.parts.value → IsMeaningOf root e
@@ -52,7 +52,7 @@ Few n jobs.OverLimit = Unit {0}
 Few n jobs.Memory = Unit {0}
 
 few : (code : Code) (f : Func) (args : List ℤ) (n : ℕ) (e : jobs.Effect) → JobMeaning code (root_job f args n) e → Few n e
-few code f args n e (Same h) = cases (course code (root_job f args n) n) (travelled code n (first_state f args [])) h
+few code f args n e (Same h) = cases (course code (root_job f args n) n) (travelled code n (first_state f args [] [])) h
   where
     cases : (c : Came) → ReturnsWithin (0 + n) c → IsOf c n e → Few n e
     cases (Arrives frame t left) w h = absurd w
@@ -64,8 +64,8 @@ few code f args n e (Passed h k) = subst (Few n) (sym h) tt
 few code f args n e (Short h) = subst (Few n) (sym h) tt
 
 module _ (laws : RootsAreSerial) (v : Verified) (ok : IsFit v) (f : Func) (args : List ℤ) (n : ℕ) (burden : Burden) (root : Job) (found : slice_get (code_view v.code).funcs v.code.main ≡ Some f) (asked : is_asked f.params (length args) n burden ≡ true) (r : IsRoot v args n burden root.parts.value) where
-  begins : first_transition (slice_get (code_view v.code).funcs v.code.main) args ≡ On (first_state f args [])
-  begins = first_is (code_view v.code) f args found (asked_count f args n burden asked) (main_room v f ok found) (main_arrays v f ok found)
+  begins : first_transition (slice_get (code_view v.code).funcs v.code.main) args ≡ On (first_state f args [] [])
+  begins = first_is (code_view v.code) f args found (asked_count f args n burden asked) (main_room v f ok found) (main_arrays v f ok found) (main_readers v f ok found)
 
   -- what the run answers is what the code gives, but where memory was wanting
   serial : (w : jobs.Effect) → JobMeaning (code_view v.code) (root_job f args n) w → (w ≡ jobs.Memory) ⊎ (jobs.answered (code_view v.code) w ≡ code_serial (code_view v.code) args n)

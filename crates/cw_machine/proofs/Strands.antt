@@ -24,7 +24,7 @@ use Rattle.cw_machine.specs.declared.recorded.Recording.{Recording}
 use Rattle.cw_machine.specs.Arrays.{IsFit, alone as from_main}
 use Rattle.cw_machine.specs.Recorded.{Reaches}
 use Rattle.cw_machine.specs.Runs.{is_asked}
-use Rattle.cw_machine.proofs.FromMain.{answered, serial_is, asked_count, main_room, main_arrays}
+use Rattle.cw_machine.proofs.FromMain.{answered, serial_is, asked_count, main_room, main_arrays, main_readers}
 
 -- codes by number
 abbrev pub number_of : greedy.Code → ℕ
@@ -121,10 +121,10 @@ was_recorded kept (Some OverLimit) h = absurd h
 was_recorded kept None h = absurd h
 
 -- what a recorder reads at the end of a run
-pub recorded : (v : Verified) (f : Func) (args : List ℤ) (n count : ℕ) (r : Recording) → slice_get (code_view v.code).funcs v.code.main ≡ Some f → is_asked f.params (length args) n no_burden ≡ true → (ok : IsFit v) (x : Option ℤ) (kept : Recorded) → Reads r.recorder count kept → Reaches v (from_main v ok) count (moved.Gave x) r n (first_state f args []) → IsRecorded kept (code_serial (code_view v.code) args n)
+pub recorded : (v : Verified) (f : Func) (args : List ℤ) (n count : ℕ) (r : Recording) → slice_get (code_view v.code).funcs v.code.main ≡ Some f → is_asked f.params (length args) n no_burden ≡ true → (ok : IsFit v) (x : Option ℤ) (kept : Recorded) → Reads r.recorder count kept → Reaches v (from_main v ok) count (moved.Gave x) r n (first_state f args [] []) → IsRecorded kept (code_serial (code_view v.code) args n)
 recorded v f args n count r found asked ok x kept reads h =
     let t : Trace = h.1 in
     let code = code_view v.code in
-    let serial : code_serial code args n ≡ answered code (steps code n (first_state f args [])) = serial_is code f args n found (asked_count f args n no_burden asked) (main_room v f ok found) (main_arrays v f ok found) in
+    let serial : code_serial code args n ≡ answered code (steps code n (first_state f args [] [])) = serial_is code f args n found (asked_count f args n no_burden asked) (main_room v f ok found) (main_arrays v f ok found) (main_readers v f ok found) in
     subst (λ o. IsRecorded kept o) (sym (serial ∙ ap (answered code) h.2))
     (kept_as kept (normal (Marked (Invocation 0) (tree_of t.events))) (reads t.events h.3.records))

@@ -6,7 +6,7 @@ use Rattle.std.proofs.lemmas.Option.{slice_get_within}
 use Rattle.cw_slices.specs.Placed.{Spot}
 use Rattle.cw_slices.specs.Blocks.{Lodged, ins}
 use Rattle.cw_machine.specs.declared.machine.View.{View}
-use Rattle.cw_machine.specs.Arrays.{Out, view, no_block, block, found, put, kept_of, Memory, Has, AreAway, Floored, IsOut, LiesUnder}
+use Rattle.cw_machine.specs.Arrays.{Out, view, no_block, block, found, put, kept_of, Memory, Has, ReadsAt, AreAway, Floored, IsOut, LiesUnder}
 use Rattle.cw_machine.proofs.Blocks.{found_is, is_found}
 use Rattle.cw_machine.proofs.Order.{some_same}
 use Rattle.cw_machine.proofs.Places.{same_or}
@@ -71,15 +71,28 @@ under_views m views' real blocks first round outs floors away same u = record {
 pub found_under : (outs : List Out) (views : List View) (real blocks : List Lodged) (b k : ℕ) (x : ℤ) → LiesUnder outs views real blocks → found real b k ≡ Some x → found blocks b k ≡ Some x
 found_under outs views real blocks b k x u e = let f = found_is real b k x e in is_found blocks b k x f.0 (u.same b k x f.1)
 
+-- what a call reads is not out
+pub read_in : (m : Memory) (first round : ℕ) (outs : List Out) (b k : ℕ) (x : ℤ) → Floored outs first → AreAway m first round outs → ReadsAt m outs first b k x → IsOut m.views outs b k → ⊥
+read_in m first round outs b k x floors away h o =
+    let lt = o.within in
+    let y = away o.index o.out o.is_out in
+    let ends = y.ends in
+    let slot = slice_get_within o.out.slices o.slot o.slice o.is_slice in
+    let own = (y.each o.slot o.slice o.is_slice (omega (arith, lt))).has.own o.at o.within in
+    let e : m.owner b k ≡ o.out.first + o.slot = ap (λ c. m.owner c k) o.in_block ∙ ap (m.owner (view m.views (o.out.first + o.slot)).block) o.in_place ∙ own in
+    let le = h.above o.index o.out o.is_out (floors o.index o.out o.is_out) in
+    let e' = h.owned in
+    omega (arith, ends, slot, e, e', le)
+
 -- and the other way round where it is not out
-pub found_in : (m : Memory) (real : List Lodged) (first round : ℕ) (outs : List Out) (b k : ℕ) (x : ℤ) → Floored outs first → AreAway m first round outs → LiesUnder outs m.views real m.blocks → first ≤ m.owner b k → found m.blocks b k ≡ Some x → found real b k ≡ Some x
-found_in m real first round outs b k x floors away u le e = at (slice_get (block real b).cells k) refl
+pub found_beside : (outs : List Out) (views : List View) (real blocks : List Lodged) (b k : ℕ) (x : ℤ) → LiesUnder outs views real blocks → (IsOut views outs b k → ⊥) → found blocks b k ≡ Some x → found real b k ≡ Some x
+found_beside outs views real blocks b k x u none e = at (slice_get (block real b).cells k) refl
   where
-    f : (k < 2 ^ 60) × (slice_get (block m.blocks b).cells k ≡ Some (Some x))
-    f = found_is m.blocks b k x e
+    f : (k < 2 ^ 60) × (slice_get (block blocks b).cells k ≡ Some (Some x))
+    f = found_is blocks b k x e
 
     at : (o : Option (Option ℤ)) → slice_get (block real b).cells k ≡ o → found real b k ≡ Some x
-    at None is = absurd (short (block real b).cells (block m.blocks b).cells k (u.as_long b) is f.1)
+    at None is = absurd (short (block real b).cells (block blocks b).cells k (u.as_long b) is f.1)
       where
         short : (cs ds : List (Option ℤ)) (k : ℕ) → length cs ≡ length ds → slice_get cs k ≡ None → slice_get ds k ≡ Some (Some x) → ⊥
         short [] [] k n e e' = never (Some x) e'
@@ -87,8 +100,11 @@ found_in m real first round outs b k x floors away u le e = at (slice_get (block
         short (c ∷ cs) [] k n e e' = absurd (omega (arith, n))
         short (c ∷ cs) (d ∷ ds) zero n e e' = cc
         short (c ∷ cs) (d ∷ ds) (suc k) n e e' = short cs ds k (omega (arith, n)) e e'
-    at (Some None) is = absurd (let lt = out_owned m first round outs b k floors away (u.missing b k is) in omega (arith, lt, le))
+    at (Some None) is = absurd (none (u.missing b k is))
     at (Some (Some y)) is = is_found real b k x f.0 (is ∙ ap (λ z. Some z) (some_same (Some y) (Some x) (sym (u.same b k y is) ∙ f.1)))
+
+pub found_in : (m : Memory) (real : List Lodged) (first round : ℕ) (outs : List Out) (b k : ℕ) (x : ℤ) → Floored outs first → AreAway m first round outs → LiesUnder outs m.views real m.blocks → first ≤ m.owner b k → found m.blocks b k ≡ Some x → found real b k ≡ Some x
+found_in m real first round outs b k x floors away u le e = found_beside outs m.views real m.blocks b k x u (λ o. let lt = out_owned m first round outs b k floors away o in omega (arith, lt, le)) e
 
 -- an array of the call that runs lies in the machine's own blocks
 pub has_in : (m : Memory) (real : List Lodged) (first round : ℕ) (outs : List Out) (c : ℕ) (xs : List ℤ) → Floored outs first → AreAway m first round outs → LiesUnder outs m.views real m.blocks → first ≤ c → Has m c xs → Has (record { views = m.views; blocks = real; owner = m.owner }) c xs

@@ -23,13 +23,14 @@ use Rattle.cw_model.specs.declared.syntax.CallKind.TheVariants.{Plain, Spawned}
 use Rattle.cw_code.specs.declared.code.BlockKind.{BlockKind}
 use Rattle.cw_code.specs.declared.code.BlockKind.TheVariants.{Scope, Region}
 use Rattle.cw_code.specs.declared.code.Callee.{Callee}
+use Rattle.cw_code.specs.declared.code.Loan.{Loan}
 use Rattle.cw_code.specs.declared.code.Func.{Func}
 use Rattle.cw_code.specs.declared.code.Halves.{Halves}
 use Rattle.cw_code.specs.declared.code.Instr.{Instr}
 use Rattle.cw_code.specs.declared.code.Instr.TheVariants as instr
 use Rattle.cw_code.specs.declared.code.Reducer as coded
 use Rattle.cw_code.specs.Code.{Code, reducer_names}
-use Rattle.cw_code.specs.Run.{Slots, Results, Around, Caller, Block, Opened, State, Transition, On, Ends, Stops, Stuck, synced, is_full, on_top, on_two, stored, operated, set_array, apply_unary, jumped, onto, prints, adds, settled, put_in, Entering, Whole, arguments_of, may_begin, begun, begins, call_of, on_arrays, arrays_in, enter, recur, parts_of, looped, start, given, awaited, result_of, event_of, rejoined, going_on, returns_to, given_back, back, opened, opened_region, opens, cut_arrays, may_cut, cuts, resumes, closed, uncut_arrays, resumes_uncut, cut_ends, passed_by, act, step, go_on, steps, reducers_of}
+use Rattle.cw_code.specs.Run.{Slots, Results, Around, Caller, Block, Opened, State, Transition, On, Ends, Stops, Stuck, synced, is_full, on_top, on_two, stored, operated, set_array, apply_unary, jumped, onto, prints, adds, settled, put_in, Entering, Whole, arguments_of, may_begin, begun, begins, call_of, on_arrays, arrays_in, enter, recur, parts_of, looped, start, given, awaited, result_of, event_of, rejoined, going_on, returns_to, given_back, back, opened, opened_region, opens, cut_arrays, may_cut, cuts, resumes, closed, uncut_arrays, resumes_uncut, cut_ends, moved_out, reader, lent_in, lent_by, passed_by, act, step, go_on, steps, reducers_of}
 use Rattle.cw_strands.specs.Jobs.{WholeCall, Came, Arrives, Returns, Falls, Beyond, Lost, moved, travel}
 use Rattle.cw_jobs.specs.Totals.{kept, AllFit, HoldsTotals}
 use Rattle.cw_machine.proofs.Going as going
@@ -63,21 +64,22 @@ module _ (k : ℕ) where
     enters : (e : Entering) → Within k (begins s e)
     enters e = going.either (Within k) tt (may_begin s e) (On (begun s e)) Stuck (nothing_more s.trace.updates h) tt
 
-    calls : (kind : CallKind) (c : Callee) (passed : List ℕ) (o : Option Func) → Within k (enter s kind c passed o)
-    calls kind c passed None = tt
-    calls kind c passed (Some f) =
-        going.either (Within k) tt (nat_lt MOST_DEPTH (s.depth + 1)) (Stops trap.TooDeep c.line s.trace.lines) (on_arrays (arrays_in passed s.arrays) (λ xs. begins s (call_of s kind c passed f xs)))
-        tt (going.arrays_go (Within k) tt (arrays_in passed s.arrays) (λ xs. begins s (call_of s kind c passed f xs)) (λ xs. enters (call_of s kind c passed f xs)))
+    calls : (kind : CallKind) (c : Callee) (passed : List ℕ) (loans : List Loan) (o : Option Func) → Within k (enter s kind c passed loans o)
+    calls kind c passed loans None = tt
+    calls kind c passed loans (Some f) =
+        going.either (Within k) tt (nat_lt MOST_DEPTH (s.depth + 1)) (Stops trap.TooDeep c.line s.trace.lines) (on_arrays (arrays_in passed s.arrays) (λ xs. on_arrays (lent_in loans (moved_out passed s.arrays) s.readers) (λ lent. begins s (call_of s kind c passed f xs lent))))
+        tt (going.arrays_go (Within k) tt (arrays_in passed s.arrays) (λ xs. on_arrays (lent_in loans (moved_out passed s.arrays) s.readers) (λ lent. begins s (call_of s kind c passed f xs lent)))
+        (λ xs. going.arrays_go (Within k) tt (lent_in loans (moved_out passed s.arrays) s.readers) (λ lent. begins s (call_of s kind c passed f xs lent)) (λ lent. enters (call_of s kind c passed f xs lent))))
 
     calls_itself : (kind : CallKind) (passed : List ℕ) (o : Option Func) → Within k (recur s kind passed o)
     calls_itself kind passed None = tt
     calls_itself kind passed (Some f) = going.arrays_go (Within k) tt (arrays_in passed s.arrays) (λ xs. begins s (at xs)) (λ xs. enters (at xs))
       where
         at : List (List ℤ) → Entering
-        at xs = record { kind = kind; site = None; target = None; depth = s.depth; func = f; arguments = arguments_of f s.operands; given = xs; taken = map (λ a. Whole a) passed }
+        at xs = record { kind = kind; site = None; target = None; depth = s.depth; func = f; arguments = arguments_of f s.operands; given = xs; taken = map (λ a. Whole a) passed; lent = [] }
 
     loops : (line : ℕ) (passed : List ℕ) (f : Func) (xs : List (List ℤ)) (low : ℤ) (captured : List ℤ) (r : Result) → Within k (looped s line passed f xs low captured r)
-    loops line passed f xs low captured (Value n) = enters (record { kind = Plain; site = None; target = None; depth = s.depth; func = f; arguments = low ∷ (low +ℤ n) ∷ captured; given = map (λ ys. take (natural n) (drop (natural low) ys)) xs; taken = parts_of (natural low) passed xs })
+    loops line passed f xs low captured (Value n) = enters (record { kind = Plain; site = None; target = None; depth = s.depth; func = f; arguments = low ∷ (low +ℤ n) ∷ captured; given = map (λ ys. take (natural n) (drop (natural low) ys)) xs; taken = parts_of (natural low) passed xs; lent = [] })
     loops line passed f xs low captured (Fails trap) = tt
 
     starts : (line : ℕ) (passed : List ℕ) (o : Option Func) → Within k (start s line passed o)
@@ -162,13 +164,15 @@ adds_one code s o = cases o
     cases (Some (instr.Skip n)) = goes most s h (s.place + 1 + n)
     cases (Some (instr.SkipIfZero n)) = going.top_goes (Within most) tt s (λ v rest. jumped (record s { operands = rest }) (if is_zero v then s.place + 1 + n else s.place + 1)) (λ v rest. goes most (record s { operands = rest }) h (if is_zero v then s.place + 1 + n else s.place + 1))
     cases (Some (instr.GoBack n)) = goes most s h (s.place - n)
-    cases (Some (instr.Call kind c)) = calls most s h kind c (passed_by code c.passed) (slice_get code.funcs c.function)
+    cases (Some (instr.Call kind c)) = calls most s h kind c (passed_by code c.passed) (lent_by code c.lent) (slice_get code.funcs c.function)
     cases (Some (instr.Recur kind c)) = calls_itself most s h kind (passed_by code c.passed) (slice_get code.funcs c.function)
     cases (Some (instr.Start c line)) = starts most s h line (passed_by code c.passed) (slice_get code.funcs c.function)
     cases (Some (instr.NewArray a line)) = going.slot_goes (Within most) tt (slice_get s.arrays a) (λ old. on_top s (λ v rest. set_array s a line rest (λ n. replicate (natural n) (pos 0)) (new_length v))) (λ old. going.top_goes (Within most) tt s (λ v rest. set_array s a line rest (λ n. replicate (natural n) (pos 0)) (new_length v)) (λ v rest. sets most s h a line rest (λ n. replicate (natural n) (pos 0)) (new_length v)))
     cases (Some (instr.Length a)) = going.slot_goes (Within most) tt (slice_get s.arrays a) (λ xs. onto (record s { operands = pos (length xs) ∷ s.operands })) (λ xs. goes most (record s { operands = pos (length xs) ∷ s.operands }) h (s.place + 1))
     cases (Some (instr.Element a line)) = going.slot_goes (Within most) tt (slice_get s.arrays a) (λ xs. on_top s (λ v rest. operated s line rest (in_bounds (element xs v)))) (λ xs. going.top_goes (Within most) tt s (λ v rest. operated s line rest (in_bounds (element xs v))) (λ v rest. operates most s h line rest (in_bounds (element xs v))))
     cases (Some (instr.SetElement a line)) = going.slot_goes (Within most) tt (slice_get s.arrays a) (λ xs. on_two s (λ i v rest. set_array s a line rest (λ w. slice_set xs (natural i) w) (written xs i v))) (λ xs. going.two_go (Within most) tt s (λ i v rest. set_array s a line rest (λ w. slice_set xs (natural i) w) (written xs i v)) (λ i v rest. sets most s h a line rest (λ w. slice_set xs (natural i) w) (written xs i v)))
+    cases (Some (instr.ReadLength r)) = going.slot_goes (Within most) tt (reader s.readers r) (λ xs. onto (record s { operands = pos (length xs) ∷ s.operands })) (λ xs. goes most (record s { operands = pos (length xs) ∷ s.operands }) h (s.place + 1))
+    cases (Some (instr.ReadElement r line)) = going.slot_goes (Within most) tt (reader s.readers r) (λ xs. on_top s (λ v rest. operated s line rest (in_bounds (element xs v)))) (λ xs. going.top_goes (Within most) tt s (λ v rest. operated s line rest (in_bounds (element xs v))) (λ v rest. operates most s h line rest (in_bounds (element xs v))))
     cases (Some (instr.Cut c line)) = going.slot_goes (Within most) tt (slice_get s.arrays c.array) (λ xs. on_top s (λ v rest. cuts s c line xs rest (cut_place xs v))) (λ xs. going.top_goes (Within most) tt s (λ v rest. cuts s c line xs rest (cut_place xs v)) (λ v rest. cuts_array most s h c line xs rest (cut_place xs v)))
     cases (Some instr.EndCut) = ends_cut most (put_in s) h s.around
     cases (Some instr.Sync) = nothing_more most s.trace.updates h

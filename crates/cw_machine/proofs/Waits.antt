@@ -15,7 +15,7 @@ use Rattle.cw_code.specs.Good.{Holds as HoldsSlots}
 use Rattle.cw_verify.specs.declared.verified.Verified.{Verified}
 use Rattle.cw_machine.specs.declared.machine.Frame.{Frame}
 use Rattle.cw_machine.specs.declared.machine.Machine.{Machine}
-use Rattle.cw_machine.specs.Arrays.{Ok, view, Memory, Has, HasComing, CutIn, taken_round, StandsOn, Floors, RoundOn}
+use Rattle.cw_machine.specs.Arrays.{ReadsAll, RoundReads, Ok, view, Memory, Has, HasComing, CutIn, taken_round, StandsOn, Floors, RoundOn}
 use Rattle.cw_machine.specs.Shows.{Stands, Round, Shows, cut_cell, cut_cells}
 use Rattle.cw_jobs.specs.Cuts.{parts_round, cut_slots}
 use Rattle.cw_machine.specs.Hands.{is_among, is_cut_among, stays_here, lent_count, ComesRound}
@@ -281,6 +281,13 @@ module _ (v : Verified) (ok : Ok v) (m : Machine) (s : State) (w : Waiting) (aro
   pub beyond : RoundOn v ok memory w.place waiting_frame.first_array (length w.arrays) frames_beyond around
   unfolding on_arrays waiting_frame frames_beyond
   beyond = on_arrays.6
+
+  -- what the call that waits reads lies behind its arrays
+  reads_waiting : ReadsAll memory ok.outs waiting_frame.first_array (length w.arrays) m.first_array w.readers
+  reads_waiting = (subst (λ fs. RoundReads memory ok.outs m.first_array fs (Caller w ∷ around)) frames_are (subst (λ a. RoundReads memory ok.outs m.first_array (reverse m.frames.items) a) is_waiting shows.arrays.4.round)).0
+
+  pub ends_exact : w.readers ≡ [] → waiting_frame.first_array + length w.arrays ≡ m.first_array
+  ends_exact none = let e = reads_waiting.ends in let n = ap length none in omega (arith, e, n)
 
   pub in_cells : Round v ok m.cells.items m.first (length s.slots) (reverse m.frames.items) (Caller w ∷ around)
   in_cells = subst (λ r. Round v ok m.cells.items m.first (length s.slots) (reverse m.frames.items) r) is_waiting shows.holds.round

@@ -108,6 +108,9 @@ pub record Hands (v : Verified) (ok : Ok v) (m : Machine) (s : State) (w : Waiti
   pub none : w.operands ≡ []
   pub taken : map slot_taken w.taken ≡ passed
   pub above : AllAbove ok.outs (length around)
+  -- neither the call that waits nor the one that runs reads an array
+  pub waits_apart : w.readers ≡ []
+  pub runs_apart : s.readers ≡ []
 
 -- a machine may hand out the call that waits nearest
 pub record MayHand (m : Machine) (passed : List ℕ) : Type 0 where

@@ -276,6 +276,7 @@ pub record HasCome (v : Verified) (is : IsFit v) (j : Job) (r : Rest) (m : Machi
   pub none : s.around ≡ []
   -- the call has as many array slots as the job's
   pub arrays : length s.arrays ≡ length j.arrays
+  pub reads_none : s.readers ≡ []
 
 -- a job came to its join
 pub record CanEnd (m : Machine) (count : ℕ) : Type 0 where

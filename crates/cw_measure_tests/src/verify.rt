@@ -1,6 +1,7 @@
 //! Which small codes on integers fit: one rule broken alone, and just kept, by hand.
 
 mod arrays;
+mod readers;
 
 use cw_code::code::{BlockKind, Callee, Code, Func, Instr, Reducer, Site, UnaryOperator};
 use cw_model::syntax::{CallKind, Name, Operator, Reduction};
@@ -19,6 +20,7 @@ fn on_integers(gives_int: bool, params: usize, slots: usize) -> Func {
         slots,
         array_params: 0,
         arrays: 0,
+        readers: 0,
     }
 }
 
@@ -72,6 +74,7 @@ fn no_code(alloc: Global) -> Code {
         reducers: Vec::new(alloc),
         tags: Vec::new(alloc),
         passed: Vec::new(alloc),
+        lent: Vec::new(alloc),
     }
 }
 
@@ -113,6 +116,7 @@ fn callee(function: u32, site: u32, target: Option<u32>) -> Callee {
         line: 9,
         target,
         passed: 0,
+        lent: 0,
     }
 }
 

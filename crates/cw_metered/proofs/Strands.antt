@@ -189,7 +189,7 @@ module _ (quiet : InstructionsNeedNoCall) (code : Code) (keep : CallsKeep code) 
     }
 
   -- a whole run ends
-  answers : RootsAreSerial → (f : Func) (args : List ℤ) (limit count : ℕ) (s : State) (v : Option ℤ) (arrays : Slots (List ℤ)) (t : Trace) → first_transition (slice_get code.funcs code.main) args ≡ On (first_state f args []) → IsStrandOf code (root_job f args limit) (Going s count []) → step code s ≡ Ends v arrays t → count + 1 ≤ limit → code_serial code args limit ≡ Some (answer_of (reducers_of code) (Done (v, no_frame) 0 t))
+  answers : RootsAreSerial → (f : Func) (args : List ℤ) (limit count : ℕ) (s : State) (v : Option ℤ) (arrays : Slots (List ℤ)) (t : Trace) → first_transition (slice_get code.funcs code.main) args ≡ On (first_state f args [] []) → IsStrandOf code (root_job f args limit) (Going s count []) → step code s ≡ Ends v arrays t → count + 1 ≤ limit → code_serial code args limit ≡ Some (answer_of (reducers_of code) (Done (v, no_frame) 0 t))
   answers roots f args limit count s v arrays t first is e le =
       let job = root_job f args limit in
       let m : JobMeaning code job (Ended v arrays t (count + 1)) =
@@ -199,7 +199,7 @@ module _ (quiet : InstructionsNeedNoCall) (code : Code) (keep : CallsKeep code) 
         | inr same ↦ sym same
       ]
 
-  pub root_measured : RootsAreSerial → (g : Gauge code) (f : Func) (args : List ℤ) (limit count sites : ℕ) (s : State) (v : Option ℤ) (arrays : Slots (List ℤ)) (t : Trace) (m m' : Meter) (all : Measures) → first_transition (slice_get code.funcs code.main) args ≡ On (first_state f args []) → Metered code g.burden Main (root_job f args limit) (Going s count []) m → step code s ≡ Ends v arrays t → count + 1 ≤ limit → IsToldOf m m' count (slice_get code.instrs s.place) → Reads m' (count + 1) sites (length code.tags) all → IsMeasured code g args limit sites v t all
+  pub root_measured : RootsAreSerial → (g : Gauge code) (f : Func) (args : List ℤ) (limit count sites : ℕ) (s : State) (v : Option ℤ) (arrays : Slots (List ℤ)) (t : Trace) (m m' : Meter) (all : Measures) → first_transition (slice_get code.funcs code.main) args ≡ On (first_state f args [] []) → Metered code g.burden Main (root_job f args limit) (Going s count []) m → step code s ≡ Ends v arrays t → count + 1 ≤ limit → IsToldOf m m' count (slice_get code.instrs s.place) → Reads m' (count + 1) sites (length code.tags) all → IsMeasured code g args limit sites v t all
   root_measured roots g f args limit count sites s v arrays t m m' all first h e le told reads =
       let job = root_job f args limit in
       let small = limited g.burden Main job (Going s count []) m h in

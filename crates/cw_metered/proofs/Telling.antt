@@ -53,6 +53,8 @@ module _ (quiet : InstructionsNeedNoCall) (code : Code) (g : Gauge code) (from :
     tells (instr.Length a) e = ticks e
     tells (instr.Element a line) e = ticks e
     tells (instr.SetElement a line) e = ticks e
+    tells (instr.ReadLength r) e = ticks e
+    tells (instr.ReadElement r line) e = ticks e
     tells (instr.Cut c line) e = e g.burden g.tags from os es small g.light h
     tells instr.EndCut e = block_ends e
     tells instr.Sync e = e g.burden g.tags from os es small g.light h

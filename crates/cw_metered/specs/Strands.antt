@@ -173,7 +173,7 @@ abbrev pub RootsAreMeasured : Type 0
 RootsAreMeasured =
     (code : Code) (g : Gauge code) (f : Func) (args : List ℤ) (limit count sites : ℕ) (s : State) (v : Option ℤ)
     (arrays : Slots (List ℤ)) (t : Trace) (m m' : Meter) (all : Measures)
-    → first_transition (slice_get code.funcs code.main) args ≡ On (first_state f args [])
+    → first_transition (slice_get code.funcs code.main) args ≡ On (first_state f args [] [])
     → Metered code g.burden Main (root_job f args limit) (Going s count []) m
     → step code s ≡ Ends v arrays t → count + 1 ≤ limit → IsToldOf m m' count (slice_get code.instrs s.place)
     → Reads m' (count + 1) sites (length code.tags) all

@@ -94,7 +94,7 @@ ends depth names f a =
 
 mutual
   stmt_acts : (fs : List Function) (depth : ℕ) (s : Stmt) → Acts (taken_after fs depth s)
-  stmt_acts fs depth (Call Spawned site target f es) = some_join _
+  stmt_acts fs depth (Call Spawned site target f es) = one_after_another _ _ (some_join _) (some_join _)
   stmt_acts fs depth Sync = some_stays _
   stmt_acts fs depth (Return e) = some_stays _
   stmt_acts fs depth (If e b) =

@@ -4,6 +4,7 @@ use Rattle.cw_model.specs.declared.syntax.Operator.{Operator}
 use Rattle.cw_model.specs.declared.syntax.Operator.TheVariants.{Less, Plus, Minus, Times, Divide}
 use Rattle.cw_model.specs.declared.syntax.CallKind.TheVariants.{Plain, Spawned}
 use Rattle.cw_model.specs.declared.syntax.Reduction.TheVariants.{Sum, Max}
+use Rattle.cw_model.specs.declared.syntax.NameKind.TheVariants.{Integer, Array, Const}
 use Rattle.cw_model.specs.Syntax.{Name, Expr, Number, Variable, Element, Length, Negative, Binary, Stmt, Declare}
 use Rattle.cw_model.specs.Syntax.{DeclareArray, Assign, AssignElement, Reduce, Call, Sync, If, IfElse, While, For}
 use Rattle.cw_model.specs.Syntax.{Scope, Cut, Region, Print, Return, Block, End, Then, Param, Function, Program}
@@ -91,10 +92,13 @@ abbrev pub minus : Expr → Expr → Expr
 minus d e = Binary Minus d e
 
 abbrev pub int_param : Name → Param
-int_param name = record { name = name; is_array = false }
+int_param name = record { name = name; kind = Integer }
 
 abbrev pub array_param : Name → Param
-array_param name = record { name = name; is_array = true }
+array_param name = record { name = name; kind = Array }
+
+abbrev pub const_param : Name → Param
+const_param name = record { name = name; kind = Const }
 
 abbrev pub int_function : Name → ℕ → List Param → Block → Function
 int_function name line params body = record { name = name; line = line; gives_int = true; params = params; body = body }

@@ -13,6 +13,7 @@ use Rattle.cw_model.specs.declared.syntax.Operator.TheVariants as operator
 use Rattle.cw_model.specs.declared.syntax.CallKind.TheVariants.{Plain, Spawned}
 use Rattle.cw_model.specs.declared.syntax.Reduction.{Reduction}
 use Rattle.cw_model.specs.declared.syntax.Reduction.TheVariants.{Sum, Max}
+use Rattle.cw_model.specs.declared.syntax.NameKind.TheVariants.{Integer, Array, Const}
 use Rattle.cw_model.specs.Syntax.{Name, Expr, Stmt, Block, Param, Function, Reducer, Program}
 
 -- the text of a token
@@ -262,10 +263,14 @@ mutual
 pub data ReadsParam (text : List ℕ) : List Token → Param → List Token → Type 0 where
   integer : {t x : Token} {ts : List Token} →
       t.kind ≡ kind.Int → x.kind ≡ kind.Name
-      → ReadsParam text (t ∷ x ∷ ts) (record { name = name_of text x; is_array = false }) ts
+      → ReadsParam text (t ∷ x ∷ ts) (record { name = name_of text x; kind = Integer }) ts
   array : {t x u v : Token} {ts : List Token} →
       t.kind ≡ kind.Int → x.kind ≡ kind.Name → u.kind ≡ kind.LeftBracket → v.kind ≡ kind.RightBracket →
-      ReadsParam text (t ∷ x ∷ u ∷ v ∷ ts) (record { name = name_of text x; is_array = true }) ts
+      ReadsParam text (t ∷ x ∷ u ∷ v ∷ ts) (record { name = name_of text x; kind = Array }) ts
+  array_to_read : {c t x u v : Token} {ts : List Token} →
+      c.kind ≡ kind.Const → t.kind ≡ kind.Int → x.kind ≡ kind.Name → u.kind ≡ kind.LeftBracket
+      → v.kind ≡ kind.RightBracket →
+      ReadsParam text (c ∷ t ∷ x ∷ u ∷ v ∷ ts) (record { name = name_of text x; kind = Const }) ts
 
 -- further parameters after one, and the closing parenthesis
 pub data ReadsMoreParams (text : List ℕ) : List Token → List Param → List Token → Type 0 where

@@ -31,6 +31,7 @@ pub mod ExamplePrograms
 pub mod Examples
 pub mod ExampleTypes
 pub mod ExampleOwners
+pub mod ExampleConsts
 pub mod ExampleSizes
 pub mod ExampleValues
 pub mod ExampleStatements

@@ -8,7 +8,7 @@ use Rattle.cw_model.specs.declared.syntax.CallKind.{CallKind}
 use Rattle.cw_model.specs.declared.syntax.CallKind.TheVariants.{Plain, Spawned}
 use Rattle.cw_model.specs.Syntax.{Name, Expr, Variable, Stmt, Declare, DeclareArray, Assign, AssignElement, Reduce}
 use Rattle.cw_model.specs.Syntax.{Call, Start, Begin, Sync, If, IfElse, While, For, Scope, Cut, Region, Print, Return}
-use Rattle.cw_model.specs.Syntax.{Block, End, Then, Param, Function}
+use Rattle.cw_model.specs.Syntax.{Block, End, Then, Param, Function, wants_array, takes_array}
 use Rattle.cw_model.specs.Names.{same_name}
 use Rattle.cw_model.specs.Captured.{captured}
 use Rattle.cw_model.specs.Frames.{Frame, no_frame, int_of, array_of, set_int, set_array, new_int, new_array}
@@ -80,15 +80,15 @@ abbrev pub arguments : List Param → List Expr → Frame → (line : ℕ) → F
 arguments [] es frame line given = gives given
 arguments (p ∷ ps) [] frame line given = gives given
 arguments (p ∷ ps) (e ∷ es) frame line given =
-    if p.is_array
+    if wants_array p
     then arguments ps es frame line (new_array p.name (given_array e frame) given)
     else (do
       v ← pay_for (evaluate e frame) line
       arguments ps es frame line (new_int p.name v given))
 
--- the array of one argument stands under its own name again
+-- the array of one argument stands under its own name again; one that was only read has stayed there
 abbrev pub returned_array : Param → Expr → Frame → Frame → Frame
-returned_array p (Variable a) callee frame = if p.is_array then set_array a (array_of callee p.name) frame else frame
+returned_array p (Variable a) callee frame = if takes_array p then set_array a (array_of callee p.name) frame else frame
 returned_array p _ callee frame = frame
 
 -- the arrays of a call stand under their own names again

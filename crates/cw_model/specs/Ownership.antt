@@ -1,4 +1,4 @@
--- Which names are taken by spawns and cuts, and which lines touch a taken name.
+-- Which names are taken by spawns and cuts, which ones spawns only read, and which lines touch a name that they may not.
 use Rattle.std.specs.Prelude.{◌≡◌, ℕ, ◌+◌, ◌==◌, Bool, true, false, not, ◌&&◌, ◌||◌, if◌then◌else◌, List, [], ◌∷◌}
 use Rattle.std.specs.Prelude.{◌++◌, Option, Some, None, map, filter, flat_map, Contains}
 use Rattle.std.specs.List.{list_any, list_all}
@@ -6,37 +6,51 @@ use Rattle.cw_model.specs.declared.syntax.CallKind.TheVariants.{Spawned}
 use Rattle.cw_model.specs.Syntax.{Name, Expr, Number, Variable, Element, Length, Negative, Not, Binary, Stmt, Declare}
 use Rattle.cw_model.specs.Syntax.{DeclareArray, Assign, AssignElement, Reduce, Call, Start, Begin, Sync, If, IfElse}
 use Rattle.cw_model.specs.Syntax.{While, For, Scope, Cut, Region, Print, Return, Block, End, Then, Param, Function}
-use Rattle.cw_model.specs.Syntax.{Program}
+use Rattle.cw_model.specs.Syntax.{Program, takes_array, reads_array}
 use Rattle.cw_model.specs.Names.{same_name, is_among, differ}
 use Rattle.cw_model.specs.Meaning.{function_named}
 use Rattle.cw_model.specs.Lines.{unless}
 use Rattle.cw_model.specs.Typing.{block_returns}
 
--- what took a name: a spawn of a sync block, which is told by how many sync blocks it lies in, or a cut
+-- what holds a name: a spawn of a sync block, which is told by how many sync blocks it lies in, and which took the name
+-- or only reads it; or a cut
 pub data Holder : Type 0 where
   SpawnIn : (depth : ℕ) → Holder
+  ReaderIn : (depth : ℕ) → Holder
   CutOf : Holder
 
--- the names that are taken, each with what took it
+-- the names that are held, each with what holds it
 abbrev pub Taken : Type 0
 Taken = List (Name × Holder)
 
--- something took the name
+-- a spawn that only reads
+abbrev pub is_reader : Holder → Bool
+is_reader (SpawnIn d) = false
+is_reader (ReaderIn d) = true
+is_reader CutOf = false
+
+-- the name is taken: something holds it that does not only read it
 abbrev pub is_taken : Taken → Name → Bool
-is_taken taken x = is_among x (map (λ t. t.0) taken)
+is_taken taken x = is_among x (map (λ t. t.0) (filter (λ t. not (is_reader t.1)) taken))
+
+-- something holds the name: it is taken, or frozen by a spawn that reads it
+abbrev pub is_held : Taken → Name → Bool
+is_held taken x = is_among x (map (λ t. t.0) taken)
 
 -- a spawn of the sync block at this depth
 abbrev pub is_spawn_in : ℕ → Holder → Bool
 is_spawn_in depth (SpawnIn d) = d == depth
+is_spawn_in depth (ReaderIn d) = d == depth
 is_spawn_in depth CutOf = false
 
--- a join frees what the spawns of its sync block took
+-- a join frees what the spawns of its sync block hold
 abbrev pub freed : ℕ → Taken → Taken
 freed depth taken = filter (λ t. not (is_spawn_in depth t.1)) taken
 
 -- a cut of this array
 abbrev pub is_cut_of : Name → (Name × Holder) → Bool
 is_cut_of a (x, SpawnIn d) = false
+is_cut_of a (x, ReaderIn d) = false
 is_cut_of a (x, CutOf) = same_name a x
 
 -- the end of a cut frees its array
@@ -57,26 +71,40 @@ names_in (Negative e) = names_in e
 names_in (Not e) = names_in e
 names_in (Binary operator d e) = names_in d ++ names_in e
 
--- the arrays that are passed
+-- the arrays that are given away
 abbrev pub arrays_given : List Param → List Expr → List Name
 arrays_given [] es = []
 arrays_given (p ∷ ps) [] = []
-arrays_given (p ∷ ps) (e ∷ es) = (if p.is_array then names_in e else []) ++ arrays_given ps es
+arrays_given (p ∷ ps) (e ∷ es) = (if takes_array p then names_in e else []) ++ arrays_given ps es
 
--- the arrays that are passed to a function
+-- the arrays that are given away to a function
 abbrev pub given : List Function → Name → List Expr → List Name
 given fs f es = arrays_given (function_named f fs).params es
+
+-- the arrays that are only read
+abbrev pub arrays_lent : List Param → List Expr → List Name
+arrays_lent [] es = []
+arrays_lent (p ∷ ps) [] = []
+arrays_lent (p ∷ ps) (e ∷ es) = (if reads_array p then names_in e else []) ++ arrays_lent ps es
+
+-- the arrays that a function only reads
+abbrev pub lent : List Function → Name → List Expr → List Name
+lent fs f es = arrays_lent (function_named f fs).params es
 
 -- the name that a result goes to, if there is one
 abbrev pub target_names : Option Name → List Name
 target_names None = []
 target_names (Some x) = x ∷ []
 
--- a spawn takes its result and its arrays
+-- a spawn takes its result and the arrays that are given away
 abbrev pub taken_by : ℕ → List Name → Taken → Taken
 taken_by depth xs taken = map (λ x. (x, SpawnIn depth)) xs ++ taken
 
--- a branch that surely returns leaves nothing taken
+-- and freezes those that it only reads
+abbrev pub frozen_by : ℕ → List Name → Taken → Taken
+frozen_by depth xs taken = map (λ x. (x, ReaderIn depth)) xs ++ taken
+
+-- a branch that surely returns leaves nothing held
 abbrev pub where_it_goes_on : Bool → Taken → Taken
 where_it_goes_on returns taken = if returns then [] else taken
 
@@ -88,10 +116,10 @@ own_names (Then line (DeclareArray a e) b) = a ∷ own_names b
 own_names (Then line s b) = own_names b
 
 abbrev mutual
-  -- what is taken after a statement that lies in so many sync blocks
+  -- what is held after a statement that lies in so many sync blocks
   pub taken_after : List Function → ℕ → Stmt → Taken → Taken
   taken_after fs depth (Call Spawned site target f es) taken =
-      taken_by depth (target_names target ++ given fs f es) taken
+      frozen_by depth (lent fs f es) (taken_by depth (target_names target ++ given fs f es) taken)
   taken_after fs depth Sync taken = freed depth taken
   taken_after fs depth (Return e) taken = freed depth taken
   taken_after fs depth (If e b) taken =
@@ -99,7 +127,7 @@ abbrev mutual
   taken_after fs depth (IfElse e b c) taken =
       where_it_goes_on (block_returns b) (without (own_names b) (taken_after_all fs depth b taken))
       ++ where_it_goes_on (block_returns c) (without (own_names c) (taken_after_all fs depth c taken))
-  -- what was taken before, and what one turn leaves of it: no further turn takes more
+  -- what was held before, and what one turn leaves of it: no further turn holds more
   taken_after fs depth (While e b) taken =
       taken ++ where_it_goes_on (block_returns b) (without (own_names b) (taken_after_all fs depth b taken))
   taken_after fs depth (Scope b) taken =
@@ -113,7 +141,7 @@ abbrev mutual
       freed (depth + 1) (without (x ∷ own_names b) (taken_after_all fs (depth + 1) b taken))
   taken_after fs depth _ taken = taken
 
-  -- what is taken after the statements of a block
+  -- what is held after the statements of a block
   pub taken_after_all : List Function → ℕ → Block → Taken → Taken
   taken_after_all fs depth End taken = taken
   taken_after_all fs depth (Then line s b) taken = taken_after_all fs depth b (taken_after fs depth s taken)
@@ -153,6 +181,10 @@ keeps_loop around (Binary operator d e) = keeps_loop around d && keeps_loop arou
 abbrev pub are_free : Taken → List Name → Bool
 are_free taken xs = not (list_any (λ x. is_taken taken x) xs)
 
+-- none of the names is held
+abbrev pub are_loose : Taken → List Name → Bool
+are_loose taken xs = not (list_any (λ x. is_held taken x) xs)
+
 -- none of the names is from outside the loop
 abbrev pub are_inner : Around → List Name → Bool
 are_inner around xs = not (list_any (λ x. is_outer around x) xs)
@@ -161,17 +193,21 @@ are_inner around xs = not (list_any (λ x. is_outer around x) xs)
 abbrev pub may_read : Around → Taken → Expr → Bool
 may_read around taken e = are_free taken (names_in e) && keeps_loop around e
 
--- names that are written, passed or cut are neither taken nor from outside the loop
+-- names that are written, given away or cut are neither held nor from outside the loop
 abbrev pub may_write : Around → Taken → List Name → Bool
-may_write around taken xs = are_free taken xs && are_inner around xs
+may_write around taken xs = are_loose taken xs && are_inner around xs
+
+-- arrays that a call only reads are not from outside the loop, and none of those that are given away to it
+abbrev pub may_lend : Around → (given lent : List Name) → Bool
+may_lend around given lent = are_inner around lent && not (list_any (λ a. is_among a given) lent)
 
 -- the names that a block declared so far, each with its line
 abbrev pub Declared : Type 0
 Declared = List (Name × ℕ)
 
--- the lines of declarations whose names are still taken
+-- the lines of declarations whose names are still held
 abbrev pub left_taken : Declared → Taken → List ℕ
-left_taken declared taken = flat_map (λ d. unless (not (is_taken taken d.0)) d.1) declared
+left_taken declared taken = flat_map (λ d. unless (not (is_held taken d.0)) d.1) declared
 
 -- the declarations of a block so far, with what a statement declares
 abbrev pub declared_by : ℕ → Stmt → Declared → Declared
@@ -190,26 +226,27 @@ pub data Closing : Type 0 where
   Joins : Closing
   Leaves : Closing
 
--- what is still taken as a block ends
+-- what is still held as a block ends
 abbrev pub at_end : Closing → ℕ → Taken → Taken
 at_end Joins depth taken = freed depth taken
 at_end Leaves depth taken = taken
 
 abbrev mutual
-  -- the lines that break a rule, in a statement of a line where so much is known and so much is taken
+  -- the lines that break a rule, in a statement of a line where so much is known and so much is held
   pub owner_faults : List Function → Around → (known : List Name) → (depth : ℕ) → Taken → (line : ℕ) → Stmt → List ℕ
   owner_faults fs around known depth taken line (Declare x e) = unless (may_read around taken e) line
   owner_faults fs around known depth taken line (DeclareArray a e) = unless (may_read around taken e) line
   owner_faults fs around known depth taken line (Assign x e) =
       unless (may_read around taken e && may_write around taken (x ∷ [])) line
   owner_faults fs around known depth taken line (AssignElement a i e) =
-      unless (may_read around taken i && may_read around taken e && are_free taken (a ∷ []) && may_index around a i)
+      unless (may_read around taken i && may_read around taken e && are_loose taken (a ∷ []) && may_index around a i)
       line
   owner_faults fs around known depth taken line (Reduce how s e) = unless (may_read around taken e) line
-  -- no array is passed twice
+  -- no array that is given away is passed twice
   owner_faults fs around known depth taken line (Call kind site target f es) =
       unless (list_all (λ e. may_read around taken e) es
-      && may_write around taken (target_names target ++ given fs f es) && differ (given fs f es)) line
+      && may_write around taken (target_names target ++ given fs f es) && differ (given fs f es)
+      && may_lend around (given fs f es) (lent fs f es)) line
   -- no source has one
   owner_faults fs around known depth taken line (Start kind callee es) = line ∷ []
   owner_faults fs around known depth taken line (Begin callee from to captured over) = line ∷ []
@@ -238,7 +275,7 @@ abbrev mutual
   owner_faults fs around known depth taken line (Return None) = []
   owner_faults fs around known depth taken line (Return (Some e)) = unless (may_read around taken e) line
 
-  -- in a block; a name of its own that is still taken at its end counts at its declaration
+  -- in a block; a name of its own that is still held at its end counts at its declaration
   pub owner_faults_in : List Function → Around → (known : List Name) → (depth : ℕ) → Closing → Taken → Declared → Block
       → List ℕ
   owner_faults_in fs around known depth closing taken declared End = left_taken declared (at_end closing depth taken)
@@ -247,7 +284,7 @@ abbrev mutual
       ++ owner_faults_in fs around (known_after known s) depth closing (taken_after fs depth s taken)
       (declared_by line s declared) b
 
--- a function's body is a sync block, in which nothing is taken at first
+-- a function's body is a sync block, in which nothing is held at first
 abbrev pub owner_faults_of : List Function → Function → List ℕ
 owner_faults_of fs f = owner_faults_in fs NoLoop (map (λ p. p.name) f.params) 1 Joins [] [] f.body
 
@@ -259,7 +296,7 @@ ownership_faults program = flat_map (owner_faults_of program.functions) program.
 abbrev pub KeepsOwnership : Program → Type 0
 KeepsOwnership program = ownership_faults program ≡ []
 
--- what any number of turns leaves taken: the least set that holds what was taken before and what a turn leaves of it
+-- what any number of turns leaves held: the least set with what was held before and with what a turn leaves of it
 pub record IsLeastClosed (turn : Taken → Taken) (before after : Taken) : Type 0 where
   pub holds_before : (t : Name × Holder) → Contains before t → Contains after t
   pub closed : (t : Name × Holder) → Contains (turn after) t → Contains after t

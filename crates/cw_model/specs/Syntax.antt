@@ -1,8 +1,10 @@
 -- The source program as a tree.
-use Rattle.std.specs.Prelude.{ℕ, ℤ, Bool, List, Option}
+use Rattle.std.specs.Prelude.{ℕ, ℤ, Bool, true, false, List, Option}
 use Rattle.cw_model.specs.declared.syntax.Operator.{Operator}
 use Rattle.cw_model.specs.declared.syntax.CallKind.{CallKind}
 use Rattle.cw_model.specs.declared.syntax.Reduction.{Reduction}
+use Rattle.cw_model.specs.declared.syntax.NameKind.{NameKind}
+use Rattle.cw_model.specs.declared.syntax.NameKind.TheVariants.{Integer, Array, Const}
 
 -- a name by its bytes
 abbrev pub Name : Type 0
@@ -50,10 +52,38 @@ mutual
     End : Block
     Then : (line : ℕ) → Stmt → Block → Block
 
+-- an array, whether it may be written or is only read
+abbrev pub is_array_kind : NameKind → Bool
+is_array_kind Integer = false
+is_array_kind Array = true
+is_array_kind Const = true
+
+-- an array that is only read
+abbrev pub is_const_kind : NameKind → Bool
+is_const_kind Const = true
+is_const_kind _ = false
+
+-- an array that may be written
+abbrev pub is_written_kind : NameKind → Bool
+is_written_kind Array = true
+is_written_kind _ = false
+
 -- a parameter
 pub record Param : Type 0 where
   pub name : Name
-  pub is_array : Bool
+  pub kind : NameKind
+
+-- an array stands for the parameter
+abbrev pub wants_array : Param → Bool
+wants_array p = is_array_kind p.kind
+
+-- an array stands for it, which is taken from the caller until the call returns
+abbrev pub takes_array : Param → Bool
+takes_array p = is_written_kind p.kind
+
+-- an array stands for it, which is only read
+abbrev pub reads_array : Param → Bool
+reads_array p = is_const_kind p.kind
 
 -- a function, with the line of its name
 pub record Function : Type 0 where

@@ -12,8 +12,8 @@ use Rattle.cw_model.specs.Pieces.{is_separator, is_word, is_number, is_comment, 
 -- the words that are no names
 abbrev pub keywords : List (List ℕ × Kind)
 keywords =
-    (codes "int", kind.Int) ∷ (codes "void", kind.Void) ∷ (codes "if", kind.If) ∷ (codes "else", kind.Else)
-    ∷ (codes "while", kind.While) ∷
+    (codes "int", kind.Int) ∷ (codes "void", kind.Void) ∷ (codes "const", kind.Const) ∷ (codes "if", kind.If)
+    ∷ (codes "else", kind.Else) ∷ (codes "while", kind.While) ∷
     (codes "return", kind.Return) ∷ (codes "print", kind.Print) ∷ (codes "len", kind.Len) ∷ (codes "cut", kind.Cut)
     ∷ (codes "at", kind.At) ∷
     (codes "as", kind.As) ∷ (codes "region", kind.Region) ∷ (codes "reducer", kind.Reducer) ∷ (codes "sum", kind.Sum)

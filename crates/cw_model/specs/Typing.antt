@@ -6,29 +6,35 @@ use Rattle.cw_model.specs.declared.limits.TheConstants.{MOST_GRAIN}
 use Rattle.cw_model.specs.Lines.{unless}
 use Rattle.cw_model.specs.declared.syntax.Reduction.{Reduction}
 use Rattle.cw_model.specs.declared.syntax.Reduction.TheVariants.{Sum, Max}
+use Rattle.cw_model.specs.declared.syntax.NameKind.{NameKind}
+use Rattle.cw_model.specs.declared.syntax.NameKind.TheVariants.{Integer, Array, Const}
 use Rattle.cw_model.specs.Syntax.{Name, Expr, Number, Variable, Element, Length, Negative, Not, Binary, Stmt, Declare}
 use Rattle.cw_model.specs.Syntax.{DeclareArray, Assign, AssignElement, Reduce, Call, Start, Begin, Sync, If, IfElse}
 use Rattle.cw_model.specs.Syntax.{While, For, Scope, Cut, Region, Print, Return, Block, End, Then, Param, Function}
-use Rattle.cw_model.specs.Syntax.{Reducer, Program}
+use Rattle.cw_model.specs.Syntax.{Reducer, Program, is_array_kind, is_written_kind, wants_array}
 use Rattle.cw_model.specs.Names.{same_name, is_among, differ}
 use Rattle.cw_model.specs.Answers.{main_name}
 
--- the local names that are known, the newest first, and whether each is an array
+-- the local names that are known, the newest first, and what each stands for
 abbrev pub Known : Type 0
-Known = List (Name × Bool)
+Known = List (Name × NameKind)
 
--- the newest name that is spelled so is an array, or an integer
-abbrev pub is_known : Name → Bool → Known → Bool
-is_known x array [] = false
-is_known x array (k ∷ ks) = if same_name x k.0 then (if array then k.1 else not k.1) else is_known x array ks
+-- the newest name that is spelled so is of such a kind
+abbrev pub is_known : Name → (NameKind → Bool) → Known → Bool
+is_known x such [] = false
+is_known x such (k ∷ ks) = if same_name x k.0 then such k.1 else is_known x such ks
 
 -- a known integer
 abbrev pub is_int : Known → Name → Bool
-is_int known x = is_known x false known
+is_int known x = is_known x (λ kind. not (is_array_kind kind)) known
 
 -- a known array
 abbrev pub is_array : Known → Name → Bool
-is_array known a = is_known a true known
+is_array known a = is_known a is_array_kind known
+
+-- a known array that may be written
+abbrev pub is_writable : Known → Name → Bool
+is_writable known a = is_known a is_written_kind known
 
 -- the names of functions and reducers
 abbrev pub globals : Program → List Name
@@ -48,16 +54,17 @@ is_fine known (Negative e) = is_fine known e
 is_fine known (Not e) = is_fine known e
 is_fine known (Binary operator d e) = is_fine known d && is_fine known e
 
--- an array alone for an array, and an expression for an integer
-abbrev pub is_argument : Known → Bool → Expr → Bool
-is_argument known false e = is_fine known e
-is_argument known true (Variable a) = is_array known a
-is_argument known true _ = false
+-- an expression for an integer, and an array alone for an array: one that may be written, unless it is only read there
+abbrev pub is_argument : Known → NameKind → Expr → Bool
+is_argument known Integer e = is_fine known e
+is_argument known Array (Variable a) = is_writable known a
+is_argument known Const (Variable a) = is_array known a
+is_argument known _ _ = false
 
 -- one argument for each parameter
 abbrev pub are_arguments : Known → List Param → List Expr → Bool
 are_arguments known [] [] = true
-are_arguments known (p ∷ ps) (e ∷ es) = is_argument known p.is_array e && are_arguments known ps es
+are_arguments known (p ∷ ps) (e ∷ es) = is_argument known p.kind e && are_arguments known ps es
 are_arguments known _ _ = false
 
 -- the first function of a name, if there is one
@@ -123,22 +130,22 @@ may_return _ known _ = false
 
 -- the names that are known after a statement
 abbrev pub declares : Stmt → Known → Known
-declares (Declare x e) known = (x, false) ∷ known
-declares (DeclareArray a e) known = (a, true) ∷ known
+declares (Declare x e) known = (x, Integer) ∷ known
+declares (DeclareArray a e) known = (a, Array) ∷ known
 declares _ known = known
 
 -- the three names of a loop's head are one new name, its ends are integers, its grain is in range, and it is over
--- arrays
+-- arrays that may be written
 abbrev pub is_head_of_loop : Program → Known → (variable tested stepped : Name) → (from to : Expr) → (grain : ℕ)
     → (over : List Name) → Bool
 is_head_of_loop program known x y z from to grain over =
     is_new program known x && same_name y x && same_name z x && is_fine known from && is_fine known to
-    && nat_le 1 grain && nat_le grain MOST_GRAIN && list_all (λ a. is_array known a) over
+    && nat_le 1 grain && nat_le grain MOST_GRAIN && list_all (λ a. is_writable known a) over
 
--- an array is cut at an integer into two new names that differ
+-- an array that may be written is cut at an integer into two new names that differ
 abbrev pub is_cut : Program → Known → (a : Name) → Expr → (l r : Name) → Bool
 is_cut program known a e l r =
-    is_array known a && is_fine known e && is_new program known l && is_new program known r && not (same_name l r)
+    is_writable known a && is_fine known e && is_new program known l && is_new program known r && not (same_name l r)
 
 -- nothing follows
 abbrev pub ends_block : Block → Bool
@@ -152,7 +159,7 @@ abbrev mutual
   faults_in program returns known line (DeclareArray a e) = unless (is_fine known e && is_new program known a) line
   faults_in program returns known line (Assign x e) = unless (is_int known x && is_fine known e) line
   faults_in program returns known line (AssignElement a i e) =
-      unless (is_array known a && is_fine known i && is_fine known e) line
+      unless (is_writable known a && is_fine known i && is_fine known e) line
   faults_in program returns known line (Reduce how s e) = unless (is_reducer program how s && is_fine known e) line
   faults_in program returns known line (Call kind site target f es) =
       unless (is_call known target (called f program.functions) es) line
@@ -169,10 +176,10 @@ abbrev mutual
       unless (is_fine known e) line ++ faults_in_block program returns known b
   faults_in program returns known line (For x y z from to grain over b) =
       unless (is_head_of_loop program known x y z from to grain over) line
-      ++ faults_in_block program Nowhere ((x, false) ∷ known) b
+      ++ faults_in_block program Nowhere ((x, Integer) ∷ known) b
   faults_in program returns known line (Scope b) = faults_in_block program Nowhere known b
   faults_in program returns known line (Cut a e l r b) =
-      unless (is_cut program known a e l r) line ++ faults_in_block program Nowhere ((r, true) ∷ (l, true) ∷ known) b
+      unless (is_cut program known a e l r) line ++ faults_in_block program Nowhere ((r, Array) ∷ (l, Array) ∷ known) b
   faults_in program returns known line (Region tag b) = faults_in_block program Nowhere known b
   faults_in program returns known line (Print e) = unless (is_fine known e) line
   faults_in program returns known line (Return e) = unless (may_return returns known e) line
@@ -187,14 +194,14 @@ abbrev mutual
 -- the parameters, the last one first
 abbrev pub known_of : List Param → Known
 known_of [] = []
-known_of (p ∷ ps) = known_of ps ++ (p.name, p.is_array) ∷ []
+known_of (p ∷ ps) = known_of ps ++ (p.name, p.kind) ∷ []
 
 -- its parameters are new names that differ, an int function surely returns, and main is an int function of integers
 abbrev pub is_head : Program → Function → Bool
 is_head program f =
     differ (map (λ p. p.name) f.params) && not (list_any (λ p. is_among p.name (globals program)) f.params)
     && (not f.gives_int || block_returns f.body)
-    && (not (same_name f.name main_name) || (f.gives_int && not (list_any (λ p. p.is_array) f.params)))
+    && (not (same_name f.name main_name) || (f.gives_int && not (list_any (λ p. wants_array p) f.params)))
 
 -- the lines that break a rule in a function
 abbrev pub faults_of : Program → Function → List ℕ

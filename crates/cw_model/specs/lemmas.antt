@@ -3,3 +3,4 @@ pub mod Kept
 pub mod Lowest
 pub mod Parts
 pub mod Regrouping
+pub mod Fits

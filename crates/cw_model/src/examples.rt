@@ -3,6 +3,7 @@
 ghost use Rattle.cw_model.specs.Examples.{CallExamples, ArrayExamples, DeepExamples, ChainExamples, FaultExamples, LimitExamples, TreeExamples, SizeExamples};
 ghost use Rattle.cw_model.specs.ExampleTypes.{ExpressionTypeExamples, WriteTypeExamples, CallTypeExamples, HeadTypeExamples, BlockTypeExamples, GlobalTypeExamples};
 ghost use Rattle.cw_model.specs.ExampleOwners.{TakenExamples, FreedExamples, LoopOwnerExamples};
+ghost use Rattle.cw_model.specs.ExampleConsts.{ConstTypeExamples, FrozenExamples, ReadRunExamples};
 ghost use Rattle.cw_model.specs.ExampleSizes.{TokenSizeExamples, DeclarationSizeExamples, InstructionSizeExamples};
 ghost use Rattle.cw_model.specs.ExampleValues.{OperatorExamples, TrapExamples};
 ghost use Rattle.cw_model.specs.ExampleStatements.{EffectExamples, CostExamples, JoinExamples, LoweredExamples, LoopExamples, CaptureExamples};
@@ -63,6 +64,13 @@ pub fn ownership()
     ensures taken { TakenExamples }
     ensures freed { FreedExamples }
     ensures loops { LoopOwnerExamples }
+{}
+
+/// Arrays that are read together: the rules, each broken alone, and runs.
+pub fn read_together()
+    ensures types { ConstTypeExamples }
+    ensures frozen { FrozenExamples }
+    ensures runs { ReadRunExamples }
 {}
 
 /// Limits and sizes, the last place within and the first past each.

@@ -75,6 +75,16 @@ pub enum Reduction {
     Max,
 }
 
+/// What a local name stands for.
+#[derive(Clone, Copy, Debug, PartialEq, Eq)]
+pub enum NameKind {
+    Integer,
+    /// An array, which may be written, cut and passed to any parameter for an array.
+    Array,
+    /// An array that is only read: a parameter that says so.
+    Const,
+}
+
 /// Whether a call may run beside what follows it.
 #[derive(Clone, Copy, Debug, PartialEq, Eq)]
 pub enum CallKind {

@@ -9,6 +9,7 @@ pub enum Kind {
     Number(u64),
     Int,
     Void,
+    Const,
     If,
     Else,
     While,

@@ -14,17 +14,20 @@ use Rattle.cw_own.specs.Taken.{with_params}
 use Rattle.cw_own.proofs.Words.{if_or, or_none, or_all, or_turn}
 use Rattle.cw_own.proofs.Laws.{same_rows}
 use Rattle.cw_own.proofs.Showing.{Shows, known_row}
-use Rattle.cw_own.proofs.Knowing.{Knows, Fresh, knows_int, knows_array, known_int, known_array, below_is, above_is}
+use Rattle.cw_own.proofs.Knowing.{Knows, Fresh, knows_int, knows_array, knows_const, known_int, known_array, below_is, above_is}
+use Rattle.cw_model.specs.declared.syntax.NameKind.{NameKind}
+use Rattle.cw_model.specs.declared.syntax.NameKind.TheVariants as name_kind
+use Rattle.cw_model.specs.Syntax.{wants_array, is_array_kind}
 
 -- these parameters, after locals that are known
 abbrev pub params_after : Locals → List Param → Locals
 params_after locals [] = locals
-params_after locals (p ∷ ps) = params_after (if p.is_array then spec.with_array p.name locals else spec.with_int p.name locals) ps
+params_after locals (p ∷ ps) = params_after (if wants_array p then spec.with_array p.name locals else spec.with_int p.name locals) ps
 
 -- parameters that differ, and are not known before
 abbrev pub AreFresh : Locals → List Param → Type 0
 AreFresh locals [] = Unit {0}
-AreFresh locals (p ∷ ps) = Fresh p.name locals × AreFresh (if p.is_array then spec.with_array p.name locals else spec.with_int p.name locals) ps
+AreFresh locals (p ∷ ps) = Fresh p.name locals × AreFresh (if wants_array p then spec.with_array p.name locals else spec.with_int p.name locals) ps
 
 appended : {A : Type 0} (xs ys zs : List A) → (xs ++ ys) ++ zs ≡ xs ++ (ys ++ zs)
 appended [] ys zs = refl
@@ -37,29 +40,30 @@ none_more (x ∷ xs) = ap (λ r. x ∷ r) (none_more xs)
 params_known : (ps : List Param) (known : Known) (locals : Locals) → AreFresh locals ps → Knows known locals → Knows (known_of ps ++ known) (params_after locals ps)
 params_known [] known locals f k = k
 params_known (p ∷ ps) known locals f k =
-    subst (λ ks. Knows ks (params_after locals (p ∷ ps))) (sym (appended (known_of ps) ((p.name, p.is_array) ∷ []) known)) (by p.is_array f.1 (params_known ps))
+    subst (λ ks. Knows ks (params_after locals (p ∷ ps))) (sym (appended (known_of ps) ((p.name, p.kind) ∷ []) known)) (by p.kind f.1 (params_known ps))
   where
-    by : (b : Bool) → AreFresh (if b then spec.with_array p.name locals else spec.with_int p.name locals) ps →
+    by : (kind : NameKind) → AreFresh (if is_array_kind kind then spec.with_array p.name locals else spec.with_int p.name locals) ps →
         ((known : Known) (locals : Locals) → AreFresh locals ps → Knows known locals → Knows (known_of ps ++ known) (params_after locals ps)) →
-        Knows (known_of ps ++ (p.name, b) ∷ known) (params_after (if b then spec.with_array p.name locals else spec.with_int p.name locals) ps)
-    by true g more = more ((p.name, true) ∷ known) (spec.with_array p.name locals) g (knows_array known locals p.name f.0 k)
-    by false g more = more ((p.name, false) ∷ known) (spec.with_int p.name locals) g (knows_int known locals p.name f.0 k)
+        Knows (known_of ps ++ (p.name, kind) ∷ known) (params_after (if is_array_kind kind then spec.with_array p.name locals else spec.with_int p.name locals) ps)
+    by name_kind.Array g more = more ((p.name, name_kind.Array) ∷ known) (spec.with_array p.name locals) g (knows_array known locals p.name f.0 k)
+    by name_kind.Const g more = more ((p.name, name_kind.Const) ∷ known) (spec.with_array p.name locals) g (knows_const known (spec.with_array p.name locals) p.name (knows_array known locals p.name f.0 k))
+    by name_kind.Integer g more = more ((p.name, name_kind.Integer) ∷ known) (spec.with_int p.name locals) g (knows_int known locals p.name f.0 k)
 
 abbrev joined : Locals → Locals → Locals
 joined a b = record { ints = a.ints ++ b.ints; arrays = a.arrays ++ b.arrays }
 
 params_joined : (ps : List Param) (locals : Locals) → params_after locals ps ≡ joined locals (locals_of ps)
 params_joined [] locals = λ i. record { ints = sym (none_more locals.ints) i; arrays = sym (none_more locals.arrays) i }
-params_joined (p ∷ ps) locals = by p.is_array (params_joined ps)
+params_joined (p ∷ ps) locals = by (wants_array p) (params_joined ps)
   where
     by : (b : Bool) → ((locals : Locals) → params_after locals ps ≡ joined locals (locals_of ps)) → params_after (if b then spec.with_array p.name locals else spec.with_int p.name locals) ps
-        ≡ (let l : Locals = record { ints = locals.ints ++ map (λ p. p.name) (cond (not b) (p ∷ filter (λ p. not p.is_array) ps) (filter (λ p. not p.is_array) ps)); arrays = locals.arrays ++ map (λ p. p.name) (cond b (p ∷ filter (λ p. p.is_array) ps) (filter (λ p. p.is_array) ps)) } in l)
+        ≡ (let l : Locals = record { ints = locals.ints ++ map (λ p. p.name) (cond (not b) (p ∷ filter (λ p. not (wants_array p)) ps) (filter (λ p. not (wants_array p)) ps)); arrays = locals.arrays ++ map (λ p. p.name) (cond b (p ∷ filter (λ p. wants_array p) ps) (filter (λ p. wants_array p) ps)) } in l)
     by true more = more (spec.with_array p.name locals) ∙ (λ i. record { ints = locals.ints ++ (locals_of ps).ints; arrays = appended locals.arrays (p.name ∷ []) (locals_of ps).arrays i })
     by false more = more (spec.with_int p.name locals) ∙ (λ i. record { ints = appended locals.ints (p.name ∷ []) (locals_of ps).ints i; arrays = locals.arrays ++ (locals_of ps).arrays })
 
 params_row : (ps : List Param) (locals : Locals) → with_params (length locals.ints) (length locals.arrays) ps (known_row locals) ≡ known_row (params_after locals ps)
 params_row [] locals = refl
-params_row (p ∷ ps) locals = by p.is_array (params_row ps)
+params_row (p ∷ ps) locals = by (wants_array p) (params_row ps)
   where
     one : (xs : List Name) (x : Name) → length (xs ++ x ∷ []) ≡ length xs + 1
     one xs x = length-append xs (x ∷ [])
@@ -115,7 +119,7 @@ fresh_params (p ∷ ps) locals d f =
     let out = not_is (is_among p.name (names_of ps)) (both_left (not (is_among p.name (names_of ps))) (differ (names_of ps)) d) in
     let here = f p.name (ap (λ b. if b then true else is_among p.name (names_of ps)) ((bytes_eq-Decides p.name p.name).1 refl)) in
     let later = apart_all p.name locals ps out (λ q there. f q (if_or (same_name q p.name) (is_among q (names_of ps)) ∙ ap (λ b. same_name q p.name || b) there ∙ or_all (same_name q p.name))) in
-    (record { no_int = here.0; no_array = here.1 }, by p.is_array later (λ l. fresh_params ps l (both_right (not (is_among p.name (names_of ps))) (differ (names_of ps)) d)))
+    (record { no_int = here.0; no_array = here.1 }, by (wants_array p) later (λ l. fresh_params ps l (both_right (not (is_among p.name (names_of ps))) (differ (names_of ps)) d)))
   where
     by : (b : Bool) → ((q : Name) → is_among q (names_of ps) ≡ true → (NotIn (spec.with_int p.name locals) q) × (NotIn (spec.with_array p.name locals) q)) →
         ((l : Locals) → ((q : Name) → is_among q (names_of ps) ≡ true → NotIn l q) → AreFresh l ps) →
@@ -147,7 +151,7 @@ map_append (x ∷ xs) ys = ap (λ r. x.0 ∷ r) (map_append xs ys)
 names_known : (x : Name) (ps : List Param) → is_among x (map (λ k. k.0) (known_of ps)) ≡ is_among x (names_of ps)
 names_known x [] = refl
 names_known x (p ∷ ps) =
-    ap (is_among x) (map_append (known_of ps) ((p.name, p.is_array) ∷ []))
+    ap (is_among x) (map_append (known_of ps) ((p.name, p.kind) ∷ []))
     ∙ among_append x (map (λ k. k.0) (known_of ps)) (p.name ∷ [])
     ∙ ap (λ b. b || is_among x (p.name ∷ [])) (names_known x ps)
     ∙ ap (λ b. is_among x (names_of ps) || b) (if_or (same_name x p.name) false ∙ or_none (same_name x p.name))

@@ -1,6 +1,7 @@
 -- The end of a block, by names and by slots.
 use Rattle.std.proofs.Common.{◌≡◌, ℕ, ◌≤◌, nat_lt, Bool, true, false, not, ◌&&◌, ◌||◌, if◌then◌else◌, [], ◌∷◌, ◌++◌, length, refl, sym, arith, length-append}
 use Rattle.std.proofs.lemmas.Bool.Decides.{nat_tests}
+use Rattle.cw_model.specs.declared.syntax.NameKind.TheVariants as name_kind
 use Rattle.cw_model.specs.Syntax.{Name, Program, Declare, DeclareArray, Assign, AssignElement, Reduce, Call, Start, Begin, Sync, If, IfElse, While, For, Scope, Cut, Region, Print, Return, Block, End, Then}
 use Rattle.cw_model.specs.Lines.{unless}
 use Rattle.cw_model.specs.Names.{same_name, is_among}
@@ -65,7 +66,7 @@ drop_block program returns known locals (Then line (Declare y e) b) P row k fine
     (λ k. mask_twice k (length locals.ints) (length (locals.ints ++ y ∷ [])) (row.ints k) (omega (arith, count)))
     (λ k. mask_twice k (length locals.arrays) (length locals.arrays) (row.arrays k) (omega arith)))
     (shows_drop_int locals y (λ x. not (is_among x (own_names b)) && P x) (both_rows (known_row (spec.with_int y locals)) row) fresh
-    (drop_block program returns ((y, false) ∷ known) (spec.with_int y locals) b P row (knows_int known locals y fresh k) rest s)))
+    (drop_block program returns ((y, name_kind.Integer) ∷ known) (spec.with_int y locals) b P row (knows_int known locals y fresh k) rest s)))
 drop_block program returns known locals (Then line (DeclareArray y e) b) P row k fine s =
     let here = left_none (unless (is_fine known e && is_new program known y) line) _ fine in
     let rest = right_none (unless (not (surely_returns (DeclareArray y e)) || ends_block b) line) _ (right_none (unless (is_fine known e && is_new program known y) line) _ fine) in
@@ -77,7 +78,7 @@ drop_block program returns known locals (Then line (DeclareArray y e) b) P row k
     (λ k. mask_twice k (length locals.ints) (length locals.ints) (row.ints k) (omega arith))
     (λ k. mask_twice k (length locals.arrays) (length (locals.arrays ++ y ∷ [])) (row.arrays k) (omega (arith, count))))
     (shows_drop_array locals y (λ x. not (is_among x (own_names b)) && P x) (both_rows (known_row (spec.with_array y locals)) row) fresh
-    (drop_block program returns ((y, true) ∷ known) (spec.with_array y locals) b P row (knows_array known locals y fresh k) rest s)))
+    (drop_block program returns ((y, name_kind.Array) ∷ known) (spec.with_array y locals) b P row (knows_array known locals y fresh k) rest s)))
 drop_block program returns known locals (Then line (Assign x e) b) P row k fine s =
     drop_block program returns known locals b P row k
     (right_none (unless (not (surely_returns (Assign x e)) || ends_block b) line) _ (right_none (faults_in program returns known line (Assign x e)) _ fine)) s

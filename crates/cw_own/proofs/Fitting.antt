@@ -7,7 +7,7 @@ use Rattle.cw_model.specs.Lines.{unless}
 use Rattle.cw_model.specs.Syntax as model
 use Rattle.cw_model.specs.Sizes.{limit_faults, function_limits, lines_beyond}
 use Rattle.cw_model.specs.lemmas.Kept.{both_left, both_right, left_none, right_none, kept}
-use Rattle.cw_tree.specs.Resolved.{Use, Argument, Int, Array, Stmt, Declare, DeclareArray, Assign, AssignElement, Reduce, Call, Sync, If, IfElse, While, For, Scope, Cut, Region, Print, Return, Block, End, Then, Function, Resolved, plain, plain_function}
+use Rattle.cw_tree.specs.Resolved.{Use, Argument, Int, Array, Shared, Stmt, Declare, DeclareArray, Assign, AssignElement, Reduce, Call, Sync, If, IfElse, While, For, Scope, Cut, Region, Print, Return, Block, End, Then, Function, Resolved, plain, plain_function}
 use Rattle.cw_tree.specs.Bounds.{Counts, is_below, fits_expr, fits_argument, fits_target, fits_head, fits_parts, fits_stmt, fits_block, fits_function, counts_of, is_fitting}
 use Rattle.cw_own.specs.Bounds.{is_small, small_argument, small_target, small_stmt, small_block, small_function}
 
@@ -33,6 +33,9 @@ arguments_small : (n : Counts) (es : List Argument) → Few n → list_all (fits
 arguments_small n [] few h = refl
 arguments_small n (Int e ∷ es) few h = arguments_small n es few (both_right (fits_expr n e) (list_all (fits_argument n) es) h)
 arguments_small n (Array u ∷ es) few h =
+    both (is_small u) (list_all small_argument es) (array_small n u few (both_left (is_below n.arrays u) (list_all (fits_argument n) es) h))
+    (arguments_small n es few (both_right (is_below n.arrays u) (list_all (fits_argument n) es) h))
+arguments_small n (Shared u ∷ es) few h =
     both (is_small u) (list_all small_argument es) (array_small n u few (both_left (is_below n.arrays u) (list_all (fits_argument n) es) h))
     (arguments_small n es few (both_right (is_below n.arrays u) (list_all (fits_argument n) es) h))
 

@@ -1,10 +1,10 @@
 -- What holds a name, by a test of holders.
-use Rattle.std.proofs.Common.{◌≡◌, ℕ, Bool, true, false, not, ◌&&◌, ◌||◌, cond, List, [], ◌∷◌, ◌++◌, refl, sym, ap, ◌∙◌}
+use Rattle.std.proofs.Common.{◌≡◌, ℕ, Bool, true, false, not, ◌&&◌, ◌||◌, cond, filter, map, List, [], ◌∷◌, ◌++◌, refl, sym, ap, ◌∙◌}
 use Rattle.std.proofs.lemmas.Slice.Eq.{bytes_eq-Decides}
 use Rattle.cw_model.specs.Syntax.{Name}
 use Rattle.cw_model.specs.Names.{same_name, is_among}
-use Rattle.cw_model.specs.Ownership.{Holder, SpawnIn, CutOf, Taken, is_taken, is_spawn_in, freed, is_cut_of, cut_ended, without}
-use Rattle.cw_own.proofs.Words.{if_or, or_group, and_all}
+use Rattle.cw_model.specs.Ownership.{Holder, SpawnIn, ReaderIn, CutOf, Taken, is_reader, is_taken, is_held, is_spawn_in, freed, is_cut_of, cut_ended, without}
+use Rattle.cw_own.proofs.Words.{if_or, or_group, and_all, and_none}
 
 -- a holder of this kind holds the name
 abbrev pub held : (Holder → Bool) → Taken → Name → Bool
@@ -16,7 +16,12 @@ any_holder h = true
 
 abbrev pub is_cut : Holder → Bool
 is_cut (SpawnIn d) = false
+is_cut (ReaderIn d) = false
 is_cut CutOf = true
+
+-- one that does not only read
+abbrev pub no_reader : Holder → Bool
+no_reader h = not (is_reader h)
 
 -- not by a spawn of this sync block
 abbrev pub but_spawn : ℕ → (Holder → Bool) → Holder → Bool
@@ -26,12 +31,27 @@ but_spawn depth p h = p h && not (is_spawn_in depth h)
 abbrev pub but_cut : (Holder → Bool) → Holder → Bool
 but_cut p h = p h && not (is_cut h)
 
-pub taken_is : (taken : Taken) (x : Name) → is_taken taken x ≡ held any_holder taken x
+pub held_is : (taken : Taken) (x : Name) → is_held taken x ≡ held any_holder taken x
+held_is [] x = refl
+held_is (t ∷ taken) x =
+    if_or (same_name x t.0) (is_held taken x)
+    ∙ ap (λ b. b || is_held taken x) (sym (and_all (same_name x t.0)))
+    ∙ ap (λ b. (same_name x t.0 && true) || b) (held_is taken x)
+
+pub taken_is : (taken : Taken) (x : Name) → is_taken taken x ≡ held no_reader taken x
 taken_is [] x = refl
-taken_is (t ∷ taken) x =
-    if_or (same_name x t.0) (is_taken taken x)
-    ∙ ap (λ b. b || is_taken taken x) (sym (and_all (same_name x t.0)))
-    ∙ ap (λ b. (same_name x t.0 && true) || b) (taken_is taken x)
+taken_is (t ∷ taken) x = by (not (is_reader t.1)) refl (taken_is taken x)
+  where
+    by : (b : Bool) → not (is_reader t.1) ≡ b → is_taken taken x ≡ held no_reader taken x →
+        is_among x (map (λ t. t.0) (cond b (t ∷ filter (λ t. not (is_reader t.1)) taken) (filter (λ t. not (is_reader t.1)) taken)))
+        ≡ ((same_name x t.0 && not (is_reader t.1)) || held no_reader taken x)
+    by true e h =
+        if_or (same_name x t.0) (is_taken taken x)
+        ∙ ap (λ b. b || is_taken taken x) (sym (ap (λ b. same_name x t.0 && b) e ∙ and_all (same_name x t.0)))
+        ∙ ap (λ b. (same_name x t.0 && not (is_reader t.1)) || b) h
+    by false e h =
+        h
+        ∙ sym (ap (λ b. (same_name x t.0 && b) || held no_reader taken x) e ∙ ap (λ b. b || held no_reader taken x) (and_none (same_name x t.0)))
 
 pub held_append : (p : Holder → Bool) (xs ys : Taken) (x : Name) → held p (xs ++ ys) x ≡ (held p xs x || held p ys x)
 held_append p [] ys x = refl
@@ -90,6 +110,11 @@ held_uncut a p ((n, h) ∷ taken) x = by (not (is_cut_of a (n, h))) refl (held_u
   where
     cut_is : (h : Holder) → same_name x n ≡ true → is_cut_of a (n, h) ≡ (same_name a x && is_cut h)
     cut_is (SpawnIn d) s = none (same_name a x)
+      where
+        none : (b : Bool) → false ≡ (b && false)
+        none true = refl
+        none false = refl
+    cut_is (ReaderIn d) s = none (same_name a x)
       where
         none : (b : Bool) → false ≡ (b && false)
         none true = refl

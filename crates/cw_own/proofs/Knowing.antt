@@ -12,6 +12,7 @@ use Rattle.cw_own.specs.Sets.{Row, with_int, with_array, both_rows}
 use Rattle.cw_own.proofs.Words.{or_none, or_all}
 use Rattle.cw_own.proofs.Laws.{same_rows}
 use Rattle.cw_own.proofs.Showing.{known_row, Shows, slot_kept}
+use Rattle.cw_model.specs.declared.syntax.NameKind.TheVariants as name_kind
 
 -- the kinds that typing knows are those of the locals, and no name is of both
 pub record Knows (known : Known) (locals : Locals) : Type 0 where
@@ -55,7 +56,7 @@ array_apart known locals x k h = by (is_among x locals.ints) refl
 same_is : (x y : Name) → same_name x y ≡ true → x ≡ y
 same_is x y h = (bytes_eq-Decides x y).0 h
 
-pub knows_int : (known : Known) (locals : Locals) (y : Name) → Fresh y locals → Knows known locals → Knows ((y, false) ∷ known) (spec.with_int y locals)
+pub knows_int : (known : Known) (locals : Locals) (y : Name) → Fresh y locals → Knows known locals → Knows ((y, name_kind.Integer) ∷ known) (spec.with_int y locals)
 knows_int known locals y f k = record {
   ints = λ x h. among_push x locals.ints y ∙ ints_by x (same_name x y) refl h;
   arrays = λ x h. arrays_by x (same_name x y) refl h;
@@ -80,7 +81,7 @@ knows_int known locals y f k = record {
     names_by x false e =
         k.names x ∙ sym (ap (λ b. b || is_among x locals.arrays) (among_push x locals.ints y ∙ ap (λ b. is_among x locals.ints || b) e ∙ or_none (is_among x locals.ints)))
 
-pub knows_array : (known : Known) (locals : Locals) (y : Name) → Fresh y locals → Knows known locals → Knows ((y, true) ∷ known) (spec.with_array y locals)
+pub knows_array : (known : Known) (locals : Locals) (y : Name) → Fresh y locals → Knows known locals → Knows ((y, name_kind.Array) ∷ known) (spec.with_array y locals)
 knows_array known locals y f k = record {
   ints = λ x h. ints_by x (same_name x y) refl h;
   arrays = λ x h. among_push x locals.arrays y ∙ arrays_by x (same_name x y) refl h;
@@ -105,6 +106,10 @@ knows_array known locals y f k = record {
     names_by x true e = sym (ap (λ b. is_among x locals.ints || b) (among_push x locals.arrays y ∙ ap (λ b. is_among x locals.arrays || b) e ∙ or_all (is_among x locals.arrays)) ∙ or_all (is_among x locals.ints))
     names_by x false e =
         k.names x ∙ sym (ap (λ b. is_among x locals.ints || b) (among_push x locals.arrays y ∙ ap (λ b. is_among x locals.arrays || b) e ∙ or_none (is_among x locals.arrays)))
+
+-- typing knows an array so, whether it may be written or is only read
+pub knows_const : (known : Known) (locals : Locals) (y : Name) → Knows ((y, name_kind.Array) ∷ known) locals → Knows ((y, name_kind.Const) ∷ known) locals
+knows_const known locals y k = record { ints = k.ints; arrays = k.arrays; apart = k.apart; names = k.names }
 
 one_below : (k n m : ℕ) → m ≡ n + 1 → nat_lt k m ≡ ((k == n) || nat_lt k n)
 one_below k n m h = grind (arith, nat_tests, h)

@@ -3,32 +3,35 @@ use Rattle.std.proofs.Common.{◌≡◌, ℕ, suc, ◌+◌, nat_le, Bool, true, 
 use Rattle.std.specs.List.{list_all}
 use Rattle.std.proofs.lemmas.Slice.Eq.{bytes_eq-Decides}
 use Rattle.cw_model.specs.declared.limits.TheConstants.{MOST_GRAIN}
-use Rattle.cw_model.specs.Syntax.{Name, Program, Expr, Stmt, Declare, DeclareArray, Assign, AssignElement, Reduce, Call, Start, Begin, Sync, If, IfElse, While, For, Scope, Cut, Region, Print, Return, Block, End, Then}
+use Rattle.cw_model.specs.declared.syntax.NameKind.TheVariants as name_kind
+use Rattle.cw_model.specs.lemmas.Fits.{writable_array, writable_arrays}
+use Rattle.cw_model.specs.Meaning.{function_named}
+use Rattle.cw_model.specs.Syntax.{Name, Function, Program, Expr, Stmt, Declare, DeclareArray, Assign, AssignElement, Reduce, Call, Start, Begin, Sync, If, IfElse, While, For, Scope, Cut, Region, Print, Return, Block, End, Then}
 use Rattle.cw_model.specs.Lines.{unless, lowest}
 use Rattle.cw_model.specs.lemmas.Lowest.{lowest-append, lowest-swap}
 use Rattle.cw_model.specs.Names.{same_name, is_among, differ}
-use Rattle.cw_model.specs.Typing.{Known, Returns, Nowhere, WithInt, Alone, is_int, is_array, is_new, is_fine, may_return, is_reducer, called, is_call, declares, surely_returns, ends_block, is_head_of_loop, is_cut, faults_in, faults_in_block}
+use Rattle.cw_model.specs.Typing.{Known, Returns, Nowhere, WithInt, Alone, is_int, is_array, is_writable, is_new, is_fine, may_return, is_reducer, called, is_call, declares, surely_returns, ends_block, is_head_of_loop, is_cut, faults_in, faults_in_block}
 use Rattle.cw_model.specs.Ownership as own
-use Rattle.cw_model.specs.Ownership.{CutOf, Taken, is_taken, freed, Around, InLoop, for_head, may_read, may_write, are_free, may_index, left_taken, Declared, declared_by, Closing, Joins, Leaves, taken_after, taken_after_all, owner_faults, owner_faults_in}
+use Rattle.cw_model.specs.Ownership.{CutOf, Taken, is_taken, is_held, are_loose, freed, Around, InLoop, for_head, may_read, may_write, may_index, left_taken, Declared, declared_by, Closing, Joins, Leaves, taken_after, taken_after_all, owner_faults, owner_faults_in}
 use Rattle.cw_model.specs.lemmas.Kept.{both_left, both_right, left_none, right_none, kept}
 use Rattle.cw_tree.specs.Resolved.{Locals, Lists, slot_of, use_of}
 use Rattle.cw_tree.specs.Resolved as spec
 use Rattle.cw_tree.specs.lemmas.NamedSlots.{among_push}
-use Rattle.cw_own.specs.Sets.{Slots, no_slot, with_slot, Row, no_local, with_int, with_array, either_row}
+use Rattle.cw_own.specs.Sets.{Slots, no_slot, with_slot, Row, with_int, with_array}
 use Rattle.cw_own.specs.Taken as rows
-use Rattle.cw_own.specs.Taken.{int_taken, array_taken, known_after, after, after_all, cuts_after, cuts_after_all, gain}
+use Rattle.cw_own.specs.Taken.{Held, none_held, either_held, int_taken, array_held, known_after, after, after_all, cuts_after, cuts_after_all, gain}
 use Rattle.cw_own.specs.Rules as rules
 use Rattle.cw_own.specs.Rules.{Loop, with_uses, keeps, left_line, left_lines, left_at_end, seen_by, lines_within, lines_in}
-use Rattle.cw_own.proofs.Words.{if_or, or_none, or_all}
-use Rattle.cw_own.proofs.Laws.{no_more}
-use Rattle.cw_own.proofs.Holding.{held, any_holder, taken_is}
+use Rattle.cw_own.proofs.Words.{if_or, or_none, or_all, four_or}
+use Rattle.cw_own.proofs.Laws.{same_rows, no_more}
+use Rattle.cw_own.proofs.Holding.{held, any_holder, no_reader, taken_is, held_is}
 use Rattle.cw_own.proofs.Showing.{Shows, shows_as, shows_row, shows_none, shows_int, shows_array, shows_push_int, shows_push_array, int_shown, array_shown, known_row, slot_kept}
 use Rattle.cw_own.proofs.Knowing.{Knows, Fresh, fresh_name, array_apart, knows_int, knows_array, known_int, known_array}
 use Rattle.cw_own.proofs.Following.{all_of, Holds, Steady, entered, steady_inside, holds_freed, holds_inside, holds_push_int, holds_push_array, holds_cut}
 use Rattle.cw_own.proofs.Ending.{all_locals}
 use Rattle.cw_own.proofs.After.{Outside, AtTop, known_next, knows_next, top_stays, head_new, new_beside, Cuts, cut_keeps, knows_cut, after_stmt, after_block}
-use Rattle.cw_own.proofs.Wording.{Sees, Inner, Rounds, rounds_int, rounds_array, rounds_head, read_same, write_same, pass_same, free_same, index_same}
-use Rattle.cw_own.proofs.Passing.{call_same, differ_named, over_same}
+use Rattle.cw_own.proofs.Wording.{row_of_taken, row_of_held, Sees, Inner, Rounds, rounds_int, rounds_array, rounds_head, read_same, write_same, pass_same, loose_same, index_same}
+use Rattle.cw_own.proofs.Passing.{slot_call, call_same, differ_named, over_same}
 
 -- the same least line, whatever came before
 pub record Same (xs ys : List ℕ) : Type 0 where
@@ -226,29 +229,71 @@ pub over_shown : (known : Known) (locals : Locals) (xs : List Name) → Knows kn
 over_shown known locals xs k h =
     shows_as locals (λ y. is_among y xs || false) (λ y. is_among y xs) _ (λ y. sym (or_none (is_among y xs))) (uses_shown known locals xs (λ y. false) no_slot k h (shows_none locals))
 
--- what the rows hold as taken
-abbrev pub taken_rows : Outside → Row → Slots → rows.Taken
-taken_rows outside here cuts = record { outer = outside any_holder; here = here; cuts = cuts }
+-- what the rows have as held
+abbrev pub taken_rows : Held → Held → Slots → rows.Taken
+taken_rows outer here cuts = record { outer = outer; here = here; cuts = cuts }
 
-pub sees : (locals : Locals) (depth : ℕ) (outside : Outside) (taken : Taken) (here : Row) (cuts : Slots) → Holds locals depth outside taken here cuts → Sees locals taken (taken_rows outside here cuts)
-sees locals depth outside taken here cuts h =
-    shows_as locals (held any_holder taken) (is_taken taken) (all_of any_holder depth outside here cuts) (taken_is taken) (h any_holder)
+-- what is held from outside, by holders and by slots
+pub record Stands (depth : ℕ) (outside : Outside) (outer : Held) : Type 0 where
+  pub steady : Steady depth outside
+  pub taken : outside no_reader ≡ record { ints = outer.ints; arrays = outer.arrays }
+  pub held : outside any_holder ≡ record { ints = outer.ints; arrays = λ k. outer.arrays k || outer.frozen k }
+
+pub stands_inside : (depth : ℕ) (outside : Outside) (outer here : Held) → Stands depth outside outer → Stands (depth + 1) (entered outside depth here) (either_held outer here)
+stands_inside depth outside outer here s = record {
+  steady = steady_inside depth outside here s.steady;
+  taken = same_rows (entered outside depth here no_reader) (record { ints = (either_held outer here).ints; arrays = (either_held outer here).arrays })
+      (λ k. ap (λ (r : Row). r.ints k || here.ints k) s.taken)
+      (λ k. ap (λ (r : Row). r.arrays k || (here.arrays k || false)) s.taken ∙ ap (λ b. outer.arrays k || b) (or_none (here.arrays k)));
+  held = same_rows (entered outside depth here any_holder) (record { ints = (either_held outer here).ints; arrays = λ k. (either_held outer here).arrays k || (either_held outer here).frozen k })
+      (λ k. ap (λ (r : Row). r.ints k || here.ints k) s.held)
+      (λ k. ap (λ (r : Row). r.arrays k || (here.arrays k || here.frozen k)) s.held ∙ four_or (outer.arrays k) (outer.frozen k) (here.arrays k) (here.frozen k));
+}
+
+all_held : (a f h z c : Bool) → ((a || f) || ((h || z) || c)) ≡ ((a || (h || c)) || (f || z))
+all_held true f h z c = refl
+all_held false true true z c = refl
+all_held false true false z true = refl
+all_held false true false z false = refl
+all_held false false true z c = refl
+all_held false false false true true = refl
+all_held false false false true false = refl
+all_held false false false false true = refl
+all_held false false false false false = refl
+
+pub sees : (locals : Locals) (depth : ℕ) (outside : Outside) (outer : Held) (taken : Taken) (here : Held) (cuts : Slots) → Stands depth outside outer → Holds locals depth outside taken here cuts → Sees locals taken (taken_rows outer here cuts)
+sees locals depth outside outer taken here cuts s h = record {
+  taken_so =
+      shows_as locals (held no_reader taken) (is_taken taken) (row_of_taken (taken_rows outer here cuts)) (taken_is taken)
+      (shows_row locals (held no_reader taken) (all_of no_reader depth outside here cuts) (row_of_taken (taken_rows outer here cuts))
+      (same_rows (all_of no_reader depth outside here cuts) (row_of_taken (taken_rows outer here cuts))
+      (λ k. ap (λ (r : Row). r.ints k || here.ints k) s.taken)
+      (λ k. ap (λ (r : Row). r.arrays k || ((here.arrays k || false) || cuts k)) s.taken ∙ ap (λ b. outer.arrays k || (b || cuts k)) (or_none (here.arrays k))))
+      (h no_reader));
+  held_so =
+      shows_as locals (held any_holder taken) (is_held taken) (row_of_held (taken_rows outer here cuts)) (held_is taken)
+      (shows_row locals (held any_holder taken) (all_of any_holder depth outside here cuts) (row_of_held (taken_rows outer here cuts))
+      (same_rows (all_of any_holder depth outside here cuts) (row_of_held (taken_rows outer here cuts))
+      (λ k. ap (λ (r : Row). r.ints k || here.ints k) s.held)
+      (λ k. ap (λ (r : Row). r.arrays k || ((here.arrays k || here.frozen k) || cuts k)) s.held ∙ all_held (outer.arrays k) (outer.frozen k) (here.arrays k) (here.frozen k) (cuts k)))
+      (h any_holder));
+}
 
 -- at the end of a block
-ended : (locals : Locals) (depth : ℕ) (outside : Outside) (closing : Closing) (taken : Taken) (here : Row) (cuts : Slots) → Steady depth outside → Holds locals depth outside taken here cuts →
-    Sees locals (own.at_end closing depth taken) (rules.at_end closing (taken_rows outside here cuts))
-ended locals depth outside Joins taken here cuts steady h = sees locals depth outside (freed depth taken) no_local cuts (holds_freed locals depth outside taken here cuts steady h)
-ended locals depth outside Leaves taken here cuts steady h = sees locals depth outside taken here cuts h
+ended : (locals : Locals) (depth : ℕ) (outside : Outside) (outer : Held) (closing : Closing) (taken : Taken) (here : Held) (cuts : Slots) → Stands depth outside outer → Holds locals depth outside taken here cuts →
+    Sees locals (own.at_end closing depth taken) (rules.at_end closing (taken_rows outer here cuts))
+ended locals depth outside outer Joins taken here cuts s h = sees locals depth outside outer (freed depth taken) none_held cuts s (holds_freed locals depth outside taken here cuts s.steady h)
+ended locals depth outside outer Leaves taken here cuts s h = sees locals depth outside outer taken here cuts s h
 
 left_int : (x : Name) (slot : ℕ) (locals : Locals) (taken : Taken) (t : rows.Taken) (line : ℕ) → is_among x locals.arrays ≡ false → slot_of x locals.ints ≡ slot → Sees locals taken t →
-    unless (not (is_taken taken x)) line ≡ unless (not (int_taken t slot)) line
+    unless (not (is_held taken x)) line ≡ unless (not (int_taken t slot)) line
 left_int x slot locals taken t line apart same s =
-    ap (λ b. unless (not b) line) (int_shown locals (is_taken taken) (record { ints = λ k. int_taken t k; arrays = λ k. array_taken t k }) x apart s ∙ ap (int_taken t) same)
+    ap (λ b. unless (not b) line) (int_shown locals (is_held taken) (row_of_held t) x apart s.held_so ∙ ap (int_taken t) same)
 
 left_array : (x : Name) (slot : ℕ) (locals : Locals) (taken : Taken) (t : rows.Taken) (line : ℕ) → is_among x locals.ints ≡ false → slot_of x locals.arrays ≡ slot → Sees locals taken t →
-    unless (not (is_taken taken x)) line ≡ unless (not (array_taken t slot)) line
+    unless (not (is_held taken x)) line ≡ unless (not (array_held t slot)) line
 left_array x slot locals taken t line apart same s =
-    ap (λ b. unless (not b) line) (array_shown locals (is_taken taken) (record { ints = λ k. int_taken t k; arrays = λ k. array_taken t k }) x apart s ∙ ap (array_taken t) same)
+    ap (λ b. unless (not b) line) (array_shown locals (is_held taken) (row_of_held t) x apart s.held_so ∙ ap (array_held t) same)
 
 -- what a statement declares is noted at the end of its block
 left_same : (program : Program) (lists : Lists) (returns : Returns) (known : Known) (locals : Locals) (line : ℕ) (s : Stmt) (b : Block) (taken : Taken) (t : rows.Taken) (declared : Declared) → Knows known locals → faults_in program returns known line s ≡ [] →
@@ -302,15 +347,15 @@ rule_and : (a b : Bool) (line : ℕ) (xs ys : List ℕ) → a ≡ b → Same xs 
 rule_and a b line xs ys e f = same_append (unless a line) (unless b line) xs ys (record { at = λ o. ap (λ c. lowest o (unless c line)) e }) f
 
 -- a block without declarations before it
-pub block_whole : (program : Program) (lists : Lists) (names : List Name) (locals : Locals) (depth : ℕ) (outside : Outside) (around : Around) (l : Option Loop) (closing : Closing) (b : Block) (taken : Taken) (here : Row) (cuts : Slots) →
+pub block_whole : (program : Program) (lists : Lists) (names : List Name) (locals : Locals) (depth : ℕ) (outer : Held) (around : Around) (l : Option Loop) (closing : Closing) (b : Block) (taken : Taken) (here : Held) (cuts : Slots) →
     Same (owner_faults_in program.functions around names depth closing taken [] b)
-    (lines_in l (known_row locals) (taken_rows outside here cuts) (spec.resolved_block lists locals b)
-    ++ (left_at_end closing (known_row locals) (taken_rows outside here cuts) (spec.resolved_block lists locals b) ++ left_taken [] (own.at_end closing depth (taken_after_all program.functions depth b taken)))) →
+    (lines_in l (known_row locals) (taken_rows outer here cuts) (spec.resolved_block lists locals b)
+    ++ (left_at_end closing (known_row locals) (taken_rows outer here cuts) (spec.resolved_block lists locals b) ++ left_taken [] (own.at_end closing depth (taken_after_all program.functions depth b taken)))) →
     Same (owner_faults_in program.functions around names depth closing taken [] b)
-    (lines_in l (known_row locals) (taken_rows outside here cuts) (spec.resolved_block lists locals b) ++ left_at_end closing (known_row locals) (taken_rows outside here cuts) (spec.resolved_block lists locals b))
-block_whole program lists names locals depth outside around l closing b taken here cuts f =
-    whole_block (owner_faults_in program.functions around names depth closing taken [] b) (lines_in l (known_row locals) (taken_rows outside here cuts) (spec.resolved_block lists locals b))
-    (left_at_end closing (known_row locals) (taken_rows outside here cuts) (spec.resolved_block lists locals b)) f
+    (lines_in l (known_row locals) (taken_rows outer here cuts) (spec.resolved_block lists locals b) ++ left_at_end closing (known_row locals) (taken_rows outer here cuts) (spec.resolved_block lists locals b))
+block_whole program lists names locals depth outer around l closing b taken here cuts f =
+    whole_block (owner_faults_in program.functions around names depth closing taken [] b) (lines_in l (known_row locals) (taken_rows outer here cuts) (spec.resolved_block lists locals b))
+    (left_at_end closing (known_row locals) (taken_rows outer here cuts) (spec.resolved_block lists locals b)) f
 
 -- the parts of a block, in another order
 together : (here more xs : List ℕ) (ls es : List ℕ) (left' left declared : List ℕ) → Same here xs → Same more (ls ++ (es ++ left')) → left' ≡ left ++ declared → Same (here ++ more) ((xs ++ ls) ++ ((left ++ es) ++ declared))
@@ -326,13 +371,13 @@ together here more xs ls es left' left declared f g e = record {
 
 cut_at : (program : Program) (known : Known) (a : Name) (e : Expr) (l r : Name) → is_cut program known a e l r ≡ true → is_fine known e ≡ true
 cut_at program known a e l r h =
-    both_right (is_array known a) (is_fine known e) (both_left (is_array known a && is_fine known e) (is_new program known l)
-    (both_left (is_array known a && is_fine known e && is_new program known l) (is_new program known r)
-    (both_left (is_array known a && is_fine known e && is_new program known l && is_new program known r) (not (same_name l r)) h)))
+    both_right (is_writable known a) (is_fine known e) (both_left (is_writable known a && is_fine known e) (is_new program known l)
+    (both_left (is_writable known a && is_fine known e && is_new program known l) (is_new program known r)
+    (both_left (is_writable known a && is_fine known e && is_new program known l && is_new program known r) (not (same_name l r)) h)))
 
 cut_fresh : (program : Program) (known : Known) (locals : Locals) (a l r : Name) → Knows known locals → Cuts program known a l r → Fresh r (spec.with_array l locals)
 cut_fresh program known locals a l r k c =
-    fresh_name program ((l, true) ∷ known) (spec.with_array l locals) r (knows_array known locals l (fresh_name program known locals l k c.left) k) (new_beside program known l r c.right c.apart)
+    fresh_name program ((l, name_kind.Array) ∷ known) (spec.with_array l locals) r (knows_array known locals l (fresh_name program known locals l k c.left) k) (new_beside program known l r c.right c.apart)
 
 -- the head of a loop that keeps the rules of names and types
 record Heads (program : Program) (known : Known) (x : Name) (d e : Expr) (xs : List Name) : Type 0 where
@@ -343,86 +388,88 @@ record Heads (program : Program) (known : Known) (x : Name) (d e : Expr) (xs : L
 
 head_keeps : (program : Program) (known : Known) (x y z : Name) (from to : Expr) (grain : ℕ) (over : List Name) → is_head_of_loop program known x y z from to grain over ≡ true → Heads program known x from to over
 head_keeps program known x y z from to grain over h =
-    let seven = both_left (is_new program known x && same_name y x && same_name z x && is_fine known from && is_fine known to && nat_le 1 grain && nat_le grain MOST_GRAIN) (list_all (λ a. is_array known a) over) h in
+    let seven = both_left (is_new program known x && same_name y x && same_name z x && is_fine known from && is_fine known to && nat_le 1 grain && nat_le grain MOST_GRAIN) (list_all (λ a. is_writable known a) over) h in
     let five = both_left (is_new program known x && same_name y x && same_name z x && is_fine known from && is_fine known to) (nat_le 1 grain) (both_left (is_new program known x && same_name y x && same_name z x && is_fine known from && is_fine known to && nat_le 1 grain) (nat_le grain MOST_GRAIN) seven) in
     let four = both_left (is_new program known x && same_name y x && same_name z x && is_fine known from) (is_fine known to) five in
     record {
       variable = head_new program known x y z from to grain over h;
       from = both_right (is_new program known x && same_name y x && same_name z x) (is_fine known from) four;
       to = both_right (is_new program known x && same_name y x && same_name z x && is_fine known from) (is_fine known to) five;
-      over = both_right (is_new program known x && same_name y x && same_name z x && is_fine known from && is_fine known to && nat_le 1 grain && nat_le grain MOST_GRAIN) (list_all (λ a. is_array known a) over) h;
+      over = writable_arrays known over (both_right (is_new program known x && same_name y x && same_name z x && is_fine known from && is_fine known to && nat_le 1 grain && nat_le grain MOST_GRAIN) (list_all (λ a. is_writable known a) over) h);
     }
 
 mutual
-  pub stmt_lines : (program : Program) (lists : Lists) (returns : Returns) (known : Known) (names : List Name) (locals : Locals) (depth : ℕ) (outside : Outside) (around : Around) (l : Option Loop) (line : ℕ) (s : Stmt) (taken : Taken) (here : Row) (cuts : Slots) →
-      Knows known locals → Names locals names → Steady depth outside → AtTop returns outside cuts → Rounds locals around l → faults_in program returns known line s ≡ [] → Holds locals depth outside taken here cuts →
+  pub stmt_lines : (program : Program) (lists : Lists) → lists.callees ≡ program.functions → (returns : Returns) (known : Known) (names : List Name) (locals : Locals) (depth : ℕ) (outside : Outside) (outer : Held) (around : Around) (l : Option Loop) (line : ℕ) (s : Stmt) (taken : Taken) (here : Held) (cuts : Slots) →
+      Knows known locals → Names locals names → Stands depth outside outer → AtTop returns outside cuts → Rounds locals around l → faults_in program returns known line s ≡ [] → Holds locals depth outside taken here cuts →
       Same (owner_faults program.functions around names depth taken line s)
-      (unless (keeps l (seen_by (known_row locals) (taken_rows outside here cuts) (spec.resolved_stmt lists locals s)) (spec.resolved_stmt lists locals s)) line
-      ++ lines_within l (known_row locals) (seen_by (known_row locals) (taken_rows outside here cuts) (spec.resolved_stmt lists locals s)) (spec.resolved_stmt lists locals s))
-  stmt_lines program lists returns known names locals depth outside around l line (Declare x e) taken here cuts k n steady top r fine h =
-      one_rule _ _ line (read_same known locals around l taken (taken_rows outside here cuts) e k (both_left (is_fine known e) (is_new program known x) (kept (is_fine known e && is_new program known x) line fine)) r (sees locals depth outside taken here cuts h))
-  stmt_lines program lists returns known names locals depth outside around l line (DeclareArray x e) taken here cuts k n steady top r fine h =
-      one_rule _ _ line (read_same known locals around l taken (taken_rows outside here cuts) e k (both_left (is_fine known e) (is_new program known x) (kept (is_fine known e && is_new program known x) line fine)) r (sees locals depth outside taken here cuts h))
-  stmt_lines program lists returns known names locals depth outside around l line (Assign x e) taken here cuts k n steady top r fine h =
+      (unless (keeps l (seen_by (known_row locals) (taken_rows outer here cuts) (spec.resolved_stmt lists locals s)) (spec.resolved_stmt lists locals s)) line
+      ++ lines_within l (known_row locals) (seen_by (known_row locals) (taken_rows outer here cuts) (spec.resolved_stmt lists locals s)) (spec.resolved_stmt lists locals s))
+  stmt_lines program lists same returns known names locals depth outside outer around l line (Declare x e) taken here cuts k n steady top r fine h =
+      one_rule _ _ line (read_same known locals around l taken (taken_rows outer here cuts) e k (both_left (is_fine known e) (is_new program known x) (kept (is_fine known e && is_new program known x) line fine)) r (sees locals depth outside outer taken here cuts steady h))
+  stmt_lines program lists same returns known names locals depth outside outer around l line (DeclareArray x e) taken here cuts k n steady top r fine h =
+      one_rule _ _ line (read_same known locals around l taken (taken_rows outer here cuts) e k (both_left (is_fine known e) (is_new program known x) (kept (is_fine known e && is_new program known x) line fine)) r (sees locals depth outside outer taken here cuts steady h))
+  stmt_lines program lists same returns known names locals depth outside outer around l line (Assign x e) taken here cuts k n steady top r fine h =
       let both = kept (is_int known x && is_fine known e) line fine in
-      let s = sees locals depth outside taken here cuts h in
+      let s = sees locals depth outside outer taken here cuts steady h in
       one_rule _ _ line (both_rules (may_read around taken e) _ (may_write around taken (x ∷ [])) _
-      (read_same known locals around l taken (taken_rows outside here cuts) e k (both_right (is_int known x) (is_fine known e) both) r s)
-      (write_same known locals around l taken (taken_rows outside here cuts) x k (both_left (is_int known x) (is_fine known e) both) r s))
-  stmt_lines program lists returns known names locals depth outside around l line (AssignElement a i e) taken here cuts k n steady top r fine h =
-      let all = kept (is_array known a && is_fine known i && is_fine known e) line fine in
-      let two = both_left (is_array known a && is_fine known i) (is_fine known e) all in
-      let array = both_left (is_array known a) (is_fine known i) two in
-      let index = both_right (is_array known a) (is_fine known i) two in
-      let s = sees locals depth outside taken here cuts h in
-      let t = taken_rows outside here cuts in
-      one_rule _ _ line (both_rules (may_read around taken i && may_read around taken e && are_free taken (a ∷ [])) _ (may_index around a i) _
-      (both_rules (may_read around taken i && may_read around taken e) _ (are_free taken (a ∷ [])) _
+      (read_same known locals around l taken (taken_rows outer here cuts) e k (both_right (is_int known x) (is_fine known e) both) r s)
+      (write_same known locals around l taken (taken_rows outer here cuts) x k (both_left (is_int known x) (is_fine known e) both) r s))
+  stmt_lines program lists same returns known names locals depth outside outer around l line (AssignElement a i e) taken here cuts k n steady top r fine h =
+      let all = kept (is_writable known a && is_fine known i && is_fine known e) line fine in
+      let two = both_left (is_writable known a && is_fine known i) (is_fine known e) all in
+      let array = writable_array known a (both_left (is_writable known a) (is_fine known i) two) in
+      let index = both_right (is_writable known a) (is_fine known i) two in
+      let s = sees locals depth outside outer taken here cuts steady h in
+      let t = taken_rows outer here cuts in
+      one_rule _ _ line (both_rules (may_read around taken i && may_read around taken e && are_loose taken (a ∷ [])) _ (may_index around a i) _
+      (both_rules (may_read around taken i && may_read around taken e) _ (are_loose taken (a ∷ [])) _
       (both_rules (may_read around taken i) _ (may_read around taken e) _ (read_same known locals around l taken t i k index r s)
-      (read_same known locals around l taken t e k (both_right (is_array known a && is_fine known i) (is_fine known e) all) r s))
-      (free_same known locals taken t a k array s))
+      (read_same known locals around l taken t e k (both_right (is_writable known a && is_fine known i) (is_fine known e) all) r s))
+      (loose_same known locals taken t a k array s))
       (index_same known locals around l a i k array index r))
-  stmt_lines program lists returns known names locals depth outside around l line (Reduce how a e) taken here cuts k n steady top r fine h =
-      one_rule _ _ line (read_same known locals around l taken (taken_rows outside here cuts) e k (both_right (is_reducer program how a) (is_fine known e) (kept (is_reducer program how a && is_fine known e) line fine)) r (sees locals depth outside taken here cuts h))
-  stmt_lines program lists returns known names locals depth outside around l line (Call kind site target f es) taken here cuts k n steady top r fine h =
-      one_rule _ _ line (call_same known locals around l taken (taken_rows outside here cuts) program.functions target f es k (kept (is_call known target (called f program.functions) es) line fine) r (sees locals depth outside taken here cuts h))
-  stmt_lines program lists returns known names locals depth outside around l line (Start kind f es) taken here cuts k n steady top r fine h = cc
-  stmt_lines program lists returns known names locals depth outside around l line (Begin f from to captured over) taken here cuts k n steady top r fine h = cc
-  stmt_lines program lists returns known names locals depth outside around l line Sync taken here cuts k n steady top r fine h = record { at = λ o. refl }
-  stmt_lines program lists returns known names locals depth outside around l line (Print e) taken here cuts k n steady top r fine h =
-      one_rule _ _ line (read_same known locals around l taken (taken_rows outside here cuts) e k (kept (is_fine known e) line fine) r (sees locals depth outside taken here cuts h))
-  stmt_lines program lists returns known names locals depth outside around l line (Return None) taken here cuts k n steady top r fine h = record { at = λ o. refl }
-  stmt_lines program lists returns known names locals depth outside around l line (Return (Some e)) taken here cuts k n steady top r fine h =
-      one_rule _ _ line (read_same known locals around l taken (taken_rows outside here cuts) e k (return_fine returns known e (kept (may_return returns known (Some e)) line fine)) r (sees locals depth outside taken here cuts h))
-  stmt_lines program lists returns known names locals depth outside around l line (If e b) taken here cuts k n steady top r fine h =
+  stmt_lines program lists same returns known names locals depth outside outer around l line (Reduce how a e) taken here cuts k n steady top r fine h =
+      one_rule _ _ line (read_same known locals around l taken (taken_rows outer here cuts) e k (both_right (is_reducer program how a) (is_fine known e) (kept (is_reducer program how a && is_fine known e) line fine)) r (sees locals depth outside outer taken here cuts steady h))
+  stmt_lines program lists same returns known names locals depth outside outer around l line (Call kind site target f es) taken here cuts k n steady top r fine h =
+      subst (λ (fs : List Function). Same (owner_faults program.functions around names depth taken line (Call kind site target f es)) (unless (slot_call locals l (taken_rows outer here cuts) (function_named f fs).params target es) line ++ []))
+      (sym same)
+      (one_rule _ _ line (call_same known locals around l taken (taken_rows outer here cuts) program.functions target f es k (kept (is_call known target (called f program.functions) es) line fine) r (sees locals depth outside outer taken here cuts steady h)))
+  stmt_lines program lists same returns known names locals depth outside outer around l line (Start kind f es) taken here cuts k n steady top r fine h = cc
+  stmt_lines program lists same returns known names locals depth outside outer around l line (Begin f from to captured over) taken here cuts k n steady top r fine h = cc
+  stmt_lines program lists same returns known names locals depth outside outer around l line Sync taken here cuts k n steady top r fine h = record { at = λ o. refl }
+  stmt_lines program lists same returns known names locals depth outside outer around l line (Print e) taken here cuts k n steady top r fine h =
+      one_rule _ _ line (read_same known locals around l taken (taken_rows outer here cuts) e k (kept (is_fine known e) line fine) r (sees locals depth outside outer taken here cuts steady h))
+  stmt_lines program lists same returns known names locals depth outside outer around l line (Return None) taken here cuts k n steady top r fine h = record { at = λ o. refl }
+  stmt_lines program lists same returns known names locals depth outside outer around l line (Return (Some e)) taken here cuts k n steady top r fine h =
+      one_rule _ _ line (read_same known locals around l taken (taken_rows outer here cuts) e k (return_fine returns known e (kept (may_return returns known (Some e)) line fine)) r (sees locals depth outside outer taken here cuts steady h))
+  stmt_lines program lists same returns known names locals depth outside outer around l line (If e b) taken here cuts k n steady top r fine h =
       let rest = right_none (unless (is_fine known e) line) (faults_in_block program returns known b) fine in
       let test = kept (is_fine known e) line (left_none (unless (is_fine known e) line) (faults_in_block program returns known b) fine) in
-      rule_and _ _ line _ _ (read_same known locals around l taken (taken_rows outside here cuts) e k test r (sees locals depth outside taken here cuts h))
-      (block_whole program lists names locals depth outside around l Leaves b taken here cuts (block_lines program lists returns known names locals depth outside around l Leaves b taken here cuts [] k n steady top r rest h))
-  stmt_lines program lists returns known names locals depth outside around l line (IfElse e b c) taken here cuts k n steady top r fine h =
+      rule_and _ _ line _ _ (read_same known locals around l taken (taken_rows outer here cuts) e k test r (sees locals depth outside outer taken here cuts steady h))
+      (block_whole program lists names locals depth outer around l Leaves b taken here cuts (block_lines program lists same returns known names locals depth outside outer around l Leaves b taken here cuts [] k n steady top r rest h))
+  stmt_lines program lists same returns known names locals depth outside outer around l line (IfElse e b c) taken here cuts k n steady top r fine h =
       let rest = right_none (unless (is_fine known e) line) (faults_in_block program returns known b ++ faults_in_block program returns known c) fine in
       let test = kept (is_fine known e) line (left_none (unless (is_fine known e) line) (faults_in_block program returns known b ++ faults_in_block program returns known c) fine) in
-      rule_and _ _ line _ _ (read_same known locals around l taken (taken_rows outside here cuts) e k test r (sees locals depth outside taken here cuts h))
+      rule_and _ _ line _ _ (read_same known locals around l taken (taken_rows outer here cuts) e k test r (sees locals depth outside outer taken here cuts steady h))
       (same_append _ _ _ _
-      (block_whole program lists names locals depth outside around l Leaves b taken here cuts (block_lines program lists returns known names locals depth outside around l Leaves b taken here cuts [] k n steady top r (left_none (faults_in_block program returns known b) (faults_in_block program returns known c) rest) h))
-      (block_whole program lists names locals depth outside around l Leaves c taken here cuts (block_lines program lists returns known names locals depth outside around l Leaves c taken here cuts [] k n steady top r (right_none (faults_in_block program returns known b) (faults_in_block program returns known c) rest) h)))
-  stmt_lines program lists returns known names locals depth outside around l line (While e b) taken here cuts k n steady top r fine h =
+      (block_whole program lists names locals depth outer around l Leaves b taken here cuts (block_lines program lists same returns known names locals depth outside outer around l Leaves b taken here cuts [] k n steady top r (left_none (faults_in_block program returns known b) (faults_in_block program returns known c) rest) h))
+      (block_whole program lists names locals depth outer around l Leaves c taken here cuts (block_lines program lists same returns known names locals depth outside outer around l Leaves c taken here cuts [] k n steady top r (right_none (faults_in_block program returns known b) (faults_in_block program returns known c) rest) h)))
+  stmt_lines program lists same returns known names locals depth outside outer around l line (While e b) taken here cuts k n steady top r fine h =
       let rest = right_none (unless (is_fine known e) line) (faults_in_block program returns known b) fine in
       let test = kept (is_fine known e) line (left_none (unless (is_fine known e) line) (faults_in_block program returns known b) fine) in
-      let more = either_row here (gain (known_row locals) (spec.resolved_block lists locals b)) in
-      let turns = after_stmt program lists returns known locals depth outside line (While e b) taken here cuts k steady top fine h in
-      rule_and _ _ line _ _ (read_same known locals around l (taken_after program.functions depth (While e b) taken) (taken_rows outside more cuts) e k test r (sees locals depth outside (taken_after program.functions depth (While e b) taken) more cuts turns))
-      (block_whole program lists names locals depth outside around l Leaves b (taken_after program.functions depth (While e b) taken) more cuts (block_lines program lists returns known names locals depth outside around l Leaves b (taken_after program.functions depth (While e b) taken) more cuts [] k n steady top r rest turns))
-  stmt_lines program lists returns known names locals depth outside around l line (Scope b) taken here cuts k n steady top r fine h =
-      block_whole program lists names locals (depth + 1) (entered outside depth here) around l Joins b taken no_local cuts (block_lines program lists Nowhere known names locals (depth + 1) (entered outside depth here) around l Joins b taken no_local cuts [] k n (steady_inside depth outside here steady) (inl refl) r fine (holds_inside locals depth outside taken here cuts h))
-  stmt_lines program lists returns known names locals depth outside around l line (Region tag b) taken here cuts k n steady top r fine h =
-      block_whole program lists names locals (depth + 1) (entered outside depth here) around l Joins b taken no_local cuts (block_lines program lists Nowhere known names locals (depth + 1) (entered outside depth here) around l Joins b taken no_local cuts [] k n (steady_inside depth outside here steady) (inl refl) r fine (holds_inside locals depth outside taken here cuts h))
-  stmt_lines program lists returns known names locals depth outside around l line (Cut a e left right b) taken here cuts k n steady top r fine h =
+      let more = either_held here (gain (known_row locals) (spec.resolved_block lists locals b)) in
+      let turns = after_stmt program lists same returns known locals depth outside line (While e b) taken here cuts k steady.steady top fine h in
+      rule_and _ _ line _ _ (read_same known locals around l (taken_after program.functions depth (While e b) taken) (taken_rows outer more cuts) e k test r (sees locals depth outside outer (taken_after program.functions depth (While e b) taken) more cuts steady turns))
+      (block_whole program lists names locals depth outer around l Leaves b (taken_after program.functions depth (While e b) taken) more cuts (block_lines program lists same returns known names locals depth outside outer around l Leaves b (taken_after program.functions depth (While e b) taken) more cuts [] k n steady top r rest turns))
+  stmt_lines program lists same returns known names locals depth outside outer around l line (Scope b) taken here cuts k n steady top r fine h =
+      block_whole program lists names locals (depth + 1) (either_held outer here) around l Joins b taken none_held cuts (block_lines program lists same Nowhere known names locals (depth + 1) (entered outside depth here) (either_held outer here) around l Joins b taken none_held cuts [] k n (stands_inside depth outside outer here steady) (inl refl) r fine (holds_inside locals depth outside taken here cuts h))
+  stmt_lines program lists same returns known names locals depth outside outer around l line (Region tag b) taken here cuts k n steady top r fine h =
+      block_whole program lists names locals (depth + 1) (either_held outer here) around l Joins b taken none_held cuts (block_lines program lists same Nowhere known names locals (depth + 1) (entered outside depth here) (either_held outer here) around l Joins b taken none_held cuts [] k n (stands_inside depth outside outer here steady) (inl refl) r fine (holds_inside locals depth outside taken here cuts h))
+  stmt_lines program lists same returns known names locals depth outside outer around l line (Cut a e left right b) taken here cuts k n steady top r fine h =
       let c = is_cut program known a e left right in
-      let whole = kept c line (left_none (unless c line) (faults_in_block program Nowhere ((right, true) ∷ (left, true) ∷ known) b) fine) in
+      let whole = kept c line (left_none (unless c line) (faults_in_block program Nowhere ((right, name_kind.Array) ∷ (left, name_kind.Array) ∷ known) b) fine) in
       let keeps = cut_keeps program known a e left right whole in
-      let rest = right_none (unless c line) (faults_in_block program Nowhere ((right, true) ∷ (left, true) ∷ known) b) fine in
-      let s = sees locals depth outside taken here cuts h in
+      let rest = right_none (unless c line) (faults_in_block program Nowhere ((right, name_kind.Array) ∷ (left, name_kind.Array) ∷ known) b) fine in
+      let s = sees locals depth outside outer taken here cuts steady h in
       let more = with_slot (slot_of a locals.arrays) cuts in
       let taken' = (a, CutOf) ∷ taken in
       let locals' = spec.with_array right (spec.with_array left locals) in
@@ -431,22 +478,22 @@ mutual
       let knows = knows_array known locals left one k in
       let two = cut_fresh program known locals a left right k keeps in
       rule_and _ _ line _ _ (both_rules (may_read around taken e) _ (may_write around taken (a ∷ [])) _
-      (read_same known locals around l taken (taken_rows outside here cuts) e k (cut_at program known a e left right whole) r s)
-      (pass_same known locals around l taken (taken_rows outside here cuts) a k keeps.array r s))
+      (read_same known locals around l taken (taken_rows outer here cuts) e k (cut_at program known a e left right whole) r s)
+      (pass_same known locals around l taken (taken_rows outer here cuts) a k keeps.array r s))
       (subst (λ m. Same (owner_faults_in program.functions around (right ∷ left ∷ names) (depth + 1) Joins taken' [] b)
-      (lines_in l m (taken_rows (entered outside depth here) no_local more) (spec.resolved_block lists locals' b) ++ left_at_end Joins m (taken_rows (entered outside depth here) no_local more) (spec.resolved_block lists locals' b)))
+      (lines_in l m (taken_rows (either_held outer here) none_held more) (spec.resolved_block lists locals' b) ++ left_at_end Joins m (taken_rows (either_held outer here) none_held more) (spec.resolved_block lists locals' b)))
       (known_array (spec.with_array left locals) right ∙ ap (λ m. with_array (length (locals.arrays ++ left ∷ [])) m) (known_array locals left))
-      (block_whole program lists (right ∷ left ∷ names) locals' (depth + 1) (entered outside depth here) around l Joins b taken' no_local more (block_lines program lists Nowhere ((right, true) ∷ (left, true) ∷ known) (right ∷ left ∷ names) locals' (depth + 1) (entered outside depth here) around l Joins b taken' no_local more []
-      (knows_cut program known locals a left right k keeps) (names_with_array (spec.with_array left locals) right (left ∷ names) two (names_with_array locals left names one n)) (steady_inside depth outside here steady) (inl refl)
+      (block_whole program lists (right ∷ left ∷ names) locals' (depth + 1) (either_held outer here) around l Joins b taken' none_held more (block_lines program lists same Nowhere ((right, name_kind.Array) ∷ (left, name_kind.Array) ∷ known) (right ∷ left ∷ names) locals' (depth + 1) (entered outside depth here) (either_held outer here) around l Joins b taken' none_held more []
+      (knows_cut program known locals a left right k keeps) (names_with_array (spec.with_array left locals) right (left ∷ names) two (names_with_array locals left names one n)) (stands_inside depth outside outer here steady) (inl refl)
       (rounds_array (spec.with_array left locals) around l right (rounds_array locals around l left r)) rest
-      (holds_push_array (spec.with_array left locals) (depth + 1) (entered outside depth here) taken' no_local more right (holds_push_array locals (depth + 1) (entered outside depth here) taken' no_local more left inner)))))
-  stmt_lines program lists returns known names locals depth outside around l line (For x y z from to grain over b) taken here cuts k n steady top r fine h =
+      (holds_push_array (spec.with_array left locals) (depth + 1) (entered outside depth here) taken' none_held more right (holds_push_array locals (depth + 1) (entered outside depth here) taken' none_held more left inner)))))
+  stmt_lines program lists same returns known names locals depth outside outer around l line (For x y z from to grain over b) taken here cuts k n steady top r fine h =
       let c = is_head_of_loop program known x y z from to grain over in
-      let whole = kept c line (left_none (unless c line) (faults_in_block program Nowhere ((x, false) ∷ known) b) fine) in
-      let rest = right_none (unless c line) (faults_in_block program Nowhere ((x, false) ∷ known) b) fine in
+      let whole = kept c line (left_none (unless c line) (faults_in_block program Nowhere ((x, name_kind.Integer) ∷ known) b) fine) in
+      let rest = right_none (unless c line) (faults_in_block program Nowhere ((x, name_kind.Integer) ∷ known) b) fine in
       let head = head_keeps program known x y z from to grain over whole in
-      let s = sees locals depth outside taken here cuts h in
-      let t = taken_rows outside here cuts in
+      let s = sees locals depth outside outer taken here cuts steady h in
+      let t = taken_rows outer here cuts in
       let f = fresh_name program known locals x k head.variable in
       let there = among_push x locals.ints x ∙ ap (λ b. is_among x locals.ints || b) (itself x) ∙ or_all (is_among x locals.ints) in
       let inner = holds_inside locals depth outside taken here cuts h in
@@ -466,36 +513,36 @@ mutual
       (over_same known locals around l taken t over k head.over r s))
       (differ_named known locals over k head.over))
       (subst (λ m. Same (owner_faults_in program.functions (InLoop (x ∷ names) x over) (x ∷ names) (depth + 1) Joins taken [] b)
-      (lines_in (Some loop) m (taken_rows (entered outside depth here) no_local cuts) (spec.resolved_block lists (spec.with_int x locals) b) ++ left_at_end Joins m (taken_rows (entered outside depth here) no_local cuts) (spec.resolved_block lists (spec.with_int x locals) b)))
+      (lines_in (Some loop) m (taken_rows (either_held outer here) none_held cuts) (spec.resolved_block lists (spec.with_int x locals) b) ++ left_at_end Joins m (taken_rows (either_held outer here) none_held cuts) (spec.resolved_block lists (spec.with_int x locals) b)))
       (known_int locals x)
-      (block_whole program lists (x ∷ names) (spec.with_int x locals) (depth + 1) (entered outside depth here) (InLoop (x ∷ names) x over) (Some loop) Joins b taken no_local cuts (block_lines program lists Nowhere ((x, false) ∷ known) (x ∷ names) (spec.with_int x locals) (depth + 1) (entered outside depth here) (InLoop (x ∷ names) x over) (Some loop) Joins b taken no_local cuts []
-      (knows_int known locals x f k) (names_with_int locals x names f n) (steady_inside depth outside here steady) (inl refl) rounds rest
-      (holds_push_int locals (depth + 1) (entered outside depth here) taken no_local cuts x inner))))
+      (block_whole program lists (x ∷ names) (spec.with_int x locals) (depth + 1) (either_held outer here) (InLoop (x ∷ names) x over) (Some loop) Joins b taken none_held cuts (block_lines program lists same Nowhere ((x, name_kind.Integer) ∷ known) (x ∷ names) (spec.with_int x locals) (depth + 1) (entered outside depth here) (either_held outer here) (InLoop (x ∷ names) x over) (Some loop) Joins b taken none_held cuts []
+      (knows_int known locals x f k) (names_with_int locals x names f n) (stands_inside depth outside outer here steady) (inl refl) rounds rest
+      (holds_push_int locals (depth + 1) (entered outside depth here) taken none_held cuts x inner))))
 
-  pub block_lines : (program : Program) (lists : Lists) (returns : Returns) (known : Known) (names : List Name) (locals : Locals) (depth : ℕ) (outside : Outside) (around : Around) (l : Option Loop) (closing : Closing) (b : Block) (taken : Taken) (here : Row) (cuts : Slots) (declared : Declared) →
-      Knows known locals → Names locals names → Steady depth outside → AtTop returns outside cuts → Rounds locals around l → faults_in_block program returns known b ≡ [] → Holds locals depth outside taken here cuts →
+  pub block_lines : (program : Program) (lists : Lists) → lists.callees ≡ program.functions → (returns : Returns) (known : Known) (names : List Name) (locals : Locals) (depth : ℕ) (outside : Outside) (outer : Held) (around : Around) (l : Option Loop) (closing : Closing) (b : Block) (taken : Taken) (here : Held) (cuts : Slots) (declared : Declared) →
+      Knows known locals → Names locals names → Stands depth outside outer → AtTop returns outside cuts → Rounds locals around l → faults_in_block program returns known b ≡ [] → Holds locals depth outside taken here cuts →
       Same (owner_faults_in program.functions around names depth closing taken declared b)
-      (lines_in l (known_row locals) (taken_rows outside here cuts) (spec.resolved_block lists locals b)
-      ++ (left_at_end closing (known_row locals) (taken_rows outside here cuts) (spec.resolved_block lists locals b) ++ left_taken declared (own.at_end closing depth (taken_after_all program.functions depth b taken))))
-  block_lines program lists returns known names locals depth outside around l closing End taken here cuts declared k n steady top r fine h = record { at = λ o. refl }
-  block_lines program lists returns known names locals depth outside around l closing (Then line s b) taken here cuts declared k n steady top r fine h =
+      (lines_in l (known_row locals) (taken_rows outer here cuts) (spec.resolved_block lists locals b)
+      ++ (left_at_end closing (known_row locals) (taken_rows outer here cuts) (spec.resolved_block lists locals b) ++ left_taken declared (own.at_end closing depth (taken_after_all program.functions depth b taken))))
+  block_lines program lists same returns known names locals depth outside outer around l closing End taken here cuts declared k n steady top r fine h = record { at = λ o. refl }
+  block_lines program lists same returns known names locals depth outside outer around l closing (Then line s b) taken here cuts declared k n steady top r fine h =
       let s' = spec.resolved_stmt lists locals s in
       let b' = spec.resolved_block lists (spec.locals_after locals s) b in
       let first = left_none (faults_in program returns known line s) _ fine in
       let rest = right_none (unless (not (surely_returns s) || ends_block b) line) (faults_in_block program returns (declares s known) b) (right_none (faults_in program returns known line s) _ fine) in
       let last = own.at_end closing depth (taken_after_all program.functions depth b (taken_after program.functions depth s taken)) in
-      let t = taken_rows outside (after (known_row locals) s' here) (cuts_after s' cuts) in
+      let t = taken_rows outer (after (known_row locals) s' here) (cuts_after s' cuts) in
       let m = known_after (known_row locals) s' in
       let end = rules.at_end closing (rows.taken_after_all m b' t) in
-      let whole = after_block program lists returns known locals depth outside (Then line s b) taken here cuts k steady top fine h in
+      let whole = after_block program lists same returns known locals depth outside (Then line s b) taken here cuts k steady.steady top fine h in
       let knows = knows_next program returns known locals line s k first in
       let declared_is = left_same program lists returns known locals line s b last end declared k first (known_end program returns (declares s known) (spec.locals_after locals s) b knows rest)
-      (ended (all_locals (spec.locals_after locals s) b) depth outside closing (taken_after_all program.functions depth b (taken_after program.functions depth s taken)) (after_all m b' (after (known_row locals) s' here)) (cuts_after_all b' (cuts_after s' cuts)) steady whole) in
+      (ended (all_locals (spec.locals_after locals s) b) depth outside outer closing (taken_after_all program.functions depth b (taken_after program.functions depth s taken)) (after_all m b' (after (known_row locals) s' here)) (cuts_after_all b' (cuts_after s' cuts)) steady whole) in
       let more = subst (λ m. Same (owner_faults_in program.functions around (own.known_after names s) depth closing (taken_after program.functions depth s taken) (declared_by line s declared) b)
       (lines_in l m t b' ++ (left_at_end closing m t b' ++ left_taken (declared_by line s declared) last)))
       (sym (known_next lists locals s))
-      (block_lines program lists returns (declares s known) (own.known_after names s) (spec.locals_after locals s) depth outside around l closing b (taken_after program.functions depth s taken) (after (known_row locals) s' here) (cuts_after s' cuts) (declared_by line s declared)
+      (block_lines program lists same returns (declares s known) (own.known_after names s) (spec.locals_after locals s) depth outside outer around l closing b (taken_after program.functions depth s taken) (after (known_row locals) s' here) (cuts_after s' cuts) (declared_by line s declared)
       knows (names_next program returns known locals line s names k first n) steady (top_stays returns outside cuts (cuts_after s' cuts) (no_more s' cuts) top) (rounds_next locals s around l r) rest
-      (after_stmt program lists returns known locals depth outside line s taken here cuts k steady top first h)) in
-      let one = stmt_lines program lists returns known names locals depth outside around l line s taken here cuts k n steady top r first h in
+      (after_stmt program lists same returns known locals depth outside line s taken here cuts k steady.steady top first h)) in
+      let one = stmt_lines program lists same returns known names locals depth outside outer around l line s taken here cuts k n steady top r first h in
       together _ _ _ (lines_in l m t b') (left_lines end b') _ (left_line end line s') (left_taken declared last) one more declared_is

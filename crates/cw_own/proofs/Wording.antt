@@ -4,34 +4,46 @@ use Rattle.std.specs.List.{list_any}
 use Rattle.cw_model.specs.Syntax.{Name, Expr, Number, Variable, Element, Length, Negative, Not, Binary}
 use Rattle.cw_model.specs.Names.{same_name, is_among}
 use Rattle.cw_model.specs.Typing.{Known, is_int, is_array, is_fine}
-use Rattle.cw_model.specs.Ownership.{Taken, is_taken, names_in, Around, NoLoop, InLoop, for_head, is_outer, may_index, keeps_loop, are_free, may_read, may_write}
+use Rattle.cw_model.specs.Ownership.{Taken, is_taken, is_held, are_loose, names_in, Around, NoLoop, InLoop, for_head, is_outer, may_index, keeps_loop, may_read, may_write}
 use Rattle.cw_model.specs.lemmas.Kept.{both_left, both_right}
 use Rattle.cw_tree.specs.Resolved.{Locals, slot_of, resolved_expr}
 use Rattle.cw_tree.specs.Resolved as spec
 use Rattle.cw_tree.specs.lemmas.NamedSlots.{one_slot, among_push}
 use Rattle.cw_own.specs.Sets.{no_slot, Row}
 use Rattle.cw_own.specs.Taken as rows
-use Rattle.cw_own.specs.Taken.{int_taken, array_taken}
+use Rattle.cw_own.specs.Taken.{int_taken, array_taken, array_held}
 use Rattle.cw_own.specs.Rules as rules
 use Rattle.cw_own.specs.Rules.{Loop, is_outer_int, is_outer_array}
 use Rattle.cw_own.proofs.Words.{or_none, or_group}
 use Rattle.cw_own.proofs.Showing.{slot_kept, Shows, shows_none, shows_push_int, shows_push_array, int_shown, array_shown}
 use Rattle.cw_own.proofs.Knowing.{Knows, array_apart}
+use Rattle.cw_own.proofs.Holding.{held, any_holder, no_reader, held_is, taken_is}
 
 -- the row of what is taken
 abbrev pub row_of_taken : rows.Taken → Row
 row_of_taken t = record { ints = λ k. int_taken t k; arrays = λ k. array_taken t k }
 
--- what is taken by names is taken by slots
-abbrev pub Sees : Locals → Taken → rows.Taken → Type 0
-Sees locals taken t = Shows locals (is_taken taken) (row_of_taken t)
+-- the row of what is held
+abbrev pub row_of_held : rows.Taken → Row
+row_of_held t = record { ints = λ k. int_taken t k; arrays = λ k. array_held t k }
+
+-- what is taken by names is taken by slots, and what is held is held
+pub record Sees (locals : Locals) (taken : Taken) (t : rows.Taken) : Type 0 where
+  pub taken_so : Shows locals (is_taken taken) (row_of_taken t)
+  pub held_so : Shows locals (is_held taken) (row_of_held t)
 
 -- an integer and an array that typing knows
 int_free : (known : Known) (locals : Locals) (taken : Taken) (t : rows.Taken) (x : Name) → Knows known locals → is_int known x ≡ true → Sees locals taken t → is_taken taken x ≡ int_taken t (slot_of x locals.ints)
-int_free known locals taken t x k h s = int_shown locals (is_taken taken) (row_of_taken t) x (k.apart x (k.ints x h)) s
+int_free known locals taken t x k h s = int_shown locals (is_taken taken) (row_of_taken t) x (k.apart x (k.ints x h)) s.taken_so
+
+int_loose : (known : Known) (locals : Locals) (taken : Taken) (t : rows.Taken) (x : Name) → Knows known locals → is_int known x ≡ true → Sees locals taken t → is_held taken x ≡ int_taken t (slot_of x locals.ints)
+int_loose known locals taken t x k h s = int_shown locals (is_held taken) (row_of_held t) x (k.apart x (k.ints x h)) s.held_so
 
 array_free : (known : Known) (locals : Locals) (taken : Taken) (t : rows.Taken) (x : Name) → Knows known locals → is_array known x ≡ true → Sees locals taken t → is_taken taken x ≡ array_taken t (slot_of x locals.arrays)
-array_free known locals taken t x k h s = array_shown locals (is_taken taken) (row_of_taken t) x (array_apart known locals x k (k.arrays x h)) s
+array_free known locals taken t x k h s = array_shown locals (is_taken taken) (row_of_taken t) x (array_apart known locals x k (k.arrays x h)) s.taken_so
+
+array_loose : (known : Known) (locals : Locals) (taken : Taken) (t : rows.Taken) (x : Name) → Knows known locals → is_array known x ≡ true → Sees locals taken t → is_held taken x ≡ array_held t (slot_of x locals.arrays)
+array_loose known locals taken t x k h s = array_shown locals (is_held taken) (row_of_held t) x (array_apart known locals x k (k.arrays x h)) s.held_so
 
 -- a loop by names and by slots
 pub record Inner (locals : Locals) (outer : List Name) (variable : Name) (over : List Name) (l : Loop) : Type 0 where
@@ -164,17 +176,36 @@ one_written false false = refl
 pub write_same : (known : Known) (locals : Locals) (around : Around) (l : Option Loop) (taken : Taken) (t : rows.Taken) (x : Name) → Knows known locals → is_int known x ≡ true → Rounds locals around l → Sees locals taken t →
     may_write around taken (x ∷ []) ≡ rules.may_write l t (slot_of x locals.ints)
 write_same known locals around l taken t x k h r s =
-    one_written (is_taken taken x) (is_outer around x)
-    ∙ ap (λ b. not b && not (is_outer around x)) (int_free known locals taken t x k h s)
+    one_written (is_held taken x) (is_outer around x)
+    ∙ ap (λ b. not b && not (is_outer around x)) (int_loose known locals taken t x k h s)
     ∙ ap (λ b. not (int_taken t (slot_of x locals.ints)) && not b) (outer_int known locals around l x k h r)
 
 pub pass_same : (known : Known) (locals : Locals) (around : Around) (l : Option Loop) (taken : Taken) (t : rows.Taken) (x : Name) → Knows known locals → is_array known x ≡ true → Rounds locals around l → Sees locals taken t →
     may_write around taken (x ∷ []) ≡ rules.may_pass l t (slot_of x locals.arrays)
 pass_same known locals around l taken t x k h r s =
-    one_written (is_taken taken x) (is_outer around x)
-    ∙ ap (λ b. not b && not (is_outer around x)) (array_free known locals taken t x k h s)
+    one_written (is_held taken x) (is_outer around x)
+    ∙ ap (λ b. not b && not (is_outer around x)) (array_loose known locals taken t x k h s)
+    ∙ ap (λ b. not (array_held t (slot_of x locals.arrays)) && not b) (outer_array known locals around l x k h r)
+
+-- an array that a call only reads
+pub lend_same : (known : Known) (locals : Locals) (around : Around) (l : Option Loop) (taken : Taken) (t : rows.Taken) (x : Name) → Knows known locals → is_array known x ≡ true → Rounds locals around l → Sees locals taken t →
+    (not (is_taken taken x) && not (is_outer around x)) ≡ rules.may_lend l t (slot_of x locals.arrays)
+lend_same known locals around l taken t x k h r s =
+    ap (λ b. not b && not (is_outer around x)) (array_free known locals taken t x k h s)
     ∙ ap (λ b. not (array_taken t (slot_of x locals.arrays)) && not b) (outer_array known locals around l x k h r)
 
-pub free_same : (known : Known) (locals : Locals) (taken : Taken) (t : rows.Taken) (x : Name) → Knows known locals → is_array known x ≡ true → Sees locals taken t →
-    are_free taken (x ∷ []) ≡ not (array_taken t (slot_of x locals.arrays))
-free_same known locals taken t x k h s = ap not (or_none (is_taken taken x) ∙ array_free known locals taken t x k h s)
+pub loose_same : (known : Known) (locals : Locals) (taken : Taken) (t : rows.Taken) (x : Name) → Knows known locals → is_array known x ≡ true → Sees locals taken t →
+    are_loose taken (x ∷ []) ≡ not (array_held t (slot_of x locals.arrays))
+loose_same known locals taken t x k h s = ap not (or_none (is_held taken x) ∙ array_loose known locals taken t x k h s)
+
+-- what is taken is held
+pub held_too : (taken : Taken) (x : Name) → is_held taken x ≡ false → is_taken taken x ≡ false
+held_too taken x h = taken_is taken x ∙ less taken (sym (held_is taken x) ∙ h)
+  where
+    less : (taken : Taken) → held any_holder taken x ≡ false → held no_reader taken x ≡ false
+    less [] h = refl
+    less (t ∷ taken) h = by (same_name x t.0) (no_reader t.1) h (less taken)
+      where
+        by : (a b : Bool) → ((a && true) || held any_holder taken x) ≡ false → (held any_holder taken x ≡ false → held no_reader taken x ≡ false) → ((a && b) || held no_reader taken x) ≡ false
+        by true b h f = cc
+        by false b h f = f h

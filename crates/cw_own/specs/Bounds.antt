@@ -1,8 +1,9 @@
--- How great the slots are that are declared, taken or listed: each is below the most names of a function.
+-- How great the slots are that are declared, held or listed: each is below the most names of a function.
 use Rattle.std.specs.Prelude.{Bool, true, ◌&&◌, nat_lt, nat_le, Option, Some, None, length}
 use Rattle.std.specs.List.{list_all}
 use Rattle.cw_model.specs.declared.limits.TheConstants.{MOST_DECLARED, MOST_PARAMETERS}
-use Rattle.cw_tree.specs.Resolved.{Use, Argument, Int, Array, Stmt, Declare, DeclareArray, Call, If, IfElse, While}
+use Rattle.cw_tree.specs.Resolved.{Use, Argument, Int, Array, Shared, Stmt, Declare, DeclareArray, Call, If, IfElse}
+use Rattle.cw_tree.specs.Resolved.{While}
 use Rattle.cw_tree.specs.Resolved.{For, Scope, Cut, Region, Block, End, Then, Function}
 
 -- a slot has a bit
@@ -13,6 +14,7 @@ is_small u = nat_lt u.slot MOST_DECLARED
 abbrev pub small_argument : Argument → Bool
 small_argument (Int e) = true
 small_argument (Array u) = is_small u
+small_argument (Shared u) = is_small u
 
 -- a target has a small slot
 abbrev pub small_target : Option Use → Bool

@@ -4,12 +4,14 @@ use Rattle.std.specs.List.{list_all}
 use Rattle.cw_model.specs.Lines.{unless}
 use Rattle.cw_model.specs.Ownership.{Closing, Joins, Leaves}
 use Rattle.cw_tree.specs.Resolved.{Use, Expr, Number, Variable, Element, Length, Negative, Not, Binary, Argument, Int}
-use Rattle.cw_tree.specs.Resolved.{Array, Stmt, Declare, DeclareArray, Assign, AssignElement, Reduce, Call, Sync, If}
+use Rattle.cw_tree.specs.Resolved.{Array, Shared, Stmt, Declare, DeclareArray, Assign, AssignElement, Reduce, Call}
+use Rattle.cw_tree.specs.Resolved.{Sync, If}
 use Rattle.cw_tree.specs.Resolved.{IfElse, While, For, Scope, Cut, Region, Print, Return, Head, Block, End, Then}
 use Rattle.cw_tree.specs.Resolved.{Function}
 use Rattle.cw_own.specs.declared.around.Loop as code
-use Rattle.cw_own.specs.Sets.{Slots, no_slot, with_slot, slots_of, Row, no_local, with_int, either_row, row_of}
-use Rattle.cw_own.specs.Taken.{Taken, nothing, int_taken, array_taken, inside, inside_cut, joined, with_parts}
+use Rattle.cw_own.specs.Sets.{Slots, no_slot, with_slot, slots_of, Row, no_local, with_int, row_of}
+use Rattle.cw_own.specs.Taken.{either_held, Taken, nothing, int_taken, array_taken, array_held, inside, inside_cut}
+use Rattle.cw_own.specs.Taken.{joined, with_parts}
 use Rattle.cw_own.specs.Taken.{known_after, taken_after, taken_after_all, gain, with_params}
 
 -- the innermost loop around: the locals from outside its body and its variable, the slot of that, and the arrays of the
@@ -74,9 +76,13 @@ may_read around taken (Binary operator d e) = may_read around taken d && may_rea
 abbrev pub may_write : Option Loop → Taken → ℕ → Bool
 may_write around taken slot = not (int_taken taken slot) && not (is_outer_int around slot)
 
--- an array that is passed or cut is neither taken nor from outside the loop
+-- an array that is given away or cut is neither held nor from outside the loop
 abbrev pub may_pass : Option Loop → Taken → ℕ → Bool
-may_pass around taken slot = not (array_taken taken slot) && not (is_outer_array around slot)
+may_pass around taken slot = not (array_held taken slot) && not (is_outer_array around slot)
+
+-- an array that a call only reads is neither taken nor from outside the loop
+abbrev pub may_lend : Option Loop → Taken → ℕ → Bool
+may_lend around taken slot = not (array_taken taken slot) && not (is_outer_array around slot)
 
 -- the result goes to an integer that may be written, if it goes anywhere
 abbrev pub may_target : Option Loop → Taken → Option Use → Bool
@@ -87,17 +93,33 @@ may_target around taken (Some u) = may_write around taken u.slot
 abbrev pub may_give : Option Loop → Taken → Argument → Bool
 may_give around taken (Int e) = may_read around taken e
 may_give around taken (Array u) = may_pass around taken u.slot
+may_give around taken (Shared u) = may_lend around taken u.slot
 
 -- what is returned may be read, if anything is returned
 abbrev pub may_return : Option Loop → Taken → Option Expr → Bool
 may_return around taken None = true
 may_return around taken (Some e) = may_read around taken e
 
--- no array is passed twice, nor one of these
+-- no array is given away twice, nor one of these
 abbrev pub passed_once : Slots → List Argument → Bool
 passed_once seen [] = true
 passed_once seen (Int e ∷ es) = passed_once seen es
 passed_once seen (Array u ∷ es) = not (seen u.slot) && passed_once (with_slot u.slot seen) es
+passed_once seen (Shared u ∷ es) = passed_once seen es
+
+-- the arrays that are given away, more than these
+abbrev pub given_away : List Argument → Slots → Slots
+given_away [] set = set
+given_away (Int e ∷ es) set = given_away es set
+given_away (Array u ∷ es) set = given_away es (with_slot u.slot set)
+given_away (Shared u ∷ es) set = given_away es set
+
+-- none of these arrays is only read
+abbrev pub none_read : Slots → List Argument → Bool
+none_read given [] = true
+none_read given (Int e ∷ es) = none_read given es
+none_read given (Array u ∷ es) = none_read given es
+none_read given (Shared u ∷ es) = not (given u.slot) && none_read given es
 
 -- no array is named twice, nor one of these
 abbrev pub named_once : Slots → List Use → Bool
@@ -116,10 +138,11 @@ keeps around taken (Declare u e) = may_read around taken e
 keeps around taken (DeclareArray u e) = may_read around taken e
 keeps around taken (Assign u e) = may_read around taken e && may_write around taken u.slot
 keeps around taken (AssignElement u i e) =
-    may_read around taken i && may_read around taken e && not (array_taken taken u.slot) && may_index around u.slot i
+    may_read around taken i && may_read around taken e && not (array_held taken u.slot) && may_index around u.slot i
 keeps around taken (Reduce how s e) = may_read around taken e
 keeps around taken (Call kind site target f es) =
     list_all (may_give around taken) es && may_target around taken target && passed_once no_slot es
+    && none_read (given_away es no_slot) es
 keeps around taken Sync = true
 keeps around taken (If e b) = may_read around taken e
 keeps around taken (IfElse e b c) = may_read around taken e
@@ -131,13 +154,13 @@ keeps around taken (Region tag b) = true
 keeps around taken (Print e) = may_read around taken e
 keeps around taken (Return e) = may_return around taken e
 
--- the line of a declaration whose name is taken as its block ends
+-- the line of a declaration whose name is held as its block ends
 abbrev pub left_line : Taken → ℕ → Stmt → List ℕ
 left_line taken line (Declare u e) = unless (not (int_taken taken u.slot)) line
-left_line taken line (DeclareArray u e) = unless (not (array_taken taken u.slot)) line
+left_line taken line (DeclareArray u e) = unless (not (array_held taken u.slot)) line
 left_line taken line _ = []
 
--- the lines of the declarations of a block whose names are taken as it ends
+-- the lines of the declarations of a block whose names are held as it ends
 abbrev pub left_lines : Taken → Block → List ℕ
 left_lines taken End = []
 left_lines taken (Then line s b) = left_line taken line s ++ left_lines taken b
@@ -147,14 +170,14 @@ abbrev pub at_end : Closing → Taken → Taken
 at_end Joins taken = joined taken
 at_end Leaves taken = taken
 
--- the lines of the declarations of a block that are still taken as it ends
+-- the lines of the declarations of a block that are still held as it ends
 abbrev pub left_at_end : Closing → (known : Row) → Taken → Block → List ℕ
 left_at_end closing known taken b = left_lines (at_end closing (taken_after_all known b taken)) b
 
 -- what the test and the body of a `while` see as taken: also what a turn takes
 abbrev pub seen_by : (known : Row) → Taken → Stmt → Taken
 seen_by known taken (While e b) =
-    record { outer = taken.outer; here = either_row taken.here (gain known b); cuts = taken.cuts }
+    record { outer = taken.outer; here = either_held taken.here (gain known b); cuts = taken.cuts }
 seen_by known taken _ = taken
 
 abbrev mutual

@@ -1,25 +1,65 @@
--- What is taken, by slots. A spawn takes for the innermost sync block around it, and what it took is free again as that
--- block joins: so inside a sync block what spawns outside of it have taken stays as it is.
+-- What is taken or frozen, by slots. A spawn holds for the innermost sync block around it, and what it held is free
+-- again as that block joins: so inside a sync block what spawns outside of it hold stays as it is.
 use Rattle.std.specs.Prelude.{◌≡◌, ℕ, length, drop, Bool, ◌||◌, List, [], ◌∷◌, ◌++◌, ◌+◌, if◌then◌else◌, Option, Some}
 use Rattle.std.specs.Prelude.{None}
 use Rattle.cw_model.specs.declared.syntax.CallKind.{CallKind}
 use Rattle.cw_model.specs.declared.syntax.CallKind.TheVariants.{Plain, Spawned}
-use Rattle.cw_tree.specs.Resolved.{Use, Parts, Argument, Int, Array, Stmt, Declare, DeclareArray, Call, Sync, If}
+use Rattle.cw_tree.specs.Resolved.{Use, Parts, Argument, Int, Array, Shared, Stmt, Declare, DeclareArray, Call, Sync}
+use Rattle.cw_tree.specs.Resolved.{If}
 use Rattle.cw_tree.specs.Resolved.{IfElse, While, For, Scope, Cut, Region, Return, Block, End, Then}
-use Rattle.cw_model.specs.Syntax.{Param}
+use Rattle.cw_model.specs.Syntax.{Param, wants_array}
+use Rattle.cw_own.specs.declared.held.Held as code_held
 use Rattle.cw_own.specs.declared.taken.Taken as code
-use Rattle.cw_own.specs.Sets.{Slots, no_slot, with_slot, without_slot, either, slots_of, Row, no_local, with_int}
-use Rattle.cw_own.specs.Sets.{with_array, either_row, both_rows, row_of}
+use Rattle.cw_own.specs.Sets.{Slots, no_slot, with_slot, without_slot, either, both, slots_of, Row, with_int}
+use Rattle.cw_own.specs.Sets.{with_array}
 
--- what is taken: by spawns outside the innermost sync block, by those inside it, and the arrays that are cut
+-- what spawns of a sync block hold: the integers and the arrays that they took, and the arrays that they only read
+pub record Held : Type 0 where
+  pub ints : Slots
+  pub arrays : Slots
+  pub frozen : Slots
+
+-- they hold nothing
+abbrev pub none_held : Held
+none_held = record { ints = no_slot; arrays = no_slot; frozen = no_slot }
+
+-- one integer more is taken
+abbrev pub taking_int : ℕ → Held → Held
+taking_int slot held = record { ints = with_slot slot held.ints; arrays = held.arrays; frozen = held.frozen }
+
+-- one array more is taken
+abbrev pub taking_array : ℕ → Held → Held
+taking_array slot held = record { ints = held.ints; arrays = with_slot slot held.arrays; frozen = held.frozen }
+
+-- one array more is frozen
+abbrev pub freezing : ℕ → Held → Held
+freezing slot held = record { ints = held.ints; arrays = held.arrays; frozen = with_slot slot held.frozen }
+
+-- what one of two holds
+abbrev pub either_held : Held → Held → Held
+either_held h k = record {
+  ints = either h.ints k.ints;
+  arrays = either h.arrays k.arrays;
+  frozen = either h.frozen k.frozen;
+}
+
+-- what is held of these locals
+abbrev pub held_within : (known : Row) → Held → Held
+held_within known h = record {
+  ints = both known.ints h.ints;
+  arrays = both known.arrays h.arrays;
+  frozen = both known.arrays h.frozen;
+}
+
+-- what is held: by spawns outside the innermost sync block, by those inside it, and the arrays that are cut
 pub record Taken : Type 0 where
-  pub outer : Row
-  pub here : Row
+  pub outer : Held
+  pub here : Held
   pub cuts : Slots
 
--- nothing is taken
+-- nothing is held
 abbrev pub nothing : Taken
-nothing = record { outer = no_local; here = no_local; cuts = no_slot }
+nothing = record { outer = none_held; here = none_held; cuts = no_slot }
 
 -- an integer is taken
 abbrev pub int_taken : Taken → ℕ → Bool
@@ -29,40 +69,45 @@ int_taken taken slot = taken.outer.ints slot || taken.here.ints slot
 abbrev pub array_taken : Taken → ℕ → Bool
 array_taken taken slot = taken.outer.arrays slot || (taken.here.arrays slot || taken.cuts slot)
 
+-- an array is taken or frozen
+abbrev pub array_held : Taken → ℕ → Bool
+array_held taken slot = array_taken taken slot || (taken.outer.frozen slot || taken.here.frozen slot)
+
 -- as a sync block begins
 abbrev pub inside : Taken → Taken
-inside taken = record { outer = either_row taken.outer taken.here; here = no_local; cuts = taken.cuts }
+inside taken = record { outer = either_held taken.outer taken.here; here = none_held; cuts = taken.cuts }
 
 -- as the block of a cut of this array begins
 abbrev pub inside_cut : ℕ → Taken → Taken
 inside_cut a taken =
-    record { outer = either_row taken.outer taken.here; here = no_local; cuts = with_slot a taken.cuts }
+    record { outer = either_held taken.outer taken.here; here = none_held; cuts = with_slot a taken.cuts }
 
 -- after a join
 abbrev pub joined : Taken → Taken
-joined taken = record { outer = taken.outer; here = no_local; cuts = taken.cuts }
+joined taken = record { outer = taken.outer; here = none_held; cuts = taken.cuts }
 
 -- after two branches that leave this much: what one of them leaves, of the locals that are known
 abbrev pub after_branches : (known : Row) → (branch other : Taken) → Taken
 after_branches known branch other = record {
   outer = branch.outer;
-  here = either_row (both_rows known branch.here) (both_rows known other.here);
+  here = either_held (held_within known branch.here) (held_within known other.here);
   cuts = either branch.cuts other.cuts;
 }
 
 -- the integer that a result goes to, if it goes anywhere
-abbrev pub with_target : Option Use → Row → Row
-with_target None row = row
-with_target (Some u) row = with_int u.slot row
+abbrev pub with_target : Option Use → Held → Held
+with_target None held = held
+with_target (Some u) held = taking_int u.slot held
 
--- the arrays that are passed
-abbrev pub with_arrays : List Argument → Row → Row
-with_arrays [] row = row
-with_arrays (Int e ∷ es) row = with_arrays es row
-with_arrays (Array u ∷ es) row = with_arrays es (with_array u.slot row)
+-- the arrays that are given away, and those that are only read
+abbrev pub with_arrays : List Argument → Held → Held
+with_arrays [] held = held
+with_arrays (Int e ∷ es) held = with_arrays es held
+with_arrays (Array u ∷ es) held = with_arrays es (taking_array u.slot held)
+with_arrays (Shared u ∷ es) held = with_arrays es (freezing u.slot held)
 
--- a spawn takes its target and its arrays, and a plain call gives all back
-abbrev pub taken_by_call : CallKind → Option Use → List Argument → Row → Row
+-- a spawn takes its target and what is given away, and freezes what it only reads; a plain call gives all back
+abbrev pub taken_by_call : CallKind → Option Use → List Argument → Held → Held
 taken_by_call Plain target es here = here
 taken_by_call Spawned target es here = with_arrays es (with_target target here)
 
@@ -82,30 +127,30 @@ other_of (IfElse e b c) = c
 other_of _ = End
 
 abbrev mutual
-  -- what the spawns of the innermost sync block have taken after a statement, where these locals are known before it
-  pub after : (known : Row) → Stmt → Row → Row
+  -- what the spawns of the innermost sync block hold after a statement, where these locals are known before it
+  pub after : (known : Row) → Stmt → Held → Held
   after known (Call kind site target f es) here = taken_by_call kind target es here
-  after known Sync here = no_local
-  after known (Return e) here = no_local
-  after known (If e b) here = either_row (both_rows known (after_all known b here)) here
+  after known Sync here = none_held
+  after known (Return e) here = none_held
+  after known (If e b) here = either_held (held_within known (after_all known b here)) here
   after known (IfElse e b c) here =
-      either_row (both_rows known (after_all known b here)) (both_rows known (after_all known c here))
+      either_held (held_within known (after_all known b here)) (held_within known (after_all known c here))
   -- what was taken before, and what one turn takes where nothing is taken before it
-  after known (While e b) here = either_row here (both_rows known (after_all known b no_local))
+  after known (While e b) here = either_held here (held_within known (after_all known b none_held))
   after known _ here = here
 
   -- the same of a block
-  pub after_all : (known : Row) → Block → Row → Row
+  pub after_all : (known : Row) → Block → Held → Held
   after_all known End here = here
   after_all known (Then line s b) here = after_all (known_after known s) b (after known s here)
 
 -- what one turn of a `while` takes where nothing is taken before it
-abbrev pub gain : (known : Row) → Block → Row
-gain known b = both_rows known (after_all known b no_local)
+abbrev pub gain : (known : Row) → Block → Held
+gain known b = held_within known (after_all known b none_held)
 
 abbrev mutual
   -- what one turn of each `while` of a statement takes, in their order, the outer one first
-  pub turns : (known : Row) → Stmt → List Row
+  pub turns : (known : Row) → Stmt → List Held
   turns known (If e b) = turns_in known b
   turns known (IfElse e b c) = turns_in known b ++ turns_in known c
   turns known (While e b) = gain known b ∷ turns_in known b
@@ -116,7 +161,7 @@ abbrev mutual
   turns known _ = []
 
   -- the same of a block
-  pub turns_in : (known : Row) → Block → List Row
+  pub turns_in : (known : Row) → Block → List Held
   turns_in known End = []
   turns_in known (Then line s b) = turns known s ++ turns_in (known_after known s) b
 
@@ -146,12 +191,12 @@ left_by known (While e b) seen = seen
 left_by known s seen = taken_after known s seen
 
 -- what one turn of each `while` in the blocks of a statement takes
-abbrev pub turns_within : (known : Row) → Stmt → List Row
+abbrev pub turns_within : (known : Row) → Stmt → List Held
 turns_within known (While e b) = turns_in known b
 turns_within known s = turns known s
 
 -- rows that begin with these
-abbrev pub BeginWith : List Row → List Row → Type 0
+abbrev pub BeginWith : List Held → List Held → Type 0
 BeginWith first rows = rows ≡ first ++ drop (length first) rows
 
 -- what is taken after a block
@@ -163,9 +208,17 @@ taken_after_all known b taken =
 abbrev pub with_params : (ints arrays : ℕ) → List Param → Row → Row
 with_params ints arrays [] known = known
 with_params ints arrays (p ∷ ps) known =
-    if p.is_array then with_params ints (arrays + 1) ps (with_array arrays known) else with_params (ints + 1) arrays ps
-    (with_int ints known)
+    if wants_array p then with_params ints (arrays + 1) ps (with_array arrays known)
+    else with_params (ints + 1) arrays ps (with_int ints known)
 
--- what the code holds as taken
+-- what rows of the code hold
+abbrev pub held_of : code_held.Held → Held
+held_of h = record {
+  ints = slots_of h.taken.ints.words;
+  arrays = slots_of h.taken.arrays.words;
+  frozen = slots_of h.frozen.words;
+}
+
+-- what the code has as held
 abbrev pub taken_of : code.Taken → Taken
-taken_of t = record { outer = row_of t.outer; here = row_of t.here; cuts = slots_of t.cuts.words }
+taken_of t = record { outer = held_of t.outer; here = held_of t.here; cuts = slots_of t.cuts.words }

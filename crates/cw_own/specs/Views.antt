@@ -15,10 +15,12 @@ use Rattle.cw_tree.specs.Resolved.{Use, Expr, Block, Scope}
 use Rattle.cw_tree.specs.ResolvedView.{use_of, expr_of, argument_of, stmt_of, block_of, function_of}
 use Rattle.cw_own.specs.declared.bits.Bits as code_bits
 use Rattle.cw_own.specs.declared.row.Row as code_row
+use Rattle.cw_own.specs.declared.held.Held as code_held
 use Rattle.cw_own.specs.declared.taken.Taken as code_taken
 use Rattle.cw_own.specs.declared.around.Loop as code_loop
-use Rattle.cw_own.specs.Sets.{Slots, slots_of, with_slot, without_slot, Row, both_rows, row_of}
-use Rattle.cw_own.specs.Taken.{Taken, taken_of, inside_cut, taken_by_call, other_of, after_all, gain, turns, turns_in}
+use Rattle.cw_own.specs.Sets.{Slots, slots_of, with_slot, without_slot, row_of}
+use Rattle.cw_own.specs.Taken.{Held, held_within, held_of, Taken, taken_of, inside_cut, taken_by_call, other_of}
+use Rattle.cw_own.specs.Taken.{after_all, gain, turns, turns_in}
 use Rattle.cw_own.specs.Taken.{turns_within, cuts_after_all, left_by, taken_after_all}
 use Rattle.cw_own.specs.Rules.{Loop, loop_of, may_give, may_pass, seen_by, left_lines, lines_within, lines_in}
 use Rattle.cw_own.specs.Rules.{block_lines, function_lines}
@@ -27,9 +29,9 @@ use Rattle.cw_own.specs.Rules.{block_lines, function_lines}
 abbrev pub set_of : code_bits.Bits → Slots
 set_of bits = slots_of bits.words
 
--- the rows that the code holds
-abbrev pub rows_of : List code_row.Row → List Row
-rows_of rows = map row_of rows
+-- what the code has as held, in order
+abbrev pub rows_of : List code_held.Held → List Held
+rows_of rows = map held_of rows
 
 -- the loop around that the code holds, if it holds one
 abbrev pub around_of : Option code_loop.Loop → Option Loop
@@ -47,17 +49,17 @@ returned e = option_map expr_of e
 abbrev pub other_block : code_stmt.Stmt → Block
 other_block stmt = other_of (stmt_of stmt)
 
--- what the spawns of a sync block have taken after a call
-abbrev pub after_call : CallKind → Option code_use.Use → List code_argument.Argument → code_row.Row → Row
-after_call kind target es here = taken_by_call kind (used target) (map argument_of es) (row_of here)
+-- what the spawns of a sync block hold after a call
+abbrev pub after_call : CallKind → Option code_use.Use → List code_argument.Argument → code_held.Held → Held
+after_call kind target es here = taken_by_call kind (used target) (map argument_of es) (held_of here)
 
 -- the same after these lines, without the locals that end with them
-abbrev pub after_lines : (known : code_row.Row) → List code_line.Line → code_row.Row → Row
-after_lines known lines here = both_rows (row_of known) (after_all (row_of known) (block_of lines) (row_of here))
+abbrev pub after_lines : (known : code_row.Row) → List code_line.Line → code_held.Held → Held
+after_lines known lines here = held_within (row_of known) (after_all (row_of known) (block_of lines) (held_of here))
 
 -- the same after what a statement does where its test does not hold
-abbrev pub after_other : (known : code_row.Row) → code_stmt.Stmt → code_row.Row → Row
-after_other known stmt here = both_rows (row_of known) (after_all (row_of known) (other_block stmt) (row_of here))
+abbrev pub after_other : (known : code_row.Row) → code_stmt.Stmt → code_held.Held → Held
+after_other known stmt here = held_within (row_of known) (after_all (row_of known) (other_block stmt) (held_of here))
 
 -- each of these arguments may be read, or passed
 abbrev pub may_give_all : Option code_loop.Loop → code_taken.Taken → List code_argument.Argument → Bool
@@ -99,27 +101,27 @@ abbrev pub taken_after_other : (known : code_row.Row) → code_taken.Taken → c
 taken_after_other known taken stmt = taken_after_all (row_of known) (other_block stmt) (taken_of taken)
 
 -- what one turn of each `while` takes, of a statement
-abbrev pub turns_of : (known : code_row.Row) → code_stmt.Stmt → List Row
+abbrev pub turns_of : (known : code_row.Row) → code_stmt.Stmt → List Held
 turns_of known stmt = turns (row_of known) (stmt_of stmt)
 
 -- the same, in the blocks of a statement
-abbrev pub turns_inside : (known : code_row.Row) → code_stmt.Stmt → List Row
+abbrev pub turns_inside : (known : code_row.Row) → code_stmt.Stmt → List Held
 turns_inside known stmt = turns_within (row_of known) (stmt_of stmt)
 
 -- the same, in what a statement does where its test does not hold
-abbrev pub turns_of_other : (known : code_row.Row) → code_stmt.Stmt → List Row
+abbrev pub turns_of_other : (known : code_row.Row) → code_stmt.Stmt → List Held
 turns_of_other known stmt = turns_in (row_of known) (other_block stmt)
 
 -- the same, in these lines
-abbrev pub turns_of_lines : (known : code_row.Row) → List code_line.Line → List Row
+abbrev pub turns_of_lines : (known : code_row.Row) → List code_line.Line → List Held
 turns_of_lines known lines = turns_in (row_of known) (block_of lines)
 
 -- the same, of a `while` with these lines as its body
-abbrev pub turns_of_while : (known : code_row.Row) → List code_line.Line → List Row
+abbrev pub turns_of_while : (known : code_row.Row) → List code_line.Line → List Held
 turns_of_while known lines = gain (row_of known) (block_of lines) ∷ turns_of_lines known lines
 
 -- the rows are left that come after these
-abbrev pub Past : List Row → (before after : List code_row.Row) → Type 0
+abbrev pub Past : List Held → (before after : List code_held.Held) → Type 0
 Past first before after = rows_of after ≡ drop (length first) (rows_of before)
 
 -- the lines of declarations whose names are taken as these lines end

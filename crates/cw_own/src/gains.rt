@@ -1,56 +1,60 @@
-//! What one turn of each `while` takes.
+//! What one turn of each `while` holds.
 //!
-//! What is taken after a statement is what was taken before it, without what the statement frees, and with what it
-//! takes. So what any number of turns takes is what one turn takes that begins with nothing taken, beside what was taken
-//! before: each body is looked at once for it, and once more for its faults.
+//! What is held after a statement is what was held before it, without what the statement frees, and with what it takes
+//! and freezes. So what any number of turns holds is what one turn holds that begins with nothing held, beside what was
+//! held before: each body is looked at once for it, and once more for its faults.
 
 ghost use Rattle.std.specs.Prelude.{◌≡◌, ◌∷◌, [], length, slice_set, map, true};
 ghost use Rattle.std.specs.List.{list_all};
 ghost use Rattle.cw_tree.specs.ResolvedView.{argument_of, stmt_of, block_of};
 ghost use Rattle.cw_own.specs.Bounds.{small_target, small_argument, small_stmt, small_block};
-ghost use Rattle.cw_own.specs.Sets.{row_of, no_local};
+ghost use Rattle.cw_own.specs.Sets.{row_of};
 ghost use Rattle.cw_own.specs.Grown.{Grown};
-ghost use Rattle.cw_own.specs.Taken.{with_target, with_arrays, known_after, after, after_all};
+ghost use Rattle.cw_own.specs.Taken.{none_held, held_of, with_target, with_arrays, known_after, after, after_all};
 ghost use Rattle.cw_own.specs.Taken.{gain, turns, turns_in};
 ghost use Rattle.cw_own.specs.Views.{used, after_call, after_lines, after_other};
 ghost use Rattle.cw_own.specs.Views.{turns_of_other, turns_of_while};
 
+use crate::held::Held;
 use crate::row::Row;
 use cw_model::syntax::CallKind;
 use cw_tree::resolved::{Argument, Line, Stmt, Use};
 use std::alloc::Global;
 
 // With the integer that a result goes to, if there is one.
-fn with_target(row: Row, target: &Option<Use>) -> Row
+fn with_target(held: Held, target: &Option<Use>) -> Held
     requires { small_target (used target.now) ≡ true }
-    ensures { row_of result ≡ with_target (used target.now) (row_of row) }
+    ensures { held_of result ≡ with_target (used target.now) (held_of held) }
 {
-    let mut row = row;
+    let mut held = held;
     if let Some(used) = target {
-        row.add_int(used.slot);
+        held.taken.add_int(used.slot);
     }
-    row
+    held
 }
 
-// With the arrays that are passed.
-fn with_arrays(row: Row, es: &[Argument]) -> Row
+// With the arrays that are given away, and those that are only read.
+fn with_arrays(held: Held, es: &[Argument]) -> Held
     requires { list_all small_argument (map argument_of es.now) ≡ true }
-    ensures { row_of result ≡ with_arrays (map argument_of es.now) (row_of row) }
+    ensures { held_of result ≡ with_arrays (map argument_of es.now) (held_of held) }
 {
-    let mut row = row;
+    let mut held = held;
     for e in es {
-        if let Argument::Array(used) = e {
-            row.add_array(used.slot);
+        match e {
+            Argument::Int(_) => {}
+            Argument::Array(used) => held.taken.add_array(used.slot),
+            Argument::Shared(used) => held.frozen.add(used.slot),
         }
     }
-    row
+    held
 }
 
-/// What is taken by the spawns of a sync block after a call: a spawn takes its target and its arrays.
-pub fn after_call(here: Row, kind: CallKind, target: &Option<Use>, es: &[Argument]) -> Row
+/// What the spawns of a sync block hold after a call: a spawn takes its target and the arrays that are given away, and
+/// freezes those that it only reads.
+pub fn after_call(here: Held, kind: CallKind, target: &Option<Use>, es: &[Argument]) -> Held
     requires target { small_target (used target.now) ≡ true }
     requires arguments { list_all small_argument (map argument_of es.now) ≡ true }
-    ensures { row_of result ≡ after_call kind target.now es.now here }
+    ensures { held_of result ≡ after_call kind target.now es.now here }
 {
     match kind {
         CallKind::Plain => here,
@@ -72,10 +76,10 @@ pub fn known_after(known: Row, stmt: &Stmt) -> Row
     known
 }
 
-/// What one turn of each `while` takes, in order, as far as there was memory for it.
+/// What one turn of each `while` holds, in order, as far as there was memory for it.
 #[derive(Drop)]
 pub struct Gains {
-    pub rows: Vec<Row>,
+    pub rows: Vec<Held>,
     /// There was memory for each.
     pub complete: bool,
 }
@@ -95,17 +99,17 @@ impl Gains {
     // Keeps a place, to be set later.
     fn keep(&mut self) -> usize
         ensures place { result ≡ length self.old.rows.items }
-        ensures grown { Grown self.old self.new (no_local ∷ []) }
+        ensures grown { Grown self.old self.new (none_held ∷ []) }
     {
         let place = self.rows.len();
-        if self.rows.push(Row::none()).is_err() {
+        if self.rows.push(Held::none()).is_err() {
             self.complete = false;
         }
         place
     }
 
     // Sets a place.
-    fn set(&mut self, place: usize, row: Row)
+    fn set(&mut self, place: usize, row: Held)
         ensures complete { self.new.complete ≡ self.old.complete }
         ensures rows { self.new.rows.items ≡ slice_set self.old.rows.items place row }
     {
@@ -115,11 +119,11 @@ impl Gains {
     }
 }
 
-// What the spawns of the innermost sync block have taken after these statements; adds what a turn of each `while` takes.
+// What the spawns of the innermost sync block hold after these statements; adds what a turn of each `while` holds.
 #[cycle(gains)]
-fn after_all(known: Row, lines: &[Line], here: Row, gains: &mut Gains) -> Row
+fn after_all(known: Row, lines: &[Line], here: Held, gains: &mut Gains) -> Held
     requires { small_block (block_of lines.now) ≡ true }
-    ensures row { row_of result ≡ after_all (row_of known) (block_of lines.now) (row_of here) }
+    ensures row { held_of result ≡ after_all (row_of known) (block_of lines.now) (held_of here) }
     ensures gains { Grown gains.old gains.new (turns_in (row_of known) (block_of lines.now)) }
 {
     let mut known = known;
@@ -134,26 +138,26 @@ fn after_all(known: Row, lines: &[Line], here: Row, gains: &mut Gains) -> Row
 
 // The same of a block, without the locals that end with it.
 #[cycle(gains)]
-fn after_block(known: &Row, lines: &[Line], here: Row, gains: &mut Gains) -> Row
+fn after_block(known: &Row, lines: &[Line], here: Held, gains: &mut Gains) -> Held
     requires { small_block (block_of lines.now) ≡ true }
-    ensures row { row_of result ≡ after_lines known.now lines.now here }
+    ensures row { held_of result ≡ after_lines known.now lines.now here }
     ensures gains { Grown gains.old gains.new (turns_in (row_of known.now) (block_of lines.now)) }
 {
-    let row = after_all(*known, lines, here, gains);
-    known.both(&row)
+    let held = after_all(*known, lines, here, gains);
+    held.within(known)
 }
 
 // The same of a statement.
 #[cycle(gains)]
-fn after(known: &Row, stmt: &Stmt, here: Row, gains: &mut Gains) -> Row
+fn after(known: &Row, stmt: &Stmt, here: Held, gains: &mut Gains) -> Held
     requires { small_stmt (stmt_of stmt.now) ≡ true }
-    ensures row { row_of result ≡ after (row_of known.now) (stmt_of stmt.now) (row_of here) }
+    ensures row { held_of result ≡ after (row_of known.now) (stmt_of stmt.now) (held_of here) }
     ensures gains { Grown gains.old gains.new (turns (row_of known.now) (stmt_of stmt.now)) }
 {
     match stmt {
         Stmt::Call(call) => after_call(here, call.kind, &call.target, &call.arguments),
-        Stmt::Sync => Row::none(),
-        Stmt::Return(_) => Row::none(),
+        Stmt::Sync => Held::none(),
+        Stmt::Return(_) => Held::none(),
         Stmt::If(_, block) => {
             let branch = after_block(known, block, here, gains);
             branch.either(&here)
@@ -170,18 +174,18 @@ fn after(known: &Row, stmt: &Stmt, here: Row, gains: &mut Gains) -> Row
         Stmt::For(head, block) => {
             let mut inner = *known;
             inner.add_int(head.variable.slot);
-            after_all(inner, block, Row::none(), gains);
+            after_all(inner, block, Held::none(), gains);
             here
         }
         Stmt::Cut(cut, block) => {
             let mut inner = *known;
             inner.add_array(cut.left.slot);
             inner.add_array(cut.right.slot);
-            after_all(inner, block, Row::none(), gains);
+            after_all(inner, block, Held::none(), gains);
             here
         }
         Stmt::Scope(block) | Stmt::Region(_, block) => {
-            after_all(*known, block, Row::none(), gains);
+            after_all(*known, block, Held::none(), gains);
             here
         }
         Stmt::Declare(_, _)
@@ -195,9 +199,9 @@ fn after(known: &Row, stmt: &Stmt, here: Row, gains: &mut Gains) -> Row
 
 // The same of what a statement does where its test does not hold.
 #[cycle(gains)]
-fn after_other(known: &Row, stmt: &Stmt, here: Row, gains: &mut Gains) -> Row
+fn after_other(known: &Row, stmt: &Stmt, here: Held, gains: &mut Gains) -> Held
     requires { small_stmt (stmt_of stmt.now) ≡ true }
-    ensures row { row_of result ≡ after_other known.now stmt.now here }
+    ensures row { held_of result ≡ after_other known.now stmt.now here }
     ensures gains { Grown gains.old gains.new (turns_of_other known.now stmt.now) }
 {
     match stmt {
@@ -216,27 +220,27 @@ fn after_other(known: &Row, stmt: &Stmt, here: Row, gains: &mut Gains) -> Row
         | Stmt::Cut(_, _)
         | Stmt::Region(_, _)
         | Stmt::Print(_)
-        | Stmt::Return(_) => known.both(&here),
+        | Stmt::Return(_) => here.within(known),
     }
 }
 
-// What one turn of a `while` takes where nothing is taken before it; it stands before those of its body.
+// What one turn of a `while` holds where nothing is held before it; it stands before those of its body.
 #[cycle(gains)]
-fn turn(known: &Row, block: &[Line], gains: &mut Gains) -> Row
+fn turn(known: &Row, block: &[Line], gains: &mut Gains) -> Held
     requires { small_block (block_of block.now) ≡ true }
-    ensures row { row_of result ≡ gain (row_of known.now) (block_of block.now) }
+    ensures row { held_of result ≡ gain (row_of known.now) (block_of block.now) }
     ensures gains { Grown gains.old gains.new (turns_of_while known.now block.now) }
 {
     let place = gains.keep();
-    let gain = after_block(known, block, Row::none(), gains);
+    let gain = after_block(known, block, Held::none(), gains);
     gains.set(place, gain);
     gain
 }
 
-/// What one turn of each `while` of a function takes, and whether there was memory for that.
+/// What one turn of each `while` of a function holds, and whether there was memory for that.
 pub fn turns(known: Row, lines: &[Line], gains: &mut Gains)
     requires { small_block (block_of lines.now) ≡ true }
     ensures { Grown gains.old gains.new (turns_in (row_of known) (block_of lines.now)) }
 {
-    after_all(known, lines, Row::none(), gains);
+    after_all(known, lines, Held::none(), gains);
 }

@@ -4,6 +4,7 @@
 mod around;
 mod bits;
 mod gains;
+mod held;
 mod owned;
 mod owning;
 mod reading;

@@ -15,6 +15,7 @@ use crate::owned::Owned;
 use crate::row::Row;
 use crate::rules::{Turns, note_sync_block};
 use crate::taken::Taken;
+use cw_model::syntax::NameKind;
 use cw_text::{Fault, LeastLine, Place};
 use cw_tree::Typed;
 use cw_tree::resolved::{Function, Param};
@@ -23,9 +24,9 @@ use std::alloc::{AllocError, Global};
 /// The same tree, which keeps ownership.
 ///
 /// Answers `Ownership` at the least line that breaks a rule of ownership: of a statement that touches what a spawn or a
-/// cut has taken, passes an array twice or names an outer local of its loop otherwise than to read it, or of a
-/// declaration whose name is still taken as its block ends. Answers `Memory` where there is none for a row of 64 bytes
-/// for each `while` of one function. The tree is let go then.
+/// cut has taken, changes what a spawn has frozen, passes an array twice where it is not only read or names an outer
+/// local of its loop otherwise than to read it, or of a declaration whose name is still held as its block ends. Answers
+/// `Memory` where there is none for a row of 96 bytes for each `while` of one function. The tree is let go then.
 pub fn own(alloc: Global, typed: Typed) -> Result<Owned, Fault>
     ensures { MatchResult result (λ owned. owned.typed.tree ≡ typed.tree)
         (BreaksOwnership (program_of typed.tree)) }
@@ -86,12 +87,15 @@ fn with_params(params: &[Param]) -> Row
     let mut ints = 0;
     let mut arrays = 0;
     for param in params {
-        if param.is_array {
-            known.add_array(arrays);
-            arrays += 1;
-        } else {
-            known.add_int(ints);
-            ints += 1;
+        match param.kind {
+            NameKind::Integer => {
+                known.add_int(ints);
+                ints += 1;
+            }
+            NameKind::Array | NameKind::Const => {
+                known.add_array(arrays);
+                arrays += 1;
+            }
         }
     }
     known

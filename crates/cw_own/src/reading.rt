@@ -6,10 +6,10 @@ ghost use Rattle.cw_tree.specs.ResolvedView.{use_of, expr_of, argument_of, head_
 ghost use Rattle.cw_own.specs.Bounds.{is_small, small_argument, small_stmt};
 ghost use Rattle.cw_own.specs.Sets.{no_slot};
 ghost use Rattle.cw_own.specs.Taken.{taken_of};
-ghost use Rattle.cw_own.specs.Rules.{is_variable, may_index, may_read, may_write, may_pass};
-ghost use Rattle.cw_own.specs.Rules.{may_target, may_return, passed_once, named_once};
+ghost use Rattle.cw_own.specs.Rules.{is_variable, may_index, may_read, may_write, may_pass, may_lend};
+ghost use Rattle.cw_own.specs.Rules.{may_target, may_return, passed_once, given_away, none_read, named_once};
 ghost use Rattle.cw_own.specs.Rules.{head_keeps, keeps};
-ghost use Rattle.cw_own.specs.Views.{around_of, used, returned, may_give_all, may_pass_all};
+ghost use Rattle.cw_own.specs.Views.{set_of, around_of, used, returned, may_give_all, may_pass_all};
 
 use crate::around::{Loop, for_head, is_outer_array, is_outer_int};
 use crate::bits::Bits;
@@ -65,9 +65,16 @@ fn may_write(around: &Option<Loop>, taken: &Taken, slot: u32) -> bool
     !taken.has_int(slot) && !is_outer_int(around, slot)
 }
 
-// Whether an array that is passed or cut is neither taken nor from outside the loop.
+// Whether an array that is given away or cut is neither held nor from outside the loop.
 fn may_pass(around: &Option<Loop>, taken: &Taken, slot: u32) -> bool
     ensures { result ≡ may_pass (around_of around.now) (taken_of taken.now) slot }
+{
+    !taken.holds_array(slot) && !is_outer_array(around, slot)
+}
+
+// Whether an array that a call only reads is neither taken nor from outside the loop.
+fn may_lend(around: &Option<Loop>, taken: &Taken, slot: u32) -> bool
+    ensures { result ≡ may_lend (around_of around.now) (taken_of taken.now) slot }
 {
     !taken.has_array(slot) && !is_outer_array(around, slot)
 }
@@ -90,6 +97,7 @@ fn may_give(around: &Option<Loop>, taken: &Taken, es: &[Argument]) -> bool
         let may = match e {
             Argument::Int(e) => may_read(around, taken, e),
             Argument::Array(used) => may_pass(around, taken, used.slot),
+            Argument::Shared(used) => may_lend(around, taken, used.slot),
         };
         if !may {
             return false;
@@ -108,7 +116,7 @@ fn may_return(around: &Option<Loop>, taken: &Taken, e: &Option<Expr>) -> bool
     }
 }
 
-// Whether no array is passed twice.
+// Whether no array is given away twice.
 fn passed_once(es: &[Argument]) -> bool
     requires { list_all small_argument (map argument_of es.now) ≡ true }
     ensures { result ≡ passed_once no_slot (map argument_of es.now) }
@@ -120,6 +128,34 @@ fn passed_once(es: &[Argument]) -> bool
                 return false;
             }
             seen.add(used.slot);
+        }
+    }
+    true
+}
+
+// The arrays that are given away.
+fn given_away(es: &[Argument]) -> Bits
+    requires { list_all small_argument (map argument_of es.now) ≡ true }
+    ensures { set_of result ≡ given_away (map argument_of es.now) no_slot }
+{
+    let mut given = Bits::none();
+    for e in es {
+        if let Argument::Array(used) = e {
+            given.add(used.slot);
+        }
+    }
+    given
+}
+
+// Whether none of these arrays is only read.
+fn none_read(given: &Bits, es: &[Argument]) -> bool
+    ensures { result ≡ none_read (set_of given.now) (map argument_of es.now) }
+{
+    for e in es {
+        if let Argument::Shared(used) = e {
+            if given.has(used.slot) {
+                return false;
+            }
         }
     }
     true
@@ -178,7 +214,7 @@ pub fn keeps(around: &Option<Loop>, taken: &Taken, stmt: &Stmt) -> bool
         Stmt::AssignElement(used, i, e) => {
             may_read(around, taken, i)
                 && may_read(around, taken, e)
-                && !taken.has_array(used.slot)
+                && !taken.holds_array(used.slot)
                 && may_index(around, used.slot, i)
         }
         Stmt::Reduce(_, _, e) => may_read(around, taken, e),
@@ -186,6 +222,7 @@ pub fn keeps(around: &Option<Loop>, taken: &Taken, stmt: &Stmt) -> bool
             may_give(around, taken, &call.arguments)
                 && may_target(around, taken, &call.target)
                 && passed_once(&call.arguments)
+                && none_read(&given_away(&call.arguments), &call.arguments)
         }
         Stmt::Sync => true,
         Stmt::If(e, _) => may_read(around, taken, e),

@@ -5,7 +5,7 @@ ghost use Rattle.cw_model.specs.declared.limits.TheConstants.{MOST_DECLARED};
 ghost use Rattle.cw_tree.specs.ResolvedView.{stmt_of, block_of};
 ghost use Rattle.cw_own.specs.Bounds.{small_stmt, small_block};
 ghost use Rattle.cw_own.specs.Sets.{row_of};
-ghost use Rattle.cw_own.specs.Taken.{taken_of, BeginWith};
+ghost use Rattle.cw_own.specs.Taken.{held_of, taken_of, BeginWith};
 ghost use Rattle.cw_own.specs.Views.{rows_of, sees, left_after, left_by_cut, left_by_scope};
 ghost use Rattle.cw_own.specs.Views.{taken_after_lines, taken_after_other};
 ghost use Rattle.cw_own.specs.Views.{turns_of, turns_inside, turns_of_other, turns_of_lines, Past};
@@ -15,23 +15,24 @@ ghost use Rattle.cw_own.specs.Views.{still_taken, Noted};
 
 use crate::around::Loop;
 use crate::gains::{after_call, known_after};
+use crate::held::Held;
 use crate::reading::keeps;
 use crate::row::Row;
 use crate::taken::Taken;
 use cw_text::LeastLine;
 use cw_tree::resolved::{Line, Stmt};
 
-/// What one turn of each `while` takes that is still to come, in order.
+/// What one turn of each `while` holds that is still to come, in order.
 #[derive(Drop)]
 pub struct Turns<'a> {
-    pub left: &'a [Row],
+    pub left: &'a [Held],
 }
 
 impl<'a> Turns<'a> {
-    // What a turn of the next `while` takes.
-    fn next(&mut self) -> Row
+    // What a turn of the next `while` holds.
+    fn next(&mut self) -> Held
         requires { 0 < length self.old.left.now }
-        ensures { rows_of self.old.left.now ≡ row_of result ∷ rows_of self.new.left.now }
+        ensures { rows_of self.old.left.now ≡ held_of result ∷ rows_of self.new.left.now }
     {
         let first = self.left[0];
         self.left = &self.left[1..];
@@ -39,7 +40,7 @@ impl<'a> Turns<'a> {
     }
 }
 
-// What the test and the body of a `while` see as taken: also what a turn takes. Another statement sees what is taken.
+// What the test and the body of a `while` see as held: also what a turn holds. Another statement sees what is held.
 fn seen_by(known: &Row, taken: Taken, stmt: &Stmt, rest: &mut Turns<'_>) -> Taken
     requires { BeginWith (turns_of known.now stmt.now) (rows_of rest.old.left.now) }
     ensures seen { taken_of result ≡ sees known.now taken stmt.now }
@@ -73,20 +74,20 @@ fn seen_by(known: &Row, taken: Taken, stmt: &Stmt, rest: &mut Turns<'_>) -> Take
     }
 }
 
-// Notes the declarations of a block whose names are taken as it ends.
+// Notes the declarations of a block whose names are held as it ends.
 fn note_left(taken: &Taken, lines: &[Line], least: &mut LeastLine)
     ensures { Noted least.old least.new (still_taken taken.now lines.now) }
 {
     for line in lines {
         match &line.stmt {
             Stmt::Declare(used, _) => least.note(!taken.has_int(used.slot), line.line),
-            Stmt::DeclareArray(used, _) => least.note(!taken.has_array(used.slot), line.line),
+            Stmt::DeclareArray(used, _) => least.note(!taken.holds_array(used.slot), line.line),
             _ => {}
         }
     }
 }
 
-// Notes the lines of these statements that break a rule; what is taken after them.
+// Notes the lines of these statements that break a rule; what is held after them.
 #[cycle(rules)]
 #[tactic(auto, using(crate::proofs::Small::lowest_append))]
 fn note_all(
@@ -115,7 +116,7 @@ fn note_all(
     taken
 }
 
-// Notes the lines of a block that break a rule, where it joins no spawn at its end; what is taken at its end.
+// Notes the lines of a block that break a rule, where it joins no spawn at its end; what is held at its end.
 #[cycle(rules)]
 #[tactic(auto, using(crate::proofs::Small::lowest_append))]
 fn note_block(
@@ -137,7 +138,7 @@ fn note_block(
     after
 }
 
-/// Notes the lines of a sync block that break a rule; what is taken at its end, before it joins its spawns.
+/// Notes the lines of a sync block that break a rule; what is held at its end, before it joins its spawns.
 #[cycle(rules)]
 #[tactic(auto, using(crate::proofs::Small::lowest_append))]
 pub fn note_sync_block(
@@ -196,7 +197,7 @@ fn note_other(
     }
 }
 
-// Notes the lines that break a rule of a sync block inside another; what is taken behind it.
+// Notes the lines that break a rule of a sync block inside another; what is held behind it.
 #[cycle(rules)]
 #[tactic(auto, using(crate::proofs::Small::lowest_append))]
 fn note_scope(
@@ -246,7 +247,7 @@ fn note_cut(
     Taken { cuts, ..taken }
 }
 
-// Notes the lines in the blocks of a statement that break a rule; what is taken after the statement.
+// Notes the lines in the blocks of a statement that break a rule; what is held after the statement.
 #[cycle(rules)]
 #[tactic(auto, using(crate::proofs::Small::lowest_append))]
 fn note_within(
@@ -273,7 +274,7 @@ fn note_within(
         Stmt::If(_, block) => {
             let branch = note_block(around, *known, taken, block, rest, least);
             Taken {
-                here: known.both(&branch.here).either(&taken.here),
+                here: branch.here.within(known).either(&taken.here),
                 ..taken
             }
         }

@@ -1,18 +1,19 @@
 -- Lists in commas.
-use Rattle.std.proofs.Common.{◌≡◌, ℕ, ◌<◌, ◌≤◌, Bool, true, false, List, [], ◌∷◌, length as len, Ok, refl, sym, ◌∙◌, arith, ◌⊎◌, inl, inr}
+use Rattle.std.proofs.Common.{◌≡◌, ℕ, ◌<◌, ◌≤◌, Bool, true, List, [], ◌∷◌, length as len, Ok, refl, sym, ◌∙◌, arith, ◌⊎◌, inl, inr}
 use Rattle.cw_model.specs.declared.token.Token.{Token}
 use Rattle.cw_model.specs.declared.token.Kind.{Kind}
 use Rattle.cw_model.specs.declared.token.Kind.TheVariants as kind
+use Rattle.cw_model.specs.declared.syntax.NameKind.TheVariants as name_kind
 use Rattle.cw_model.specs.Syntax.{Name, Expr, Param}
 use Rattle.cw_model.specs.Grammar as grammar
 use Rattle.cw_model.specs.Grammar.{name_of, ReadsWhole, ReadsMoreArguments, ReadsArguments, ReadsMoreNames, ReadsParam, ReadsMoreParams, ReadsParams}
 use Rattle.cw_parse.specs.declared.marks.Mark.TheVariants as mark
 use Rattle.cw_parse.specs.Marks.{is_mark}
 use Rattle.cw_parse.specs.Reading.{Reader, ◌>>=◌, token}
-use Rattle.cw_parse.specs.Parts.{expr, add_front, further, others, some_of, list, name, param}
+use Rattle.cw_parse.specs.Parts.{expr, add_front, further, others, some_of, list, name, param, written}
 use Rattle.cw_parse.proofs.Reader.{Stops, IsUnique, Seq, tok, Done, done, shorter}
 use Rattle.cw_parse.proofs.Exact.{Exact, Halts, Against, any, any_halts, done_exact, done_rest, seq_exact, after_part, same_exact, given, one_way, guard_halts, perhaps_halts, narrow_exact, map_halts}
-use Rattle.cw_parse.proofs.Pieces.{Marked, Piece, ◌>>>◌, expect, give, choose, perhaps, guard, but, against, marked_stops, then_halts, row_by}
+use Rattle.cw_parse.proofs.Pieces.{Marked, Piece, ◌>>>◌, expect, give, choose, perhaps, guard, but, against, marked_stops, then_halts, choose_halts, row_by}
 use Rattle.cw_parse.proofs.Operators.{stops}
 use Rattle.cw_parse.proofs.Expressions.{expr_exact, expr_halts, begins_not}
 
@@ -138,10 +139,13 @@ module _ (text : List ℕ) where
   -- ---- parameters
 
   abbrev integer : Token → Param
-  integer x = record { name = name_of text x; is_array = false }
+  integer x = record { name = name_of text x; kind = name_kind.Integer }
 
   abbrev array : Token → Param
-  array x = record { name = name_of text x; is_array = true }
+  array x = record { name = name_of text x; kind = name_kind.Array }
+
+  abbrev to_read : Token → Param
+  to_read x = record { name = name_of text x; kind = name_kind.Const }
 
   abbrev bracket : Against (is_mark mark.LeftBracket) (but mark.LeftBracket)
   bracket = against mark.LeftBracket
@@ -149,28 +153,50 @@ module _ (text : List ℕ) where
   abbrev array_piece : {U : Type 0} {n : ℕ} → Token → Piece U n (but mark.LeftBracket) Param
   array_piece x = guard mark.LeftBracket bracket (expect mark.RightBracket >>> λ _. give (array x))
 
+  abbrev written_piece : {U : Type 0} {n : ℕ} → Piece U n (but mark.LeftBracket) Param
+  written_piece = expect mark.Int >>> λ _. expect mark.Name >>> λ x. perhaps mark.LeftBracket bracket (λ _. array_piece x) (integer x)
+
+  abbrev const_piece : {U : Type 0} {n : ℕ} → Piece U n (but mark.LeftBracket) Param
+  const_piece =
+      guard mark.LeftBracket bracket
+      (expect mark.Int >>> λ _. expect mark.Name >>> λ x. expect mark.LeftBracket >>> λ _. expect mark.RightBracket >>> λ _. give (to_read x))
+
+  pub not_written : {t : Token} {us : List Token} {p : Param} {rest : List Token} → t.kind ≡ kind.Const → (written_piece {U = Unit {0}} {n = 0}).rel (t ∷ us) p rest → ⊥
+  not_written is (u, vs, tok i, d) = let clash : kind.Const ≡ kind.Int = sym is ∙ i in cc
+
   abbrev param_piece : {U : Type 0} {n : ℕ} → Piece U n (but mark.LeftBracket) Param
-  param_piece = expect mark.Int >>> λ _. expect mark.Name >>> λ x. perhaps mark.LeftBracket bracket (λ _. array_piece x) (integer x)
+  param_piece = choose mark.Const (λ _. const_piece) written_piece (λ t us b rest is d h. not_written is d)
 
   param_into : (ts : List Token) (p : Param) (rest : List Token) → (param_piece {U = Unit {0}} {n = 0}).rel ts p rest → ReadsParam text ts p rest
-  param_into ts p rest (t, us, tok is, (x, vs, tok is', inr done)) = grammar.ReadsParam.integer is is'
-  param_into ts p rest (t, us, tok is, (x, vs, tok is', inl (u, ws, tok i, (v, zs, tok i', done)))) = grammar.ReadsParam.array is is' i i'
+  param_into ts p rest (inr (t, us, tok is, (x, vs, tok is', inr done))) = grammar.ReadsParam.integer is is'
+  param_into ts p rest (inr (t, us, tok is, (x, vs, tok is', inl (u, ws, tok i, (v, zs, tok i', done))))) = grammar.ReadsParam.array is is' i i'
+  param_into ts p rest (inl (c, bs, tok first, (t, us, tok is, (x, vs, tok is', (u, ws, tok i, (v, zs, tok i', done)))))) =
+      grammar.ReadsParam.array_to_read first is is' i i'
 
   param_out : {ts : List Token} {p : Param} {rest : List Token} → ReadsParam text ts p rest → (param_piece {U = Unit {0}} {n = 0}).rel ts p rest
-  param_out (grammar.ReadsParam.integer {t = t} {x = x} {ts = ts} is is') = (t, x ∷ ts, tok is, (x, ts, tok is', inr done))
-  param_out (grammar.ReadsParam.array {t = t} {x = x} {u = u} {v = v} {ts = ts} is is' i i') = (t, x ∷ u ∷ v ∷ ts, tok is, (x, u ∷ v ∷ ts, tok is', inl (u, v ∷ ts, tok i, (v, ts, tok i', done))))
+  param_out (grammar.ReadsParam.integer {t = t} {x = x} {ts = ts} is is') = inr (t, x ∷ ts, tok is, (x, ts, tok is', inr done))
+  param_out (grammar.ReadsParam.array {t = t} {x = x} {u = u} {v = v} {ts = ts} is is' i i') = inr (t, x ∷ u ∷ v ∷ ts, tok is, (x, u ∷ v ∷ ts, tok is', inl (u, v ∷ ts, tok i, (v, ts, tok i', done))))
+  param_out (grammar.ReadsParam.array_to_read {c = c} {t = t} {x = x} {u = u} {v = v} {ts = ts} first is is' i i') =
+      inl (c, t ∷ x ∷ u ∷ v ∷ ts, tok first, (t, x ∷ u ∷ v ∷ ts, tok is, (x, u ∷ v ∷ ts, tok is', (u, v ∷ ts, tok i, (v, ts, tok i', done)))))
 
   param_exact : (U : Type 0) (n : ℕ) → Exact U n (ReadsParam text) (but mark.LeftBracket) (param text)
   unfolding param
   param_exact U n = same_exact U n (param_piece {U = U} {n = n}).rel (ReadsParam text) (but mark.LeftBracket) (param_piece {U = U} {n = n}).read param_into (λ ts p rest r. param_out r) (param_piece {U = U} {n = n}).exact
 
-  param_halts : (n : ℕ) → Halts n (but mark.LeftBracket) (param text)
-  unfolding param
-  param_halts n =
+  written_halts : (n : ℕ) → Halts n (but mark.LeftBracket) (written text)
+  written_halts n =
       then_halts (Unit {0}) n (but mark.LeftBracket) (expect mark.Int) (λ _. (expect {U = Unit {0}} {n = n} mark.Name >>> λ x. perhaps mark.LeftBracket bracket (λ _. array_piece x) (integer x)).read)
       (λ _. then_halts (Unit {0}) n (but mark.LeftBracket) (expect mark.Name) (λ x. (perhaps {U = Unit {0}} {n = n} mark.LeftBracket bracket (λ _. array_piece x) (integer x)).read)
       (λ x. perhaps_halts (is_mark mark.LeftBracket) (but mark.LeftBracket) bracket n (λ _. (array_piece {U = Unit {0}} {n = n} x).read) (integer x)
       (λ _. guard_halts (is_mark mark.LeftBracket) (but mark.LeftBracket) bracket n (expect {U = Unit {0}} {n = n} mark.RightBracket >>> λ _. give (array x)).read)))
+
+  param_halts : (n : ℕ) → Halts n (but mark.LeftBracket) (param text)
+  unfolding param
+  param_halts n =
+      choose_halts mark.Const (but mark.LeftBracket) n (λ _. (const_piece {U = Unit {0}} {n = n}).read) (written text)
+      (λ _. guard_halts (is_mark mark.LeftBracket) (but mark.LeftBracket) bracket n
+      (expect {U = Unit {0}} {n = n} mark.Int >>> λ _. expect mark.Name >>> λ x. expect mark.LeftBracket >>> λ _. expect mark.RightBracket >>> λ _. give (to_read x)).read)
+      (written_halts n)
 
   parameter_into : (ts : List Token) (ps : List Param) (rest : List Token) → Listed (ReadsParam text) (ReadsMoreParams text) ts ps rest → ReadsMoreParams text ts ps rest
   parameter_into ts ps rest (inl (t, us, tok is, done)) = grammar.ReadsMoreParams.close is
@@ -192,6 +218,7 @@ module _ (text : List ℕ) where
 
   param_not : {t : Token} {us : List Token} {p : Param} {rest : List Token} → t.kind ≡ kind.RightParen → ReadsParam text (t ∷ us) p rest → ⊥
   param_not is (grammar.ReadsParam.integer is' i) = let clash : kind.RightParen ≡ kind.Int = sym is ∙ is' in cc
+  param_not is (grammar.ReadsParam.array_to_read is' i i' i'' e) = let clash : kind.RightParen ≡ kind.Const = sym is ∙ is' in cc
   param_not is (grammar.ReadsParam.array is' i i' i'') = let clash : kind.RightParen ≡ kind.Int = sym is ∙ is' in cc
 
   pub params_exact : (U : Type 0) (n : ℕ) → Exact U n (ReadsParams text) any (list (param text) n)

@@ -11,6 +11,7 @@ use Rattle.cw_parse.proofs.Exact.{Passes}
 abbrev pub kind_of : Mark → Kind
 kind_of mark.Name = kind.Name
 kind_of mark.Int = kind.Int
+kind_of mark.Const = kind.Const
 kind_of mark.Else = kind.Else
 kind_of mark.At = kind.At
 kind_of mark.As = kind.As
@@ -38,6 +39,8 @@ mark_only mark.Name kind.Name e = refl
 mark_only mark.Name _ e = absurd cc
 mark_only mark.Int kind.Int e = refl
 mark_only mark.Int _ e = absurd cc
+mark_only mark.Const kind.Const e = refl
+mark_only mark.Const _ e = absurd cc
 mark_only mark.Else kind.Else e = refl
 mark_only mark.Else _ e = absurd cc
 mark_only mark.At kind.At e = refl
@@ -76,6 +79,7 @@ mark_only mark.Less _ e = absurd cc
 mark_is : (m : Mark) → is_mark m (kind_of m) ≡ true
 mark_is mark.Name = refl
 mark_is mark.Int = refl
+mark_is mark.Const = refl
 mark_is mark.Else = refl
 mark_is mark.At = refl
 mark_is mark.As = refl

@@ -1,11 +1,11 @@
 -- Readers beside the relations that they read exactly, put together as the grammar is.
-use Rattle.std.proofs.Common.{◌≡◌, ℕ, zero, suc, ◌<◌, ◌≤◌, Bool, true, not, List, [], ◌∷◌, ◌++◌, length as len, Ok, refl, ap, ◌∙◌, arith, ◌⊎◌, inl, inr}
+use Rattle.std.proofs.Common.{◌≡◌, ℕ, zero, suc, ◌<◌, ◌≤◌, Bool, true, false, cond, not, List, [], ◌∷◌, ◌++◌, length as len, Ok, refl, ap, ◌∙◌, arith, ◌⊎◌, inl, inr}
 use Rattle.std.proofs.lemmas.List.{length-append}
 use Rattle.cw_model.specs.declared.token.Token.{Token}
 use Rattle.cw_model.specs.declared.token.Kind.{Kind}
 use Rattle.cw_parse.specs.declared.marks.Mark.{Mark}
 use Rattle.cw_parse.specs.Marks.{is_mark}
-use Rattle.cw_parse.specs.Reading.{Reader, ◌>>=◌, token, if_next, unless_next, row}
+use Rattle.cw_parse.specs.Reading.{Read, Reader, ◌>>=◌, token, if_next, unless_next, row}
 use Rattle.cw_parse.proofs.Reader.{Stops, Front, IsUnique, SomeText, Seq, Tok, tok, Done, done, shorter, bind_ok}
 use Rattle.cw_parse.proofs.Exact.{Exact, Halts, Against, Branch, any, token_exact, done_exact, done_rest, seq_exact, after_part, narrow_exact, same_exact, fewer_exact, zero_exact, guard_exact, differ, if_next_exact}
 use Rattle.cw_parse.proofs.MarkKinds.{kind_of, Is, passes}
@@ -81,6 +81,15 @@ choose {U} {n} {s} m x y apart = record {
   read = if_next (is_mark m) (λ t. (x t).read) y.read;
   exact = if_next_exact U n n (omega arith) (is_mark m) (Is m) (passes m) (λ t. (x t).rel) y.rel s (λ t. (x t).read) y.read (λ t. (x t).exact) y.exact apart;
 }
+
+-- a choice halts where each way does
+pub choose_halts : {A : Type 0} (m : Mark) (s : Kind → Bool) (n : ℕ) (f : Token → Reader A) (g : Reader A) → ((t : Token) → Halts n s (f t)) → Halts n s g → Halts n s (if_next (is_mark m) f g)
+choose_halts m s n f g x y [] b rest le e = y [] b rest le e
+choose_halts {A} m s n f g x y (t ∷ ts) b rest le e = go (is_mark m t.kind) e
+  where
+    go : (c : Bool) → cond {A = Read A} c (f t ts) (g (t ∷ ts)) ≡ Ok (b, rest) → Stops s rest
+    go true e = x t ts b rest (omega arith) e
+    go false e = y (t ∷ ts) b rest le e
 
 -- any kind but one that a mark stands for
 abbrev pub but : Mark → Kind → Bool

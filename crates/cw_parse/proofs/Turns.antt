@@ -5,10 +5,11 @@ use Rattle.cw_parse.specs.declared.stop.Stop.{Stop}
 use Rattle.cw_parse.specs.declared.stop.Stop.TheVariants as stop
 use Rattle.cw_parse.specs.declared.marks.Mark.{Mark}
 use Rattle.cw_parse.specs.Marks.{is_mark, past}
+use Rattle.cw_model.specs.declared.syntax.NameKind.TheVariants as name_kind
 use Rattle.cw_model.specs.Syntax.{Name, Param, End}
 use Rattle.cw_parse.specs.declared.marks.Mark.TheVariants as mark
 use Rattle.cw_tree.specs.SyntaxView.{block_from}
-use Rattle.cw_parse.specs.Parts.{add_front, Line, put_before, array, single, behind_name}
+use Rattle.cw_parse.specs.Parts.{add_front, Line, put_before, array, single, behind_name, const_array, written, param}
 use Rattle.cw_parse.specs.Reading.{Read, Reader, ◌>>=◌, Fails, if_next, row, pile, with_front}
 
 -- ---- a choice by the next token
@@ -83,4 +84,10 @@ block_all (x ∷ front) n = ap (put_before x) (block_all front n)
 -- an array parameter, before a bracket behind it is tested for
 pub param_array : (x : Name) (ts : List Token) (u : Token) (us : List Token) (p : Param) (rest : List Token) → past mark.LeftBracket ts ≡ Some (u, us) → array x us ≡ Ok (p, rest) → behind_name x ts ≡ single p rest
 param_array x ts u us p rest on read =
-    if_past mark.LeftBracket (λ _ us. array x us >>= λ y. single y.0 y.1) (λ us. Ok (record { name = x; is_array = false }, us)) ts u us on ∙ ap (λ r. r >>= λ y. single y.0 y.1) read
+    if_past mark.LeftBracket (λ _ us. array x us >>= λ y. single y.0 y.1) (λ us. Ok (record { name = x; kind = name_kind.Integer }, us)) ts u us on ∙ ap (λ r. r >>= λ y. single y.0 y.1) read
+
+-- an array that is only read, before a bracket behind it is tested for
+pub param_const : (text : List ℕ) (ts : List Token) (u : Token) (us : List Token) (p : Param) (rest : List Token) → past mark.Const ts ≡ Some (u, us) → const_array text us ≡ Ok (p, rest) → param text ts ≡ single p rest
+unfolding param
+param_const text ts u us p rest on read =
+    if_past mark.Const (λ _ us. const_array text us >>= λ y. single y.0 y.1) (λ us. written text us) ts u us on ∙ ap (λ r. r >>= λ y. single y.0 y.1) read

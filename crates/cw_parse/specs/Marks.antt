@@ -10,6 +10,7 @@ use Rattle.cw_parse.specs.declared.marks.Mark.TheVariants as mark
 abbrev pub is_mark : Mark → Kind → Bool
 is_mark mark.Name kind.Name = true
 is_mark mark.Int kind.Int = true
+is_mark mark.Const kind.Const = true
 is_mark mark.Else kind.Else = true
 is_mark mark.At kind.At = true
 is_mark mark.As kind.As = true

@@ -11,6 +11,7 @@ use Rattle.cw_model.specs.declared.syntax.CallKind.{CallKind}
 use Rattle.cw_model.specs.declared.syntax.CallKind.TheVariants.{Plain, Spawned}
 use Rattle.cw_model.specs.declared.syntax.Reduction.{Reduction}
 use Rattle.cw_model.specs.declared.syntax.Reduction.TheVariants.{Sum, Max}
+use Rattle.cw_model.specs.declared.syntax.NameKind.TheVariants as name_kind
 use Rattle.cw_model.specs.Syntax.{Name, Expr, Stmt, Block, Param, Function, Reducer}
 use Rattle.cw_model.specs.Grammar.{name_of, infix_of, Head}
 use Rattle.cw_parse.specs.declared.marks.Mark.{Mark}
@@ -410,17 +411,28 @@ single p ts = unless_next (is_mark mark.LeftBracket) p ts
 
 -- an array parameter behind its opening bracket
 abbrev pub array : Name → Reader Param
-array x ts = marked mark.RightBracket ts >>= λ v. Ok (record { name = x; is_array = true }, v.1)
+array x ts = marked mark.RightBracket ts >>= λ v. Ok (record { name = x; kind = name_kind.Array }, v.1)
 
 -- a parameter behind its name
 abbrev pub behind_name : Name → Reader Param
 behind_name x ts =
     if_next (is_mark mark.LeftBracket) (λ _ us. array x us >>= λ y. single y.0 y.1)
-    (λ us. Ok (record { name = x; is_array = false }, us)) ts
+    (λ us. Ok (record { name = x; kind = name_kind.Integer }, us)) ts
+
+-- a parameter that is an integer, or an array that may be written
+abbrev pub written : List ℕ → Reader Param
+written text ts = marked mark.Int ts >>= λ t. marked mark.Name t.1 >>= λ x. behind_name (name_of text x.0) x.1
+
+-- an array that is only read, behind its word
+abbrev pub const_array : List ℕ → Reader Param
+const_array text ts =
+    marked mark.Int ts >>= λ t. marked mark.Name t.1 >>= λ x. marked mark.LeftBracket x.1 >>= λ u. marked
+    mark.RightBracket u.1 >>= λ v. Ok (record { name = name_of text x.0; kind = name_kind.Const }, v.1)
 
 -- a parameter
 unfoldable pub param : List ℕ → Reader Param
-param text ts = marked mark.Int ts >>= λ t. marked mark.Name t.1 >>= λ x. behind_name (name_of text x.0) x.1
+param text ts =
+    if_next (is_mark mark.Const) (λ _ us. const_array text us >>= λ y. single y.0 y.1) (λ us. written text us) ts
 
 -- a reducer or a function
 pub data Item : Type 0 where

@@ -6,7 +6,8 @@ ghost use Rattle.cw_model.specs.Syntax as model;
 ghost use Rattle.cw_tree.specs.SyntaxView.{param_of, function_of, reducer_of, numbered};
 ghost use Rattle.cw_parse.specs.Seen.{item_of, items_of, IsPushed};
 ghost use Rattle.cw_parse.specs.Reading.{Gives, Parses, by_first};
-ghost use Rattle.cw_parse.specs.Parts.{array, single, behind_name, param, reduction, reducer, function, item, whole};
+ghost use Rattle.cw_parse.specs.Parts.{array, single, behind_name, written, const_array, param};
+ghost use Rattle.cw_parse.specs.Parts.{reduction, reducer, function, item, whole};
 
 use crate::expr::name_of;
 use crate::input::{Read, Reading};
@@ -14,7 +15,7 @@ use crate::list::{Part, list};
 use crate::marks::{Mark, expect, past};
 use crate::stmt::lines;
 use crate::stop::Stop;
-use cw_model::syntax::Reduction;
+use cw_model::syntax::{NameKind, Reduction};
 use cw_model::token::{Kind, Token};
 use cw_tree::syntax::{Ast, Function, Name, Param, Reducer};
 
@@ -25,7 +26,7 @@ fn array<'a>(name: Name, tokens: &'a [Token]) -> Read<'a, Param>
     let (_, rest) = expect(Mark::RightBracket, tokens)?;
     let array = Param {
         name,
-        is_array: true,
+        kind: NameKind::Array,
     };
     Ok((array, rest))
 }
@@ -48,7 +49,7 @@ fn kind_of_param<'a>(name: Name, tokens: &'a [Token]) -> Read<'a, Param>
         None => Ok((
             Param {
                 name,
-                is_array: false,
+                kind: NameKind::Integer,
             },
             tokens,
         )),
@@ -57,6 +58,32 @@ fn kind_of_param<'a>(name: Name, tokens: &'a [Token]) -> Read<'a, Param>
             single(param, rest)
         }
     }
+}
+
+// A parameter that is an integer, or an array that may be written.
+fn written<'a>(reading: Reading<'_>, tokens: &'a [Token]) -> Read<'a, Param>
+    ensures { Parses param_of result (written reading.entry.text.now tokens.now) }
+{
+    let (_, rest) = expect(Mark::Int, tokens)?;
+    let (found, rest) = expect(Mark::Name, rest)?;
+    let name = name_of(reading, found)?;
+    let (param, rest) = kind_of_param(name, rest)?;
+    Ok((param, rest))
+}
+
+// An array that is only read, behind its word.
+fn const_array<'a>(reading: Reading<'_>, tokens: &'a [Token]) -> Read<'a, Param>
+    ensures { Parses param_of result (const_array reading.entry.text.now tokens.now) }
+{
+    let (_, rest) = expect(Mark::Int, tokens)?;
+    let (found, rest) = expect(Mark::Name, rest)?;
+    let (_, rest) = expect(Mark::LeftBracket, rest)?;
+    let (_, rest) = expect(Mark::RightBracket, rest)?;
+    let array = Param {
+        name: name_of(reading, found)?,
+        kind: NameKind::Const,
+    };
+    Ok((array, rest))
 }
 
 impl Part for Param {
@@ -68,11 +95,13 @@ impl Part for Param {
 
     #[tactic(auto, unfolding(crate::specs::Parts::param))]
     fn read<'a>(reading: Reading<'_>, _depth: usize, tokens: &'a [Token]) -> Read<'a, Param> {
-        let (_, rest) = expect(Mark::Int, tokens)?;
-        let (found, rest) = expect(Mark::Name, rest)?;
-        let name = name_of(reading, found)?;
-        let (param, rest) = kind_of_param(name, rest)?;
-        Ok((param, rest))
+        match past(Mark::Const, tokens) {
+            None => written(reading, tokens),
+            Some((_, rest)) => {
+                let (param, rest) = const_array(reading, rest)?;
+                single(param, rest)
+            }
+        }
     }
 }
 

@@ -13,6 +13,7 @@ use cw_model::token::{Kind, Token};
 pub enum Mark {
     Name,
     Int,
+    Const,
     Else,
     At,
     As,
@@ -40,6 +41,7 @@ impl Mark {
         match self {
             Mark::Name => matches!(kind, Kind::Name),
             Mark::Int => matches!(kind, Kind::Int),
+            Mark::Const => matches!(kind, Kind::Const),
             Mark::Else => matches!(kind, Kind::Else),
             Mark::At => matches!(kind, Kind::At),
             Mark::As => matches!(kind, Kind::As),

@@ -2,6 +2,7 @@
 
 mod arrays;
 mod measures;
+mod readers;
 mod schedules;
 mod strands;
 
@@ -35,6 +36,7 @@ fn place(
         slots,
         array_params: 0,
         arrays: 0,
+        readers: 0,
     })?;
     Ok(())
 }
@@ -70,6 +72,7 @@ fn code_of(alloc: Global, main: &[Instr]) -> Result<Code, AllocError> {
         reducers: Vec::new(alloc),
         tags: Vec::new(alloc),
         passed: Vec::new(alloc),
+        lent: Vec::new(alloc),
     };
     code.passed.push(Vec::new(alloc))?;
     code.reducers.push(Reducer {
@@ -119,6 +122,7 @@ fn callee(function: u32, site: u32, target: Option<u32>) -> Callee {
         line: 9,
         target,
         passed: 0,
+        lent: 0,
     }
 }
 

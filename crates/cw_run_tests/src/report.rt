@@ -122,6 +122,7 @@ fn code_with(
         reducers: reducers_of(alloc, reducers)?,
         tags: names_of(alloc, tags)?,
         passed: Vec::new(alloc),
+        lent: Vec::new(alloc),
     };
     code.funcs.push(Func {
         start: 0,
@@ -131,6 +132,7 @@ fn code_with(
         slots: 0,
         array_params: 0,
         arrays: 0,
+        readers: 0,
     })?;
     code.sites
         .push(site(alloc, 1, CallKind::Spawned, 14, b"fib")?)?;

@@ -53,7 +53,7 @@ not_less a b h = cases (nat_lt a b) refl
 module _ (code : Code) (b : State) (count n : ℕ) (rest job : Job) (s : State) (outs outs' : List Job) where
   turns : (t : Turn) (s' : State) → Alike b count (turned t s s' rest.limit rest.before (n + 1) outs) (turned t (under b s) (under b s') job.limit job.before ((count + n) + 1) outs')
   turns Goes s' = (refl, omega arith)
-  turns (HandsOut target taken) s' = (refl, omega arith, record { extent = refl; place = refl; slots = refl; arrays = refl; depth = refl })
+  turns (HandsOut target taken) s' = (refl, omega arith, record { extent = refl; place = refl; slots = refl; arrays = refl; readers = refl; depth = refl })
   turns ComesBack s' = (refl, omega arith)
 
   goes : (t : Turn) (w : Transition) → GoesOn w → Alike b count (went_on t s w rest.limit rest.before (n + 1) outs) (went_on t (under b s) (transition_under b w) job.limit job.before ((count + n) + 1) outs')

@@ -78,7 +78,7 @@ is_short (e ∷ events) = e.1 || is_short events
 abbrev pub OutcomesAreSerial : Type 0
 OutcomesAreSerial =
     (code : Code) (f : Func) (args : List ℤ) (limit others : ℕ) (events : List (Event × Bool)) (e : Effect)
-    → first_transition (slice_get code.funcs code.main) args ≡ On (first_state f args [])
+    → first_transition (slice_get code.funcs code.main) args ≡ On (first_state f args [] [])
     → outcome (world_run code events (first_sched (root_job f args limit) others)) ≡ Some e
     → ((e ≡ Memory) × (is_short events ≡ true)) ⊎ (answered code e ≡ code_serial code args limit)
 

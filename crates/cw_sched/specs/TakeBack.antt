@@ -14,6 +14,7 @@ pub record SameWork (a b : Job) : Type 0 where
   pub place : a.place ≡ b.place
   pub slots : a.slots ≡ b.slots
   pub arrays : a.arrays ≡ b.arrays
+  pub readers : a.readers ≡ b.readers
   pub depth : a.depth ≡ b.depth
 
 -- what an instruction is to the strand of a rest and to the strand that took the rest back, where the spawned call had

@@ -36,8 +36,8 @@ use Rattle.cw_strand.specs.declared.strand.Mode.TheVariants as mode
 use Rattle.cw_strand.specs.declared.strand.Step.{Step}
 use Rattle.cw_strand.specs.declared.strand.Step.TheVariants as step
 use Rattle.cw_strand.specs.declared.strand.Strand.{Strand}
-use Rattle.cw_strand.specs.Levels.{levels_of}
-use Rattle.cw_strand.specs.Holds.{its_job, its_parts, its_code, outs, Ground, setting_of, ok_with, Lends, rests_at}
+use Rattle.cw_strand.specs.Levels.{levels_of, handed_levels}
+use Rattle.cw_strand.specs.Holds.{its_job, its_parts, its_code, outs, Ground, setting_of, ok_with, Lends, AreOut}
 use Rattle.cw_strand.specs.Holds.{KeepsJob, AreSpare, AreRests, IsRunning, IsGoing, IsAtSync, HasStopped, is_lost}
 
 -- a run begins a job, whose arrays moved into it
@@ -72,10 +72,11 @@ pub record CameTo (self : Strand) (limit : ℕ) (stop : Stop) (is : IsFit (its_c
   pub state : State
   pub later : ℕ
   pub outs : List Out
-  pub lends : Lends (its_code self) is (its_parts self) ground.base (levels_of state.around) outs
+  pub lends : Lends (its_code self) is (its_parts self) ground.base (handed_levels (levels_of state)) outs
       (reverse self.lent.items)
-  pub is_of : IsStrandOf (code_view (its_code self).code) j
-      (Going state later (rests_at (its_parts self) (levels_of state.around) (reverse self.lent.items)))
+  pub jobs_out : List jobs.Job
+  pub are : AreOut (its_parts self) (levels_of state) (reverse self.lent.items) jobs_out
+  pub is_of : IsStrandOf (code_view (its_code self).code) j (Going state later jobs_out)
   pub at : StopsAt (its_code self) (ok_with ground outs) (setting_of ground) limit stop self.count self.run later state
 
 -- whichever of the definitions the job is

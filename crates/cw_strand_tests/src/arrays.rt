@@ -20,6 +20,7 @@ const SET_M: Callee = Callee {
     line: 6,
     target: None,
     passed: 1,
+    lent: 0,
 };
 
 const SET_N: Callee = Callee {
@@ -28,6 +29,7 @@ const SET_N: Callee = Callee {
     line: 7,
     target: None,
     passed: 2,
+    lent: 0,
 };
 
 const OUTER: Halves = Halves {
@@ -111,6 +113,7 @@ pub const CUT: Program<'static> = Program {
             slots: 1,
             array_params: 1,
             arrays: 1,
+            readers: 0,
             body: &[
                 Instr::Length(0),
                 Instr::Push(1),
@@ -126,6 +129,7 @@ pub const CUT: Program<'static> = Program {
             slots: 1,
             array_params: 0,
             arrays: 5,
+            readers: 0,
             body: &CUT_MAIN,
         },
     ],
@@ -133,6 +137,7 @@ pub const CUT: Program<'static> = Program {
     reducers: &[],
     tags: &[],
     passed: &[&[], &[3], &[4]],
+    lent: &[],
 };
 
 const SET_A: Callee = Callee {
@@ -141,6 +146,7 @@ const SET_A: Callee = Callee {
     line: 4,
     target: None,
     passed: 1,
+    lent: 0,
 };
 
 const SET_B: Callee = Callee {
@@ -149,6 +155,7 @@ const SET_B: Callee = Callee {
     line: 6,
     target: None,
     passed: 2,
+    lent: 0,
 };
 
 /// void set(int a[], int v) { a[0] = v; }
@@ -168,6 +175,7 @@ pub const MADE: Program<'static> = Program {
             slots: 1,
             array_params: 1,
             arrays: 1,
+            readers: 0,
             body: &[
                 Instr::Push(0),
                 Instr::Load(0),
@@ -181,6 +189,7 @@ pub const MADE: Program<'static> = Program {
             slots: 1,
             array_params: 0,
             arrays: 2,
+            readers: 0,
             body: &[
                 Instr::Load(0),
                 Instr::NewArray(0, 3),
@@ -206,6 +215,7 @@ pub const MADE: Program<'static> = Program {
     reducers: &[],
     tags: &[],
     passed: &[&[], &[0], &[1]],
+    lent: &[],
 };
 
 const WHOLE: Inner = Inner {
@@ -284,6 +294,7 @@ pub const SQUARES: Program<'static> = Program {
             slots: 3,
             array_params: 1,
             arrays: 3,
+            readers: 0,
             body: &HALVING,
         },
         Part {
@@ -292,6 +303,7 @@ pub const SQUARES: Program<'static> = Program {
             slots: 0,
             array_params: 0,
             arrays: 1,
+            readers: 0,
             body: &[
                 Instr::Push(5),
                 Instr::NewArray(0, 1),
@@ -308,4 +320,5 @@ pub const SQUARES: Program<'static> = Program {
     reducers: &[],
     tags: &[],
     passed: &[&[0], &[1], &[2]],
+    lent: &[],
 };

@@ -20,6 +20,7 @@ const FIB_SPAWN: Callee = Callee {
     line: 5,
     target: Some(1),
     passed: 0,
+    lent: 0,
 };
 
 const FIB_CALL: Callee = Callee {
@@ -28,6 +29,7 @@ const FIB_CALL: Callee = Callee {
     line: 6,
     target: Some(2),
     passed: 0,
+    lent: 0,
 };
 
 const FIB_BODY: [Instr; 23] = [
@@ -62,6 +64,7 @@ const FIB_FIRST: Callee = Callee {
     line: 12,
     target: Some(1),
     passed: 0,
+    lent: 0,
 };
 
 const FIB_MAIN: [Instr; 6] = [
@@ -95,6 +98,7 @@ pub const FIB: Program<'static> = Program {
             slots: 3,
             array_params: 0,
             arrays: 0,
+            readers: 0,
             body: &FIB_BODY,
         },
         Part {
@@ -103,6 +107,7 @@ pub const FIB: Program<'static> = Program {
             slots: 2,
             array_params: 0,
             arrays: 0,
+            readers: 0,
             body: &FIB_MAIN,
         },
     ],
@@ -114,6 +119,7 @@ pub const FIB: Program<'static> = Program {
     reducers: &[],
     tags: &[],
     passed: NO_ARRAYS,
+    lent: &[],
 };
 
 const BAD: Part<'static> = Part {
@@ -122,6 +128,7 @@ const BAD: Part<'static> = Part {
     slots: 2,
     array_params: 0,
     arrays: 0,
+    readers: 0,
     body: &[
         Instr::Push(0),
         Instr::Store(1),
@@ -141,6 +148,7 @@ const FIRST: Callee = Callee {
     line: 2,
     target: None,
     passed: 0,
+    lent: 0,
 };
 
 const SECOND: Callee = Callee {
@@ -149,6 +157,7 @@ const SECOND: Callee = Callee {
     line: 3,
     target: None,
     passed: 0,
+    lent: 0,
 };
 
 /// int bad(int z) { int q = 0; q = 1 / z; return q; }
@@ -162,6 +171,7 @@ pub const DIVIDED: Program<'static> = Program {
             slots: 1,
             array_params: 0,
             arrays: 0,
+            readers: 0,
             body: &[
                 Instr::Load(0),
                 Instr::Call(CallKind::Spawned, FIRST),
@@ -177,6 +187,7 @@ pub const DIVIDED: Program<'static> = Program {
     reducers: &[],
     tags: &[],
     passed: NO_ARRAYS,
+    lent: &[],
 };
 
 /// int bad(int z) { int q = 0; q = 1 / z; return q; }
@@ -191,6 +202,7 @@ pub const DIVIDED_TWICE: Program<'static> = Program {
             slots: 1,
             array_params: 0,
             arrays: 0,
+            readers: 0,
             body: &[
                 Instr::Load(0),
                 Instr::Call(CallKind::Spawned, FIRST),
@@ -208,6 +220,7 @@ pub const DIVIDED_TWICE: Program<'static> = Program {
     reducers: &[],
     tags: &[],
     passed: NO_ARRAYS,
+    lent: &[],
 };
 
 /// int bad(int z) { int q = 0; q = 1 / z; return q; }
@@ -221,6 +234,7 @@ pub const DIVIDED_BESIDE_FOREVER: Program<'static> = Program {
             slots: 1,
             array_params: 0,
             arrays: 0,
+            readers: 0,
             body: &[
                 Instr::Load(0),
                 Instr::Call(CallKind::Spawned, FIRST),
@@ -237,6 +251,7 @@ pub const DIVIDED_BESIDE_FOREVER: Program<'static> = Program {
     reducers: &[],
     tags: &[],
     passed: NO_ARRAYS,
+    lent: &[],
 };
 
 const SHOW: Part<'static> = Part {
@@ -245,6 +260,7 @@ const SHOW: Part<'static> = Part {
     slots: 1,
     array_params: 0,
     arrays: 0,
+    readers: 0,
     body: &[Instr::Load(0), Instr::Print, Instr::Return],
 };
 
@@ -260,6 +276,7 @@ pub const PRINTED: Program<'static> = Program {
             slots: 0,
             array_params: 0,
             arrays: 0,
+            readers: 0,
             body: &[
                 Instr::Push(1),
                 Instr::Call(CallKind::Spawned, FIRST),
@@ -277,6 +294,7 @@ pub const PRINTED: Program<'static> = Program {
     reducers: &[],
     tags: &[],
     passed: NO_ARRAYS,
+    lent: &[],
 };
 
 /// reducer sum s; reducer max none; void add() { s += 9223372036854775807; }
@@ -290,6 +308,7 @@ pub const SUMMED: Program<'static> = Program {
             slots: 0,
             array_params: 0,
             arrays: 0,
+            readers: 0,
             body: &[Instr::Push(i64::MAX), Instr::Reduce(0), Instr::Return],
         },
         Part {
@@ -298,6 +317,7 @@ pub const SUMMED: Program<'static> = Program {
             slots: 0,
             array_params: 0,
             arrays: 0,
+            readers: 0,
             body: &[
                 Instr::Call(CallKind::Spawned, FIRST),
                 Instr::Call(CallKind::Spawned, SECOND),
@@ -311,6 +331,7 @@ pub const SUMMED: Program<'static> = Program {
     reducers: &[("s", Reduction::Sum), ("none", Reduction::Max)],
     tags: &[],
     passed: NO_ARRAYS,
+    lent: &[],
 };
 
 const TELL_BODY: [Instr; 11] = [
@@ -363,6 +384,7 @@ pub const GREATEST_IN_TURNS: Program<'static> = Program {
             slots: 1,
             array_params: 0,
             arrays: 0,
+            readers: 0,
             body: &TELL_BODY,
         },
         Part {
@@ -371,6 +393,7 @@ pub const GREATEST_IN_TURNS: Program<'static> = Program {
             slots: 1,
             array_params: 0,
             arrays: 0,
+            readers: 0,
             body: &TELL_MAIN,
         },
     ],
@@ -383,6 +406,7 @@ pub const GREATEST_IN_TURNS: Program<'static> = Program {
     ],
     tags: &[],
     passed: NO_ARRAYS,
+    lent: &[],
 };
 
 const NESTED_Q: Callee = Callee {
@@ -391,6 +415,7 @@ const NESTED_Q: Callee = Callee {
     line: 9,
     target: None,
     passed: 0,
+    lent: 0,
 };
 
 const NESTED_BODY: [Instr; 15] = [
@@ -428,6 +453,7 @@ pub const NESTED: Program<'static> = Program {
             slots: 1,
             array_params: 0,
             arrays: 0,
+            readers: 0,
             body: &[
                 Instr::Open(BlockKind::Region(0)),
                 Instr::Load(0),
@@ -442,6 +468,7 @@ pub const NESTED: Program<'static> = Program {
             slots: 1,
             array_params: 0,
             arrays: 0,
+            readers: 0,
             body: &NESTED_BODY,
         },
         Part {
@@ -450,6 +477,7 @@ pub const NESTED: Program<'static> = Program {
             slots: 1,
             array_params: 0,
             arrays: 0,
+            readers: 0,
             body: &[
                 Instr::Open(BlockKind::Region(1)),
                 Instr::Load(0),
@@ -472,4 +500,5 @@ pub const NESTED: Program<'static> = Program {
     reducers: &[],
     tags: &["r", "s"],
     passed: NO_ARRAYS,
+    lent: &[],
 };

@@ -13,4 +13,6 @@ mod driving;
 #[cfg(test)]
 mod programs;
 #[cfg(test)]
+mod readers;
+#[cfg(test)]
 mod rows;

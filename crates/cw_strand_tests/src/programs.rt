@@ -1,6 +1,6 @@
 //! Programs as code that is written by hand.
 
-use cw_code::code::{Code, Func, Instr, Reducer, Site};
+use cw_code::code::{Code, Func, Instr, Loan, Reducer, Site};
 use cw_model::syntax::{CallKind, Name, Reduction};
 use cw_text::Fault;
 use cw_verify::verified::Verified;
@@ -8,8 +8,8 @@ use cw_verify::verify::verify;
 use std::alloc::{AllocError, Global};
 use std::sync::Arc;
 
-/// A function of code: whether it gives a value, its integer parameters and slots, its array parameters and slots, and
-/// its instructions.
+/// A function of code: whether it gives a value, its integer parameters and slots, its array parameters and slots, the
+/// count of the arrays that it reads, and its instructions.
 #[derive(Clone, Copy, Debug)]
 pub struct Part<'a> {
     pub gives_int: bool,
@@ -17,11 +17,12 @@ pub struct Part<'a> {
     pub slots: usize,
     pub array_params: usize,
     pub arrays: usize,
+    pub readers: usize,
     pub body: &'a [Instr],
 }
 
 /// A program: its functions, main the last one; the kind and the function of its call statements, its reducers and tags,
-/// and the lists of the array slots that its calls take.
+/// and the lists of the array slots that its calls take, and of what they are lent.
 #[derive(Clone, Copy, Debug)]
 pub struct Program<'a> {
     pub parts: &'a [Part<'a>],
@@ -29,6 +30,7 @@ pub struct Program<'a> {
     pub reducers: &'a [(&'a str, Reduction)],
     pub tags: &'a [&'a str],
     pub passed: &'a [&'a [u32]],
+    pub lent: &'a [&'a [Loan]],
 }
 
 // These functions, one after another.
@@ -44,6 +46,7 @@ fn place_parts(code: &mut Code, parts: &[Part]) -> Result<(), AllocError> {
             slots: part.slots,
             array_params: part.array_params,
             arrays: part.arrays,
+            readers: part.readers,
         })?;
     }
     Ok(())
@@ -91,7 +94,7 @@ fn reducers_of(alloc: Global, told: &[(&str, Reduction)]) -> Result<Vec<Reducer>
 }
 
 // These lists.
-fn lists_of(alloc: Global, lists: &[&[u32]]) -> Result<Vec<Vec<u32>>, AllocError> {
+fn lists_of<A: Copy>(alloc: Global, lists: &[&[A]]) -> Result<Vec<Vec<A>>, AllocError> {
     let mut all = Vec::new(alloc);
     for list in lists {
         all.push(Vec::from_slice(alloc, list)?)?;
@@ -110,6 +113,7 @@ pub fn code_of(alloc: Global, program: &Program) -> Result<Arc<Verified>, Fault>
         reducers: reducers_of(alloc, program.reducers)?,
         tags: names_of(alloc, program.tags)?,
         passed: lists_of(alloc, program.passed)?,
+        lent: lists_of(alloc, program.lent)?,
     };
     place_parts(&mut code, program.parts)?;
     place_sites(alloc, &mut code, program.sites)?;

@@ -8,6 +8,7 @@ use crate::calls::{
 };
 use crate::driving::{Fate, Way, run_so};
 use crate::programs::{Program, code_of};
+use crate::readers::TOTAL;
 use cw_jobs::effect::Effect;
 use cw_jobs::job::Job;
 use cw_machine::alone::{Ended, run_alone};
@@ -88,7 +89,7 @@ fn ways() -> [Way<'static>; 7] {
     WAYS
 }
 
-fn ending() -> [Row<'static>; 11] {
+fn ending() -> [Row<'static>; 12] {
     ENDING
 }
 
@@ -186,7 +187,27 @@ fn fails_whole(alloc: Global, row: &Row) -> Result<bool, Fault> {
 }
 
 // Programs that end.
-const ENDING: [Row<'static>; 11] = [
+const ENDING: [Row<'static>; 12] = [
+    // 18, then a sum of three elements, at most 68 in a row, beside 5; then 9: only the rests of calls that neither lend
+    // nor read are handed out
+    Row {
+        name: "a sum of what is read",
+        program: TOTAL,
+        args: &[],
+        charge: 0,
+        edges: Edges::Spawn,
+        cost: 152,
+        spawns: 4,
+        told: Told::Ends {
+            value: 19,
+            lines: &[1, 2, 4, 2],
+            totals: &[],
+            span: 95,
+            burdened: 95,
+            sites: &[],
+            regions: &[],
+        },
+    },
     Row {
         name: "fib of 4",
         program: FIB,

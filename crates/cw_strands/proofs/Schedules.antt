@@ -71,16 +71,16 @@ module _ (code : Code) where
   answers budget e Beyond h = ap (answered code) h
   answers budget e Lost h = absurd h
 
-  pub root_serial : (f : Func) (args : List ℤ) (limit : ℕ) (e : Effect) → first_transition (slice_get code.funcs code.main) args ≡ On (first_state f args [])
+  pub root_serial : (f : Func) (args : List ℤ) (limit : ℕ) (e : Effect) → first_transition (slice_get code.funcs code.main) args ≡ On (first_state f args [] [])
       → JobMeaning code (root_job f args limit) e → (e ≡ Memory) ⊎ (answered code e ≡ code_serial code args limit)
   unfolding code_serial
   root_serial f args limit e first (Same h) = inr (
       answers limit e (course code (root_job f args limit) limit) h
-      ∙ ap (option_map (λ o. answer_of (reducers_of code) o)) (sym (steps_told limit (first_state f args [])))
+      ∙ ap (option_map (λ o. answer_of (reducers_of code) o)) (sym (steps_told limit (first_state f args [] [])))
       ∙ ap (λ w. option_map (λ o. answer_of (reducers_of code) o) (go_on w limit (λ s. steps code limit s))) (sym first))
   root_serial f args limit e first (Passed over h) = inr (
       answers limit e (course code (root_job f args limit) limit) (subst (λ c. IsOf c limit e) (sym (ap (course code (root_job f args limit)) (let z : limit ≡ limit - 0 = omega arith in z) ∙ h)) over)
-      ∙ ap (option_map (λ o. answer_of (reducers_of code) o)) (sym (steps_told limit (first_state f args [])))
+      ∙ ap (option_map (λ o. answer_of (reducers_of code) o)) (sym (steps_told limit (first_state f args [] [])))
       ∙ ap (λ w. option_map (λ o. answer_of (reducers_of code) o) (go_on w limit (λ s. steps code limit s))) (sym first))
   root_serial f args limit e first (Short short) = inl short
 

@@ -7,7 +7,7 @@ use Rattle.cw_model.specs.Outcome.{Trace, quiet, joined}
 use Rattle.cw_code.specs.declared.code.Func.{Func}
 use Rattle.cw_code.specs.declared.code.Instr.{Instr}
 use Rattle.cw_code.specs.Code.{Code}
-use Rattle.cw_code.specs.Fits.{array_params_of, Shape, Fits}
+use Rattle.cw_code.specs.Fits.{array_params_of, readers_of, Shape, Fits}
 use Rattle.cw_code.specs.Run.{Slots, Around, Caller, Block, State, Transition, On, Ends, Stops, Stuck, synced, settled, Entering, begun, back, act, step}
 use Rattle.cw_code.specs.Good.{Good, GoodState, FitBegins, FitSteps, FitSettles}
 use Rattle.cw_strands.specs.Jobs.{Extent, WholeCall, ToJoin, joins, is_first, has_come, standing, Job, job_start, course, root_job, Effect, Ended, Joined, TrapIn, OverLimit, Memory, JobMeaning}
@@ -131,7 +131,7 @@ module _ (code : Code) (fits : Fits code) (steps_well : FitSteps code fits) (set
     out_alone : (s : State) (f : Func) (shape : Shape) → s.operands ≡ [] → Good f shape s → Good f shape (record s { operands = []; trace = joined s.trace quiet })
     out_alone s f shape none h =
         let k = subst (λ ops. Good f shape (record s { operands = ops })) none h in
-        record { as_many = k.as_many; ints = k.ints; arrays = k.arrays; cuts = k.cuts }
+        record { as_many = k.as_many; ints = k.ints; arrays = k.arrays; readers = k.readers; cuts = k.cuts }
 
     out_starts : (x : Extent) (b : Base x) (s : State) (limit before : ℕ) → s.operands ≡ [] → GoodState code fits (lifted b s) → GoodState code fits (under (lifted b s) (job_start (rest_at s limit before)))
     out_starts x Alone s limit before none g = record { seat = g.seat; call = out_alone s g.seat.func g.seat.shape none g.call; others = g.others }
@@ -308,10 +308,10 @@ module _ (code : Code) (fits : Fits code) (steps_well : FitSteps code fits) (set
       (next_ok code world' world next before.0, next_fit world' world next before.0 before.1)
 
   root_fits : (f : Func) (args : List ℤ) (limit : ℕ) → slice_get code.funcs code.main ≡ Some f → length args ≡ f.params → FitJob code fits steps_well settles (root_job f args limit)
-  root_fits f args limit e m = let none : f.array_params ≡ 0 = sym (ap array_params_of e) ∙ fits.of_integers in record {
-    base = Alone;
-    good = begins code.main f args [] e m (sym none);
-  }
+  root_fits f args limit e m =
+      let none : f.array_params ≡ 0 = sym (ap array_params_of e) ∙ fits.of_integers in
+      let none_lent : f.readers ≡ 0 = sym (ap readers_of e) ∙ fits.reads_none in
+      record { base = Alone; good = begins code.main f args [] [] e m (sym none) (sym none_lent) }
 
 pub none_is_unfit : ((code : Code) (fits : Fits code) → FitSteps code fits) → FitSettles → ((code : Code) (fits : Fits code) → FitBegins code fits) → NoneIsUnfit
 none_is_unfit steps settles begins code fits f args limit world i worker job strand outs found count after has e =

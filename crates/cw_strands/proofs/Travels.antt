@@ -96,6 +96,8 @@ module _ (code : Code) where
       same (Some (instr.Length a)) k = cc
       same (Some (instr.Element a line)) k = cc
       same (Some (instr.SetElement a line)) k = cc
+      same (Some (instr.ReadLength r)) k = cc
+      same (Some (instr.ReadElement r line)) k = cc
       same (Some (instr.Cut cut line)) k = cc
       same (Some instr.EndCut) k = refl
       same (Some instr.Sync) k = refl

@@ -10,8 +10,8 @@ use Rattle.cw_code.specs.declared.code.Func.{Func}
 use Rattle.cw_code.specs.declared.code.Instr.{Instr}
 use Rattle.cw_code.specs.declared.code.Instr.TheVariants.{EndCut, Sync, Close, ReturnValue, Return}
 use Rattle.cw_code.specs.Code.{Code}
-use Rattle.cw_code.specs.Run.{Slots, Around, State, Transition, On, Ends, Stops, Stuck, settled, slots_of, arrays_of}
-use Rattle.cw_code.specs.Run.{fresh, step, reducers_of}
+use Rattle.cw_code.specs.Run.{Slots, Readers, Around, State, Transition, On, Ends, Stops, Stuck, settled, slots_of}
+use Rattle.cw_code.specs.Run.{arrays_of, fresh, step, reducers_of}
 
 -- how far a run goes: to the end of its call, or to before the join of the sync block that it begins in
 pub data Extent : Type 0 where
@@ -37,17 +37,24 @@ abbrev pub has_come : Extent → Code → State → Bool
 has_come WholeCall code s = false
 has_come ToJoin code s = is_first s.around && joins (slice_get code.instrs s.place)
 
--- a call as it stands at a join, what its own spawns took being given back: the value of a return lies on its operands
+-- a call as it stands at a join, what its own spawns took being given back, with what it was lent: the value of a return
+-- lies on its operands
 pub record Standing : Type 0 where
   pub place : ℕ
   pub operands : List ℤ
   pub slots : Slots ℤ
   pub arrays : Slots (List ℤ)
+  pub readers : Readers
 
 abbrev pub standing : State → Standing
 standing s =
-    record
-    { place = s.place; operands = s.operands; slots = settled s.results s.slots; arrays = settled s.arrived s.arrays }
+    record {
+      place = s.place;
+      operands = s.operands;
+      slots = settled s.results s.slots;
+      arrays = settled s.arrived s.arrays;
+      readers = s.readers;
+    }
 
 -- where a run comes to within a budget, and what is left of it: to the join, to the end of its call, to a trap, to the
 -- end of the budget, or to code that does not fit
@@ -70,20 +77,21 @@ travel x code zero s = if has_come x code s then Arrives (standing s) s.trace ze
 travel x code (suc n) s =
     if has_come x code s then Arrives (standing s) s.trace (suc n) else moved (step code s) n (λ s'. travel x code n s')
 
--- a job: how far it goes, its place, its slots, in which what a spawn still out took stands empty, its depth, the limit
--- of the run, and the cost before it
+-- a job: how far it goes, its place, its slots, in which what a spawn still out took stands empty, what its call was
+-- lent, its depth, the limit of the run, and the cost before it
 pub record Job : Type 0 where
   pub extent : Extent
   pub place : ℕ
   pub slots : Slots ℤ
   pub arrays : Slots (List ℤ)
+  pub readers : Readers
   pub depth : ℕ
   pub limit : ℕ
   pub before : ℕ
 
 -- a job begins with no operand, nothing round it and nothing shown
 abbrev pub job_start : Job → State
-job_start job = fresh job.place job.depth job.slots job.arrays
+job_start job = fresh job.place job.depth job.slots job.arrays job.readers
 
 -- the run of a job
 abbrev pub course : Code → Job → ℕ → Came
@@ -97,6 +105,7 @@ root_job f args limit =
       place = f.start;
       slots = slots_of f args;
       arrays = arrays_of f [];
+      readers = [];
       depth = 1;
       limit = limit;
       before = 0;

@@ -27,6 +27,7 @@ call_job e limit before = record {
   place = e.func.start;
   slots = slots_of e.func e.arguments;
   arrays = arrays_of e.func e.given;
+  readers = e.lent;
   depth = e.depth;
   limit = limit;
   before = before;
@@ -51,12 +52,12 @@ pub record Kept (code : Code) : Type 0 where
 abbrev pub RootsAreSerial : Type 0
 RootsAreSerial =
     (code : Code) (f : Func) (args : List ℤ) (limit : ℕ) (e : Effect)
-    → first_transition (slice_get code.funcs code.main) args ≡ On (first_state f args [])
+    → first_transition (slice_get code.funcs code.main) args ≡ On (first_state f args [] [])
     → JobMeaning code (root_job f args limit) e → (e ≡ Memory) ⊎ (answered code e ≡ code_serial code args limit)
 
 -- whatever the schedule
 abbrev pub SchedulesAreSerial : Type 0
 SchedulesAreSerial =
     (code : Code) (f : Func) (args : List ℤ) (limit : ℕ) (e : Effect)
-    → first_transition (slice_get code.funcs code.main) args ≡ On (first_state f args [])
+    → first_transition (slice_get code.funcs code.main) args ≡ On (first_state f args [] [])
     → Makes code (root_job f args limit) e → (e ≡ Memory) ⊎ (answered code e ≡ code_serial code args limit)

@@ -16,7 +16,7 @@ use Rattle.cw_strands.specs.Events.{Event, Advance, Offer, Inline, Begin, Skip, 
 
 -- the first function, called at a site in a line, with its result dropped
 abbrev pub to_first : (site line : ℕ) → Callee
-to_first site line = record { function = 0; site = site; line = line; target = None; passed = 0 }
+to_first site line = record { function = 0; site = site; line = line; target = None; passed = 0; lent = 0 }
 
 -- a spawn of the first function
 abbrev pub spawn_site : (number line : ℕ) → CodeSite
@@ -25,7 +25,8 @@ spawn_site number line =
 
 -- main of the first code
 abbrev pub prints : Func
-prints = record { start = 3; end = 12; gives_int = true; params = 0; slots = 0; array_params = 0; arrays = 0 }
+prints =
+    record { start = 3; end = 12; gives_int = true; params = 0; slots = 0; array_params = 0; arrays = 0; readers = 0 }
 
 -- void p(int v) { print(v); } and main: cilk_spawn p(1); cilk_spawn p(2); print(3); cilk_sync; return 0;
 abbrev pub printing : Code
@@ -34,14 +35,15 @@ printing = record {
       Load 0 ∷ Print ∷ Return ∷ Push (pos 1) ∷ Call Spawned (to_first 1 1) ∷ Push (pos 2) ∷ Call Spawned (to_first 2 1)
       ∷ Push (pos 3) ∷ Print ∷ Sync ∷ Push (pos 0) ∷ ReturnValue ∷ [];
   funcs =
-      record { start = 0; end = 3; gives_int = false; params = 1; slots = 1; array_params = 0; arrays = 0 } ∷ prints
-      ∷ [];
+      record { start = 0; end = 3; gives_int = false; params = 1; slots = 1; array_params = 0; arrays = 0; readers = 0 }
+      ∷ prints ∷ [];
   main = 1;
   main_line = 1;
   sites = spawn_site 1 1 ∷ spawn_site 2 1 ∷ [];
   reducers = [];
   tags = [];
   passed = [];
+  lent = [];
 }
 
 -- what these events make of the first code within a limit
@@ -76,7 +78,8 @@ lines_of _ = []
 
 -- main of the second code
 abbrev pub fails : Func
-fails = record { start = 4; end = 11; gives_int = true; params = 0; slots = 0; array_params = 0; arrays = 0 }
+fails =
+    record { start = 4; end = 11; gives_int = true; params = 0; slots = 0; array_params = 0; arrays = 0; readers = 0 }
 
 -- int f(int z) { return 1 / z; } in line 1 and main in line 2: cilk_spawn f(0); print(7); cilk_sync; return 0;
 abbrev pub failing : Code
@@ -85,13 +88,15 @@ failing = record {
       Push (pos 1) ∷ Load 0 ∷ Binary Divide 1 ∷ ReturnValue ∷ Push (pos 0) ∷ Call Spawned (to_first 1 2) ∷ Push (pos 7)
       ∷ Print ∷ Sync ∷ Push (pos 0) ∷ ReturnValue ∷ [];
   funcs =
-      record { start = 0; end = 4; gives_int = true; params = 1; slots = 1; array_params = 0; arrays = 0 } ∷ fails ∷ [];
+      record { start = 0; end = 4; gives_int = true; params = 1; slots = 1; array_params = 0; arrays = 0; readers = 0 }
+      ∷ fails ∷ [];
   main = 1;
   main_line = 1;
   sites = spawn_site 1 2 ∷ [];
   reducers = [];
   tags = [];
   passed = [];
+  lent = [];
 }
 
 -- what these events make of the second code within a limit

@@ -123,7 +123,7 @@ world_of job = record { jobs = job ∷ []; places = Runs 0 (started job) [] ∷ 
 abbrev pub WorldsAreSerial : Type 0
 WorldsAreSerial =
     (code : Code) (f : Func) (args : List ℤ) (limit : ℕ) (world : World) (place : Place) (e : Effect)
-    → first_transition (slice_get code.funcs code.main) args ≡ On (first_state f args [])
+    → first_transition (slice_get code.funcs code.main) args ≡ On (first_state f args [] [])
     → After code (world_of (root_job f args limit)) world → slice_get world.places 0 ≡ Some place
     → effect_in place ≡ Some e → (e ≡ Memory) ⊎ (answered code e ≡ code_serial code args limit)
 

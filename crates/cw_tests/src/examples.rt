@@ -3,6 +3,7 @@
 //! `examples.py` wrote the modules below this one.
 
 mod collatz;
+mod dot;
 mod fib;
 mod fib_cutoff;
 mod histogram;
@@ -15,6 +16,7 @@ mod prefix;
 mod primes;
 mod primes_each;
 mod primes_loop;
+mod product;
 mod quarters;
 mod queens;
 mod roots;
@@ -38,7 +40,7 @@ pub struct Example {
     pub greedy: &'static str,
 }
 
-const EXAMPLES: [Example; 11] = [
+const EXAMPLES: [Example; 12] = [
     collatz::EXAMPLE,
     fib::EXAMPLE,
     fib_cutoff::EXAMPLE,
@@ -47,13 +49,15 @@ const EXAMPLES: [Example; 11] = [
     prefix::EXAMPLE,
     primes::EXAMPLE,
     primes_each::EXAMPLE,
+    product::EXAMPLE,
     quarters::EXAMPLE,
     queens::EXAMPLE,
     spawned::EXAMPLE,
 ];
 
 // Those with a parallel loop.
-const WITH_LOOPS: [Example; 8] = [
+const WITH_LOOPS: [Example; 9] = [
+    dot::EXAMPLE,
     histogram::EXAMPLE,
     longest::EXAMPLE,
     matrix::EXAMPLE,

@@ -1,5 +1,5 @@
 -- Texts that a source can begin with.
-use Rattle.std.specs.Prelude.{◌≡◌, ℕ, List, ◌++◌, ◌⊎◌, codes}
+use Rattle.std.specs.Prelude.{ℕ, List, ◌++◌, ◌⊎◌, codes}
 use Rattle.cw_model.specs.declared.token.Token.{Token}
 use Rattle.cw_model.specs.Grammar.{Derives, HasSyntaxFault}
 use Rattle.cw_model.specs.Syntax.{Program}

@@ -165,6 +165,7 @@ pub fn spelled(kind: Kind) -> bool {
     match kind {
         Kind::Int
         | Kind::Void
+        | Kind::Const
         | Kind::If
         | Kind::Else
         | Kind::While

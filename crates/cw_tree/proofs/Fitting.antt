@@ -1,5 +1,5 @@
 -- In a resolved program that keeps the limits and the rules of names and types, each slot and each index fits.
-use Rattle.std.proofs.Common.{◌≡◌, ℕ, suc, ◌<◌, ◌≤◌, max, nat_lt, nat_le, Bool, true, false, not, ◌&&◌, ◌||◌, if◌then◌else◌, List, [], ◌∷◌, ◌++◌, length, map, filter, flat_map, Option, Some, None, option_map, refl, sym, ap, ◌∙◌, arith, true≢false}
+use Rattle.std.proofs.Common.{◌≡◌, ℕ, suc, ◌<◌, ◌≤◌, max, nat_lt, nat_le, Bool, true, false, not, ◌&&◌, ◌||◌, if◌then◌else◌, List, [], ◌∷◌, ◌++◌, length, drop, map, filter, flat_map, Option, Some, None, option_map, refl, sym, ap, ◌∙◌, arith, true≢false}
 use Rattle.std.specs.List.{list_all}
 use Rattle.std.proofs.lemmas.Bool.Decides.{nat_tests}
 use Rattle.std.proofs.lemmas.List.{length-map}
@@ -12,7 +12,7 @@ use Rattle.cw_model.specs.Syntax as model
 use Rattle.cw_model.specs.Syntax.{Name, Param, Reducer, Program}
 use Rattle.cw_model.specs.Answers.{main_name}
 use Rattle.cw_model.specs.Sizes.{first_places, regions_in, regions_in_block, regions_of, function_limits, limit_faults}
-use Rattle.cw_model.specs.Typing.{Known, is_known, is_int, is_array, is_new, is_fine, is_argument, are_arguments, called, is_target, is_call, is_reducer, Returns, Nowhere, WithInt, Alone, may_return, declares, surely_returns, ends_block, is_head_of_loop, is_cut, faults_in, faults_in_block, known_of, is_head, faults_of, type_faults}
+use Rattle.cw_model.specs.Typing.{Known, is_known, is_int, is_array, is_writable, is_new, is_fine, is_argument, are_arguments, called, is_target, is_call, is_reducer, Returns, Nowhere, WithInt, Alone, may_return, declares, surely_returns, ends_block, is_head_of_loop, is_cut, faults_in, faults_in_block, known_of, is_head, faults_of, type_faults}
 use Rattle.cw_model.specs.lemmas.Kept.{left_none, right_none, kept, both_left, both_right}
 use Rattle.cw_tree.specs.Resolved as spec
 use Rattle.cw_tree.specs.Bounds.{Counts, is_below, fits_expr, fits_argument, fits_target, fits_return, fits_head, fits_parts, fits_stmt, fits_block, counts_of, fits_function, is_fitting}
@@ -21,6 +21,11 @@ use Rattle.cw_tree.proofs.Right.{both, same}
 use Rattle.cw_tree.specs.lemmas.Slotted.{one_more, few_ints_in, few_arrays_in, params_count}
 use Rattle.cw_tree.specs.lemmas.Few.{heads_small, small_head}
 use Rattle.cw_tree.specs.lemmas.Reducers.{is_named}
+use Rattle.cw_model.specs.declared.syntax.NameKind.TheVariants as name_kind
+use Rattle.cw_model.specs.Syntax.{wants_array}
+use Rattle.cw_model.specs.declared.syntax.NameKind.{NameKind}
+use Rattle.cw_model.specs.Syntax.{is_array_kind}
+use Rattle.cw_model.specs.lemmas.Fits.{fits_kind, fit_kinds, writable_array, writable_arrays, arguments_fit}
 
 less : (a b : ℕ) → a < b → nat_lt a b ≡ true
 less a b h = grind (arith, nat_tests)
@@ -64,28 +69,28 @@ among_more x y (z ∷ names) h = first (same_name x z) h (among_more x y names)
 
 -- what is known as an integer is among the integers, and what is known as an array among the arrays
 record Agree (known : Known) (l : spec.Locals) : Type 0 where
-  pub ints : (x : Name) → is_known x false known ≡ true → is_among x l.ints ≡ true
-  pub arrays : (x : Name) → is_known x true known ≡ true → is_among x l.arrays ≡ true
+  pub ints : (x : Name) → is_int known x ≡ true → is_among x l.ints ≡ true
+  pub arrays : (x : Name) → is_array known x ≡ true → is_among x l.arrays ≡ true
 
-agree_int : (known : Known) (l : spec.Locals) (y : Name) → Agree known l → Agree ((y, false) ∷ known) (spec.with_int y l)
+agree_int : (known : Known) (l : spec.Locals) (y : Name) → Agree known l → Agree ((y, name_kind.Integer) ∷ known) (spec.with_int y l)
 agree_int known l y a = record { ints = λ x h. int x (same_name x y) refl h; arrays = λ x h. array x (same_name x y) h }
   where
-    int : (x : Name) (b : Bool) → same_name x y ≡ b → (if b then true else is_known x false known) ≡ true → is_among x (l.ints ++ y ∷ []) ≡ true
+    int : (x : Name) (b : Bool) → same_name x y ≡ b → (if b then true else is_int known x) ≡ true → is_among x (l.ints ++ y ∷ []) ≡ true
     int x true e h = among_last x y l.ints e
     int x false e h = among_more x y l.ints (a.ints x h)
 
-    array : (x : Name) (b : Bool) → (if b then false else is_known x true known) ≡ true → is_among x l.arrays ≡ true
+    array : (x : Name) (b : Bool) → (if b then false else is_array known x) ≡ true → is_among x l.arrays ≡ true
     array x true h = cc
     array x false h = a.arrays x h
 
-agree_array : (known : Known) (l : spec.Locals) (y : Name) → Agree known l → Agree ((y, true) ∷ known) (spec.with_array y l)
+agree_array : (known : Known) (l : spec.Locals) (y : Name) → Agree known l → Agree ((y, name_kind.Array) ∷ known) (spec.with_array y l)
 agree_array known l y a = record { ints = λ x h. int x (same_name x y) h; arrays = λ x h. array x (same_name x y) refl h }
   where
-    int : (x : Name) (b : Bool) → (if b then false else is_known x false known) ≡ true → is_among x l.ints ≡ true
+    int : (x : Name) (b : Bool) → (if b then false else is_int known x) ≡ true → is_among x l.ints ≡ true
     int x true h = cc
     int x false h = a.ints x h
 
-    array : (x : Name) (b : Bool) → same_name x y ≡ b → (if b then true else is_known x true known) ≡ true → is_among x (l.arrays ++ y ∷ []) ≡ true
+    array : (x : Name) (b : Bool) → same_name x y ≡ b → (if b then true else is_array known x) ≡ true → is_among x (l.arrays ++ y ∷ []) ≡ true
     array x true e h = among_last x y l.arrays e
     array x false e h = among_more x y l.arrays (a.arrays x h)
 
@@ -110,67 +115,67 @@ agree_after known l (model.Print e) a = a
 agree_after known l (model.Return e) a = a
 
 -- a name is known by the last one only where no other is spelled so
-last_known : (x : Name) (b : Bool) (ks : Known) (y : Name) (c : Bool) → is_known x b (ks ++ (y, c) ∷ []) ≡ true → is_known x b ks ≡ false →
-    (same_name x y ≡ true) × ((if b then c else not c) ≡ true)
-last_known x b [] y c h none = first (same_name x y) refl h
+last_known : (x : Name) (such : NameKind → Bool) (ks : Known) (y : Name) (c : NameKind) → is_known x such (ks ++ (y, c) ∷ []) ≡ true → is_known x such ks ≡ false →
+    (same_name x y ≡ true) × (such c ≡ true)
+last_known x such [] y c h none = first (same_name x y) refl h
   where
-    first : (d : Bool) → same_name x y ≡ d → (if d then (if b then c else not c) else false) ≡ true → (same_name x y ≡ true) × ((if b then c else not c) ≡ true)
+    first : (d : Bool) → same_name x y ≡ d → (if d then such c else false) ≡ true → (same_name x y ≡ true) × (such c ≡ true)
     first true e h' = (e, h')
     first false e h' = cc
-last_known x b (k ∷ ks) y c h none = first (same_name x k.0) h none (last_known x b ks y c)
+last_known x such (k ∷ ks) y c h none = first (same_name x k.0) h none (last_known x such ks y c)
   where
-    first : (d : Bool) → (if d then (if b then k.1 else not k.1) else is_known x b (ks ++ (y, c) ∷ [])) ≡ true →
-        (if d then (if b then k.1 else not k.1) else is_known x b ks) ≡ false →
-        (is_known x b (ks ++ (y, c) ∷ []) ≡ true → is_known x b ks ≡ false → (same_name x y ≡ true) × ((if b then c else not c) ≡ true)) →
-        (same_name x y ≡ true) × ((if b then c else not c) ≡ true)
+    first : (d : Bool) → (if d then such k.1 else is_known x such (ks ++ (y, c) ∷ [])) ≡ true →
+        (if d then such k.1 else is_known x such ks) ≡ false →
+        (is_known x such (ks ++ (y, c) ∷ []) ≡ true → is_known x such ks ≡ false → (same_name x y ≡ true) × (such c ≡ true)) →
+        (same_name x y ≡ true) × (such c ≡ true)
     first true h' none' more = absurd (true≢false (sym h' ∙ none'))
     first false h' none' more = more h' none'
 
-int_param : (x : Name) (ps : List Param) → is_known x false (known_of ps) ≡ true → is_among x (spec.locals_of ps).ints ≡ true
+int_param : (x : Name) (ps : List Param) → is_int (known_of ps) x ≡ true → is_among x (spec.locals_of ps).ints ≡ true
 int_param x [] h = cc
-int_param x (p ∷ ps) h = first (is_known x false (known_of ps)) refl (int_param x ps)
+int_param x (p ∷ ps) h = first (is_int (known_of ps) x) refl (int_param x ps)
   where
-    more : is_among x (map (λ (q : Param). q.name) (filter (λ (q : Param). not q.is_array) ps)) ≡ true → (s : Bool) → (if s then true else is_among x (map (λ (q : Param). q.name) (filter (λ (q : Param). not q.is_array) ps))) ≡ true
+    more : is_among x (map (λ (q : Param). q.name) (filter (λ (q : Param). not (wants_array q)) ps)) ≡ true → (s : Bool) → (if s then true else is_among x (map (λ (q : Param). q.name) (filter (λ (q : Param). not (wants_array q)) ps))) ≡ true
     more e true = refl
     more e false = e
 
-    old : is_among x (map (λ (q : Param). q.name) (filter (λ (q : Param). not q.is_array) ps)) ≡ true → (c : Bool) →
-        is_among x (map (λ (q : Param). q.name) (if not c then p ∷ filter (λ (q : Param). not q.is_array) ps else filter (λ (q : Param). not q.is_array) ps)) ≡ true
+    old : is_among x (map (λ (q : Param). q.name) (filter (λ (q : Param). not (wants_array q)) ps)) ≡ true → (c : Bool) →
+        is_among x (map (λ (q : Param). q.name) (if not c then p ∷ filter (λ (q : Param). not (wants_array q)) ps else filter (λ (q : Param). not (wants_array q)) ps)) ≡ true
     old e true = e
     old e false = more e (same_name x p.name)
 
     new : same_name x p.name ≡ true → (c : Bool) → not c ≡ true →
-        is_among x (map (λ (q : Param). q.name) (if not c then p ∷ filter (λ (q : Param). not q.is_array) ps else filter (λ (q : Param). not q.is_array) ps)) ≡ true
+        is_among x (map (λ (q : Param). q.name) (if not c then p ∷ filter (λ (q : Param). not (wants_array q)) ps else filter (λ (q : Param). not (wants_array q)) ps)) ≡ true
     new e true k = cc
-    new e false k = ap (λ s. if s then true else is_among x (map (λ (q : Param). q.name) (filter (λ (q : Param). not q.is_array) ps))) e
+    new e false k = ap (λ s. if s then true else is_among x (map (λ (q : Param). q.name) (filter (λ (q : Param). not (wants_array q)) ps))) e
 
-    first : (b : Bool) → is_known x false (known_of ps) ≡ b → (is_known x false (known_of ps) ≡ true → is_among x (spec.locals_of ps).ints ≡ true) →
+    first : (b : Bool) → is_int (known_of ps) x ≡ b → (is_int (known_of ps) x ≡ true → is_among x (spec.locals_of ps).ints ≡ true) →
         is_among x (spec.locals_of (p ∷ ps)).ints ≡ true
-    first true e before = old (before e) p.is_array
-    first false e before = let last = last_known x false (known_of ps) p.name p.is_array h e in new last.0 p.is_array last.1
+    first true e before = old (before e) (wants_array p)
+    first false e before = let last = last_known x (λ k. not (is_array_kind k)) (known_of ps) p.name p.kind h e in new last.0 (wants_array p) last.1
 
-array_param : (x : Name) (ps : List Param) → is_known x true (known_of ps) ≡ true → is_among x (spec.locals_of ps).arrays ≡ true
+array_param : (x : Name) (ps : List Param) → is_array (known_of ps) x ≡ true → is_among x (spec.locals_of ps).arrays ≡ true
 array_param x [] h = cc
-array_param x (p ∷ ps) h = first (is_known x true (known_of ps)) refl (array_param x ps)
+array_param x (p ∷ ps) h = first (is_array (known_of ps) x) refl (array_param x ps)
   where
-    more : is_among x (map (λ (q : Param). q.name) (filter (λ (q : Param). q.is_array) ps)) ≡ true → (s : Bool) → (if s then true else is_among x (map (λ (q : Param). q.name) (filter (λ (q : Param). q.is_array) ps))) ≡ true
+    more : is_among x (map (λ (q : Param). q.name) (filter (λ (q : Param). wants_array q) ps)) ≡ true → (s : Bool) → (if s then true else is_among x (map (λ (q : Param). q.name) (filter (λ (q : Param). wants_array q) ps))) ≡ true
     more e true = refl
     more e false = e
 
-    old : is_among x (map (λ (q : Param). q.name) (filter (λ (q : Param). q.is_array) ps)) ≡ true → (c : Bool) →
-        is_among x (map (λ (q : Param). q.name) (if c then p ∷ filter (λ (q : Param). q.is_array) ps else filter (λ (q : Param). q.is_array) ps)) ≡ true
+    old : is_among x (map (λ (q : Param). q.name) (filter (λ (q : Param). wants_array q) ps)) ≡ true → (c : Bool) →
+        is_among x (map (λ (q : Param). q.name) (if c then p ∷ filter (λ (q : Param). wants_array q) ps else filter (λ (q : Param). wants_array q) ps)) ≡ true
     old e true = more e (same_name x p.name)
     old e false = e
 
     new : same_name x p.name ≡ true → (c : Bool) → c ≡ true →
-        is_among x (map (λ (q : Param). q.name) (if c then p ∷ filter (λ (q : Param). q.is_array) ps else filter (λ (q : Param). q.is_array) ps)) ≡ true
-    new e true k = ap (λ s. if s then true else is_among x (map (λ (q : Param). q.name) (filter (λ (q : Param). q.is_array) ps))) e
+        is_among x (map (λ (q : Param). q.name) (if c then p ∷ filter (λ (q : Param). wants_array q) ps else filter (λ (q : Param). wants_array q) ps)) ≡ true
+    new e true k = ap (λ s. if s then true else is_among x (map (λ (q : Param). q.name) (filter (λ (q : Param). wants_array q) ps))) e
     new e false k = cc
 
-    first : (b : Bool) → is_known x true (known_of ps) ≡ b → (is_known x true (known_of ps) ≡ true → is_among x (spec.locals_of ps).arrays ≡ true) →
+    first : (b : Bool) → is_array (known_of ps) x ≡ b → (is_array (known_of ps) x ≡ true → is_among x (spec.locals_of ps).arrays ≡ true) →
         is_among x (spec.locals_of (p ∷ ps)).arrays ≡ true
-    first true e before = old (before e) p.is_array
-    first false e before = let last = last_known x true (known_of ps) p.name p.is_array h e in new last.0 p.is_array last.1
+    first true e before = old (before e) (wants_array p)
+    first false e before = let last = last_known x is_array_kind (known_of ps) p.name p.kind h e in new last.0 (wants_array p) last.1
 
 agree_params : (ps : List Param) → Agree (known_of ps) (spec.locals_of ps)
 agree_params ps = record { ints = λ x h. int_param x ps h; arrays = λ x h. array_param x ps h }
@@ -194,39 +199,46 @@ fit_expr n known l a r (model.Binary o d e) h =
     both (fit_expr n known l a r d (both_left (is_fine known d) (is_fine known e) h))
     (fit_expr n known l a r e (both_right (is_fine known d) (is_fine known e) h))
 
-fit_name : (n : Counts) (known : Known) (l : spec.Locals) → Agree known l → Room n l → (array : Bool) (x : Name) →
-    is_argument known array (model.Variable x) ≡ true → fits_argument n (spec.resolved_name l x) ≡ true
-fit_name n known l a r array x h = first (is_among x l.arrays) refl array h
+fit_passed : (n : Counts) (ps : List Param) (u : spec.Use) → is_below n.arrays u ≡ true → fits_argument n (spec.passed_to ps u) ≡ true
+fit_passed n ps u h = first (spec.is_reader ps)
   where
-    first : (b : Bool) → is_among x l.arrays ≡ b → (array : Bool) → is_argument known array (model.Variable x) ≡ true →
-        fits_argument n (if b then spec.Array (spec.use_of l.arrays x) else spec.Int (spec.Variable (spec.use_of l.ints x))) ≡ true
-    first true e array h' = below x l.arrays n.arrays e r.arrays
+    first : (b : Bool) → fits_argument n (if b then spec.Shared u else spec.Array u) ≡ true
+    first true = h
+    first false = h
+
+fit_name : (n : Counts) (known : Known) (l : spec.Locals) → Agree known l → Room n l → (qs : List Param) (array : Bool) (x : Name) →
+    fits_kind known array (model.Variable x) ≡ true → fits_argument n (spec.resolved_name l qs x) ≡ true
+fit_name n known l a r qs array x h = first (is_among x l.arrays) refl array h
+  where
+    first : (b : Bool) → is_among x l.arrays ≡ b → (array : Bool) → fits_kind known array (model.Variable x) ≡ true →
+        fits_argument n (if b then spec.passed_to qs (spec.use_of l.arrays x) else spec.Int (spec.Variable (spec.use_of l.ints x))) ≡ true
+    first true e array h' = fit_passed n qs (spec.use_of l.arrays x) (below x l.arrays n.arrays e r.arrays)
     first false e true h' = absurd (true≢false (sym (a.arrays x h') ∙ e))
     first false e false h' = below x l.ints n.ints (a.ints x h') r.ints
 
-fit_argument : (n : Counts) (known : Known) (l : spec.Locals) → Agree known l → Room n l → (array : Bool) (e : model.Expr) →
-    is_argument known array e ≡ true → fits_argument n (spec.resolved_argument l e) ≡ true
-fit_argument n known l a r array (model.Variable x) h = fit_name n known l a r array x h
-fit_argument n known l a r false (model.Number v) h = refl
-fit_argument n known l a r false (model.Element x e) h = fit_expr n known l a r (model.Element x e) h
-fit_argument n known l a r false (model.Length x) h = fit_expr n known l a r (model.Length x) h
-fit_argument n known l a r false (model.Negative e) h = fit_expr n known l a r e h
-fit_argument n known l a r false (model.Not e) h = fit_expr n known l a r e h
-fit_argument n known l a r false (model.Binary o d e) h = fit_expr n known l a r (model.Binary o d e) h
-fit_argument n known l a r true (model.Number v) h = cc
-fit_argument n known l a r true (model.Element x e) h = cc
-fit_argument n known l a r true (model.Length x) h = cc
-fit_argument n known l a r true (model.Negative e) h = cc
-fit_argument n known l a r true (model.Not e) h = cc
-fit_argument n known l a r true (model.Binary o d e) h = cc
+fit_argument : (n : Counts) (known : Known) (l : spec.Locals) → Agree known l → Room n l → (qs : List Param) (array : Bool) (e : model.Expr) →
+    fits_kind known array e ≡ true → fits_argument n (spec.resolved_argument l qs e) ≡ true
+fit_argument n known l a r qs array (model.Variable x) h = fit_name n known l a r qs array x h
+fit_argument n known l a r qs false (model.Number v) h = refl
+fit_argument n known l a r qs false (model.Element x e) h = fit_expr n known l a r (model.Element x e) h
+fit_argument n known l a r qs false (model.Length x) h = fit_expr n known l a r (model.Length x) h
+fit_argument n known l a r qs false (model.Negative e) h = fit_expr n known l a r e h
+fit_argument n known l a r qs false (model.Not e) h = fit_expr n known l a r e h
+fit_argument n known l a r qs false (model.Binary o d e) h = fit_expr n known l a r (model.Binary o d e) h
+fit_argument n known l a r qs true (model.Number v) h = cc
+fit_argument n known l a r qs true (model.Element x e) h = cc
+fit_argument n known l a r qs true (model.Length x) h = cc
+fit_argument n known l a r qs true (model.Negative e) h = cc
+fit_argument n known l a r qs true (model.Not e) h = cc
+fit_argument n known l a r qs true (model.Binary o d e) h = cc
 
-fit_arguments : (n : Counts) (known : Known) (l : spec.Locals) → Agree known l → Room n l → (ps : List Param) (es : List model.Expr) →
-    are_arguments known ps es ≡ true → list_all (fits_argument n) (map (spec.resolved_argument l) es) ≡ true
-fit_arguments n known l a r ps [] h = refl
-fit_arguments n known l a r [] (e ∷ es) h = cc
-fit_arguments n known l a r (p ∷ ps) (e ∷ es) h =
-    both (fit_argument n known l a r p.is_array e (both_left (is_argument known p.is_array e) (are_arguments known ps es) h))
-    (fit_arguments n known l a r ps es (both_right (is_argument known p.is_array e) (are_arguments known ps es) h))
+fit_arguments : (n : Counts) (known : Known) (l : spec.Locals) → Agree known l → Room n l → (qs ps : List Param) (es : List model.Expr) →
+    fit_kinds known ps es ≡ true → list_all (fits_argument n) (spec.resolved_arguments l qs es) ≡ true
+fit_arguments n known l a r qs ps [] h = refl
+fit_arguments n known l a r qs [] (e ∷ es) h = cc
+fit_arguments n known l a r qs (p ∷ ps) (e ∷ es) h =
+    both (fit_argument n known l a r qs (wants_array p) e (both_left (fits_kind known (wants_array p) e) (fit_kinds known ps es) h))
+    (fit_arguments n known l a r (drop 1 qs) ps es (both_right (fits_kind known (wants_array p) e) (fit_kinds known ps es) h))
 
 fit_target : (n : Counts) (known : Known) (l : spec.Locals) → Agree known l → Room n l → (g : model.Function) (target : Option Name) →
     is_target known g target ≡ true → fits_target n (option_map (spec.use_of l.ints) target) ≡ true
@@ -301,23 +313,23 @@ fit_head program n known l a r x y z from to grain over body new h =
     let f = nat_le 1 grain in
     let g = nat_le grain MOST_GRAIN in
     let i = is_new program known x in
-    let arrays = list_all (λ w. is_array known w) over in
+    let arrays = list_all (λ w. is_writable known w) over in
     let most = both_left ((((i && b) && c) && d) && e) f (both_left (((((i && b) && c) && d) && e) && f) g (both_left ((((((i && b) && c) && d) && e) && f) && g) arrays h)) in
     let start = both_right ((i && b) && c) d (both_left (((i && b) && c) && d) e most) in
     let end = both_right (((i && b) && c) && d) e most in
     both (both (both (both (less (length l.ints) n.ints new) (fit_expr n known l a r from start)) (fit_expr n known l a r to end))
     (fit_first (length l.ints) n.ints r.ints [] (spec.reads_in_block body) refl))
-    (fit_over n known l a r over (both_right ((((((i && b) && c) && d) && e) && f) && g) arrays h))
+    (fit_over n known l a r over (writable_arrays known over (both_right ((((((i && b) && c) && d) && e) && f) && g) arrays h)))
 
 fit_parts : (program : Program) (n : Counts) (known : Known) (l : spec.Locals) → Agree known l → Room n l →
     (x : Name) (e : model.Expr) (left right : Name) → length (l.arrays ++ left ∷ []) < n.arrays →
     is_cut program known x e left right ≡ true → fits_parts n (spec.parts_of l x e left right) ≡ true
 fit_parts program n known l a r x e left right new h =
-    let i = is_array known x in
+    let i = is_writable known x in
     let f = is_fine known e in
     let two = both_left (i && f) (is_new program known left) (both_left ((i && f) && is_new program known left) (is_new program known right) (both_left (((i && f) && is_new program known left) && is_new program known right) (not (same_name left right)) h)) in
     let one = one_more l.arrays left in
-    both (both (both (below x l.arrays n.arrays (a.arrays x (both_left i f two)) r.arrays) (fit_expr n known l a r e (both_right i f two)))
+    both (both (both (below x l.arrays n.arrays (a.arrays x (writable_array known x (both_left i f two))) r.arrays) (fit_expr n known l a r e (both_right i f two)))
     (less (length l.arrays) n.arrays (omega (arith, new, one)))) (less (length (l.arrays ++ left ∷ [])) n.arrays new)
 
 -- there are no fewer slots after a statement
@@ -518,10 +530,10 @@ module _ (program : Program) (n : Counts) (tables : Tables program n) where
         both (below x l.ints n.ints (a.ints x (both_left (is_int known x) (is_fine known e) k)) r.ints) (fit_expr n known l a r e (both_right (is_int known x) (is_fine known e) k))
     fit_stmt returns known l i j a stands line (model.AssignElement x d e) needs tagged h =
         let r = has_room n l i j (spec.resolved_stmt (spec.lists_of program) l (model.AssignElement x d e)) stands needs in
-        let k = kept ((is_array known x && is_fine known d) && is_fine known e) line h in
-        let two = both_left (is_array known x && is_fine known d) (is_fine known e) k in
-        both (both (below x l.arrays n.arrays (a.arrays x (both_left (is_array known x) (is_fine known d) two)) r.arrays) (fit_expr n known l a r d (both_right (is_array known x) (is_fine known d) two)))
-        (fit_expr n known l a r e (both_right (is_array known x && is_fine known d) (is_fine known e) k))
+        let k = kept ((is_writable known x && is_fine known d) && is_fine known e) line h in
+        let two = both_left (is_writable known x && is_fine known d) (is_fine known e) k in
+        both (both (below x l.arrays n.arrays (a.arrays x (writable_array known x (both_left (is_writable known x) (is_fine known d) two))) r.arrays) (fit_expr n known l a r d (both_right (is_writable known x) (is_fine known d) two)))
+        (fit_expr n known l a r e (both_right (is_writable known x && is_fine known d) (is_fine known e) k))
     fit_stmt returns known l i j a stands line (model.Reduce how s e) needs tagged h =
         let r = has_room n l i j (spec.resolved_stmt (spec.lists_of program) l (model.Reduce how s e)) stands needs in
         let k = kept (is_reducer program how s && is_fine known e) line h in
@@ -531,7 +543,7 @@ module _ (program : Program) (n : Counts) (tables : Tables program n) where
         let r = has_room n l i j (spec.resolved_stmt (spec.lists_of program) l (model.Call kind site target f es)) stands needs in
         let c = is_called known target f es program.functions (kept (is_call known target (called f program.functions) es) line h) in
         both (both (fit_target n known l a r c.callee target c.gives) (below f (spec.function_names program.functions) n.functions c.there tables.functions))
-        (fit_arguments n known l a r c.callee.params es c.given)
+        (fit_arguments n known l a r (spec.params_of (spec.lists_of program) f) c.callee.params es (arguments_fit known c.callee.params es c.given))
     fit_stmt returns known l i j a stands line (model.Start kind f es) needs tagged h = refl
     fit_stmt returns known l i j a stands line (model.Begin f from to captured over) needs tagged h = refl
     fit_stmt returns known l i j a stands line model.Sync needs tagged h = refl
@@ -566,19 +578,19 @@ module _ (program : Program) (n : Counts) (tables : Tables program n) where
     fit_stmt returns known l i j a stands line (model.For x y z from to grain over b) needs tagged h =
         let r = has_room n l i j (spec.resolved_stmt (spec.lists_of program) l (model.For x y z from to grain over b)) stands needs in
         let test = unless (is_head_of_loop program known x y z from to grain over) line in
-        let inner = faults_in_block program Nowhere ((x, false) ∷ known) b in
+        let inner = faults_in_block program Nowhere ((x, name_kind.Integer) ∷ known) b in
         let block = spec.resolved_block (spec.lists_of program) (spec.with_int x l) b in
         let p = more_ints_in (max i (suc (length l.ints))) block in
         let u = needs.0 in
         let w = stands.arrays in
         let one = one_more l.ints x in
         both (fit_head program n known l a r x y z from to grain over block (omega (arith, p, u)) (kept (is_head_of_loop program known x y z from to grain over) line (left_none test inner h)))
-        (fit_block Nowhere ((x, false) ∷ known) (spec.with_int x l) (max i (suc (length l.ints))) j (agree_int known l x a) (record { ints = omega (arith, one); arrays = w }) b needs tagged (right_none test inner h))
+        (fit_block Nowhere ((x, name_kind.Integer) ∷ known) (spec.with_int x l) (max i (suc (length l.ints))) j (agree_int known l x a) (record { ints = omega (arith, one); arrays = w }) b needs tagged (right_none test inner h))
     fit_stmt returns known l i j a stands line (model.Scope b) needs tagged h = fit_block Nowhere known l i j a stands b needs tagged h
     fit_stmt returns known l i j a stands line (model.Cut x e left right b) needs tagged h =
         let r = has_room n l i j (spec.resolved_stmt (spec.lists_of program) l (model.Cut x e left right b)) stands needs in
         let test = unless (is_cut program known x e left right) line in
-        let inner = faults_in_block program Nowhere ((right, true) ∷ (left, true) ∷ known) b in
+        let inner = faults_in_block program Nowhere ((right, name_kind.Array) ∷ (left, name_kind.Array) ∷ known) b in
         let l' = spec.with_array right (spec.with_array left l) in
         let k = max j (suc (length (l.arrays ++ left ∷ []))) in
         let block = spec.resolved_block (spec.lists_of program) l' b in
@@ -587,7 +599,7 @@ module _ (program : Program) (n : Counts) (tables : Tables program n) where
         let w = stands.ints in
         let two = one_more (l.arrays ++ left ∷ []) right in
         both (fit_parts program n known l a r x e left right (omega (arith, p, u)) (kept (is_cut program known x e left right) line (left_none test inner h)))
-        (fit_block Nowhere ((right, true) ∷ (left, true) ∷ known) l' i k (agree_array ((left, true) ∷ known) (spec.with_array left l) right (agree_array known l left a)) (record { ints = w; arrays = omega (arith, two) }) b needs tagged (right_none test inner h))
+        (fit_block Nowhere ((right, name_kind.Array) ∷ (left, name_kind.Array) ∷ known) l' i k (agree_array ((left, name_kind.Array) ∷ known) (spec.with_array left l) right (agree_array known l left a)) (record { ints = w; arrays = omega (arith, two) }) b needs tagged (right_none test inner h))
     fit_stmt returns known l i j a stands line (model.Region tag b) needs tagged h =
         let there = tagged tag (here_among tag (map (λ (d : Name × ℕ). d.0) (regions_in_block b))) in
         both (below tag (spec.tags_of program) n.tags there tables.tags) (fit_block Nowhere known l i j a stands b needs (tags_rear (spec.tags_of program) ((tag, line) ∷ []) (regions_in_block b) tagged) h)

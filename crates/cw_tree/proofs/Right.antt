@@ -1,5 +1,5 @@
 -- A resolved program passes the test of slots.
-use Rattle.std.proofs.Common.{◌≡◌, ℕ, ◌==◌, Bool, true, false, not, ◌&&◌, if◌then◌else◌, bytes_eq, List, [], ◌∷◌, ◌++◌, length, map, Option, Some, None, option_map, refl, ap, ◌∙◌}
+use Rattle.std.proofs.Common.{◌≡◌, ℕ, ◌==◌, Bool, true, false, not, ◌&&◌, if◌then◌else◌, bytes_eq, List, [], ◌∷◌, ◌++◌, length, drop, map, Option, Some, None, option_map, refl, ap, ◌∙◌}
 use Rattle.std.specs.List.{list_all}
 use Rattle.std.specs.Cmp.{unsigned_Decides}
 use Rattle.std.proofs.lemmas.Slice.Eq.{bytes_eq-Decides}
@@ -9,7 +9,7 @@ use Rattle.cw_model.specs.Syntax as model
 use Rattle.cw_model.specs.Syntax.{Name, Program}
 use Rattle.cw_model.specs.Typing.{type_faults}
 use Rattle.cw_tree.specs.Resolved as spec
-use Rattle.cw_tree.specs.Slots.{is_use, same_uses, same_names, is_right_expr, is_right_argument, is_right_target, is_right_return, is_right_head, is_right_cut, is_right_stmt, is_right_block, is_right_function, is_resolved}
+use Rattle.cw_tree.specs.Slots.{is_use, same_uses, same_names, is_right_expr, is_right_argument, are_right_arguments, is_right_target, is_right_return, is_right_head, is_right_cut, is_right_stmt, is_right_block, is_right_function, is_resolved}
 use Rattle.cw_tree.proofs.Plain.{plain_of_resolved}
 
 pub both : {a b : Bool} → a ≡ true → b ≡ true → (a && b) ≡ true
@@ -38,26 +38,33 @@ right_expr l (model.Negative e) = right_expr l e
 right_expr l (model.Not e) = right_expr l e
 right_expr l (model.Binary o d e) = both (right_expr l d) (right_expr l e)
 
-right_name : (l : spec.Locals) (x : Name) → is_right_argument l (spec.resolved_name l x) ≡ true
-right_name l x = first (is_among x l.arrays) refl
+right_passed : (l : spec.Locals) (ps : List model.Param) (u : spec.Use) → (is_among u.name l.arrays && is_use l.arrays u) ≡ true → is_right_argument l ps (spec.passed_to ps u) ≡ true
+right_passed l ps u h = first (spec.is_reader ps) refl
+  where
+    first : (b : Bool) → spec.is_reader ps ≡ b → is_right_argument l ps (if b then spec.Shared u else spec.Array u) ≡ true
+    first true e = both h e
+    first false e = both h (ap not e)
+
+right_name : (l : spec.Locals) (ps : List model.Param) (x : Name) → is_right_argument l ps (spec.resolved_name l ps x) ≡ true
+right_name l ps x = first (is_among x l.arrays) refl
   where
     first : (b : Bool) → is_among x l.arrays ≡ b →
-        is_right_argument l (if b then spec.Array (spec.use_of l.arrays x) else spec.Int (spec.Variable (spec.use_of l.ints x))) ≡ true
-    first true h = both h (equal (spec.slot_of x l.arrays))
+        is_right_argument l ps (if b then spec.passed_to ps (spec.use_of l.arrays x) else spec.Int (spec.Variable (spec.use_of l.ints x))) ≡ true
+    first true h = right_passed l ps (spec.use_of l.arrays x) (both h (equal (spec.slot_of x l.arrays)))
     first false h = both (ap not h) (equal (spec.slot_of x l.ints))
 
-right_argument : (l : spec.Locals) (e : model.Expr) → is_right_argument l (spec.resolved_argument l e) ≡ true
-right_argument l (model.Number n) = refl
-right_argument l (model.Variable x) = right_name l x
-right_argument l (model.Element a e) = right_expr l (model.Element a e)
-right_argument l (model.Length a) = right_expr l (model.Length a)
-right_argument l (model.Negative e) = right_expr l e
-right_argument l (model.Not e) = right_expr l e
-right_argument l (model.Binary o d e) = right_expr l (model.Binary o d e)
+right_argument : (l : spec.Locals) (ps : List model.Param) (e : model.Expr) → is_right_argument l ps (spec.resolved_argument l ps e) ≡ true
+right_argument l ps (model.Number n) = refl
+right_argument l ps (model.Variable x) = right_name l ps x
+right_argument l ps (model.Element a e) = right_expr l (model.Element a e)
+right_argument l ps (model.Length a) = right_expr l (model.Length a)
+right_argument l ps (model.Negative e) = right_expr l e
+right_argument l ps (model.Not e) = right_expr l e
+right_argument l ps (model.Binary o d e) = right_expr l (model.Binary o d e)
 
-right_arguments : (l : spec.Locals) (es : List model.Expr) → list_all (is_right_argument l) (map (spec.resolved_argument l) es) ≡ true
-right_arguments l [] = refl
-right_arguments l (e ∷ es) = both (right_argument l e) (right_arguments l es)
+right_arguments : (l : spec.Locals) (ps : List model.Param) (es : List model.Expr) → are_right_arguments l ps (spec.resolved_arguments l ps es) ≡ true
+right_arguments l ps [] = refl
+right_arguments l ps (e ∷ es) = both (right_argument l ps e) (right_arguments l (drop 1 ps) es)
 
 right_target : (l : spec.Locals) (t : Option Name) → is_right_target l (option_map (spec.use_of l.ints) t) ≡ true
 right_target l None = refl
@@ -107,7 +114,7 @@ mutual
   right_stmt lists l (model.Assign x e) = both (equal (spec.slot_of x l.ints)) (right_expr l e)
   right_stmt lists l (model.AssignElement a i e) = both (both (equal (spec.slot_of a l.arrays)) (right_expr l i)) (right_expr l e)
   right_stmt lists l (model.Reduce how s e) = both (equal (spec.slot_of s lists.reducers)) (right_expr l e)
-  right_stmt lists l (model.Call kind site target f es) = both (both (right_target l target) (equal (spec.slot_of f lists.functions))) (right_arguments l es)
+  right_stmt lists l (model.Call kind site target f es) = both (both (right_target l target) (equal (spec.slot_of f lists.functions))) (right_arguments l (spec.params_of lists f) es)
   right_stmt lists l (model.Start kind f es) = refl
   right_stmt lists l (model.Begin f from to captured over) = refl
   right_stmt lists l model.Sync = refl

@@ -4,7 +4,7 @@ use Rattle.std.specs.Prelude.{ℕ, Bool, true, ◌&&◌, nat_lt, nat_le, length,
 use Rattle.std.specs.List.{list_all}
 use Rattle.cw_model.specs.declared.limits.TheConstants.{MOST_DECLARED}
 use Rattle.cw_tree.specs.Resolved.{Expr, Number, Variable, Element, Length, Negative, Not, Binary, Use, Argument, Int}
-use Rattle.cw_tree.specs.Resolved.{Array, Head, Parts, Stmt, Declare, DeclareArray, Assign, AssignElement, Reduce}
+use Rattle.cw_tree.specs.Resolved.{Array, Shared, Head, Parts, Stmt, Declare, DeclareArray, Assign, AssignElement, Reduce}
 use Rattle.cw_tree.specs.Resolved.{Call, Sync, If, IfElse, While, For, Scope, Cut, Region, Print, Return, Block, End}
 use Rattle.cw_tree.specs.Resolved.{Then, Function, Resolved}
 
@@ -34,6 +34,7 @@ fits_expr n (Binary operator d e) = fits_expr n d && fits_expr n e
 abbrev pub fits_argument : Counts → Argument → Bool
 fits_argument n (Int e) = fits_expr n e
 fits_argument n (Array u) = is_below n.arrays u
+fits_argument n (Shared u) = is_below n.arrays u
 
 -- what a result goes to fits, if it goes anywhere
 abbrev pub fits_target : Counts → Option Use → Bool

@@ -7,16 +7,17 @@
 -- `is_resolved (resolved_of tree) ≡ true`, from which the law `slots_are_right` gives
 -- `resolved_of tree ≡ resolved (program_of tree)`: the slot of a name is its place among the integers or among the
 -- arrays that are known there.
-use Rattle.std.specs.Prelude.{ℕ, suc, ℤ, ◌==◌, max, nat_lt, Bool, not, ◌&&◌, if◌then◌else◌, List, [], ◌∷◌, ◌++◌}
-use Rattle.std.specs.Prelude.{length, map, filter, Option, Some, None, option_map}
+use Rattle.std.specs.Prelude.{ℕ, suc, ℤ, ◌==◌, max, nat_lt, Bool, false, not, ◌&&◌, if◌then◌else◌, List, [], ◌∷◌, ◌++◌}
+use Rattle.std.specs.Prelude.{length, drop, map, filter, Option, Some, None, option_map}
 use Rattle.std.specs.List.{list_any}
 use Rattle.cw_model.specs.declared.syntax.CallKind.{CallKind}
 use Rattle.cw_model.specs.declared.syntax.Operator.{Operator}
 use Rattle.cw_model.specs.declared.syntax.Reduction.{Reduction}
-use Rattle.cw_model.specs.Syntax.{Name, Param, Reducer}
+use Rattle.cw_model.specs.Syntax.{Name, Param, Reducer, wants_array, reads_array}
 use Rattle.cw_model.specs.Syntax as model
 use Rattle.cw_model.specs.Names.{same_name, is_among}
 use Rattle.cw_model.specs.Answers.{main_name}
+use Rattle.cw_model.specs.Meaning.{function_named}
 use Rattle.cw_model.specs.Sizes.{first_places, regions_of}
 
 -- a local where it stands, and its slot among those of its kind
@@ -42,7 +43,10 @@ pub data Expr : Type 0 where
 -- what is given for a parameter
 pub data Argument : Type 0 where
   Int : Expr → Argument
+  -- an array that is given away
   Array : Use → Argument
+  -- an array that is only read
+  Shared : Use → Argument
 
 -- the head of a loop
 pub record Head : Type 0 where
@@ -102,8 +106,9 @@ pub record Resolved : Type 0 where
   pub tags : List Name
   pub main : ℕ
 
--- the names of functions, of reducers and of tags
+-- the names of functions, of reducers and of tags; and the functions, whose parameters say how arrays are passed
 pub record Lists : Type 0 where
+  pub callees : List model.Function
   pub functions : List Name
   pub reducers : List Name
   pub tags : List Name
@@ -148,15 +153,33 @@ resolved_expr locals (model.Negative e) = Negative (resolved_expr locals e)
 resolved_expr locals (model.Not e) = Not (resolved_expr locals e)
 resolved_expr locals (model.Binary operator d e) = Binary operator (resolved_expr locals d) (resolved_expr locals e)
 
--- a name alone is an array where an array is known by it
-abbrev pub resolved_name : Locals → Name → Argument
-resolved_name locals x =
-    if is_among x locals.arrays then Array (use_of locals.arrays x) else Int (Variable (use_of locals.ints x))
+-- the first of these parameters only reads an array
+abbrev pub is_reader : List Param → Bool
+is_reader [] = false
+is_reader (p ∷ ps) = reads_array p
 
--- an argument with each name looked up
-abbrev pub resolved_argument : Locals → model.Expr → Argument
-resolved_argument locals (model.Variable x) = resolved_name locals x
-resolved_argument locals e = Int (resolved_expr locals e)
+-- an array in the place of the first of these parameters
+abbrev pub passed_to : List Param → Use → Argument
+passed_to ps u = if is_reader ps then Shared u else Array u
+
+-- a name alone is an array where an array is known by it
+abbrev pub resolved_name : Locals → List Param → Name → Argument
+resolved_name locals ps x =
+    if is_among x locals.arrays then passed_to ps (use_of locals.arrays x) else Int (Variable (use_of locals.ints x))
+
+-- an argument for the first of these parameters, with each name looked up
+abbrev pub resolved_argument : Locals → List Param → model.Expr → Argument
+resolved_argument locals ps (model.Variable x) = resolved_name locals ps x
+resolved_argument locals ps e = Int (resolved_expr locals e)
+
+-- arguments for these parameters, in their order
+abbrev pub resolved_arguments : Locals → List Param → List model.Expr → List Argument
+resolved_arguments locals ps [] = []
+resolved_arguments locals ps (e ∷ es) = resolved_argument locals ps e ∷ resolved_arguments locals (drop 1 ps) es
+
+-- the parameters of the first function of a name
+abbrev pub params_of : Lists → Name → List Param
+params_of lists f = (function_named f lists.callees).params
 
 -- the locals that are known after a statement
 abbrev pub locals_after : Locals → model.Stmt → Locals
@@ -178,6 +201,7 @@ reads (Binary operator d e) = reads d ++ reads e
 abbrev pub argument_reads : Argument → List Use
 argument_reads (Int e) = reads e
 argument_reads (Array a) = []
+argument_reads (Shared a) = []
 
 -- the integers that arguments read
 abbrev pub arguments_read : List Argument → List Use
@@ -272,7 +296,7 @@ abbrev mutual
   resolved_stmt lists locals (model.Reduce how s e) = Reduce how (listed_in lists.reducers s) (resolved_expr locals e)
   resolved_stmt lists locals (model.Call kind site target f es) =
       Call kind site (option_map (use_of locals.ints) target) (listed_in lists.functions f)
-      (map (resolved_argument locals) es)
+      (resolved_arguments locals (params_of lists f) es)
   -- no source has one
   resolved_stmt lists locals (model.Start kind f es) = Sync
   resolved_stmt lists locals (model.Begin f from to captured over) = Sync
@@ -335,8 +359,8 @@ abbrev mutual
 -- the locals that are parameters
 abbrev pub locals_of : List Param → Locals
 locals_of ps = record {
-  ints = map (λ p. p.name) (filter (λ p. not p.is_array) ps);
-  arrays = map (λ p. p.name) (filter (λ p. p.is_array) ps);
+  ints = map (λ p. p.name) (filter (λ p. not (wants_array p)) ps);
+  arrays = map (λ p. p.name) (filter (λ p. wants_array p) ps);
 }
 
 -- a function whose body is already resolved; it has a slot for each local that may be known at once
@@ -367,9 +391,10 @@ reducer_names rs = map (λ r. r.name) rs
 abbrev pub tags_of : model.Program → List Name
 tags_of program = map (λ d. d.0) (first_places (regions_of program) [])
 
--- the names that a program lists
+-- what a program lists
 abbrev pub lists_of : model.Program → Lists
 lists_of program = record {
+  callees = program.functions;
   functions = function_names program.functions;
   reducers = reducer_names program.reducers;
   tags = tags_of program;
@@ -398,6 +423,7 @@ plain_expr (Binary operator d e) = model.Binary operator (plain_expr d) (plain_e
 abbrev pub plain_argument : Argument → model.Expr
 plain_argument (Int e) = plain_expr e
 plain_argument (Array u) = model.Variable u.name
+plain_argument (Shared u) = model.Variable u.name
 
 abbrev mutual
   -- a statement without slots and indices; the three names of a loop's head are one

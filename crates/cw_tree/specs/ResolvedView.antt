@@ -6,7 +6,7 @@ use Rattle.cw_tree.specs.declared.resolved.Expr.{Expr}
 use Rattle.cw_tree.specs.declared.resolved.Expr.TheVariants.{Number, Variable, Element', Length, Negative', Not'}
 use Rattle.cw_tree.specs.declared.resolved.Expr.TheVariants.{Binary'}
 use Rattle.cw_tree.specs.declared.resolved.Argument.{Argument}
-use Rattle.cw_tree.specs.declared.resolved.Argument.TheVariants.{Int, Array}
+use Rattle.cw_tree.specs.declared.resolved.Argument.TheVariants.{Int, Array, Shared}
 use Rattle.cw_tree.specs.declared.resolved.Head.{Head}
 use Rattle.cw_tree.specs.declared.resolved.Cut.{Cut}
 use Rattle.cw_tree.specs.declared.resolved.Stmt.{Stmt, fold-Stmt}
@@ -41,6 +41,7 @@ expr_of (Binary' o p d q e) = spec.Binary o (expr_of d) (expr_of e)
 abbrev pub argument_of : Argument → spec.Argument
 argument_of (Int e) = spec.Int (expr_of e)
 argument_of (Array u) = spec.Array (use_of u)
+argument_of (Shared u) = spec.Shared (use_of u)
 
 -- the head of a loop of the code as one of the definitions
 abbrev pub head_of : Head → spec.Head
@@ -101,7 +102,7 @@ block_of ls = block_from (map line_of ls)
 
 -- a parameter of the code as one of the definitions
 abbrev pub param_of : Param → model.Param
-param_of p = record { name = p.name; is_array = p.is_array }
+param_of p = record { name = p.name; kind = p.kind }
 
 -- a function of the code as one of the definitions
 abbrev pub function_of : Function → spec.Function

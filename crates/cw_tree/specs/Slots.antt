@@ -1,17 +1,17 @@
 -- Whether each slot, each index and each count of slots of a resolved tree is right: a test, since a `Typed` can keep
 -- only that. A tree that passes it is `resolved` of its program, as the law `slots_are_right` says.
-use Rattle.std.specs.Prelude.{◌==◌, Bool, true, false, not, ◌&&◌, bytes_eq, List, [], ◌∷◌, ◌++◌, length, Option, Some}
-use Rattle.std.specs.Prelude.{None}
+use Rattle.std.specs.Prelude.{◌==◌, Bool, true, false, not, ◌&&◌, bytes_eq, List, [], ◌∷◌, ◌++◌, length, drop, Option}
+use Rattle.std.specs.Prelude.{Some, None}
 use Rattle.std.specs.List.{list_all}
-use Rattle.cw_model.specs.Syntax.{Name}
+use Rattle.cw_model.specs.Syntax.{Name, Param}
 use Rattle.cw_model.specs.Names.{is_among}
 use Rattle.cw_model.specs.Answers.{main_name}
 use Rattle.cw_tree.specs.Resolved.{Use, Listed, Expr, Number, Variable, Element, Length, Negative, Not, Binary}
-use Rattle.cw_tree.specs.Resolved.{Argument, Int, Array, Head, Parts, Stmt, Declare, DeclareArray, Assign}
+use Rattle.cw_tree.specs.Resolved.{Argument, Int, Array, Shared, Head, Parts, Stmt, Declare, DeclareArray, Assign}
 use Rattle.cw_tree.specs.Resolved.{AssignElement, Reduce, Call, Sync, If, IfElse, While, For, Scope, Cut, Region}
 use Rattle.cw_tree.specs.Resolved.{Print, Return, Block, End, Then, Function, Resolved, Lists, Locals, slot_of}
 use Rattle.cw_tree.specs.Resolved.{with_int, with_array, locals_after, captured_in, ints_in_block, arrays_in_block}
-use Rattle.cw_tree.specs.Resolved.{locals_of, lists_of, tags_of, plain_stmt, plain}
+use Rattle.cw_tree.specs.Resolved.{is_reader, params_of, locals_of, lists_of, tags_of, plain_stmt, plain}
 
 -- a use has the slot of its name
 abbrev pub is_use : List Name → Use → Bool
@@ -47,11 +47,19 @@ is_right_expr locals (Negative e) = is_right_expr locals e
 is_right_expr locals (Not e) = is_right_expr locals e
 is_right_expr locals (Binary operator d e) = is_right_expr locals d && is_right_expr locals e
 
--- each use in an argument has its slot, and a name alone is an array where an array is known by it
-abbrev pub is_right_argument : Locals → Argument → Bool
-is_right_argument locals (Int (Variable u)) = not (is_among u.name locals.arrays) && is_use locals.ints u
-is_right_argument locals (Int e) = is_right_expr locals e
-is_right_argument locals (Array u) = is_among u.name locals.arrays && is_use locals.arrays u
+-- each use in an argument for the first of these parameters has its slot, and a name alone is an array where an array is
+-- known by it, which that parameter reads or takes
+abbrev pub is_right_argument : Locals → List Param → Argument → Bool
+is_right_argument locals ps (Int (Variable u)) = not (is_among u.name locals.arrays) && is_use locals.ints u
+is_right_argument locals ps (Int e) = is_right_expr locals e
+is_right_argument locals ps (Array u) = is_among u.name locals.arrays && is_use locals.arrays u && not (is_reader ps)
+is_right_argument locals ps (Shared u) = is_among u.name locals.arrays && is_use locals.arrays u && is_reader ps
+
+-- the same of each argument for these parameters
+abbrev pub are_right_arguments : Locals → List Param → List Argument → Bool
+are_right_arguments locals ps [] = true
+are_right_arguments locals ps (e ∷ es) =
+    is_right_argument locals ps e && are_right_arguments locals (drop 1 ps) es
 
 -- what a result goes to has its slot
 abbrev pub is_right_target : Locals → Option Use → Bool
@@ -85,7 +93,7 @@ abbrev mutual
       is_use locals.arrays u && is_right_expr locals i && is_right_expr locals e
   is_right_stmt lists locals (Reduce how s e) = is_listed lists.reducers s && is_right_expr locals e
   is_right_stmt lists locals (Call kind site target f es) =
-      is_right_target locals target && is_listed lists.functions f && list_all (is_right_argument locals) es
+      is_right_target locals target && is_listed lists.functions f && are_right_arguments locals (params_of lists f.name) es
   is_right_stmt lists locals Sync = true
   is_right_stmt lists locals (If e b) = is_right_expr locals e && is_right_block lists locals b
   is_right_stmt lists locals (IfElse e b c) =

@@ -75,7 +75,7 @@ numbered view x = (view x.0, x.1)
 
 -- a parameter of the code as one of the definitions
 abbrev pub param_of : Param → model.Param
-param_of p = record { name = p.name; is_array = p.is_array }
+param_of p = record { name = p.name; kind = p.kind }
 
 -- a function of the code as one of the definitions
 abbrev pub function_of : Function → model.Function

@@ -7,7 +7,7 @@
 //! reducers or the different tags of the source, from 0.
 
 use crate::syntax::Name;
-use cw_model::syntax::{CallKind, Operator, Reduction};
+use cw_model::syntax::{CallKind, NameKind, Operator, Reduction};
 
 /// A use of a local, or its declaration, with its slot among the integers or among the arrays.
 #[derive(Drop, Debug)]
@@ -47,8 +47,10 @@ pub enum Expr {
 pub enum Argument {
     /// The value of an expression.
     Int(Expr),
-    /// An array itself.
+    /// An array itself, which is given away until the call returns.
     Array(Use),
+    /// An array that the call only reads.
+    Shared(Use),
 }
 
 /// A call statement.
@@ -146,8 +148,8 @@ pub enum Stmt {
 #[derive(Drop, Debug)]
 pub struct Param {
     pub name: Name,
-    /// Whether the parameter is an array, and not an integer.
-    pub is_array: bool,
+    /// Whether it is an integer, an array, or an array that is only read.
+    pub kind: NameKind,
 }
 
 /// A function.

@@ -2,7 +2,7 @@
 //! first token, and each call statement its number. Lines are counted from 1.
 
 pub use cw_model::syntax::Name;
-use cw_model::syntax::{CallKind, Operator, Reduction};
+use cw_model::syntax::{CallKind, NameKind, Operator, Reduction};
 
 /// An expression.
 #[derive(Drop, Debug)]
@@ -120,8 +120,8 @@ pub enum Stmt {
 #[derive(Drop, Debug)]
 pub struct Param {
     pub name: Name,
-    /// Whether the parameter is an array, and not an integer.
-    pub is_array: bool,
+    /// Whether it is an integer, an array, or an array that is only read.
+    pub kind: NameKind,
 }
 
 /// A function.

@@ -4,14 +4,17 @@ use Rattle.std.proofs.lemmas.List.{append-nil}
 use Rattle.std.proofs.lemmas.Bool.Decides.{nat_tests}
 use Rattle.cw_model.specs.Lines.{unless, lowest}
 use Rattle.cw_model.specs.Names.{same_name, is_among}
+use Rattle.cw_model.specs.Meaning.{function_named}
 use Rattle.cw_model.specs.Syntax.{Name, Expr, Param, Function, Reducer, Program, Stmt, Declare, DeclareArray, Assign, AssignElement, Reduce, Call, Start, Begin, Sync, If, IfElse, While, For, Scope, Cut, Region, Print, Return}
 use Rattle.cw_model.specs.Typing.{Known, Returns, ends_block, faults_in, declares, called, reducer_called, is_argument, are_arguments, block_returns, surely_returns}
+use Rattle.cw_model.specs.declared.syntax.NameKind.{NameKind}
+use Rattle.cw_model.specs.declared.syntax.NameKind.TheVariants as name_kind
 use Rattle.cw_model.specs.lemmas.Lowest.{lowest-append}
 use Rattle.cw_tree.specs.declared.syntax.Function.{Function as CodeFunction}
 use Rattle.cw_tree.specs.declared.syntax.Reducer.{Reducer as CodeReducer}
 use Rattle.cw_tree.specs.declared.syntax.Line.{Line, the_lemmas}
 use Rattle.cw_tree.specs.SyntaxView.{function_of, reducer_of, block_of, stmt_of}
-use Rattle.cw_types.specs.Globals.{option_function, option_reducer}
+use Rattle.cw_types.specs.Globals.{option_function, params_in, option_reducer}
 use Rattle.cw_tree.specs.Resolved.{slot_of, function_names, reducer_names}
 use Rattle.cw_types.specs.Typing.{keeps_rules, faults_inside, oldest}
 
@@ -37,14 +40,14 @@ by_parts program returns known line (Print e) = sym (append-nil (unless (keeps_r
 by_parts program returns known line (Return e) = sym (append-nil (unless (keeps_rules program returns known (Return e)) line))
 
 -- what a statement declares is newer
-pub oldest_more : (k : Name × Bool) (ks : Known) (n : ℕ) → n ≤ length ks → oldest n (k ∷ ks) ≡ oldest n ks
+pub oldest_more : (k : Name × NameKind) (ks : Known) (n : ℕ) → n ≤ length ks → oldest n (k ∷ ks) ≡ oldest n ks
 oldest_more k ks n h =
     let more : length (k ∷ ks) - n ≡ suc (length ks - n) = omega arith in
     ap (λ i. drop i (k ∷ ks)) more
 
 pub oldest_declares : (s : Stmt) (ks : Known) (n : ℕ) → n ≤ length ks → oldest n (declares s ks) ≡ oldest n ks
-oldest_declares (Declare x e) ks n h = oldest_more (x, false) ks n h
-oldest_declares (DeclareArray a e) ks n h = oldest_more (a, true) ks n h
+oldest_declares (Declare x e) ks n h = oldest_more (x, name_kind.Integer) ks n h
+oldest_declares (DeclareArray a e) ks n h = oldest_more (a, name_kind.Array) ks n h
 oldest_declares (Assign x e) ks n h = refl
 oldest_declares (AssignElement a i e) ks n h = refl
 oldest_declares (Reduce how s e) ks n h = refl
@@ -103,6 +106,19 @@ called_at x (f ∷ fs) = first (same_name x f.name) (called_at x fs)
     first true h = refl
     first false h = h
 
+-- the parameters of the first function of a name
+pub named_params : (x : Name) (fs : List Function) → (function_named x fs).params ≡ params_in (called x fs)
+named_params x [] = refl
+named_params x (f ∷ fs) = first (same_name x f.name) (named_params x fs)
+  where
+    first : (b : Bool) → (function_named x fs).params ≡ params_in (called x fs) →
+        (if b then f else function_named x fs).params ≡ params_in (if b then Some f else called x fs)
+    first true h = refl
+    first false h = h
+
+pub params_of_found : (x : Name) (fs : List Function) (found : Option Function) → found ≡ called x fs → params_in found ≡ (function_named x fs).params
+params_of_found x fs found h = ap params_in h ∙ sym (named_params x fs)
+
 -- the first reducer of a name is the one at its place
 pub reducer_at : (x : Name) (rs : List Reducer) → slice_get rs (slot_of x (reducer_names rs)) ≡ reducer_called x rs
 reducer_at x [] = refl
@@ -128,7 +144,7 @@ pub unequal : (known : Known) (ps : List Param) (es : List Expr) → (length ps 
 unequal known [] [] h = absurd (h refl)
 unequal known [] (e ∷ es) h = refl
 unequal known (p ∷ ps) [] h = refl
-unequal known (p ∷ ps) (e ∷ es) h = first (is_argument known p.is_array e) (unequal known ps es (λ k. h (omega (arith, k))))
+unequal known (p ∷ ps) (e ∷ es) h = first (is_argument known p.kind e) (unequal known ps es (λ k. h (omega (arith, k))))
   where
     first : (b : Bool) → are_arguments known ps es ≡ false → (b && are_arguments known ps es) ≡ false
     first true k = k

@@ -37,18 +37,20 @@ use Rattle.cw_tree.specs.ResolvedView.{function_of, reducer_of}
 abbrev pub IsExpr : Locals → Expr → made_expr.Expr → Type 0
 IsExpr locals e found = expr_of found ≡ spec.resolved_expr (locals_view locals) (parsed.expr_of e)
 
--- a name alone as an argument
-abbrev pub IsNameAlone : Locals → Name → made_argument.Argument → Type 0
-IsNameAlone locals x found = argument_of found ≡ spec.resolved_name (locals_view locals) x
+-- a name alone as an argument for the first of these parameters
+abbrev pub IsNameAlone : Locals → List Param → Name → made_argument.Argument → Type 0
+IsNameAlone locals ps x found = argument_of found ≡ spec.resolved_name (locals_view locals) (map parsed.param_of ps) x
 
--- an argument
-abbrev pub IsArgument : Locals → Expr → made_argument.Argument → Type 0
-IsArgument locals e found = argument_of found ≡ spec.resolved_argument (locals_view locals) (parsed.expr_of e)
+-- an argument for the first of these parameters
+abbrev pub IsArgument : Locals → List Param → Expr → made_argument.Argument → Type 0
+IsArgument locals ps e found =
+    argument_of found ≡ spec.resolved_argument (locals_view locals) (map parsed.param_of ps) (parsed.expr_of e)
 
--- arguments in their order
-abbrev pub AreArguments : Locals → List Expr → List made_argument.Argument → Type 0
-AreArguments locals es found =
-    map argument_of found ≡ map (spec.resolved_argument (locals_view locals)) (map parsed.expr_of es)
+-- arguments for these parameters, in their order
+abbrev pub AreArguments : Locals → List Param → List Expr → List made_argument.Argument → Type 0
+AreArguments locals ps es found =
+    map argument_of found
+    ≡ spec.resolved_arguments (locals_view locals) (map parsed.param_of ps) (map parsed.expr_of es)
 
 -- what takes a result, if anything does, among these names
 abbrev pub IsTarget : List Name → Option Name → Option made_use.Use → Type 0

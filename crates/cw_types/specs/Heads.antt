@@ -12,7 +12,7 @@ use Rattle.cw_tree.specs.ResolvedView.{use_of, listed_of, argument_of}
 abbrev pub resolved_call : spec.Lists → spec.Locals → Call → spec.Stmt
 resolved_call lists locals c =
     spec.Call c.kind c.site (option_map (spec.use_of locals.ints) c.target) (spec.listed_in lists.functions c.callee)
-    (map (spec.resolved_argument locals) (exprs_of c.arguments.items))
+    (spec.resolved_arguments locals (spec.params_of lists c.callee) (exprs_of c.arguments.items))
 
 -- the head of a loop with this body
 abbrev pub resolved_head : spec.Locals → Head → spec.Block → spec.Head

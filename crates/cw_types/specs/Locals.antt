@@ -1,8 +1,9 @@
 -- The locals that are known, as the code has them.
-use Rattle.std.specs.Prelude.{ℕ, ◌+◌, length}
+use Rattle.std.specs.Prelude.{ℕ, ◌+◌, length, map}
 use Rattle.cw_types.specs.declared.locals.Locals.{Locals}
 use Rattle.cw_types.specs.declared.lists.Lists.{Lists}
 use Rattle.cw_tree.specs.Resolved as spec
+use Rattle.cw_tree.specs.SyntaxView.{function_of}
 
 -- the locals of the code as those of the definitions
 abbrev pub locals_view : Locals → spec.Locals
@@ -14,4 +15,9 @@ locals_count l = length l.ints + length l.arrays
 
 -- the lists of the code as those of the definitions
 abbrev pub lists_view : Lists → spec.Lists
-lists_view l = record { functions = l.functions; reducers = l.reducers; tags = l.tags }
+lists_view l = record {
+  callees = map function_of l.callees.now;
+  functions = l.functions;
+  reducers = l.reducers;
+  tags = l.tags;
+}

@@ -3,9 +3,11 @@ use Rattle.std.specs.Prelude.{ℕ, ◌-◌, Bool, true, false, not, ◌&&◌, �
 use Rattle.std.specs.Prelude.{Option, Some, None, if◌then◌else◌}
 use Rattle.cw_model.specs.Syntax.{Name, Param, Function, Program, Stmt, Declare, DeclareArray, Assign, AssignElement}
 use Rattle.cw_model.specs.Syntax.{Reduce, Call, Start, Begin, Sync, If, IfElse, While, For, Scope, Cut, Region, Print}
-use Rattle.cw_model.specs.Syntax.{Return}
+use Rattle.cw_model.specs.Syntax.{Return, wants_array}
+use Rattle.cw_model.specs.declared.syntax.NameKind.{NameKind}
+use Rattle.cw_model.specs.declared.syntax.NameKind.TheVariants as name_kind
 use Rattle.cw_model.specs.Names.{same_name}
-use Rattle.cw_model.specs.Typing.{Known, Returns, Nowhere, is_fine, is_new, is_int, is_array, is_reducer, is_call}
+use Rattle.cw_model.specs.Typing.{Known, Returns, Nowhere, is_fine, is_new, is_int, is_writable, is_reducer, is_call}
 use Rattle.cw_model.specs.Typing.{called, are_arguments, is_head_of_loop, is_cut, may_return, block_returns}
 use Rattle.cw_model.specs.Typing.{faults_in_block}
 use Rattle.std.specs.List.{list_any}
@@ -17,8 +19,8 @@ use Rattle.cw_tree.specs.declared.syntax.Cut.{Cut as Parts}
 use Rattle.cw_tree.specs.declared.syntax.Param as code_param
 use Rattle.cw_tree.specs.SyntaxView.{param_of, expr_of, exprs_of}
 
--- the newest name that is spelled so is an array, or an integer, if there is one
-abbrev pub kind_of : Name → Known → Option Bool
+-- what the newest name that is spelled so stands for, if there is one
+abbrev pub kind_of : Name → Known → Option NameKind
 kind_of x [] = None
 kind_of x (k ∷ ks) = if same_name x k.0 then Some k.1 else kind_of x ks
 
@@ -48,7 +50,7 @@ abbrev pub keeps_rules : Program → Returns → Known → Stmt → Bool
 keeps_rules program returns known (Declare x e) = is_fine known e && is_new program known x
 keeps_rules program returns known (DeclareArray a e) = is_fine known e && is_new program known a
 keeps_rules program returns known (Assign x e) = is_int known x && is_fine known e
-keeps_rules program returns known (AssignElement a i e) = is_array known a && is_fine known i && is_fine known e
+keeps_rules program returns known (AssignElement a i e) = is_writable known a && is_fine known i && is_fine known e
 keeps_rules program returns known (Reduce how s e) = is_reducer program how s && is_fine known e
 keeps_rules program returns known (Call kind site target f es) = is_call known target (called f program.functions) es
 keeps_rules program returns known (Start kind callee es) = false
@@ -72,19 +74,20 @@ faults_inside program returns known (IfElse e b c) =
     faults_in_block program returns known b ++ faults_in_block program returns known c
 faults_inside program returns known (While e b) = faults_in_block program returns known b
 faults_inside program returns known (For x y z from to grain over b) =
-    faults_in_block program Nowhere ((x, false) ∷ known) b
+    faults_in_block program Nowhere ((x, name_kind.Integer) ∷ known) b
 faults_inside program returns known (Scope b) = faults_in_block program Nowhere known b
-faults_inside program returns known (Cut a e l r b) = faults_in_block program Nowhere ((r, true) ∷ (l, true) ∷ known) b
+faults_inside program returns known (Cut a e l r b) =
+    faults_in_block program Nowhere ((r, name_kind.Array) ∷ (l, name_kind.Array) ∷ known) b
 faults_inside program returns known (Region tag b) = faults_in_block program Nowhere known b
 faults_inside program returns known _ = []
 
 -- parameters are new names that differ, where these names are known
 abbrev pub are_new : Program → Known → List Param → Bool
 are_new program known [] = true
-are_new program known (p ∷ ps) = is_new program known p.name && are_new program ((p.name, p.is_array) ∷ known) ps
+are_new program known (p ∷ ps) = is_new program known p.name && are_new program ((p.name, p.kind) ∷ known) ps
 
 -- a function that gives an integer surely returns, and main is one of integers alone
 abbrev pub keeps_head : Function → Bool
 keeps_head f =
     (not f.gives_int || block_returns f.body)
-    && (not (same_name f.name main_name) || (f.gives_int && not (list_any (λ p. p.is_array) f.params)))
+    && (not (same_name f.name main_name) || (f.gives_int && not (list_any (λ p. wants_array p) f.params)))

@@ -8,6 +8,7 @@ ghost use Rattle.cw_types.specs.Within.{NotesBlock, NotesInner};
 use crate::globals::Globals;
 use crate::known::Known;
 use crate::rules::{Returns, keeps_rules, surely_returns};
+use cw_model::syntax::NameKind;
 use cw_text::LeastLine;
 use cw_tree::syntax::{Line, Stmt};
 use std::alloc::AllocError;
@@ -56,15 +57,15 @@ fn inside<'a>(
             Ok(())
         }
         Stmt::For(head, b) => {
-            known.declare(head.variable.as_bytes(), false)?;
+            known.declare(head.variable.as_bytes(), NameKind::Integer)?;
             block(globals, Returns::Nowhere, known, b, least)?;
             known.forget();
             Ok(())
         }
         Stmt::Scope(b) | Stmt::Region(_, b) => block(globals, Returns::Nowhere, known, b, least),
         Stmt::Cut(cut, b) => {
-            known.declare(cut.left.as_bytes(), true)?;
-            known.declare(cut.right.as_bytes(), true)?;
+            known.declare(cut.left.as_bytes(), NameKind::Array)?;
+            known.declare(cut.right.as_bytes(), NameKind::Array)?;
             block(globals, Returns::Nowhere, known, b, least)?;
             known.forget();
             known.forget();
@@ -102,8 +103,8 @@ fn declare<'a>(known: &mut Known<'a>, stmt: &'a Stmt) -> Result<(), AllocError>
     ensures { OnOk result (known.new ≡ declares (stmt_of stmt.now) known.old) }
 {
     match stmt {
-        Stmt::Declare(x, _) => known.declare(x.as_bytes(), false),
-        Stmt::DeclareArray(a, _) => known.declare(a.as_bytes(), true),
+        Stmt::Declare(x, _) => known.declare(x.as_bytes(), NameKind::Integer),
+        Stmt::DeclareArray(a, _) => known.declare(a.as_bytes(), NameKind::Array),
         _ => Ok(()),
     }
 }

@@ -78,7 +78,7 @@ fn argument(alloc: Global, count: u32, found: &mut Vec<Use>, e: &Argument) -> Re
 {
     match e {
         Argument::Int(e) => expression(alloc, count, found, e),
-        Argument::Array(_) => Ok(()),
+        Argument::Array(_) | Argument::Shared(_) => Ok(()),
     }
 }
 

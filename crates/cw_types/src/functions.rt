@@ -2,6 +2,7 @@
 
 ghost use Rattle.std.specs.Prelude.{◌≡◌, ◌++◌, ◌&&◌, map, IfOk, OnOk};
 ghost use Rattle.std.specs.List.{list_any};
+ghost use Rattle.cw_model.specs.Syntax.{wants_array};
 ghost use Rattle.cw_model.specs.Typing.{known_of};
 ghost use Rattle.cw_tree.specs.SyntaxView.{function_of, param_of};
 ghost use Rattle.cw_text.specs.Noted.{Notes};
@@ -13,6 +14,7 @@ use crate::bodies::block;
 use crate::globals::Globals;
 use crate::known::Known;
 use crate::rules::{Returns, block_returns, is_main, is_new};
+use cw_model::syntax::NameKind;
 use cw_text::LeastLine;
 use cw_tree::syntax::{Function, Param};
 use std::alloc::{AllocError, Global};
@@ -70,7 +72,7 @@ fn declare_params<'a>(
     let mut new = true;
     for param in params {
         new = new && is_new(globals, known, &param.name);
-        known.declare(param.name.as_bytes(), param.is_array)?;
+        known.declare(param.name.as_bytes(), param.kind)?;
     }
     Ok(new)
 }
@@ -87,11 +89,12 @@ fn keeps_head(function: &Function, are_new: bool) -> bool
 
 // Whether a parameter is an array.
 fn has_array(params: &[Param]) -> bool
-    ensures { result ≡ list_any (λ p. p.is_array) (map param_of params.now) }
+    ensures { result ≡ list_any (λ p. wants_array p) (map param_of params.now) }
 {
     for param in params {
-        if param.is_array {
-            return true;
+        match param.kind {
+            NameKind::Integer => {}
+            NameKind::Array | NameKind::Const => return true,
         }
     }
     false

@@ -2,10 +2,11 @@
 
 ghost use Rattle.std.specs.Prelude.{◌≡◌, ◌≤◌, ◌-◌, ◌∷◌, [], length, map};
 ghost use Rattle.cw_model.specs.Names.{is_among};
-ghost use Rattle.cw_model.specs.Typing.{is_int, is_array};
+ghost use Rattle.cw_model.specs.Typing.{is_int, is_array, is_writable};
 ghost use Rattle.cw_types.specs.Grows.{Becomes};
 ghost use Rattle.cw_types.specs.Typing.{kind_of, oldest};
 
+use cw_model::syntax::NameKind;
 use std::alloc::{AllocError, Global};
 use std::collections::HashMap;
 use std::marker::Model;
@@ -14,24 +15,25 @@ use std::marker::Model;
 #[derive(Clone, Copy)]
 struct Entry<'a> {
     name: &'a [u8],
-    is_array: bool,
+    kind: NameKind,
     // The kind of an older name of this spelling.
-    shadowed: Option<bool>,
+    shadowed: Option<NameKind>,
 }
 
-/// Names in the order in which they came to be known, each an array or an integer, and the newest of
+/// Names in the order in which they came to be known, each with what it stands for, and the newest of
 /// a spelling found by its bytes.
 #[derive(Drop)]
 pub struct Known<'a> {
     entries: Vec<Entry<'a>>,
-    kinds: HashMap<&'a [u8], bool>,
+    kinds: HashMap<&'a [u8], NameKind>,
 }
 
 impl<'a> Model for Known<'a> {
-    ghost use Rattle.std.specs.Prelude.{List, ℕ, Bool, []};
+    ghost use Rattle.std.specs.Prelude.{List, ℕ, []};
+    ghost use Rattle.cw_model.specs.declared.syntax.NameKind.{NameKind};
     ghost use Rattle.cw_types.specs.Shadows.{AreKinds, known_from};
 
-    ghost Value = { List (List ℕ × Bool) };
+    ghost Value = { List (List ℕ × NameKind) };
 
     ghost view = { λ t. known_from [] t.entries.items };
 
@@ -49,8 +51,8 @@ impl<'a> Known<'a> {
         }
     }
 
-    // Whether the newest name of this spelling is an array, if there is one.
-    fn kind(&self, name: &[u8]) -> Option<bool>
+    // What the newest name of this spelling stands for, if there is one.
+    fn kind(&self, name: &[u8]) -> Option<NameKind>
         ensures { result ≡ kind_of name.now self.now }
     {
         self.kinds.get(name).copied()
@@ -62,8 +64,8 @@ impl<'a> Known<'a> {
         ensures { result ≡ is_int self.now name.now }
     {
         match self.kind(name) {
-            Some(is_array) => !is_array,
-            None => false,
+            Some(NameKind::Integer) => true,
+            Some(NameKind::Array | NameKind::Const) | None => false,
         }
     }
 
@@ -73,8 +75,19 @@ impl<'a> Known<'a> {
         ensures { result ≡ is_array self.now name.now }
     {
         match self.kind(name) {
-            Some(is_array) => is_array,
-            None => false,
+            Some(NameKind::Array | NameKind::Const) => true,
+            Some(NameKind::Integer) | None => false,
+        }
+    }
+
+    /// Whether the newest name of this spelling is an array that may be written.
+    #[tactic(auto, using(crate::proofs::Newest::known, std::proofs::lemmas::Grind::common_steps))]
+    pub fn is_writable(&self, name: &[u8]) -> bool
+        ensures { result ≡ is_writable self.now name.now }
+    {
+        match self.kind(name) {
+            Some(NameKind::Array) => true,
+            Some(NameKind::Integer | NameKind::Const) | None => false,
         }
     }
 
@@ -93,16 +106,16 @@ impl<'a> Known<'a> {
     }
 
     /// One name more. Where memory runs out the names are as they were.
-    pub fn declare(&mut self, name: &'a [u8], is_array: bool) -> Result<(), AllocError>
-        ensures { Becomes ((name.now, is_array) ∷ self.old) self.old self.new result }
+    pub fn declare(&mut self, name: &'a [u8], kind: NameKind) -> Result<(), AllocError>
+        ensures { Becomes ((name.now, kind) ∷ self.old) self.old self.new result }
     {
         let shadowed = self.kinds.get(name).copied();
         self.entries.push(Entry {
             name,
-            is_array,
+            kind,
             shadowed,
         })?;
-        match self.kinds.insert(name, is_array) {
+        match self.kinds.insert(name, kind) {
             Ok(_) => Ok(()),
             Err(_) => {
                 self.entries.pop();

@@ -2,6 +2,7 @@
 #![tactic(auto)]
 
 mod bodies;
+mod callees;
 mod captured;
 mod checking;
 mod frames;

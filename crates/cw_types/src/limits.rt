@@ -15,6 +15,7 @@ use crate::regions::{Marked, regions};
 use cw_model::limits::{
     MOST_DECLARED, MOST_FUNCTIONS, MOST_PARAMETERS, MOST_REDUCERS, MOST_TAG_BYTES, MOST_TAGS,
 };
+use cw_model::syntax::NameKind;
 use cw_text::LeastLine;
 use cw_tree::syntax::{Ast, Function, Line, Param, Reducer, Stmt};
 use std::alloc::{AllocError, Global};
@@ -164,6 +165,6 @@ fn tag_beyond<'a>(
         return Ok(room);
     }
     let left = least.note_past(room, region.line);
-    seen.declare(region.tag, false)?;
+    seen.declare(region.tag, NameKind::Integer)?;
     Ok(left)
 }

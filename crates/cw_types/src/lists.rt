@@ -1,11 +1,19 @@
 //! What a program lists.
 
-use crate::table::Table;
+ghost use Rattle.std.specs.Prelude.{◌≡◌, map};
+ghost use Rattle.cw_tree.specs.Resolved as spec;
+ghost use Rattle.cw_tree.specs.SyntaxView.{function_of};
 
-/// The names of functions, of reducers and of different tags, each in their order.
+use crate::table::Table;
+use cw_tree::syntax::Function;
+
+/// The functions of a program, and the names of functions, of reducers and of different tags, each in their order.
 #[derive(Drop)]
 pub struct Lists<'a> {
+    pub callees: &'a [Function],
     pub functions: Table<'a>,
     pub reducers: Table<'a>,
     pub tags: Table<'a>,
+    // The table has the names of the functions in their order.
+    pub ghost functions_named: { functions ≡ spec.function_names (map function_of callees.now) },
 }

@@ -17,6 +17,7 @@ use crate::resolve::copy;
 use crate::rules::MAIN;
 use crate::statements::block;
 use crate::tags::{different, tag_names, tag_table};
+use cw_model::syntax::NameKind;
 use cw_tree::resolved as tree;
 use cw_tree::syntax::{Ast, Function, Param, Reducer};
 use std::alloc::{AllocError, Global};
@@ -32,6 +33,7 @@ pub fn resolve(alloc: Global, ast: &Ast) -> Result<tree::Tree, AllocError>
     let reducer_table = reducer_names(alloc, &ast.reducers)?;
     let tag_table = tag_table(alloc, &different)?;
     let lists = Lists {
+        callees: &ast.functions,
         functions: function_table,
         reducers: reducer_table,
         tags: tag_table,
@@ -112,10 +114,9 @@ fn declare_params<'a>(locals: &mut Locals<'a>, params: &'a [Param]) -> Result<()
 {
     for param in params {
         let name = param.name.as_bytes();
-        if param.is_array {
-            locals.arrays.add(name)?;
-        } else {
-            locals.ints.add(name)?;
+        match param.kind {
+            NameKind::Integer => locals.ints.add(name)?,
+            NameKind::Array | NameKind::Const => locals.arrays.add(name)?,
         }
     }
     Ok(())
@@ -128,8 +129,8 @@ fn params(alloc: Global, params: &[Param]) -> Result<Vec<tree::Param>, AllocErro
     let mut found = Vec::new(alloc);
     for param in params {
         let name = copy(alloc, &param.name)?;
-        let is_array = param.is_array;
-        found.push(tree::Param { name, is_array })?;
+        let kind = param.kind;
+        found.push(tree::Param { name, kind })?;
     }
     Ok(found)
 }

@@ -6,6 +6,7 @@ ghost use Rattle.cw_types.specs.Named.{listed_functions, listed_reducers, shared
 ghost use Rattle.cw_text.specs.Noted.{Noted, Notes};
 
 use crate::known::Known;
+use cw_model::syntax::NameKind;
 use cw_text::LeastLine;
 use cw_tree::syntax::{Function, Reducer};
 use std::alloc::{AllocError, Global};
@@ -22,7 +23,7 @@ pub fn repeated_functions(
     for function in functions {
         let name = function.name.as_bytes();
         least.note(!earlier.has(name), function.line);
-        earlier.declare(name, false)?;
+        earlier.declare(name, NameKind::Integer)?;
     }
     Ok(())
 }
@@ -39,7 +40,7 @@ pub fn repeated_reducers(
     for reducer in reducers {
         let name = reducer.name.as_bytes();
         least.note(!earlier.has(name), reducer.line);
-        earlier.declare(name, false)?;
+        earlier.declare(name, NameKind::Integer)?;
     }
     Ok(())
 }

@@ -1,16 +1,19 @@
 //! Names looked up, in what stands in a statement beside its blocks.
 
-ghost use Rattle.std.specs.Prelude.{◌≡◌, ◌<◌, ◌+◌, ◌^◌, length, map, IfOk};
+ghost use Rattle.std.specs.Prelude.{◌≡◌, ◌<◌, ◌+◌, ◌^◌, length, map, drop, IfOk};
 ghost use Rattle.cw_types.specs.Found as looked;
 ghost use Rattle.cw_tree.specs.Resolved as spec;
 ghost use Rattle.cw_tree.specs.ResolvedView.{use_of, listed_of};
+ghost use Rattle.cw_tree.specs.SyntaxView.{param_of};
 
+use crate::callees::params_of;
 use crate::captured::captured;
 use crate::lists::Lists;
 use crate::locals::Locals;
 use crate::table::Table;
+use cw_model::syntax::NameKind;
 use cw_tree::resolved as tree;
-use cw_tree::syntax::{Call, Cut, Expr, Head, Name};
+use cw_tree::syntax::{Call, Cut, Expr, Head, Name, Param};
 use std::alloc::{AllocError, Global};
 
 /// A copy of a name.
@@ -85,25 +88,58 @@ pub fn expression(alloc: Global, locals: &Locals, e: &Expr) -> Result<tree::Expr
     }
 }
 
-// A name alone in the place of an argument.
-fn name_alone(alloc: Global, locals: &Locals, name: &Name) -> Result<tree::Argument, AllocError>
-    ensures { IfOk result (looked.IsNameAlone locals.now name.now) }
+// Whether the first of these parameters only reads an array.
+fn is_reader(params: &[Param]) -> bool
+    ensures { result ≡ spec.is_reader (map param_of params.now) }
+{
+    match params {
+        [] => false,
+        [first, ..] => matches!(first.kind, NameKind::Const),
+    }
+}
+
+// The parameters behind the first one.
+fn behind_first(params: &[Param]) -> &[Param]
+    ensures { map param_of result.now ≡ drop 1 (map param_of params.now) }
+{
+    match params {
+        [] => params,
+        [_, rest @ ..] => rest,
+    }
+}
+
+// A name alone in the place of an argument for the first of these parameters.
+fn name_alone(
+    alloc: Global,
+    locals: &Locals,
+    params: &[Param],
+    name: &Name,
+) -> Result<tree::Argument, AllocError>
+    ensures { IfOk result (looked.IsNameAlone locals.now params.now name.now) }
 {
     if locals.arrays.has(name.as_bytes()) {
         let used = use_of(alloc, &locals.arrays, name)?;
+        if is_reader(params) {
+            return Ok(tree::Argument::Shared(used));
+        }
         return Ok(tree::Argument::Array(used));
     }
     let used = use_of(alloc, &locals.ints, name)?;
     Ok(tree::Argument::Int(tree::Expr::Variable(used)))
 }
 
-// An argument with each name looked up.
-fn argument(alloc: Global, locals: &Locals, e: &Expr) -> Result<tree::Argument, AllocError>
-    ensures { IfOk result (looked.IsArgument locals.now e.now) }
+// An argument for the first of these parameters, with each name looked up.
+fn argument(
+    alloc: Global,
+    locals: &Locals,
+    params: &[Param],
+    e: &Expr,
+) -> Result<tree::Argument, AllocError>
+    ensures { IfOk result (looked.IsArgument locals.now params.now e.now) }
 {
     match e {
         Expr::Variable(x) => {
-            let found = name_alone(alloc, locals, x)?;
+            let found = name_alone(alloc, locals, params, x)?;
             Ok(found)
         }
         Expr::Number(_)
@@ -118,14 +154,21 @@ fn argument(alloc: Global, locals: &Locals, e: &Expr) -> Result<tree::Argument, 
     }
 }
 
-// The arguments in their order.
-fn arguments(alloc: Global, locals: &Locals, es: &[Expr]) -> Result<Vec<tree::Argument>, AllocError>
-    ensures { IfOk result (λ found. looked.AreArguments locals.now es.now found.items) }
+// The arguments for these parameters, in their order.
+fn arguments(
+    alloc: Global,
+    locals: &Locals,
+    params: &[Param],
+    es: &[Expr],
+) -> Result<Vec<tree::Argument>, AllocError>
+    ensures { IfOk result (λ found. looked.AreArguments locals.now params.now es.now found.items) }
 {
     let mut found = Vec::new(alloc);
+    let mut left = params;
     for e in es {
-        let argument = argument(alloc, locals, e)?;
+        let argument = argument(alloc, locals, left, e)?;
         found.push(argument)?;
+        left = behind_first(left);
     }
     Ok(found)
 }
@@ -175,7 +218,8 @@ pub fn call(
 {
     let target = target(alloc, &locals.ints, &c.target)?;
     let callee = listed(alloc, &lists.functions, &c.callee)?;
-    let arguments = arguments(alloc, locals, &c.arguments)?;
+    let params = params_of(lists, c.callee.as_bytes());
+    let arguments = arguments(alloc, locals, params, &c.arguments)?;
     Ok(tree::Call {
         kind: c.kind,
         site: c.site,

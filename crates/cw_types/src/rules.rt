@@ -14,7 +14,7 @@ ghost use Rattle.cw_types.specs.Within.{line_keeps};
 use crate::globals::Globals;
 use crate::known::Known;
 use cw_model::limits::MOST_GRAIN;
-use cw_model::syntax::Reduction;
+use cw_model::syntax::{NameKind, Reduction};
 use cw_tree::syntax::{Call, Cut, Expr, Function, Head, Line, Name, Param, Stmt};
 
 /// The name of the function that a run begins with.
@@ -45,6 +45,13 @@ fn is_array(known: &Known, name: &Name) -> bool
     known.is_array(name.as_bytes())
 }
 
+// Whether a name is that of a known array that may be written.
+fn is_writable(known: &Known, name: &Name) -> bool
+    ensures { result ≡ rule.is_writable known.now name.now }
+{
+    known.is_writable(name.as_bytes())
+}
+
 /// Whether a name may be declared: it is not known, and no function or reducer has it.
 pub fn is_new(globals: &Globals, known: &Known, name: &Name) -> bool
     ensures { result ≡ rule.is_new (program_of globals.now.ast.now) known.now name.now }
@@ -67,21 +74,16 @@ fn is_fine(known: &Known, e: &Expr) -> bool
     }
 }
 
-// Whether an argument fits a parameter: an array alone an array, and an expression an integer.
+// Whether an argument fits a parameter: an expression an integer, and an array alone an array, which may be written
+// unless the parameter only reads it.
 fn is_argument(known: &Known, param: &Param, e: &Expr) -> bool
-    ensures { result ≡ rule.is_argument known.now (param_of param.now).is_array (expr_of e.now) }
+    ensures { result ≡ rule.is_argument known.now (param_of param.now).kind (expr_of e.now) }
 {
-    if !param.is_array {
-        return is_fine(known, e);
-    }
-    match e {
-        Expr::Variable(a) => is_array(known, a),
-        Expr::Number(_)
-        | Expr::Element(_, _)
-        | Expr::Length(_)
-        | Expr::Negative(_)
-        | Expr::Not(_)
-        | Expr::Binary(_, _, _) => false,
+    match (param.kind, e) {
+        (NameKind::Integer, _) => is_fine(known, e),
+        (NameKind::Array, Expr::Variable(a)) => is_writable(known, a),
+        (NameKind::Const, Expr::Variable(a)) => is_array(known, a),
+        (NameKind::Array | NameKind::Const, _) => false,
     }
 }
 
@@ -151,12 +153,12 @@ fn is_reducer(globals: &Globals, how: Reduction, name: &Name) -> bool
     }
 }
 
-// Whether the names are all of known arrays.
+// Whether the names are all of known arrays that may be written.
 fn are_arrays(known: &Known, names: &[Name]) -> bool
-    ensures { result ≡ list_all (λ a. rule.is_array known.now a) names.now }
+    ensures { result ≡ list_all (λ a. rule.is_writable known.now a) names.now }
 {
     for name in names {
-        if !is_array(known, name) {
+        if !is_writable(known, name) {
             return false;
         }
     }
@@ -164,7 +166,7 @@ fn are_arrays(known: &Known, names: &[Name]) -> bool
 }
 
 // Whether the three names of a loop's head are one new name, its ends are integers, its grain is in
-// range, and it is over arrays.
+// range, and it is over arrays that may be written.
 fn is_head(globals: &Globals, known: &Known, head: &Head) -> bool
     ensures { result ≡ spec.is_head (program_of globals.now.ast.now) known.now head.now }
 {
@@ -178,11 +180,11 @@ fn is_head(globals: &Globals, known: &Known, head: &Head) -> bool
         && are_arrays(known, &head.over)
 }
 
-// Whether an array is cut at an integer into two new names that differ.
+// Whether an array that may be written is cut at an integer into two new names that differ.
 fn is_cut(globals: &Globals, known: &Known, cut: &Cut) -> bool
     ensures { result ≡ spec.cuts (program_of globals.now.ast.now) known.now cut.now }
 {
-    is_array(known, &cut.array)
+    is_writable(known, &cut.array)
         && is_fine(known, &cut.at)
         && is_new(globals, known, &cut.left)
         && is_new(globals, known, &cut.right)
@@ -209,7 +211,7 @@ pub fn keeps_rules(globals: &Globals, returns: Returns, known: &Known, stmt: &St
             is_fine(known, e) && is_new(globals, known, x)
         }
         Stmt::Assign(x, e) => is_int(known, x) && is_fine(known, e),
-        Stmt::AssignElement(a, i, e) => is_array(known, a)
+        Stmt::AssignElement(a, i, e) => is_writable(known, a)
             && is_fine(known, i)
             && is_fine(known, e),
         Stmt::Reduce(how, s, e) => is_reducer(globals, *how, s) && is_fine(known, e),

@@ -6,6 +6,7 @@ ghost use Rattle.cw_types.specs.Regions.{AreFirst, tags_of};
 use crate::known::Known;
 use crate::regions::Marked;
 use crate::table::Table;
+use cw_model::syntax::NameKind;
 use cw_tree::syntax::Name;
 use std::alloc::{AllocError, Global};
 
@@ -17,7 +18,7 @@ pub fn different<'a>(alloc: Global, regions: &[Marked<'a>]) -> Result<Vec<Marked
     let mut found = Vec::new(alloc);
     for region in regions {
         if !seen.has(region.tag) {
-            seen.declare(region.tag, false)?;
+            seen.declare(region.tag, NameKind::Integer)?;
             found.push(*region)?;
         }
     }

@@ -1,7 +1,6 @@
 -- Numbers for the blocks round places.
-use Rattle.std.proofs.Common.{◌≡◌, ◌⊎◌, inl, inr, ⊎_elim, ℕ, zero, suc, ◌<◌, ◌≤◌, Bool, true, false, ◌||◌, ◌&&◌, if◌then◌else◌, nat_eq, length, List, [], ◌∷◌, Some, None, refl, sym, ap, subst, ◌∙◌, arith}
+use Rattle.std.proofs.Common.{◌≡◌, ◌⊎◌, inl, inr, ⊎_elim, ℕ, zero, suc, ◌<◌, ◌≤◌, Bool, true, false, ◌||◌, if◌then◌else◌, nat_eq, List, [], ◌∷◌, Some, None, refl, sym, ap, subst, ◌∙◌, arith}
 use Rattle.std.specs.Prelude.{Option, replicate, slice_get, slice_set}
-use Rattle.cw_code.specs.declared.code.Halves.{Halves}
 use Rattle.cw_code.specs.declared.code.Instr.{Instr}
 use Rattle.cw_code.specs.declared.code.Instr.TheVariants as instr
 use Rattle.cw_code.specs.Code.{Code}
@@ -14,12 +13,13 @@ use Rattle.cw_verify.specs.declared.numbers.Numbers.{Numbers}
 use Rattle.cw_verify.specs.declared.numbers.Pair.{Pair}
 use Rattle.cw_verify.specs.declared.search.Search.{Search}
 use Rattle.cw_verify.specs.Meetings.{meeting_of, meets}
-use Rattle.cw_verify.specs.Table.{Shapes, rounds_of, shape_view, shapes_of, brings, round_brings, each_brings, either_each, same_halves, same_cut, is_alike, are_alike, joined, can_meet, met}
+use Rattle.cw_verify.specs.Table.{Shapes, rounds_of, shape_view, shapes_of, brings, round_brings, each_brings, either_each, is_alike, are_alike, joined, can_meet, met}
 use Rattle.cw_verify.specs.Numbers.{Names, HasNumber, IsPair, given, number_of, number_after, AreNumbered, IsKnown, IsKnownWith, keeps_blocks, IsNext}
 use Rattle.cw_verify.proofs.Decided.{equal, not_equal, both_true}
 use Rattle.cw_verify.proofs.Lists.{same_some, set_other}
 use Rattle.cw_verify.proofs.Rounds.{each_stays, each_comes}
 use Rattle.cw_verify.proofs.Spreading.{shapes_set}
+use Rattle.cw_verify.proofs.Tables.{is_alike_of}
 
 -- nothing is brought by what is there
 brings_self : (row : Row) → brings row row ≡ false
@@ -33,21 +33,10 @@ neither false b h k = k
 
 each_brings_self : (xs : List Outer) → each_brings xs xs ≡ false
 each_brings_self [] = refl
-each_brings_self (x ∷ xs) = neither (round_brings x x) (each_brings xs xs) (neither (brings x.empty x.empty) (brings x.gone x.gone) (brings_self x.empty) (brings_self x.gone)) (each_brings_self xs)
-
-same_halves_self : (h : Halves) → same_halves h h ≡ true
-same_halves_self h =
-    both_true (nat_eq h.array h.array) (nat_eq h.left h.left && nat_eq h.right h.right) (equal h.array h.array refl)
-    (both_true (nat_eq h.left h.left) (nat_eq h.right h.right) (equal h.left h.left refl) (equal h.right h.right refl))
-
-same_cut_self : (c : Option Halves) → same_cut c c ≡ true
-same_cut_self None = refl
-same_cut_self (Some h) = same_halves_self h
+each_brings_self (x ∷ xs) = neither (round_brings x x) (each_brings xs xs) (neither (brings x.empty x.empty) (brings x.gone x.gone || brings x.frozen x.frozen) (brings_self x.empty) (neither (brings x.gone x.gone) (brings x.frozen x.frozen) (brings_self x.gone) (brings_self x.frozen))) (each_brings_self xs)
 
 is_alike_self : (x : Outer) → is_alike x x ≡ true
-is_alike_self x =
-    both_true (nat_eq (length x.empty) (length x.empty)) (nat_eq (length x.gone) (length x.gone) && same_cut x.cut x.cut) (equal (length x.empty) (length x.empty) refl)
-    (both_true (nat_eq (length x.gone) (length x.gone)) (same_cut x.cut x.cut) (equal (length x.gone) (length x.gone) refl) (same_cut_self x.cut))
+is_alike_self x = is_alike_of x x refl refl refl refl
 
 are_alike_self : (xs : List Outer) → are_alike xs xs ≡ true
 are_alike_self [] = refl
@@ -210,6 +199,8 @@ kept_blocks code s (instr.NewArray a line) e = refl
 kept_blocks code s (instr.Length a) e = refl
 kept_blocks code s (instr.Element a line) e = refl
 kept_blocks code s (instr.SetElement a line) e = refl
+kept_blocks code s (instr.ReadLength r) e = refl
+kept_blocks code s (instr.ReadElement r line) e = refl
 kept_blocks code s (instr.Cut h line) e = cc
 kept_blocks code s instr.EndCut e = cc
 kept_blocks code s instr.Sync e = refl

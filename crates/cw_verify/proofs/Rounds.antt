@@ -10,9 +10,11 @@ use Rattle.cw_verify.proofs.Tables.{alike}
 -- a block that is brought nothing stays
 round_stays : (x y : Outer) → round_brings x y ≡ false → either_round x y ≡ x
 round_stays x y h =
-    let both = or_false (brings x.empty y.empty) (brings x.gone y.gone) h in
-    ap (λ r. record { empty = r; gone = either_empty x.gone y.gone; cut = x.cut }) (either_stays x.empty y.empty both.0)
-    ∙ ap (λ r. record { empty = x.empty; gone = r; cut = x.cut }) (either_stays x.gone y.gone both.1)
+    let both = or_false (brings x.empty y.empty) (brings x.gone y.gone || brings x.frozen y.frozen) h in
+    let rest = or_false (brings x.gone y.gone) (brings x.frozen y.frozen) both.1 in
+    ap (λ r. record { empty = r; gone = either_empty x.gone y.gone; frozen = either_empty x.frozen y.frozen; cut = x.cut }) (either_stays x.empty y.empty both.0)
+    ∙ ap (λ r. record { empty = x.empty; gone = r; frozen = either_empty x.frozen y.frozen; cut = x.cut }) (either_stays x.gone y.gone rest.0)
+    ∙ ap (λ r. record { empty = x.empty; gone = x.gone; frozen = r; cut = x.cut }) (either_stays x.frozen y.frozen rest.1)
 
 pub each_stays : (xs ys : List Outer) → each_brings xs ys ≡ false → either_each xs ys ≡ xs
 each_stays [] ys h = refl
@@ -23,14 +25,15 @@ each_stays (x ∷ xs) (y ∷ ys) h =
 
 -- what is brought leaves fewer slots full
 round_within : (x y : Outer) → unmarked_round (either_round x y) ≤ unmarked_round x
-round_within x y = omega (arith, either_within x.empty y.empty, either_within x.gone y.gone)
+round_within x y = omega (arith, either_within x.empty y.empty, either_within x.gone y.gone, either_within x.frozen y.frozen)
 
 round_fewer : (x y : Outer) → round_brings x y ≡ true → unmarked_round (either_round x y) < unmarked_round x
-round_fewer x y = cases (brings x.empty y.empty) refl
+round_fewer x y = cases (brings x.empty y.empty) (brings x.gone y.gone) refl refl
   where
-    cases : (b : Bool) → brings x.empty y.empty ≡ b → (b || brings x.gone y.gone) ≡ true → unmarked_round (either_round x y) < unmarked_round x
-    cases true e h = omega (arith, either_fewer x.empty y.empty e, either_within x.gone y.gone)
-    cases false e h = omega (arith, either_within x.empty y.empty, either_fewer x.gone y.gone h)
+    cases : (b d : Bool) → brings x.empty y.empty ≡ b → brings x.gone y.gone ≡ d → (b || (d || brings x.frozen y.frozen)) ≡ true → unmarked_round (either_round x y) < unmarked_round x
+    cases true d e e' h = omega (arith, either_fewer x.empty y.empty e, either_within x.gone y.gone, either_within x.frozen y.frozen)
+    cases false true e e' h = omega (arith, either_within x.empty y.empty, either_fewer x.gone y.gone e', either_within x.frozen y.frozen)
+    cases false false e e' h = omega (arith, either_within x.empty y.empty, either_within x.gone y.gone, either_fewer x.frozen y.frozen h)
 
 each_within : (xs ys : List Outer) → unmarked_each (either_each xs ys) ≤ unmarked_each xs
 each_within [] ys = omega arith
@@ -51,10 +54,12 @@ each_fewer (x ∷ xs) (y ∷ ys) h = one_fewer x y xs ys (round_brings x y) refl
 round_comes : (x y : Outer) → is_alike x y ≡ true → round_brings y x ≡ false → either_round x y ≡ y
 round_comes x y e h =
     let a = alike x y e in
-    let both = or_false (brings y.empty x.empty) (brings y.gone x.gone) h in
-    ap (λ r. record { empty = r; gone = either_empty x.gone y.gone; cut = x.cut }) (either_comes x.empty y.empty a.as_wide both.0)
-    ∙ ap (λ r. record { empty = y.empty; gone = r; cut = x.cut }) (either_comes x.gone y.gone a.as_wide_gone both.1)
-    ∙ ap (λ c. record { empty = y.empty; gone = y.gone; cut = c }) a.same
+    let both = or_false (brings y.empty x.empty) (brings y.gone x.gone || brings y.frozen x.frozen) h in
+    let rest = or_false (brings y.gone x.gone) (brings y.frozen x.frozen) both.1 in
+    ap (λ r. record { empty = r; gone = either_empty x.gone y.gone; frozen = either_empty x.frozen y.frozen; cut = x.cut }) (either_comes x.empty y.empty a.as_wide both.0)
+    ∙ ap (λ r. record { empty = y.empty; gone = r; frozen = either_empty x.frozen y.frozen; cut = x.cut }) (either_comes x.gone y.gone a.as_wide_gone rest.0)
+    ∙ ap (λ r. record { empty = y.empty; gone = y.gone; frozen = r; cut = x.cut }) (either_comes x.frozen y.frozen a.as_wide_frozen rest.1)
+    ∙ ap (λ c. record { empty = y.empty; gone = y.gone; frozen = y.frozen; cut = c }) a.same
 
 pub each_comes : (xs ys : List Outer) → are_alike xs ys ≡ true → each_brings ys xs ≡ false → either_each xs ys ≡ ys
 each_comes [] [] e h = refl

@@ -3,7 +3,10 @@ use Rattle.std.proofs.Common.{◌≡◌, ℕ, zero, suc, ◌+◌, ◌<◌, ◌�
 use Rattle.std.specs.Prelude.{take, drop, slice_get, slice_set}
 use Rattle.std.proofs.lemmas.List.{length-set, length-replicate}
 use Rattle.std.proofs.lemmas.Bool.{cases_eq}
-use Rattle.cw_code.specs.Fits.{Row, Shape, is_full_in, has_array, has_arrays, is_none_of, names_arrays, with_gone, none_empty}
+use Rattle.cw_code.specs.Fits.{Row, Shape, is_full_in, has_array, has_arrays, is_none_of, names_arrays, with_gone, slots_lent, none_empty}
+use Rattle.cw_code.specs.declared.code.Loan.{Loan}
+use Rattle.cw_code.specs.declared.code.Loan.TheVariants.{Array, Reader}
+use Rattle.cw_verify.specs.Views.{frozen_by, with_loans}
 use Rattle.cw_verify.specs.Table.{either_empty, brings, has_all, any_empty, are_unmarked, unmarked, IsEither}
 use Rattle.cw_verify.proofs.Lists.{drop_at, get_set, set_other, or_false, or_again}
 use Rattle.cw_verify.proofs.Decided.{below, eq_of, equal, not_equal, lt_of, first_false, second_false, both_true, first_true, second_true}
@@ -129,6 +132,26 @@ pub gone_on : (slots : List ℕ) (k a : ℕ) (row : Row) → slice_get slots k �
 gone_on slots k a row e =
     let n : suc k ≡ k + 1 = omega arith in
     ap (λ l. with_gone l row) (drop_at slots k a e) ∙ gone_first (drop (suc k) slots) a row ∙ ap (λ j. with_gone (drop j slots) (slice_set row a true)) n
+
+-- one loan more
+pub lent_on : (loans : List Loan) (k : ℕ) (loan : Loan) (row : Row) → slice_get loans k ≡ Some loan → with_loans (drop k loans) row ≡ with_loans (drop (k + 1) loans) (frozen_by loan row)
+lent_on loans k loan row e =
+    let n : suc k ≡ k + 1 = omega arith in
+    ap (λ l. with_loans l row) (drop_at loans k loan e) ∙ one loan (drop (suc k) loans) ∙ ap (λ j. with_loans (drop j loans) (frozen_by loan row)) n
+  where
+    one : (x : Loan) (rest : List Loan) → with_loans (x ∷ rest) row ≡ with_loans rest (frozen_by x row)
+    one (Array a) rest = gone_first (slots_lent rest) a row
+    one (Reader r) rest = refl
+
+-- a test of all elements, from one on
+module _ {A : Type 0} (test : A → Bool) (all : List A → Bool) (each : (x : A) (xs : List A) → all (x ∷ xs) ≡ (test x && all xs)) where
+  pub all_not : (xs : List A) (k : ℕ) (x : A) → slice_get xs k ≡ Some x → test x ≡ false → all (drop k xs) ≡ false
+  all_not xs k x e f = ap all (drop_at xs k x e) ∙ each x (drop (suc k) xs) ∙ first_false (test x) (all (drop (suc k) xs)) f
+
+  pub all_on : (xs : List A) (k : ℕ) (x : A) → slice_get xs k ≡ Some x → test x ≡ true → all (drop k xs) ≡ all (drop (k + 1) xs)
+  all_on xs k x e f =
+      let n : suc k ≡ k + 1 = omega arith in
+      ap all (drop_at xs k x e) ∙ each x (drop (suc k) xs) ∙ ap (λ b. b && all (drop (suc k) xs)) f ∙ ap (λ j. all (drop j xs)) n
 
 -- array slots that a place has, from one of a list on
 pub arrays_not : (s : Shape) (slots : List ℕ) (k a : ℕ) → slice_get slots k ≡ Some a → has_array s a ≡ false → has_arrays s (drop k slots) ≡ false

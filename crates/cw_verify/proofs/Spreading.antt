@@ -9,13 +9,13 @@ use Rattle.cw_text.specs.declared.fault.Fault.TheVariants as fault
 use Rattle.cw_code.specs.declared.code.Func.{Func}
 use Rattle.cw_code.specs.declared.code.Instr.{Instr}
 use Rattle.cw_code.specs.Code.{Code}
-use Rattle.cw_code.specs.Fits.{Shape, Table, FlowsInto, FlowsIntoEach, IsTable, first_shape, is_ready, leaves, nexts, names_well}
+use Rattle.cw_code.specs.Fits.{Shape, Table, FlowsInto, FlowsIntoEach, IsTable, first_shape, leaves, nexts, names_well}
 use Rattle.cw_verify.specs.declared.found.Found.{Found}
 use Rattle.cw_verify.specs.declared.numbers.Numbers.{Numbers}
 use Rattle.cw_verify.specs.declared.search.Search.{Search}
-use Rattle.cw_verify.specs.Table.{Shapes, shape_view, shapes_of, joined, come_at, come, visited, unmarked_at, unmarked_in, unreached, IsIn, IsNoted, Notes, left_to_do, Spread, Tells, table_of, IsDone, IsSearch, Fails, AllNamed, blocks_of}
+use Rattle.cw_verify.specs.Table.{Shapes, shape_view, shapes_of, may_act, joined, come_at, come, visited, unmarked_at, unmarked_in, unreached, IsIn, IsNoted, Notes, left_to_do, Spread, Tells, table_of, IsDone, IsSearch, Fails, AllNamed, blocks_of}
 use Rattle.cw_verify.proofs.Lists.{same_some, set_other, set_set, set_same, map_set}
-use Rattle.cw_verify.proofs.Tables.{each_refl, leads_at, Visited, visits, visit_done, leads_grown, done_grown, held}
+use Rattle.cw_verify.proofs.Tables.{may_ready, may_thawed, each_refl, leads_at, Visited, visits, visit_done, leads_grown, done_grown, held}
 
 -- places as shapes
 pub shapes_length : (items : List (Option Found)) → length (shapes_of items) ≡ length items
@@ -159,7 +159,7 @@ visit_search code f old new work rest work' k i reached inside named h e is v sp
     here same = λ s i' q is'.
         let r : i ≡ i' = same_some i i' (sym is ∙ is') in
         let d = visit_done code f old k i is (named_at k lt i is) s new (sym same ∙ q) v in
-        subst (λ x. (is_ready code s x ≡ true) × FlowsIntoEach (table_of f.start new) (leaves code s x) (nexts (f.start + k) x)) r d
+        subst (λ x. (may_act code s x ≡ true) × FlowsIntoEach (table_of f.start new) (leaves code s x) (nexts (f.start + k) x)) r d
 
     at : (j : ℕ) → j < length old → slice_get new j ≡ slice_get old j → IsIn j work' ⊎ IsDone code f.start new j
     at j lt' same =
@@ -173,18 +173,19 @@ pub closed_is_table : (code : Code) (f : Func) (shapes : Shapes) → f.end ≤ l
 closed_is_table code f shapes inside h = record {
   starts = h.starts;
   within = λ place s e. let p = held f.start shapes place s e in (p.0, omega (arith, p.0, slice_get_within shapes (place - f.start) (Some s) p.1, h.whole));
-  ready = λ place s i e is. (both place s i e is).0;
+  ready = λ place s i e is. may_ready code s i (both place s i e is).0;
+  thawed = λ place s i e is. may_thawed code s i (both place s i e is).0;
   goes = λ place s i e is. (both place s i e is).1;
 }
   where
-    both : (place : ℕ) (s : Shape) (i : Instr) → table_of f.start shapes place ≡ Some s → slice_get code.instrs place ≡ Some i → (is_ready code s i ≡ true) × FlowsIntoEach (table_of f.start shapes) (leaves code s i) (nexts place i)
+    both : (place : ℕ) (s : Shape) (i : Instr) → table_of f.start shapes place ≡ Some s → slice_get code.instrs place ≡ Some i → (may_act code s i ≡ true) × FlowsIntoEach (table_of f.start shapes) (leaves code s i) (nexts place i)
     both place s i e is =
         let p = held f.start shapes place s e in
         let same : f.start + (place - f.start) ≡ place = omega (arith, p.0) in
         let is' : slice_get code.instrs (f.start + (place - f.start)) ≡ Some i = ap (slice_get code.instrs) same ∙ is in
         let lt = slice_get_within shapes (place - f.start) (Some s) p.1 in
         let d : IsDone code f.start shapes (place - f.start) = ⊎_elim (λ (q : IsIn (place - f.start) []). absurd (nowhere q)) (λ (d : IsDone code f.start shapes (place - f.start)). d) (h.done (place - f.start) lt) in
-        subst (λ n. (is_ready code s i ≡ true) × FlowsIntoEach (table_of f.start shapes) (leaves code s i) (nexts n i)) same (d s i p.1 is')
+        subst (λ n. (may_act code s i ≡ true) × FlowsIntoEach (table_of f.start shapes) (leaves code s i) (nexts n i)) same (d s i p.1 is')
       where
         nowhere : {k : ℕ} → IsIn k [] → ⊥
         nowhere (j, e) = cc

@@ -11,10 +11,12 @@ use Rattle.cw_code.specs.declared.code.Halves.{Halves}
 use Rattle.cw_code.specs.declared.code.Instr.{Instr}
 use Rattle.cw_code.specs.declared.code.Instr.TheVariants as instr
 use Rattle.cw_code.specs.Code.{Code}
-use Rattle.cw_code.specs.Run.{passed_by}
-use Rattle.cw_code.specs.Fits.{Row, Outer, empty_rows, gone_rows, params_of, names_well, Shape, is_full_in, full_in_all, has_slot, has_array, has_arrays, has_target, has_arguments, none_open, can_close, has_parts, can_uncut, is_no_half, is_no_part, are_no_parts, with_target, with_gone, with_passed, with_uncut, none_empty, closed_shape, uncut_shape, is_ready, leaves, nexts, Covers, CoversEach, Table, FlowsInto, FlowsIntoEach, IsTable}
-use Rattle.cw_verify.specs.Table.{Shapes, either_empty, either_each, same_cut, is_alike, are_alike, blocks_of, can_meet, met, joined, come_at, come, then_come, come_all, next_distances, visited_at, visited, shape_at, table_of, Below, Grows, IsDone}
-use Rattle.cw_verify.proofs.Decided.{taken, both_true, both_less, first_true, second_true, at_most, equal, le_of, eq_of}
+use Rattle.cw_code.specs.declared.code.Loan.{Loan}
+use Rattle.cw_code.specs.declared.code.Loan.TheVariants.{Array, Reader}
+use Rattle.cw_code.specs.Run.{passed_by, lent_by}
+use Rattle.cw_code.specs.Fits.{Row, Outer, empty_rows, gone_rows, frozen_rows, params_of, names_well, Shape, is_full_in, full_in_all, has_slot, has_array, has_arrays, has_loan, has_loans, has_target, has_arguments, none_open, can_close, has_parts, can_uncut, is_no_half, is_no_part, are_no_parts, none_frozen, slots_cut, slots_uncut, changes_back, slots_lent, with_target, with_gone, with_passed, with_uncut, none_empty, closed_shape, uncut_shape, is_ready, is_thawed, leaves, nexts, Covers, CoversEach, Table, FlowsInto, FlowsIntoEach, IsTable}
+use Rattle.cw_verify.specs.Table.{Shapes, either_empty, either_each, same_cut, is_alike, are_alike, blocks_of, can_meet, met, may_act, joined, come_at, come, then_come, come_all, next_distances, visited_at, visited, shape_at, table_of, Below, Grows, IsDone}
+use Rattle.cw_verify.proofs.Decided.{taken, not_taken, let_through, first_false, second_false, both_true, both_less, first_true, second_true, at_most, equal, le_of, eq_of}
 use Rattle.cw_verify.proofs.Lists.{same_some, missing, get_set, set_other}
 
 -- rows that cover
@@ -126,48 +128,54 @@ cut_same (Some h) =
 -- the same, block by block
 pub each_refl : (xs : List Outer) → CoversEach xs xs
 each_refl [] = tt
-each_refl (x ∷ xs) = (covers_refl x.empty, covers_refl x.gone, refl, each_refl xs)
+each_refl (x ∷ xs) = (covers_refl x.empty, covers_refl x.gone, covers_refl x.frozen, refl, each_refl xs)
 
 pub each_trans : (xs ys zs : List Outer) → CoversEach xs ys → CoversEach ys zs → CoversEach xs zs
 each_trans [] [] zs c d = d
 each_trans [] (y ∷ ys) zs c d = absurd c
 each_trans (x ∷ xs) [] zs c d = absurd c
 each_trans (x ∷ xs) (y ∷ ys) [] c d = absurd d
-each_trans (x ∷ xs) (y ∷ ys) (z ∷ zs) c d = (covers_trans x.empty y.empty z.empty c.0 d.0, covers_trans x.gone y.gone z.gone c.1 d.1, c.2 ∙ d.2, each_trans xs ys zs c.3 d.3)
+each_trans (x ∷ xs) (y ∷ ys) (z ∷ zs) c d = (covers_trans x.empty y.empty z.empty c.0 d.0, covers_trans x.gone y.gone z.gone c.1 d.1, covers_trans x.frozen y.frozen z.frozen c.2 d.2, c.3 ∙ d.3, each_trans xs ys zs c.4 d.4)
 
 each_either : (xs ys zs : List Outer) → CoversEach xs ys → CoversEach xs zs → CoversEach xs (either_each ys zs)
 each_either [] [] zs c d = tt
 each_either [] (y ∷ ys) zs c d = absurd c
 each_either (x ∷ xs) [] zs c d = absurd c
 each_either (x ∷ xs) (y ∷ ys) [] c d = absurd d
-each_either (x ∷ xs) (y ∷ ys) (z ∷ zs) c d = (covers_either x.empty y.empty z.empty c.0 d.0, covers_either x.gone y.gone z.gone c.1 d.1, c.2, each_either xs ys zs c.3 d.3)
+each_either (x ∷ xs) (y ∷ ys) (z ∷ zs) c d = (covers_either x.empty y.empty z.empty c.0 d.0, covers_either x.gone y.gone z.gone c.1 d.1, covers_either x.frozen y.frozen z.frozen c.2 d.2, c.3, each_either xs ys zs c.4 d.4)
 
 each_first : (ys zs : List Outer) → CoversEach (either_each ys zs) ys
 each_first [] zs = tt
 each_first (y ∷ ys) [] = each_refl (y ∷ ys)
-each_first (y ∷ ys) (z ∷ zs) = (either_first y.empty z.empty, either_first y.gone z.gone, refl, each_first ys zs)
+each_first (y ∷ ys) (z ∷ zs) = (either_first y.empty z.empty, either_first y.gone z.gone, either_first y.frozen z.frozen, refl, each_first ys zs)
 
 -- what it is for two blocks to be alike
 pub record Alike (y z : Outer) : Type 0 where
   pub as_wide : length y.empty ≡ length z.empty
   pub as_wide_gone : length y.gone ≡ length z.gone
+  pub as_wide_frozen : length y.frozen ≡ length z.frozen
   pub same : y.cut ≡ z.cut
 
 pub alike : (y z : Outer) → is_alike y z ≡ true → Alike y z
 alike y z h =
     let a = nat_eq (length y.empty) (length z.empty) in
     let b = nat_eq (length y.gone) (length z.gone) in
-    let rest = second_true a (b && same_cut y.cut z.cut) h in
+    let f = nat_eq (length y.frozen) (length z.frozen) in
+    let rest = second_true a (b && (f && same_cut y.cut z.cut)) h in
+    let last = second_true b (f && same_cut y.cut z.cut) rest in
     record {
-      as_wide = eq_of (length y.empty) (length z.empty) (first_true a (b && same_cut y.cut z.cut) h);
-      as_wide_gone = eq_of (length y.gone) (length z.gone) (first_true b (same_cut y.cut z.cut) rest);
-      same = cut_of y.cut z.cut (second_true b (same_cut y.cut z.cut) rest);
+      as_wide = eq_of (length y.empty) (length z.empty) (first_true a (b && (f && same_cut y.cut z.cut)) h);
+      as_wide_gone = eq_of (length y.gone) (length z.gone) (first_true b (f && same_cut y.cut z.cut) rest);
+      as_wide_frozen = eq_of (length y.frozen) (length z.frozen) (first_true f (same_cut y.cut z.cut) last);
+      same = cut_of y.cut z.cut (second_true f (same_cut y.cut z.cut) last);
     }
 
-is_alike_of : (y z : Outer) → length y.empty ≡ length z.empty → length y.gone ≡ length z.gone → y.cut ≡ z.cut → is_alike y z ≡ true
-is_alike_of y z a b c =
-    both_true (nat_eq (length y.empty) (length z.empty)) (nat_eq (length y.gone) (length z.gone) && same_cut y.cut z.cut) (equal (length y.empty) (length z.empty) a)
-    (both_true (nat_eq (length y.gone) (length z.gone)) (same_cut y.cut z.cut) (equal (length y.gone) (length z.gone) b) (subst (λ d. same_cut y.cut d ≡ true) c (cut_same y.cut)))
+pub is_alike_of : (y z : Outer) → length y.empty ≡ length z.empty → length y.gone ≡ length z.gone → length y.frozen ≡ length z.frozen → y.cut ≡ z.cut → is_alike y z ≡ true
+is_alike_of y z a b f c =
+    let cuts = subst (λ d. same_cut y.cut d ≡ true) c (cut_same y.cut) in
+    let last = both_true (nat_eq (length y.frozen) (length z.frozen)) (same_cut y.cut z.cut) (equal (length y.frozen) (length z.frozen) f) cuts in
+    let rest = both_true (nat_eq (length y.gone) (length z.gone)) (nat_eq (length y.frozen) (length z.frozen) && same_cut y.cut z.cut) (equal (length y.gone) (length z.gone) b) last in
+    both_true (nat_eq (length y.empty) (length z.empty)) (nat_eq (length y.gone) (length z.gone) && (nat_eq (length y.frozen) (length z.frozen) && same_cut y.cut z.cut)) (equal (length y.empty) (length z.empty) a) rest
 
 each_second : (ys zs : List Outer) → are_alike ys zs ≡ true → CoversEach (either_each ys zs) zs
 each_second [] [] e = tt
@@ -175,7 +183,7 @@ each_second [] (z ∷ zs) e = cc
 each_second (y ∷ ys) [] e = cc
 each_second (y ∷ ys) (z ∷ zs) e =
     let a = alike y z (first_true (is_alike y z) (are_alike ys zs) e) in
-    (either_second y.empty z.empty a.as_wide, either_second y.gone z.gone a.as_wide_gone, a.same, each_second ys zs (second_true (is_alike y z) (are_alike ys zs) e))
+    (either_second y.empty z.empty a.as_wide, either_second y.gone z.gone a.as_wide_gone, either_second y.frozen z.frozen a.as_wide_frozen, a.same, each_second ys zs (second_true (is_alike y z) (are_alike ys zs) e))
 
 -- blocks that the same blocks cover are alike
 each_alike : (xs ys zs : List Outer) → CoversEach xs ys → CoversEach xs zs → are_alike ys zs ≡ true
@@ -186,22 +194,41 @@ each_alike (x ∷ xs) [] zs c d = absurd c
 each_alike (x ∷ xs) (y ∷ ys) [] c d = absurd d
 each_alike (x ∷ xs) (y ∷ ys) (z ∷ zs) c d =
     both_true (is_alike y z) (are_alike ys zs)
-    (is_alike_of y z (sym (covers_length x.empty y.empty c.0) ∙ covers_length x.empty z.empty d.0) (sym (covers_length x.gone y.gone c.1) ∙ covers_length x.gone z.gone d.1) (sym c.2 ∙ d.2))
-    (each_alike xs ys zs c.3 d.3)
+    (is_alike_of y z (sym (covers_length x.empty y.empty c.0) ∙ covers_length x.empty z.empty d.0) (sym (covers_length x.gone y.gone c.1) ∙ covers_length x.gone z.gone d.1) (sym (covers_length x.frozen y.frozen c.2) ∙ covers_length x.frozen z.frozen d.2) (sym c.3 ∙ d.3))
+    (each_alike xs ys zs c.4 d.4)
 
 each_full : (xs ys : List Outer) (a : ℕ) → CoversEach xs ys → full_in_all (empty_rows xs) a ≡ true → full_in_all (empty_rows ys) a ≡ true
 each_full [] [] a c h = refl
 each_full [] (y ∷ ys) a c h = absurd c
 each_full (x ∷ xs) [] a c h = absurd c
 each_full (x ∷ xs) (y ∷ ys) a c h =
-    both_less (is_full_in (slice_get x.empty a)) (full_in_all (empty_rows xs) a) (is_full_in (slice_get y.empty a)) (full_in_all (empty_rows ys) a) (covers_full x.empty y.empty a c.0) (each_full xs ys a c.3) h
+    both_less (is_full_in (slice_get x.empty a)) (full_in_all (empty_rows xs) a) (is_full_in (slice_get y.empty a)) (full_in_all (empty_rows ys) a) (covers_full x.empty y.empty a c.0) (each_full xs ys a c.4) h
 
 each_there : (xs ys : List Outer) (a : ℕ) → CoversEach xs ys → full_in_all (gone_rows xs) a ≡ true → full_in_all (gone_rows ys) a ≡ true
 each_there [] [] a c h = refl
 each_there [] (y ∷ ys) a c h = absurd c
 each_there (x ∷ xs) [] a c h = absurd c
 each_there (x ∷ xs) (y ∷ ys) a c h =
-    both_less (is_full_in (slice_get x.gone a)) (full_in_all (gone_rows xs) a) (is_full_in (slice_get y.gone a)) (full_in_all (gone_rows ys) a) (covers_full x.gone y.gone a c.1) (each_there xs ys a c.3) h
+    both_less (is_full_in (slice_get x.gone a)) (full_in_all (gone_rows xs) a) (is_full_in (slice_get y.gone a)) (full_in_all (gone_rows ys) a) (covers_full x.gone y.gone a c.1) (each_there xs ys a c.4) h
+
+each_thawed : (xs ys : List Outer) (a : ℕ) → CoversEach xs ys → full_in_all (frozen_rows xs) a ≡ true → full_in_all (frozen_rows ys) a ≡ true
+each_thawed [] [] a c h = refl
+each_thawed [] (y ∷ ys) a c h = absurd c
+each_thawed (x ∷ xs) [] a c h = absurd c
+each_thawed (x ∷ xs) (y ∷ ys) a c h =
+    both_less (is_full_in (slice_get x.frozen a)) (full_in_all (frozen_rows xs) a) (is_full_in (slice_get y.frozen a)) (full_in_all (frozen_rows ys) a) (covers_full x.frozen y.frozen a c.2) (each_thawed xs ys a c.4) h
+
+all_thawed : (xs ys : List Outer) (slots : List ℕ) → CoversEach xs ys → none_frozen (frozen_rows xs) slots ≡ true → none_frozen (frozen_rows ys) slots ≡ true
+all_thawed xs ys [] c h = refl
+all_thawed xs ys (a ∷ slots) c h =
+    both_less (full_in_all (frozen_rows xs) a) (none_frozen (frozen_rows xs) slots) (full_in_all (frozen_rows ys) a) (none_frozen (frozen_rows ys) slots) (each_thawed xs ys a c) (all_thawed xs ys slots c) h
+
+back_thawed : (xs ys : List Outer) → CoversEach xs ys → none_frozen (frozen_rows xs) (changes_back xs) ≡ true → none_frozen (frozen_rows ys) (changes_back ys) ≡ true
+back_thawed [] [] c h = refl
+back_thawed [] (y ∷ ys) c h = absurd c
+back_thawed (x ∷ xs) [] c h = absurd c
+back_thawed (x ∷ xs) (y ∷ ys) c h =
+    subst (λ d. none_frozen (frozen_rows (y ∷ ys)) (slots_uncut d) ≡ true) c.3 (all_thawed (x ∷ xs) (y ∷ ys) (slots_uncut x.cut) c h)
 
 each_open : (xs ys : List Outer) → CoversEach xs ys → none_open xs ≡ none_open ys
 each_open [] [] c = refl
@@ -213,7 +240,7 @@ each_close : (xs ys : List Outer) → CoversEach xs ys → can_close xs ≡ can_
 each_close [] [] c = refl
 each_close [] (y ∷ ys) c = absurd c
 each_close (x ∷ xs) [] c = absurd c
-each_close (x ∷ xs) (y ∷ ys) c = ap is_none c.2
+each_close (x ∷ xs) (y ∷ ys) c = ap is_none c.3
 
 each_parts : (xs ys : List Outer) (cut : Option Halves) → CoversEach xs ys → has_parts (gone_rows xs) cut ≡ true → has_parts (gone_rows ys) cut ≡ true
 each_parts xs ys None c h = cc
@@ -224,23 +251,23 @@ each_uncut : (xs ys : List Outer) → CoversEach xs ys → can_uncut xs ≡ true
 each_uncut [] [] c h = cc
 each_uncut [] (y ∷ ys) c h = absurd c
 each_uncut (x ∷ xs) [] c h = absurd c
-each_uncut (x ∷ xs) (y ∷ ys) c h = each_parts (x ∷ xs) (y ∷ ys) y.cut c (ap (has_parts (gone_rows (x ∷ xs))) (sym c.2) ∙ h)
+each_uncut (x ∷ xs) (y ∷ ys) c h = each_parts (x ∷ xs) (y ∷ ys) y.cut c (ap (has_parts (gone_rows (x ∷ xs))) (sym c.3) ∙ h)
 
 each_no_part : (xs ys : List Outer) (a : ℕ) → CoversEach xs ys → is_no_part a xs ≡ is_no_part a ys
 each_no_part [] [] a c = refl
 each_no_part [] (y ∷ ys) a c = absurd c
 each_no_part (x ∷ xs) [] a c = absurd c
-each_no_part (x ∷ xs) (y ∷ ys) a c = ap (λ d. is_no_half a d && is_no_part a xs) c.2 ∙ ap (λ b. is_no_half a y.cut && b) (each_no_part xs ys a c.3)
+each_no_part (x ∷ xs) (y ∷ ys) a c = ap (λ d. is_no_half a d && is_no_part a xs) c.3 ∙ ap (λ b. is_no_half a y.cut && b) (each_no_part xs ys a c.4)
 
 each_no_parts : (xs ys : List Outer) (h : Halves) → CoversEach xs ys → are_no_parts h xs ≡ are_no_parts h ys
 each_no_parts xs ys h c = ap (λ b. b && is_no_part h.right xs) (each_no_part xs ys h.left c) ∙ ap (λ b. is_no_part h.left ys && b) (each_no_part xs ys h.right c)
 
 -- a place of a table takes what its shape covers
 pub leads_of : (t : Table) (place : ℕ) (there s : Shape) → t place ≡ Some there → there.operands ≡ s.operands → CoversEach (blocks_of there) (blocks_of s) → FlowsInto t place s
-leads_of t place there s e n c = record { there = there; found = e; as_many = n; covers = c.0; covers_gone = c.1; covers_outer = c.3 }
+leads_of t place there s e n c = record { there = there; found = e; as_many = n; covers = c.0; covers_gone = c.1; covers_frozen = c.2; covers_outer = c.4 }
 
 pub covers_all : {t : Table} {place : ℕ} {s : Shape} (l : FlowsInto t place s) → CoversEach (blocks_of l.there) (blocks_of s)
-covers_all l = (l.covers, l.covers_gone, refl, l.covers_outer)
+covers_all l = (l.covers, l.covers_gone, l.covers_frozen, refl, l.covers_outer)
 
 -- what comes to a place of a table from a shape that it covers
 pub leads_less : (t : Table) (place : ℕ) (big small : Shape) → big.operands ≡ small.operands → CoversEach (blocks_of big) (blocks_of small) → FlowsInto t place big → FlowsInto t place small
@@ -255,6 +282,27 @@ pub record Less (big small : Shape) : Type 0 where
   pub as_many : big.operands ≡ small.operands
   pub covers : CoversEach (blocks_of big) (blocks_of small)
 
+-- an instruction may act where it finds what it needs and changes nothing that is frozen
+pub may_both : (code : Code) (s : Shape) (i : Instr) → is_ready code s i ≡ true → is_thawed code s i ≡ true → may_act code s i ≡ true
+unfolding may_act
+may_both code s i h k = both_true (is_ready code s i) (is_thawed code s i) h k
+
+pub may_ready : (code : Code) (s : Shape) (i : Instr) → may_act code s i ≡ true → is_ready code s i ≡ true
+unfolding may_act
+may_ready code s i h = first_true (is_ready code s i) (is_thawed code s i) h
+
+pub may_thawed : (code : Code) (s : Shape) (i : Instr) → may_act code s i ≡ true → is_thawed code s i ≡ true
+unfolding may_act
+may_thawed code s i h = second_true (is_ready code s i) (is_thawed code s i) h
+
+unready : (code : Code) (s : Shape) (i : Instr) → is_ready code s i ≡ false → may_act code s i ≡ false
+unfolding may_act
+unready code s i h = first_false (is_ready code s i) (is_thawed code s i) h
+
+frozen : (code : Code) (s : Shape) (i : Instr) → is_thawed code s i ≡ false → may_act code s i ≡ false
+unfolding may_act
+frozen code s i h = second_false (is_ready code s i) (is_thawed code s i) h
+
 -- an instruction finds in less what it finds in more
 module _ (code : Code) (big small : Shape) (e : big.operands ≡ small.operands) (c : CoversEach (blocks_of big) (blocks_of small)) where
   slot_less : (a : ℕ) → has_slot big a ≡ true → has_slot small a ≡ true
@@ -266,6 +314,14 @@ module _ (code : Code) (big small : Shape) (e : big.operands ≡ small.operands)
   arrays_less : (slots : List ℕ) → has_arrays big slots ≡ true → has_arrays small slots ≡ true
   arrays_less [] h = refl
   arrays_less (a ∷ slots) h = both_less (has_array big a) (has_arrays big slots) (has_array small a) (has_arrays small slots) (array_less a) (arrays_less slots) h
+
+  loan_less : (loan : Loan) → has_loan big loan ≡ true → has_loan small loan ≡ true
+  loan_less (Array a) h = array_less a h
+  loan_less (Reader r) h = refl
+
+  loans_less : (loans : List Loan) → has_loans big loans ≡ true → has_loans small loans ≡ true
+  loans_less [] h = refl
+  loans_less (loan ∷ loans) h = both_less (has_loan big loan) (has_loans big loans) (has_loan small loan) (has_loans small loans) (loan_less loan) (loans_less loans) h
 
   target_less : (o : Option ℕ) → has_target big o ≡ true → has_target small o ≡ true
   target_less None h = refl
@@ -292,8 +348,10 @@ module _ (code : Code) (big small : Shape) (e : big.operands ≡ small.operands)
   ready_less (instr.Call kind f) h =
       let n = params_of (slice_get code.funcs f.function) in
       let passed = passed_by code f.passed in
-      both_less (has_arguments kind n big.operands) (has_target big f.target && has_arrays big passed) (has_arguments kind n small.operands) (has_target small f.target && has_arrays small passed) (arguments_less kind n)
-      (both_less (has_target big f.target) (has_arrays big passed) (has_target small f.target) (has_arrays small passed) (target_less f.target) (arrays_less passed)) h
+      let loans = lent_by code f.lent in
+      both_less (has_arguments kind n big.operands && (has_target big f.target && has_arrays big passed)) (has_loans big loans) (has_arguments kind n small.operands && (has_target small f.target && has_arrays small passed)) (has_loans small loans)
+      (both_less (has_arguments kind n big.operands) (has_target big f.target && has_arrays big passed) (has_arguments kind n small.operands) (has_target small f.target && has_arrays small passed) (arguments_less kind n)
+      (both_less (has_target big f.target) (has_arrays big passed) (has_target small f.target) (has_arrays small passed) (target_less f.target) (arrays_less passed))) (loans_less loans) h
   ready_less (instr.Recur kind f) h =
       let n = params_of (slice_get code.funcs f.function) in
       let passed = passed_by code f.passed in
@@ -304,22 +362,58 @@ module _ (code : Code) (big small : Shape) (e : big.operands ≡ small.operands)
       both_less (nat_le n big.operands) (has_arrays big passed) (nat_le n small.operands) (has_arrays small passed) (some_less n) (arrays_less passed) h
   ready_less (instr.NewArray a line) h =
       both_less (has_array big a && nat_le 1 big.operands) (is_no_part a big.outer) (has_array small a && nat_le 1 small.operands) (is_no_part a small.outer)
-      (both_less (has_array big a) (nat_le 1 big.operands) (has_array small a) (nat_le 1 small.operands) (array_less a) (some_less 1)) (λ k. sym (each_no_part big.outer small.outer a c.3) ∙ k) h
+      (both_less (has_array big a) (nat_le 1 big.operands) (has_array small a) (nat_le 1 small.operands) (array_less a) (some_less 1)) (λ k. sym (each_no_part big.outer small.outer a c.4) ∙ k) h
   ready_less (instr.Length a) h = array_less a h
   ready_less (instr.Element a line) h = both_less (has_array big a) (nat_le 1 big.operands) (has_array small a) (nat_le 1 small.operands) (array_less a) (some_less 1) h
   ready_less (instr.SetElement a line) h = both_less (has_array big a) (nat_le 2 big.operands) (has_array small a) (nat_le 2 small.operands) (array_less a) (some_less 2) h
+  ready_less (instr.ReadLength r) h = refl
+  ready_less (instr.ReadElement r line) h = some_less 1 h
   ready_less (instr.Cut d line) h =
       let slots = d.array ∷ d.left ∷ d.right ∷ [] in
       both_less (has_arrays big slots && nat_le 1 big.operands) (are_no_parts d big.outer) (has_arrays small slots && nat_le 1 small.operands) (are_no_parts d small.outer)
-      (both_less (has_arrays big slots) (nat_le 1 big.operands) (has_arrays small slots) (nat_le 1 small.operands) (arrays_less slots) (some_less 1)) (λ k. sym (each_no_parts big.outer small.outer d c.3) ∙ k) h
-  ready_less instr.EndCut h = both_less (nat_eq 0 big.operands) (can_uncut big.outer) (nat_eq 0 small.operands) (can_uncut small.outer) none_less (each_uncut big.outer small.outer c.3) h
+      (both_less (has_arrays big slots) (nat_le 1 big.operands) (has_arrays small slots) (nat_le 1 small.operands) (arrays_less slots) (some_less 1)) (λ k. sym (each_no_parts big.outer small.outer d c.4) ∙ k) h
+  ready_less instr.EndCut h = both_less (nat_eq 0 big.operands) (can_uncut big.outer) (nat_eq 0 small.operands) (can_uncut small.outer) none_less (each_uncut big.outer small.outer c.4) h
   ready_less instr.Sync h = none_less h
   ready_less (instr.Open kind) h = refl
-  ready_less instr.Close h = both_less (nat_eq 0 big.operands) (can_close big.outer) (nat_eq 0 small.operands) (can_close small.outer) none_less (λ k. sym (each_close big.outer small.outer c.3) ∙ k) h
+  ready_less instr.Close h = both_less (nat_eq 0 big.operands) (can_close big.outer) (nat_eq 0 small.operands) (can_close small.outer) none_less (λ k. sym (each_close big.outer small.outer c.4) ∙ k) h
   ready_less instr.Print h = some_less 1 h
   ready_less (instr.Reduce k) h = some_less 1 h
-  ready_less instr.ReturnValue h = both_less (nat_le 1 big.operands) (none_open big.outer) (nat_le 1 small.operands) (none_open small.outer) (some_less 1) (λ k. sym (each_open big.outer small.outer c.3) ∙ k) h
-  ready_less instr.Return h = sym (each_open big.outer small.outer c.3) ∙ h
+  ready_less instr.ReturnValue h = both_less (nat_le 1 big.operands) (none_open big.outer) (nat_le 1 small.operands) (none_open small.outer) (some_less 1) (λ k. sym (each_open big.outer small.outer c.4) ∙ k) h
+  ready_less instr.Return h = sym (each_open big.outer small.outer c.4) ∙ h
+
+  changes_less : (slots : List ℕ) → none_frozen (frozen_rows (blocks_of big)) slots ≡ true → none_frozen (frozen_rows (blocks_of small)) slots ≡ true
+  changes_less slots h = all_thawed (blocks_of big) (blocks_of small) slots c h
+
+  pub thawed_less : (i : Instr) → is_thawed code big i ≡ true → is_thawed code small i ≡ true
+  thawed_less (instr.Push v) h = refl
+  thawed_less (instr.Load a) h = refl
+  thawed_less (instr.Store a) h = refl
+  thawed_less (instr.Unary operator line) h = refl
+  thawed_less (instr.Binary operator line) h = refl
+  thawed_less (instr.Skip n) h = refl
+  thawed_less (instr.SkipIfZero n) h = refl
+  thawed_less (instr.GoBack n) h = refl
+  thawed_less (instr.Call kind f) h = changes_less (passed_by code f.passed) h
+  thawed_less (instr.Recur kind f) h = changes_less (passed_by code f.passed) h
+  thawed_less (instr.Start f line) h = changes_less (passed_by code f.passed) h
+  thawed_less (instr.NewArray a line) h = changes_less (a ∷ []) h
+  thawed_less (instr.Length a) h = refl
+  thawed_less (instr.Element a line) h = refl
+  thawed_less (instr.SetElement a line) h = changes_less (a ∷ []) h
+  thawed_less (instr.ReadLength r) h = refl
+  thawed_less (instr.ReadElement r line) h = refl
+  thawed_less (instr.Cut d line) h = changes_less (slots_cut d) h
+  thawed_less instr.EndCut h = back_thawed big.outer small.outer c.4 h
+  thawed_less instr.Sync h = refl
+  thawed_less (instr.Open kind) h = refl
+  thawed_less instr.Close h = refl
+  thawed_less instr.Print h = refl
+  thawed_less (instr.Reduce k) h = refl
+  thawed_less instr.ReturnValue h = refl
+  thawed_less instr.Return h = refl
+
+  pub acts_less : (i : Instr) → may_act code big i ≡ true → may_act code small i ≡ true
+  acts_less i h = may_both code small i (ready_less i (may_ready code big i h)) (thawed_less i (may_thawed code big i h))
 
   clear_less : Covers (none_empty (length big.empty)) (none_empty (length small.empty))
   clear_less = subst (λ n. Covers (none_empty (length big.empty)) (none_empty n)) (covers_length big.empty small.empty c.0) (covers_refl (none_empty (length big.empty)))
@@ -327,11 +421,14 @@ module _ (code : Code) (big small : Shape) (e : big.operands ≡ small.operands)
   clear_gone : Covers (none_empty (length big.gone)) (none_empty (length small.gone))
   clear_gone = subst (λ n. Covers (none_empty (length big.gone)) (none_empty n)) (covers_length big.gone small.gone c.1) (covers_refl (none_empty (length big.gone)))
 
+  clear_frozen : Covers (none_empty (length big.frozen)) (none_empty (length small.frozen))
+  clear_frozen = subst (λ n. Covers (none_empty (length big.frozen)) (none_empty n)) (covers_length big.frozen small.frozen c.2) (covers_refl (none_empty (length big.frozen)))
+
   close_less : (xs ys : List Outer) → CoversEach xs ys → Less (closed_shape big xs) (closed_shape small ys)
   close_less [] [] d = record { as_many = e; covers = c }
   close_less [] (y ∷ ys) d = absurd d
   close_less (x ∷ xs) [] d = absurd d
-  close_less (x ∷ xs) (y ∷ ys) d = record { as_many = e; covers = (d.0, d.1, refl, d.3) }
+  close_less (x ∷ xs) (y ∷ ys) d = record { as_many = e; covers = (d.0, d.1, d.2, refl, d.4) }
 
   uncut_less : (xs ys : List Outer) → CoversEach xs ys → Less (uncut_shape big xs) (uncut_shape small ys)
   uncut_less [] [] d = record { as_many = e; covers = c }
@@ -339,7 +436,7 @@ module _ (code : Code) (big small : Shape) (e : big.operands ≡ small.operands)
   uncut_less (x ∷ xs) [] d = absurd d
   uncut_less (x ∷ xs) (y ∷ ys) d = record {
     as_many = e;
-    covers = (d.0, subst (λ k. Covers (with_uncut x.cut x.gone) (with_uncut k y.gone)) d.2 (covers_uncut x.cut x.gone y.gone d.1), refl, d.3);
+    covers = (d.0, subst (λ k. Covers (with_uncut x.cut x.gone) (with_uncut k y.gone)) d.3 (covers_uncut x.cut x.gone y.gone d.1), d.2, refl, d.4);
   }
 
   pub leaves_less : (i : Instr) → Less (leaves code big i) (leaves code small i)
@@ -353,22 +450,24 @@ module _ (code : Code) (big small : Shape) (e : big.operands ≡ small.operands)
   leaves_less (instr.GoBack n) = record { as_many = e; covers = c }
   leaves_less (instr.Call kind f) = record {
     as_many = ap (λ n. n - params_of (slice_get code.funcs f.function)) e;
-    covers = (covers_target kind f.target big.empty small.empty c.0, covers_passed kind (passed_by code f.passed) big.gone small.gone c.1, refl, c.3);
+    covers = (covers_target kind f.target big.empty small.empty c.0, covers_passed kind (passed_by code f.passed) big.gone small.gone c.1, covers_passed kind (slots_lent (lent_by code f.lent)) big.frozen small.frozen c.2, refl, c.4);
   }
   leaves_less (instr.Recur kind f) = record {
     as_many = ap (λ n. n - params_of (slice_get code.funcs f.function)) e;
-    covers = (c.0, covers_passed kind (passed_by code f.passed) big.gone small.gone c.1, refl, c.3);
+    covers = (c.0, covers_passed kind (passed_by code f.passed) big.gone small.gone c.1, c.2, refl, c.4);
   }
   leaves_less (instr.Start f line) = record { as_many = ap (λ n. n - params_of (slice_get code.funcs f.function)) e; covers = c }
   leaves_less (instr.NewArray a line) = record { as_many = ap (λ n. n - 1) e; covers = c }
   leaves_less (instr.Length a) = record { as_many = ap (λ n. n + 1) e; covers = c }
   leaves_less (instr.Element a line) = record { as_many = e; covers = c }
   leaves_less (instr.SetElement a line) = record { as_many = ap (λ n. n - 2) e; covers = c }
-  leaves_less (instr.Cut d line) = record { as_many = ap (λ n. n - 1) e; covers = (clear_less, clear_gone, refl, (c.0, covers_set big.gone small.gone d.array c.1, refl, c.3)) }
-  leaves_less instr.EndCut = uncut_less big.outer small.outer c.3
-  leaves_less instr.Sync = record { as_many = e; covers = (clear_less, clear_gone, refl, c.3) }
-  leaves_less (instr.Open kind) = record { as_many = e; covers = (clear_less, clear_gone, refl, c) }
-  leaves_less instr.Close = close_less big.outer small.outer c.3
+  leaves_less (instr.ReadLength r) = record { as_many = ap (λ n. n + 1) e; covers = c }
+  leaves_less (instr.ReadElement r line) = record { as_many = e; covers = c }
+  leaves_less (instr.Cut d line) = record { as_many = ap (λ n. n - 1) e; covers = (clear_less, clear_gone, clear_frozen, refl, (c.0, covers_set big.gone small.gone d.array c.1, c.2, refl, c.4)) }
+  leaves_less instr.EndCut = uncut_less big.outer small.outer c.4
+  leaves_less instr.Sync = record { as_many = e; covers = (clear_less, clear_gone, clear_frozen, refl, c.4) }
+  leaves_less (instr.Open kind) = record { as_many = e; covers = (clear_less, clear_gone, clear_frozen, refl, c) }
+  leaves_less instr.Close = close_less big.outer small.outer c.4
   leaves_less instr.Print = record { as_many = ap (λ n. n - 1) e; covers = c }
   leaves_less (instr.Reduce k) = record { as_many = ap (λ n. n - 1) e; covers = c }
   leaves_less instr.ReturnValue = record { as_many = e; covers = c }
@@ -577,6 +676,8 @@ nexts_from code f place (instr.NewArray a line) le n = (omega (arith, le), tt)
 nexts_from code f place (instr.Length a) le n = (omega (arith, le), tt)
 nexts_from code f place (instr.Element a line) le n = (omega (arith, le), tt)
 nexts_from code f place (instr.SetElement a line) le n = (omega (arith, le), tt)
+nexts_from code f place (instr.ReadLength r) le n = (omega (arith, le), tt)
+nexts_from code f place (instr.ReadElement r line) le n = (omega (arith, le), tt)
 nexts_from code f place (instr.Cut h line) le n = (omega (arith, le), tt)
 nexts_from code f place instr.EndCut le n = (omega (arith, le), tt)
 nexts_from code f place instr.Sync le n = (omega (arith, le), tt)
@@ -588,8 +689,18 @@ nexts_from code f place instr.ReturnValue le n = tt
 nexts_from code f place instr.Return le n = tt
 
 -- a visit of a place that has a shape
-pub visited_ready : (code : Code) (start : ℕ) (shapes : Shapes) (k : ℕ) (i : Instr) (s : Shape) → slice_get shapes k ≡ Some (Some s) → is_ready code s i ≡ true → visited code start shapes k i ≡ come_all shapes (next_distances start k i) (leaves code s i)
-visited_ready code start shapes k i s e h = ap (visited_at code start shapes k i) e ∙ taken (is_ready code s i) (come_all shapes (next_distances start k i) (leaves code s i)) None h
+pub visited_ready : (code : Code) (start : ℕ) (shapes : Shapes) (k : ℕ) (i : Instr) (s : Shape) → slice_get shapes k ≡ Some (Some s) → may_act code s i ≡ true → visited code start shapes k i ≡ come_all shapes (next_distances start k i) (leaves code s i)
+visited_ready code start shapes k i s e h = ap (visited_at code start shapes k i) e ∙ taken (may_act code s i) (come_all shapes (next_distances start k i) (leaves code s i)) None h
+
+-- a visit of a place whose instruction may not act
+visited_none : (code : Code) (start : ℕ) (shapes : Shapes) (k : ℕ) (i : Instr) (s : Shape) → slice_get shapes k ≡ Some (Some s) → may_act code s i ≡ false → visited code start shapes k i ≡ None
+visited_none code start shapes k i s e h = ap (visited_at code start shapes k i) e ∙ not_taken (may_act code s i) (come_all shapes (next_distances start k i) (leaves code s i)) None h
+
+pub visited_unready : (code : Code) (start : ℕ) (shapes : Shapes) (k : ℕ) (i : Instr) (s : Shape) → slice_get shapes k ≡ Some (Some s) → is_ready code s i ≡ false → visited code start shapes k i ≡ None
+visited_unready code start shapes k i s e h = visited_none code start shapes k i s e (unready code s i h)
+
+pub visited_frozen : (code : Code) (start : ℕ) (shapes : Shapes) (k : ℕ) (i : Instr) (s : Shape) → slice_get shapes k ≡ Some (Some s) → is_thawed code s i ≡ false → visited code start shapes k i ≡ None
+visited_frozen code start shapes k i s e h = visited_none code start shapes k i s e (frozen code s i h)
 
 -- what is had once an instruction was visited
 pub record Visited (code : Code) (f : Func) (shapes new : Shapes) : Type 0 where
@@ -602,32 +713,34 @@ module _ (code : Code) (f : Func) (shapes : Shapes) (k : ℕ) (i : Instr) (is : 
   come_after b s = if b then come_all shapes (next_distances f.start k i) (leaves code s i) else None
 
   -- what a table says of a shape that it takes
-  taken_as : (t : Table) (s : Shape) → IsTable code f t → FlowsInto t (f.start + k) s → (is_ready code s i ≡ true) × FlowsIntoEach t (leaves code s i) (nexts (f.start + k) i)
+  taken_as : (t : Table) (s : Shape) → IsTable code f t → FlowsInto t (f.start + k) s → (may_act code s i ≡ true) × FlowsIntoEach t (leaves code s i) (nexts (f.start + k) i)
   taken_as t s table l =
       let ready = table.ready (f.start + k) l.there i l.found is in
+      let thawed = table.thawed (f.start + k) l.there i l.found is in
       let goes = table.goes (f.start + k) l.there i l.found is in
       let less = leaves_less code l.there s l.as_many (covers_all l) i in
-      (ready_less code l.there s l.as_many (covers_all l) i ready, all_less t (nexts (f.start + k) i) (leaves code l.there i) (leaves code s i) less.as_many less.covers goes)
+      (acts_less code l.there s l.as_many (covers_all l) i (may_both code l.there i ready thawed), all_less t (nexts (f.start + k) i) (leaves code l.there i) (leaves code s i) less.as_many less.covers goes)
 
   from : AllFrom f.start (nexts (f.start + k) i)
   from = nexts_from code f (f.start + k) i (omega arith) named
 
+  -- what is had once an instruction that may act was visited
+  act_visits : (s : Shape) (new : Shapes) → slice_get shapes k ≡ Some (Some s) → come_all shapes (next_distances f.start k i) (leaves code s i) ≡ Some new → Visited code f shapes new
+  act_visits s new found e =
+      let c = came_all f.start (nexts (f.start + k) i) shapes (leaves code s i) new from e in
+      record { as_many = c.as_many; grows = c.grows; below = λ t table b. c.below t b (taken_as t s table (b k s found)).1 }
+
   pub visits : (new : Shapes) → visited code f.start shapes k i ≡ Some new → Visited code f shapes new
-  visits new e = at (slice_get shapes k) refl e
+  visits new e = at (slice_get shapes k) refl
     where
       none : Some shapes ≡ Some new → Visited code f shapes new
       none e = subst (λ l. Visited code f shapes l) (same_some shapes new e) (record { as_many = refl; grows = grows_refl f.start shapes; below = λ t table b. b })
 
-      at : (o : Option (Option Shape)) → slice_get shapes k ≡ o → visited_at code f.start shapes k i o ≡ Some new → Visited code f shapes new
-      at None found e = none e
-      at (Some None) found e = none e
-      at (Some (Some s)) found e = by (is_ready code s i) e
-        where
-          by : (b : Bool) → come_after b s ≡ Some new → Visited code f shapes new
-          by false e = cc
-          by true e =
-              let c = came_all f.start (nexts (f.start + k) i) shapes (leaves code s i) new from e in
-              record { as_many = c.as_many; grows = c.grows; below = λ t table b. c.below t b (taken_as t s table (b k s found)).1 }
+      at : (o : Option (Option Shape)) → slice_get shapes k ≡ o → Visited code f shapes new
+      at None found = none (sym (ap (visited_at code f.start shapes k i) found) ∙ e)
+      at (Some None) found = none (sym (ap (visited_at code f.start shapes k i) found) ∙ e)
+      at (Some (Some s)) found =
+          act_visits s new found (let_through (may_act code s i) (come_all shapes (next_distances f.start k i) (leaves code s i)) new (sym (ap (visited_at code f.start shapes k i) found) ∙ e)).1
 
   pub visit_goes : (t : Table) → IsTable code f t → Below f.start shapes t → f.start + length shapes ≡ f.end → visited code f.start shapes k i ≡ None → ⊥
   visit_goes t table below whole e = at (slice_get shapes k) refl e
@@ -638,13 +751,13 @@ module _ (code : Code) (f : Func) (shapes : Shapes) (k : ℕ) (i : Instr) (is : 
       at (Some (Some s)) found e =
           let h = taken_as t s table (below k s found) in
           all_come f.start (nexts (f.start + k) i) shapes (leaves code s i) t from (λ p x l. omega (arith, (table.within p l.there l.found).1, whole)) below h.1
-          (sym (taken (is_ready code s i) (come_all shapes (next_distances f.start k i) (leaves code s i)) None h.0) ∙ e)
+          (sym (taken (may_act code s i) (come_all shapes (next_distances f.start k i) (leaves code s i)) None h.0) ∙ e)
 
   -- an instruction that was visited has what it needs, and the places after it have what it leaves
-  pub visit_done : (s : Shape) (new : Shapes) → slice_get shapes k ≡ Some (Some s) → visited code f.start shapes k i ≡ Some new → (is_ready code s i ≡ true) × FlowsIntoEach (table_of f.start new) (leaves code s i) (nexts (f.start + k) i)
-  visit_done s new found e = by (is_ready code s i) refl (sym (ap (visited_at code f.start shapes k i) found) ∙ e)
+  pub visit_done : (s : Shape) (new : Shapes) → slice_get shapes k ≡ Some (Some s) → visited code f.start shapes k i ≡ Some new → (may_act code s i ≡ true) × FlowsIntoEach (table_of f.start new) (leaves code s i) (nexts (f.start + k) i)
+  visit_done s new found e = by (may_act code s i) refl (sym (ap (visited_at code f.start shapes k i) found) ∙ e)
     where
-      by : (b : Bool) → is_ready code s i ≡ b → come_after b s ≡ Some new → (is_ready code s i ≡ true) × FlowsIntoEach (table_of f.start new) (leaves code s i) (nexts (f.start + k) i)
+      by : (b : Bool) → may_act code s i ≡ b → come_after b s ≡ Some new → (may_act code s i ≡ true) × FlowsIntoEach (table_of f.start new) (leaves code s i) (nexts (f.start + k) i)
       by false r e = cc
       by true r e = (r, (came_all f.start (nexts (f.start + k) i) shapes (leaves code s i) new from e).lead)
 

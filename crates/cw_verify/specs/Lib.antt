@@ -3,6 +3,7 @@ pub mod FastLaws
 pub mod Table
 pub mod Meetings
 pub mod Numbers
+pub mod Reading
 pub mod Resolved
 pub mod Verifies
 pub mod Views

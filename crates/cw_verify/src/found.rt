@@ -6,10 +6,10 @@ ghost use Rattle.cw_code.specs.declared.code.Instr.TheVariants as instr;
 ghost use Rattle.cw_verify.specs.Table as table;
 ghost use Rattle.cw_verify.specs.Views as views;
 
-use crate::named::{params_of, passed_of};
+use crate::named::{lent_of, params_of, passed_of};
 use crate::round::{self, Rounds};
 use crate::row::{self, Row};
-use cw_code::code::{Callee, Code, Func, Halves, Inner, Instr};
+use cw_code::code::{Callee, Code, Func, Halves, Inner, Instr, Loan};
 use cw_model::syntax::CallKind;
 use cw_text::Fault;
 use std::alloc::Global;
@@ -24,6 +24,8 @@ pub struct Found {
     pub empty: Rc<Row>,
     /// The same for each array slot.
     pub gone: Rc<Row>,
+    /// For each array slot whether it may be frozen up to that join: it was lent to a spawned call.
+    pub frozen: Rc<Row>,
     /// The sync blocks round that one in the same call.
     pub outer: Rc<Rounds>,
 }
@@ -54,6 +56,28 @@ fn has_arrays(found: &Found, passed: &[u32]) -> bool
     true
 }
 
+// Whether what a loan names is there and not empty.
+fn has_loan(found: &Found, loan: Loan) -> bool
+    ensures { result ≡ fits.has_loan (table.shape_view found.now) loan }
+{
+    match loan {
+        Loan::Array(a) => has_array(found, a),
+        Loan::Reader(_) => true,
+    }
+}
+
+// Whether what each of these loans names is there and not empty.
+fn has_loans(found: &Found, loans: &[Loan]) -> bool
+    ensures { result ≡ fits.has_loans (table.shape_view found.now) loans.now }
+{
+    for loan in loans {
+        if !has_loan(found, *loan) {
+            return false;
+        }
+    }
+    true
+}
+
 // Whether the slot of a result, if there is one, is there and not empty.
 fn has_target(found: &Found, target: Option<u32>) -> bool
     ensures { result ≡ fits.has_target (table.shape_view found.now) target }
@@ -78,8 +102,9 @@ fn has_arguments(kind: CallKind, params: usize, operands: usize) -> bool
 fn has_call(code: &Code, found: &Found, kind: CallKind, c: &Callee) -> bool
     ensures { result ≡ views.is_ready code.now found.now (instr.Call kind c.now) }
 {
-    has_arguments(kind, params_of(code, c.function), found.operands)
-        && (has_target(found, c.target) && has_arrays(found, passed_of(code, c.passed)))
+    let arguments = has_arguments(kind, params_of(code, c.function), found.operands);
+    (arguments && (has_target(found, c.target) && has_arrays(found, passed_of(code, c.passed))))
+        && has_loans(found, lent_of(code, c.lent))
 }
 
 // Whether no sync block is open inside the call.
@@ -164,6 +189,8 @@ pub fn is_ready(code: &Code, found: &Found, i: &Instr) -> bool
         Instr::Length(a) => has_array(found, *a),
         Instr::Element(a, _) => has_array(found, *a) && 1 <= found.operands,
         Instr::SetElement(a, _) => has_array(found, *a) && 2 <= found.operands,
+        Instr::ReadLength(_) => true,
+        Instr::ReadElement(_, _) => 1 <= found.operands,
         Instr::Cut(h, _) => can_cut(found, *h),
         Instr::EndCut => found.operands == 0 && can_uncut(&found.outer),
         Instr::Sync => found.operands == 0,
@@ -176,17 +203,78 @@ pub fn is_ready(code: &Code, found: &Found, i: &Instr) -> bool
     }
 }
 
+// Whether an array slot is there, and no sync block has it as frozen.
+fn is_thawed_slot(found: &Found, a: u32) -> bool
+    ensures { result ≡ table.is_thawed_slot (table.shape_view found.now) a }
+{
+    row::is_full_in(&found.frozen, a as usize) && round::thawed_in_all(&found.outer, a as usize)
+}
+
+// Whether these array slots are there, and no sync block has them as frozen.
+fn are_thawed(found: &Found, slots: &[u32]) -> bool
+    ensures { result ≡ table.are_thawed (table.shape_view found.now) slots.now }
+{
+    for a in slots {
+        if !is_thawed_slot(found, *a) {
+            return false;
+        }
+    }
+    true
+}
+
+// Whether no sync block has the slots of a cut as frozen.
+fn is_cut_thawed(rounds: &Rounds, cut: Option<Halves>) -> bool
+    ensures { result ≡ table.is_cut_thawed (table.rounds_of rounds.now) cut }
+{
+    match cut {
+        None => true,
+        Some(h) => {
+            round::thawed_in_all(rounds, h.array as usize)
+                && (round::thawed_in_all(rounds, h.left as usize)
+                    && (round::thawed_in_all(rounds, h.right as usize) && true))
+        }
+    }
+}
+
+// Whether the slots of the cut that ends here are not frozen round its own sync block.
+fn is_uncut_thawed(rounds: &Rounds) -> bool
+    ensures { result ≡ table.is_uncut_thawed (table.rounds_of rounds.now) }
+{
+    match rounds {
+        Rounds::Outermost => true,
+        Rounds::Within(round, _) => is_cut_thawed(rounds, round.cut),
+    }
+}
+
+/// Whether an instruction changes nothing that is frozen.
+pub fn is_thawed(code: &Code, found: &Found, i: &Instr) -> bool
+    ensures { result ≡ views.is_thawed code.now found.now i.now }
+{
+    match i {
+        Instr::Call(_, c) => are_thawed(found, passed_of(code, c.passed)),
+        Instr::Recur(_, c) => are_thawed(found, passed_of(code, c.passed)),
+        Instr::Start(c, _) => are_thawed(found, passed_of(code, c.passed)),
+        Instr::NewArray(a, _) => are_thawed(found, &[*a]),
+        Instr::SetElement(a, _) => are_thawed(found, &[*a]),
+        Instr::Cut(h, _) => are_thawed(found, &[h.array, h.left, h.right]),
+        Instr::EndCut => is_uncut_thawed(&found.outer),
+        _ => true,
+    }
+}
+
 /// A shape like this one.
 pub fn copy(found: &Found) -> Result<Found, Fault>
     ensures { table.FindsShape result (table.shape_view found.now) }
 {
     let empty = found.empty.clone()?;
     let gone = found.gone.clone()?;
+    let frozen = found.frozen.clone()?;
     let outer = found.outer.clone()?;
     Ok(Found {
         operands: found.operands,
         empty,
         gone,
+        frozen,
         outer,
     })
 }
@@ -197,11 +285,13 @@ pub fn first(alloc: Global, f: &Func) -> Result<Found, Fault>
 {
     let empty = row::shared_none(alloc, f.slots)?;
     let gone = row::shared_none(alloc, f.arrays)?;
+    let frozen = gone.clone()?;
     let outer = Rc::new(alloc, Rounds::Outermost)?;
     Ok(Found {
         operands: 0,
         empty,
         gone,
+        frozen,
         outer,
     })
 }

@@ -9,10 +9,10 @@ ghost use Rattle.cw_verify.specs.Views as views;
 ghost use Rattle.cw_verify.specs.Steps.{OrMemory};
 
 use crate::found::Found;
-use crate::named::{params_of, passed_of};
+use crate::named::{lent_of, params_of, passed_of};
 use crate::round::{Round, Rounds};
 use crate::row::{self, Row, cleared};
-use cw_code::code::{Callee, Code, Halves, Inner, Instr};
+use cw_code::code::{Callee, Code, Halves, Inner, Instr, Loan};
 use cw_model::syntax::CallKind;
 use cw_text::Fault;
 use std::alloc::Global;
@@ -65,7 +65,21 @@ fn with_gone(alloc: Global, row: Rc<Row>, passed: &[u32]) -> Result<Rc<Row>, Fau
     Ok(taken)
 }
 
-// A call has taken its arguments, and a spawn the slot of its result, if there is one, and its arrays.
+// The row after the array slots among these loans were lent.
+fn with_lent(alloc: Global, row: Rc<Row>, loans: &[Loan]) -> Result<Rc<Row>, Fault>
+    ensures { OrMemory result (λ r. r.value.items ≡ views.with_loans loans.now row.value.items) }
+{
+    if loans.is_empty() {
+        return Ok(row);
+    }
+    let mut lent = Vec::from_slice(alloc, &row)?;
+    row::freeze_all(&mut lent, loans);
+    let lent = Rc::new(alloc, lent)?;
+    Ok(lent)
+}
+
+// A call has taken its arguments, and a spawn the slot of its result, if there is one, and its arrays; what a spawn was
+// lent is frozen.
 fn called(
     alloc: Global,
     code: &Code,
@@ -82,10 +96,12 @@ fn called(
         CallKind::Spawned => {
             let empty = with_target(alloc, left.empty, c.target)?;
             let gone = with_gone(alloc, left.gone, passed_of(code, c.passed))?;
+            let frozen = with_lent(alloc, left.frozen, lent_of(code, c.lent))?;
             Ok(Found {
                 operands: left.operands,
                 empty,
                 gone,
+                frozen,
                 outer: left.outer,
             })
         }
@@ -112,6 +128,7 @@ fn recurred(
                 operands: left.operands,
                 empty: left.empty,
                 gone,
+                frozen: left.frozen,
                 outer: left.outer,
             })
         }
@@ -124,10 +141,12 @@ fn synced(alloc: Global, found: Found) -> Result<Found, Fault>
 {
     let empty = cleared(alloc, found.empty)?;
     let gone = cleared(alloc, found.gone)?;
+    let frozen = cleared(alloc, found.frozen)?;
     Ok(Found {
         operands: found.operands,
         empty,
         gone,
+        frozen,
         outer: found.outer,
     })
 }
@@ -138,9 +157,11 @@ fn opened(alloc: Global, found: Found, cut: Option<Halves>) -> Result<Found, Fau
 {
     let empty = cleared(alloc, found.empty.clone()?)?;
     let gone = cleared(alloc, found.gone.clone()?)?;
+    let frozen = cleared(alloc, found.frozen.clone()?)?;
     let round = Round {
         empty: found.empty,
         gone: found.gone,
+        frozen: found.frozen,
         cut,
     };
     let outer = Rc::new(alloc, Rounds::Within(round, found.outer))?;
@@ -148,6 +169,7 @@ fn opened(alloc: Global, found: Found, cut: Option<Halves>) -> Result<Found, Fau
         operands: found.operands,
         empty,
         gone,
+        frozen,
         outer,
     })
 }
@@ -169,16 +191,20 @@ fn cut(alloc: Global, found: Found, h: Halves) -> Result<Found, Fault>
 fn closed(found: Found) -> Result<Found, Fault>
     ensures { table.FindsShape result (views.closed found) }
 {
-    let (empty, gone, outer) = match found.outer.as_ref() {
+    let (empty, gone, frozen, outer) = match found.outer.as_ref() {
         Rounds::Outermost => return Ok(found),
-        Rounds::Within(round, outer) => {
-            (round.empty.clone()?, round.gone.clone()?, outer.clone()?)
-        }
+        Rounds::Within(round, outer) => (
+            round.empty.clone()?,
+            round.gone.clone()?,
+            round.frozen.clone()?,
+            outer.clone()?,
+        ),
     };
     Ok(Found {
         operands: found.operands,
         empty,
         gone,
+        frozen,
         outer,
     })
 }
@@ -202,17 +228,19 @@ fn put_back(alloc: Global, row: &Rc<Row>, cut: Option<Halves>) -> Result<Rc<Row>
 fn close_cut(alloc: Global, found: Found) -> Result<Found, Fault>
     ensures { table.FindsShape result (views.cut_closed found) }
 {
-    let (empty, gone, outer) = match found.outer.as_ref() {
+    let (empty, gone, frozen, outer) = match found.outer.as_ref() {
         Rounds::Outermost => return Ok(found),
         Rounds::Within(round, outer) => {
             let gone = put_back(alloc, &round.gone, round.cut)?;
-            (round.empty.clone()?, gone, outer.clone()?)
+            let frozen = round.frozen.clone()?;
+            (round.empty.clone()?, gone, frozen, outer.clone()?)
         }
     };
     Ok(Found {
         operands: found.operands,
         empty,
         gone,
+        frozen,
         outer,
     })
 }
@@ -238,6 +266,8 @@ pub fn leave(alloc: Global, code: &Code, found: Found, i: &Instr) -> Result<Foun
         Instr::Length(_) => one_more(found),
         Instr::Element(_, _) => Ok(found),
         Instr::SetElement(_, _) => Ok(less(found, 2)),
+        Instr::ReadLength(_) => one_more(found),
+        Instr::ReadElement(_, _) => Ok(found),
         Instr::Cut(h, _) => cut(alloc, found, *h),
         Instr::EndCut => close_cut(alloc, found),
         Instr::Sync => synced(alloc, found),

@@ -11,6 +11,7 @@ mod meeting;
 mod named;
 mod numbers;
 pub mod op;
+mod reading;
 mod resolve;
 mod round;
 mod row;

@@ -19,7 +19,8 @@ fn can_meet(there: &Found, found: &Found, meeting: Meeting) -> bool
 {
     let empty = there.empty.len() == found.empty.len();
     let gone = there.gone.len() == found.gone.len();
-    there.operands == found.operands && ((empty && gone) && meets(meeting))
+    let frozen = there.frozen.len() == found.frozen.len();
+    there.operands == found.operands && (((empty && gone) && frozen) && meets(meeting))
 }
 
 /// A shape comes to a place that has one already; whether it brings more. How their blocks meet is known. The error is
@@ -38,12 +39,17 @@ pub fn join(
     }
     let (empty, more_empty) = shared_either(alloc, there.empty, &found.empty)?;
     let (gone, more_gone) = shared_either(alloc, there.gone, &found.gone)?;
+    let (frozen, more_frozen) = shared_either(alloc, there.frozen, &found.frozen)?;
     let (outer, more_outer) = shared_each(alloc, there.outer, &found.outer, meeting)?;
     let joined = Found {
         operands: there.operands,
         empty,
         gone,
+        frozen,
         outer,
     };
-    Ok((joined, (more_empty | more_gone) | more_outer))
+    Ok((
+        joined,
+        ((more_empty | more_gone) | more_frozen) | more_outer,
+    ))
 }

@@ -3,13 +3,13 @@
 ghost use Rattle.std.specs.Prelude.{◌≡◌, ◌+◌, ◌<◌, ◌≤◌, length, drop, Some, slice_get};
 ghost use Rattle.cw_code.specs.Code.{code_view, reducer_names, site_view};
 ghost use Rattle.cw_code.specs.Fits as fits;
-ghost use Rattle.cw_code.specs.Run.{passed_by};
+ghost use Rattle.cw_code.specs.Run.{lent_by, passed_by};
 ghost use Rattle.cw_model.specs.Sites.{Of};
 ghost use Rattle.cw_verify.specs.Table as table;
 ghost use Rattle.cw_verify.specs.Views as views;
 
 use crate::row::{Row, is_full_in, none_empty, set};
-use cw_code::code::{BlockKind, Callee, Code, Func, Halves, Inner, Instr, Reducer, Site};
+use cw_code::code::{BlockKind, Callee, Code, Func, Halves, Inner, Instr, Loan, Reducer, Site};
 use cw_model::syntax::{CallKind, Name};
 use cw_text::Fault;
 use std::alloc::Global;
@@ -34,6 +34,16 @@ pub fn array_params_of(code: &Code, function: u32) -> usize
     }
 }
 
+/// How many arrays a function is lent; 0 where there is none of this index.
+pub fn readers_of(code: &Code, function: u32) -> usize
+    ensures { result ≡ fits.readers_of (slice_get (code_view code.now).funcs function) }
+{
+    match code.funcs.get(function as usize) {
+        None => 0,
+        Some(f) => f.readers,
+    }
+}
+
 /// The array slots of a list of the code; none where there is no list of this index.
 pub fn passed_of(code: &Code, list: u32) -> &[u32]
     ensures { result.now ≡ passed_by (code_view code.now) list }
@@ -41,6 +51,16 @@ pub fn passed_of(code: &Code, list: u32) -> &[u32]
     match code.passed.get(list as usize) {
         None => &[],
         Some(slots) => slots,
+    }
+}
+
+/// The loans of a list of the code; none where there is no list of this index.
+pub fn lent_of(code: &Code, list: u32) -> &[Loan]
+    ensures { result.now ≡ lent_by (code_view code.now) list }
+{
+    match code.lent.get(list as usize) {
+        None => &[],
+        Some(loans) => loans,
     }
 }
 
@@ -135,6 +155,47 @@ fn names_passed(
     Ok(named)
 }
 
+// Whether the slot is none of these.
+fn is_none_of(a: u32, slots: &[u32]) -> bool
+    ensures { result ≡ fits.is_none_of a slots.now }
+{
+    for b in slots {
+        if a == *b {
+            return false;
+        }
+    }
+    true
+}
+
+// Whether a loan is an array slot of the caller that is none of these, or an array that the caller was lent itself.
+fn names_loan(f: &Func, passed: &[u32], loan: Loan) -> bool
+    ensures { result ≡ fits.names_loan f.now passed.now loan }
+{
+    match loan {
+        Loan::Array(a) => (a as usize) < f.arrays && is_none_of(a, passed),
+        Loan::Reader(r) => (r as usize) < f.readers,
+    }
+}
+
+// Whether each of these is such a loan.
+fn names_loans(f: &Func, passed: &[u32], loans: &[Loan]) -> bool
+    ensures { result ≡ fits.names_loans f.now passed.now loans.now }
+{
+    for loan in loans {
+        if !names_loan(f, passed, *loan) {
+            return false;
+        }
+    }
+    true
+}
+
+// Whether a function is lent as many arrays as it reads, none of which the call takes.
+fn names_lent(code: &Code, f: &Func, function: u32, passed: &[u32], loans: &[Loan]) -> bool
+    ensures { result ≡ fits.names_lent (code_view code.now) f.now function passed.now loans.now }
+{
+    loans.len() == readers_of(code, function) && names_loans(f, passed, loans)
+}
+
 // Whether the site of a call and the slot of its result are there.
 fn names_call(code: &Code, f: &Func, kind: CallKind, c: &Callee) -> bool
     ensures { result ≡ table.names_call (code_view code.now) f.now kind c.now }
@@ -156,12 +217,36 @@ fn names_callee(
     Ok(passed && names_call(code, f, kind, c))
 }
 
+// Whether what a call names is there, with what it lends.
+fn names_call_lent(
+    alloc: Global,
+    code: &Code,
+    f: &Func,
+    kind: CallKind,
+    c: &Callee,
+) -> Result<bool, Fault>
+    ensures { table.Tests result (table.names_call_lent (code_view code.now) f.now kind c.now) }
+{
+    let named = names_callee(alloc, code, f, kind, c)?;
+    let passed = passed_of(code, c.passed);
+    let loans = lent_of(code, c.lent);
+    Ok(named && names_lent(code, f, c.function, passed, loans))
+}
+
+// Whether the function of a loop that a call names is there, with its arrays, and is lent none.
+fn names_inner(alloc: Global, code: &Code, f: &Func, c: &Inner) -> Result<bool, Fault>
+    ensures { table.Tests result (fits.names_inner (code_view code.now) f.now c.now) }
+{
+    let named = names_passed(alloc, code, f, c.function, c.passed)?;
+    Ok(named && names_lent(code, f, c.function, passed_of(code, c.passed), &[]))
+}
+
 // Whether what the first call of a loop's function names is there, and it takes a range.
 fn names_start(alloc: Global, code: &Code, f: &Func, c: &Inner) -> Result<bool, Fault>
     ensures { table.Tests result (table.names_start (code_view code.now) f.now c.now) }
 {
-    let passed = names_passed(alloc, code, f, c.function, c.passed)?;
-    Ok(passed && 2 <= params_of(code, c.function))
+    let named = names_inner(alloc, code, f, c)?;
+    Ok(named && 2 <= params_of(code, c.function))
 }
 
 // Whether the slots of a cut are there and differ, and its parts go into none of a parameter.
@@ -206,13 +291,15 @@ pub fn names_well(
         Instr::Skip(n) => Ok((*n as usize) < f.end - place - 1),
         Instr::SkipIfZero(n) => Ok((*n as usize) < f.end - place - 1),
         Instr::GoBack(n) => Ok(*n as usize <= place - f.start),
-        Instr::Call(kind, c) => names_callee(alloc, code, f, *kind, c),
-        Instr::Recur(_, c) => names_passed(alloc, code, f, c.function, c.passed),
+        Instr::Call(kind, c) => names_call_lent(alloc, code, f, *kind, c),
+        Instr::Recur(_, c) => names_inner(alloc, code, f, c),
         Instr::Start(c, _) => names_start(alloc, code, f, c),
         Instr::NewArray(a, _) => { Ok((*a as usize) < f.arrays && f.array_params <= *a as usize) }
         Instr::Length(a) => Ok((*a as usize) < f.arrays),
         Instr::Element(a, _) => Ok((*a as usize) < f.arrays),
         Instr::SetElement(a, _) => Ok((*a as usize) < f.arrays),
+        Instr::ReadLength(r) => Ok((*r as usize) < f.readers),
+        Instr::ReadElement(r, _) => Ok((*r as usize) < f.readers),
         Instr::Cut(h, _) => Ok(names_halves(f, *h)),
         Instr::EndCut => Ok(true),
         Instr::Sync => Ok(true),

@@ -21,6 +21,8 @@ pub struct Round {
     pub empty: Rc<Row>,
     /// The same for each array slot.
     pub gone: Rc<Row>,
+    /// For each array slot whether it may be frozen up to that join.
+    pub frozen: Rc<Row>,
     /// The cut that began the inner block, if a cut did.
     pub cut: Option<Halves>,
 }
@@ -54,6 +56,16 @@ pub fn there_in_all(rounds: &Rounds, a: usize) -> bool
     }
 }
 
+/// Whether each of these blocks has the array slot, and not as frozen.
+pub fn thawed_in_all(rounds: &Rounds, a: usize) -> bool
+    ensures { result ≡ fits.full_in_all (fits.frozen_rows (table.rounds_of rounds.now)) a }
+{
+    match rounds {
+        Rounds::Outermost => true,
+        Rounds::Within(round, outer) => is_full_in(&round.frozen, a) && thawed_in_all(outer, a),
+    }
+}
+
 // Whether the slot is no half of this cut.
 fn is_no_half(a: u32, cut: Option<Halves>) -> bool
     ensures { result ≡ fits.is_no_half a cut }
@@ -80,9 +92,11 @@ fn copy(round: &Round) -> Result<Round, Fault>
 {
     let empty = round.empty.clone()?;
     let gone = round.gone.clone()?;
+    let frozen = round.frozen.clone()?;
     Ok(Round {
         empty,
         gone,
+        frozen,
         cut: round.cut,
     })
 }
@@ -91,7 +105,8 @@ fn copy(round: &Round) -> Result<Round, Fault>
 fn round_brings(round: &Round, more: &Round) -> bool
     ensures { result ≡ table.round_brings (table.round_view round.now) (table.round_view more.now) }
 {
-    brings(&round.empty, &more.empty) || brings(&round.gone, &more.gone)
+    brings(&round.empty, &more.empty)
+        || (brings(&round.gone, &more.gone) || brings(&round.frozen, &more.frozen))
 }
 
 // Whether blocks bring more than others have.
@@ -113,9 +128,11 @@ fn either_round(alloc: Global, round: &Round, more: &Round) -> Result<Round, Fau
 {
     let (empty, _) = shared_either(alloc, round.empty.clone()?, &more.empty)?;
     let (gone, _) = shared_either(alloc, round.gone.clone()?, &more.gone)?;
+    let (frozen, _) = shared_either(alloc, round.frozen.clone()?, &more.frozen)?;
     Ok(Round {
         empty,
         gone,
+        frozen,
         cut: round.cut,
     })
 }
@@ -208,7 +225,8 @@ fn is_alike(round: &Round, other: &Round) -> bool
     ensures { result ≡ table.is_alike (table.round_view round.now) (table.round_view other.now) }
 {
     let gone = round.gone.len() == other.gone.len();
-    round.empty.len() == other.empty.len() && (gone && same_cut(round.cut, other.cut))
+    let frozen = round.frozen.len() == other.frozen.len();
+    round.empty.len() == other.empty.len() && (gone && (frozen && same_cut(round.cut, other.cut)))
 }
 
 // Whether there are as many blocks, begun by the same cuts, and each row is as long.

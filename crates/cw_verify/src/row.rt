@@ -6,11 +6,12 @@ ghost use Rattle.cw_verify.specs.Table as table;
 ghost use Rattle.cw_verify.specs.Views as views;
 ghost use Rattle.cw_verify.specs.Steps.{OrMemory};
 
+use cw_code::code::Loan;
 use cw_text::Fault;
 use std::alloc::Global;
 use std::rc::Rc;
 
-/// For each slot whether it may be empty.
+/// For each slot whether it may be empty, or, of an array slot, frozen.
 pub type Row = Vec<bool>;
 
 /// So many slots, none of them empty.
@@ -79,6 +80,25 @@ pub fn set_all(row: &mut Row, slots: &[u32])
 {
     for a in slots {
         set(row, *a as usize, true);
+    }
+}
+
+// The array slot of a loan, if it is one, may be frozen.
+fn freeze(row: &mut Row, loan: Loan)
+    ensures { row.new.items ≡ views.frozen_by loan row.old.items }
+{
+    match loan {
+        Loan::Array(a) => set(row, a as usize, true),
+        Loan::Reader(_) => {}
+    }
+}
+
+/// Each array slot among these loans may be frozen.
+pub fn freeze_all(row: &mut Row, loans: &[Loan])
+    ensures { row.new.items ≡ views.with_loans loans.now row.old.items }
+{
+    for loan in loans {
+        freeze(row, *loan);
     }
 }
 

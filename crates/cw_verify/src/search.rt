@@ -145,6 +145,8 @@ impl Search {
             Instr::Length(_) => self.come(alloc, next, false, left, number),
             Instr::Element(_, _) => self.come(alloc, next, false, left, number),
             Instr::SetElement(_, _) => self.come(alloc, next, false, left, number),
+            Instr::ReadLength(_) => self.come(alloc, next, false, left, number),
+            Instr::ReadElement(_, _) => self.come(alloc, next, false, left, number),
             Instr::Cut(_, _) => self.come(alloc, next, false, left, number),
             Instr::EndCut => self.come(alloc, next, false, left, number),
             Instr::Sync => self.come(alloc, next, false, left, number),
@@ -157,7 +159,8 @@ impl Search {
         }
     }
 
-    // The instruction at a place finds what it needs, and what it leaves comes to the places that it goes on to.
+    // The instruction at a place finds what it needs and changes nothing that is frozen, and what it leaves comes to the
+    // places that it goes on to.
     fn visit(&mut self, alloc: Global, code: &Code, f: &Func, k: usize) -> Result<bool, Fault>
         requires row { k < length self.old.found.items }
         requires there { f.now.start + k < length code.now.instrs.items }
@@ -172,6 +175,9 @@ impl Search {
             None => return Ok(false),
             Some(shape) => {
                 if !found::is_ready(code, shape, &i) {
+                    return Err(Fault::Code);
+                }
+                if !found::is_thawed(code, shape, &i) {
                     return Err(Fault::Code);
                 }
                 found::copy(shape)?

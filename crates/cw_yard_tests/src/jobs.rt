@@ -27,6 +27,7 @@ fn same(alloc: Global, arrays: usize) -> Result<Arc<Verified>, Fault> {
         reducers: Vec::new(alloc),
         tags: Vec::new(alloc),
         passed: Vec::new(alloc),
+        lent: Vec::new(alloc),
     };
     code.instrs
         .extend_from_slice(&[Instr::Load(0), Instr::ReturnValue])?;
@@ -38,6 +39,7 @@ fn same(alloc: Global, arrays: usize) -> Result<Arc<Verified>, Fault> {
         slots: 1,
         array_params: 0,
         arrays,
+        readers: 0,
     })?;
     let verified = verify(alloc, code)?;
     Ok(Arc::new(alloc, verified)?)

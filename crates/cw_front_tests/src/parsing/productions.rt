@@ -16,7 +16,7 @@ struct Row {
 }
 
 // Items, from line 1 on; the end is one line behind the last token.
-const ITEMS: [Row; 4] = [
+const ITEMS: [Row; 5] = [
     Row {
         tokens: &["reducer", "sum", "s", ";"],
         missing: &[2, 3, 4, 5],
@@ -38,6 +38,13 @@ const ITEMS: [Row; 4] = [
         ],
         missing: &[2, 3, 4, 5, 6, 7, 8, 9, 10, 11, 12, 13, 14],
         doubled: &[1, 2, 3, 4, 5, 6, 7, 8, 9, 10, 11, 12, 13],
+    },
+    Row {
+        tokens: &[
+            "int", "f", "(", "const", "int", "a", "[", "]", ")", "{", "}",
+        ],
+        missing: &[2, 3, 4, 0, 6, 7, 8, 9, 10, 11, 12],
+        doubled: &[1, 2, 3, 4, 5, 6, 7, 8, 9, 10, 11],
     },
 ];
 

@@ -1,7 +1,7 @@
 //! Trees as text, for tests.
 
 use cw_lex::lex;
-use cw_model::syntax::{CallKind, Operator, Reduction};
+use cw_model::syntax::{CallKind, NameKind, Operator, Reduction};
 use cw_parse::parse;
 use cw_text::{Fault, Place, Source};
 use cw_tree::syntax::{Ast, Call, Expr, Head, Line, Name, Stmt};
@@ -339,7 +339,11 @@ pub(crate) fn shown(alloc: Global, ast: &Ast) -> Result<String, AllocError> {
         })?;
         show_name(&mut out, &function.name)?;
         for param in &function.params {
-            out.push_str(if param.is_array { " []" } else { " " })?;
+            out.push_str(match param.kind {
+                NameKind::Integer => " ",
+                NameKind::Array => " []",
+                NameKind::Const => " const []",
+            })?;
             show_name(&mut out, &param.name)?;
         }
         show_block(alloc, &mut out, function.body.as_slice())?;

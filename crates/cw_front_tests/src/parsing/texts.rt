@@ -15,7 +15,7 @@ struct Worked {
 }
 
 // Programs whose meaning, costs or refusals the definitions give.
-const PROGRAMS: [Worked; 43] = [
+const PROGRAMS: [Worked; 44] = [
     Worked {
         name: "first",
         text: "int f(int v) { return v; } int main() { int x = 0; x = cilk_spawn f(1); cilk_sync; \
@@ -96,6 +96,14 @@ const PROGRAMS: [Worked; 43] = [
          return 0; }",
         tree: "1 sum s\n\
          1 int main{1 for i = 5 i < 3 i++ 2{1 s += i;};1 return 0;}\n",
+    },
+    Worked {
+        name: "read_together",
+        text: "int get(const int a[], int i) { return a[i]; } int main() { int a[2]; int x = 0; a[1] = 5; \
+         x = cilk_spawn get(a, 1); print(a[1]); cilk_sync; a[0] = x; return a[0]; }",
+        tree: "1 int get const []a i{1 return a[i];}\n\
+         1 int main{1 int[] a = 2;1 int x = 0;1 a at 1 = 5;1 x = spawn get#1 a 1;1 print a[1];1 sync;\
+         1 a at 0 = x;1 return a[0];}\n",
     },
     Worked {
         name: "greatest",

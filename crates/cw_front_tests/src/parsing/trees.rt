@@ -14,6 +14,11 @@ fn sources_have_their_trees(rt: HostRuntime) -> Result<(), Fail> {
             "reducer sum s;\nvoid f(int v, int a[]) { }\nreducer sum t; int g() { return 1; }",
             "1 sum s\n3 sum t\n2 void f v []a{}\n3 int g{3 return 1;}\n",
         ),
+        // parameters of each kind
+        (
+            "int get(const int a[], int i) { return a[i]; }\nvoid f(int a[], const int b[]) { get(b, 1); }",
+            "1 int get const []a i{1 return a[i];}\n2 void f []a const []b{2 get#1 b 1;}\n",
+        ),
         // reducers of both kinds, each told in both ways: which fits is no matter of the grammar
         (
             "reducer max m;\nvoid f() { m max= x;\nm max = 1 - 2; m += y; }\nreducer sum s; reducer\nmax n;",
@@ -142,6 +147,23 @@ fn tokens_that_cannot_go_on_are_refused_where_they_stand(rt: HostRuntime) -> Res
         ("void f(int a[]\n[]) { }", 2),
         ("void f(int a[\n3]) { }", 2),
         ("void f(int a,\n) { }", 2),
+        // one that is const is an array, and its word stands before its type, nowhere else
+        ("void f(const int a\n) { }", 2),
+        ("void f(const int a[]\n[]) { }", 2),
+        ("void f(const int a[\n3]) { }", 2),
+        ("void f(const\na[]) { }", 2),
+        ("void f(const\nconst int a[]) { }", 2),
+        ("void f(int\nconst a[]) { }", 2),
+        ("void f(int a[]\nconst) { }", 2),
+        ("void f() {\nconst int a[2]; }", 2),
+        ("void f() { int\nconst = 1; }", 2),
+        ("void f() { g(\nconst a); }", 2),
+        (
+            "void f() { cilk_for (int i = 0; i < n; i++) over (\nconst a) { } }",
+            2,
+        ),
+        ("reducer sum s;\nconst int f() { }", 2),
+        ("void\nconst() { }", 2),
         // a reducer is told its way to reduce, and two of its words are no name
         ("reducer\nleast m;", 2),
         ("reducer\nm;", 2),

@@ -2,15 +2,19 @@
 use Rattle.std.proofs.Common.{◌≡◌, ℕ, Bool, true, false, List, [], ◌∷◌, ◌++◌, sym, subst}
 use Rattle.std.specs.Prelude.{if◌then◌else◌, not, ◌||◌, nat_le}
 use Rattle.std.specs.List.{list_all}
+use Rattle.cw_model.specs.declared.syntax.NameKind.{NameKind}
 use Rattle.cw_model.specs.declared.limits.TheConstants.{MOST_GRAIN}
 use Rattle.cw_model.specs.Lines.{unless}
+use Rattle.cw_model.specs.declared.syntax.NameKind.TheVariants as name_kind
 use Rattle.cw_model.specs.Syntax.{Name, Expr, Stmt, Declare, DeclareArray, Assign, AssignElement, Reduce, Call, Start}
 use Rattle.cw_model.specs.Syntax.{Begin, Sync, If, IfElse, While, For, Scope, Cut, Region, Print, Return, Block, End}
-use Rattle.cw_model.specs.Syntax.{Then, Program}
+use Rattle.cw_model.specs.Syntax.{Then, Program, is_array_kind}
 use Rattle.cw_model.specs.Names.{same_name, is_among}
 use Rattle.cw_model.specs.Captured.{declared_in, declared_in_block}
-use Rattle.cw_model.specs.Typing.{Known, is_fine, is_int, is_array, is_new, is_head_of_loop, is_cut, ends_block}
+use Rattle.cw_model.specs.Typing.{Known, is_fine, is_int, is_array, is_writable, is_new, is_head_of_loop, is_cut}
+use Rattle.cw_model.specs.Typing.{ends_block}
 use Rattle.cw_model.specs.Typing.{surely_returns, faults_in, faults_in_block, declares, Returns, Nowhere}
+use Rattle.cw_model.specs.lemmas.Fits.{writable_array, writable_arrays}
 use Rattle.cw_model.specs.lemmas.Kept.{left_none, right_none, kept}
 use Rattle.cw_loops.specs.lemmas.Tests.{both_true, not_true}
 use Rattle.cw_loops.specs.lemmas.Naming.{Placed, at_front, after_it, placed, Side, in_first, in_second, side}
@@ -24,11 +28,12 @@ pub record HeadKept (program : Program) (known : Known) (x : Name) (from to : Ex
   pub to_fine : is_fine known to ≡ true
   pub some : nat_le 1 grain ≡ true
   pub arrays : list_all (λ a. is_array known a) over ≡ true
+  pub writables : list_all (λ a. is_writable known a) over ≡ true
 
 pub head_kept : (program : Program) (known : Known) (x y z : Name) (from to : Expr) (grain : ℕ) (over : List Name) →
     is_head_of_loop program known x y z from to grain over ≡ true → HeadKept program known x from to grain over
 head_kept program known x y z from to grain over h =
-    let a = both_true _ (list_all (λ a. is_array known a) over) h in
+    let a = both_true _ (list_all (λ a. is_writable known a) over) h in
     let b = both_true _ (nat_le grain MOST_GRAIN) a.0 in
     let c = both_true _ (nat_le 1 grain) b.0 in
     let d = both_true _ (is_fine known to) c.0 in
@@ -39,12 +44,14 @@ head_kept program known x y z from to grain over h =
       from_fine = e.1;
       to_fine = d.1;
       some = c.1;
-      arrays = a.1;
+      arrays = writable_arrays known over a.1;
+      writables = a.1;
     }
 
 -- what a cut keeps
 pub record CutKept (program : Program) (known : Known) (a : Name) (e : Expr) (l r : Name) : Type 0 where
   pub array : is_array known a ≡ true
+  pub writable : is_writable known a ≡ true
   pub fine : is_fine known e ≡ true
   pub left : is_new program known l ≡ true
   pub right : is_new program known r ≡ true
@@ -56,12 +63,19 @@ cut_kept program known a e l r h =
     let p = both_true _ (not (same_name l r)) h in
     let q = both_true _ (is_new program known r) p.0 in
     let s = both_true _ (is_new program known l) q.0 in
-    let t = both_true (is_array known a) (is_fine known e) s.0 in
-    record { array = t.0; fine = t.1; left = s.1; right = q.1; two = not_true (same_name l r) p.1 }
+    let t = both_true (is_writable known a) (is_fine known e) s.0 in
+    record {
+      array = writable_array known a t.0;
+      writable = t.0;
+      fine = t.1;
+      left = s.1;
+      right = q.1;
+      two = not_true (same_name l r) p.1;
+    }
 
 -- what was unknown before one name more
-pub unknown_before : (known : Known) (y x : Name) (kind : Bool) → Unknown ((y, kind) ∷ known) x → Unknown known x
-unknown_before known y x kind u = go (same_name x y) kind u.no_int u.no_array
+pub unknown_before : (known : Known) (y x : Name) (kind : NameKind) → Unknown ((y, kind) ∷ known) x → Unknown known x
+unknown_before known y x kind u = go (same_name x y) (is_array_kind kind) u.no_int u.no_array
   where
     go : (s k : Bool) → (if s then not k else is_int known x) ≡ false → (if s then k else is_array known x) ≡ false →
         Unknown known x
@@ -86,7 +100,8 @@ module _ (program : Program) where
   for_new x y z from to grain over b more returns known line h v o =
       let head = head_kept program known x y z from to grain over (kept _ line (left_none _ _ h)) in
       go (placed v x (declared_in_block b) o) (new_unknown program known x head.new)
-      (λ p. unknown_before known x v false (more Nowhere ((x, false) ∷ known) (right_none _ _ h) v p))
+      (λ p. unknown_before known x v name_kind.Integer
+      (more Nowhere ((x, name_kind.Integer) ∷ known) (right_none _ _ h) v p))
     where
       go : Placed v x (declared_in_block b) → Unknown known x →
           (is_among v (declared_in_block b) ≡ true → Unknown known v) → Unknown known v
@@ -98,9 +113,9 @@ module _ (program : Program) where
       let k = cut_kept program known a e l r (kept _ line (left_none _ _ h)) in
       go (placed v l (r ∷ declared_in_block b) o) (new_unknown program known l k.left)
       (new_unknown program known r k.right)
-      (λ p. unknown_before known l v true
-      (unknown_before ((l, true) ∷ known) r v true
-      (more Nowhere ((r, true) ∷ (l, true) ∷ known) (right_none _ _ h) v p)))
+      (λ p. unknown_before known l v name_kind.Array
+      (unknown_before ((l, name_kind.Array) ∷ known) r v name_kind.Array
+      (more Nowhere ((r, name_kind.Array) ∷ (l, name_kind.Array) ∷ known) (right_none _ _ h) v p)))
     where
       second : Placed v r (declared_in_block b) → Unknown known r →
           (is_among v (declared_in_block b) ≡ true → Unknown known v) → Unknown known v
@@ -135,8 +150,10 @@ module _ (program : Program) where
   before_it s known v u = go (adds s)
     where
       go : Adds s → Unknown known v
-      go (an_int x e same) = unknown_before known x v false (subst (λ t. Unknown (declares t known) v) same u)
-      go (an_array a e same) = unknown_before known a v true (subst (λ t. Unknown (declares t known) v) same u)
+      go (an_int x e same) =
+          unknown_before known x v name_kind.Integer (subst (λ t. Unknown (declares t known) v) same u)
+      go (an_array a e same) =
+          unknown_before known a v name_kind.Array (subst (λ t. Unknown (declares t known) v) same u)
       go (nothing same ints arrays owners) = subst (λ k. Unknown k v) (same known) u
 
   by_side : (s : Stmt) (b : Block) (returns : Returns) (known : Known) (line : ℕ) →

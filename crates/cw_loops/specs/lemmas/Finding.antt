@@ -47,7 +47,7 @@ found_numbered (f ∷ made) pre k h skips =
           ∙ loops_apart j k (omega arith)))),
     )
 
-lowered_plain : (all0 fs : List Function) (k : ℕ) → list_all (can_lower_function all0) fs ≡ true → (j : ℕ) →
+pub lowered_plain : (all0 fs : List Function) (k : ℕ) → list_all (can_lower_function all0) fs ≡ true → (j : ℕ) →
     Skips (loop_name j) (lower_functions k fs)
 lowered_plain all0 [] k h j rest = refl
 lowered_plain all0 (f ∷ fs) k h j rest =

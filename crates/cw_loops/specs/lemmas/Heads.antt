@@ -2,8 +2,9 @@
 use Rattle.std.proofs.Common.{◌≡◌, Bool, true, false, List, [], ◌∷◌, ◌++◌, refl, sym, ◌∙◌, ap}
 use Rattle.std.specs.Prelude.{if◌then◌else◌, not, ◌&&◌, ◌||◌, flat_map, map}
 use Rattle.std.specs.List.{list_any}
+use Rattle.cw_model.specs.declared.syntax.NameKind.{NameKind}
 use Rattle.cw_model.specs.Lines.{unless}
-use Rattle.cw_model.specs.Syntax.{Name, Param, Function, Program}
+use Rattle.cw_model.specs.Syntax.{Name, Param, Function, Program, is_array_kind, wants_array}
 use Rattle.cw_model.specs.Names.{same_name, is_among, differ}
 use Rattle.cw_model.specs.Answers.{main_name}
 use Rattle.cw_model.specs.Typing.{Known, is_known, is_int, is_array, globals, block_returns, known_of, is_head}
@@ -22,7 +23,8 @@ names_of ps = map (λ p. p.name) ps
 kind_among : (x : Name) (ps : List Param) →
     is_among x (names_of ps) ≡ (is_among x (integers_of ps) || is_among x (arrays_of ps))
 kind_among x [] = refl
-kind_among x (p ∷ ps) = go p.is_array (same_name x p.name) refl (is_among x (integers_of ps)) refl (kind_among x ps)
+kind_among x (p ∷ ps) =
+    go (wants_array p) (same_name x p.name) refl (is_among x (integers_of ps)) refl (kind_among x ps)
   where
     go : (k s : Bool) → same_name x p.name ≡ s → (i : Bool) → is_among x (integers_of ps) ≡ i →
         is_among x (names_of ps) ≡ (is_among x (integers_of ps) || is_among x (arrays_of ps)) →
@@ -35,23 +37,23 @@ kind_among x (p ∷ ps) = go p.is_array (same_name x p.name) refl (is_among x (i
     go false false e i f h = rw (e) h
 
 -- the newest of known names
-known_push : (array : Bool) (ks : Known) (n : Name) (kind : Bool) (x : Name)
-    → is_known x array (ks ++ (n, kind) ∷ [])
-    ≡ (if is_among x (map (λ k. k.0) ks) then is_known x array ks else is_known x array ((n, kind) ∷ []))
-known_push array [] n kind x = refl
-known_push array (k ∷ ks) n kind x = go (same_name x k.0) (known_push array ks n kind x)
+known_push : (such : NameKind → Bool) (ks : Known) (n : Name) (kind : NameKind) (x : Name)
+    → is_known x such (ks ++ (n, kind) ∷ [])
+    ≡ (if is_among x (map (λ k. k.0) ks) then is_known x such ks else is_known x such ((n, kind) ∷ []))
+known_push such [] n kind x = refl
+known_push such (k ∷ ks) n kind x = go (same_name x k.0) (known_push such ks n kind x)
   where
     go : (s : Bool)
-        → is_known x array (ks ++ (n, kind) ∷ [])
-        ≡ (if is_among x (map (λ k. k.0) ks) then is_known x array ks else is_known x array ((n, kind) ∷ [])) →
-        (if s then (if array then k.1 else not k.1) else is_known x array (ks ++ (n, kind) ∷ []))
+        → is_known x such (ks ++ (n, kind) ∷ [])
+        ≡ (if is_among x (map (λ k. k.0) ks) then is_known x such ks else is_known x such ((n, kind) ∷ [])) →
+        (if s then such k.1 else is_known x such (ks ++ (n, kind) ∷ []))
         ≡ (if (if s then true else is_among x (map (λ k. k.0) ks)) then
-        (if s then (if array then k.1 else not k.1) else is_known x array ks) else is_known x array
+        (if s then such k.1 else is_known x such ks) else is_known x such
         ((n, kind) ∷ []))
     go true h = refl
     go false h = h
 
-among_push : (x : Name) (ks : Known) (n : Name) (kind : Bool)
+among_push : (x : Name) (ks : Known) (n : Name) (kind : NameKind)
     → is_among x (map (λ k. k.0) (ks ++ (n, kind) ∷ []))
     ≡ (if same_name x n then true else is_among x (map (λ k. k.0) ks))
 among_push x [] n kind = refl
@@ -68,7 +70,7 @@ among_push x (k ∷ ks) n kind = go (same_name x k.0) (same_name x n) (among_pus
 heads_are : (x : Name) (ps : List Param) → is_among x (map (λ k. k.0) (known_of ps)) ≡ is_among x (names_of ps)
 heads_are x [] = refl
 heads_are x (p ∷ ps) =
-    among_push x (known_of ps) p.name p.is_array ∙ ap (λ b. if same_name x p.name then true else b) (heads_are x ps)
+    among_push x (known_of ps) p.name p.kind ∙ ap (λ b. if same_name x p.name then true else b) (heads_are x ps)
 
 -- no parameter after the first has its name
 pub others_differ : (p : Param) (ps : List Param) → differ (names_of (p ∷ ps)) ≡ true →
@@ -77,23 +79,23 @@ others_differ p ps h =
     let d = both_true (not (is_among p.name (names_of ps))) (differ (names_of ps)) h in (not_true _ d.0, d.1)
 
 -- the newest parameter, or one before it
-newest : (array : Bool) (p : Param) (ps : List Param) (x : Name) → is_among p.name (names_of ps) ≡ false
-    → is_known x array (known_of (p ∷ ps))
-    ≡ (if same_name x p.name then (if array then p.is_array else not p.is_array) else is_known x array (known_of ps))
-newest array p ps x alone =
-    known_push array (known_of ps) p.name p.is_array x ∙ go (same_name x p.name) refl
+newest : (such : NameKind → Bool) (p : Param) (ps : List Param) (x : Name) → is_among p.name (names_of ps) ≡ false
+    → is_known x such (known_of (p ∷ ps))
+    ≡ (if same_name x p.name then such p.kind else is_known x such (known_of ps))
+newest such p ps x alone =
+    known_push such (known_of ps) p.name p.kind x ∙ go (same_name x p.name) refl
     (is_among x (map (λ k. k.0) (known_of ps))) refl
   where
     go : (s : Bool) → same_name x p.name ≡ s → (b : Bool) → is_among x (map (λ k. k.0) (known_of ps)) ≡ b →
-        (if b then is_known x array (known_of ps) else
-        (if s then (if array then p.is_array else not p.is_array) else false))
-        ≡ (if s then (if array then p.is_array else not p.is_array) else is_known x array (known_of ps))
+        (if b then is_known x such (known_of ps) else
+        (if s then such p.kind else false))
+        ≡ (if s then such p.kind else is_known x such (known_of ps))
     go true e true h =
         never (is_among x (names_of ps)) (sym (heads_are x ps) ∙ h)
         (ap (λ z. is_among z (names_of ps)) (same_are x p.name e) ∙ alone)
     go true e false h = refl
     go false e true h = refl
-    go false e false h = sym (not_there array (known_of ps) x h)
+    go false e false h = sym (not_there such (known_of ps) x h)
 
 pub no_kind : (x : Name) (ps : List Param) → is_among x (names_of ps) ≡ false →
     (is_among x (integers_of ps) ≡ false) × (is_among x (arrays_of ps) ≡ false)
@@ -104,7 +106,8 @@ pub int_kind : (ps : List Param) → differ (names_of ps) ≡ true → (x : Name
 int_kind [] h x = refl
 int_kind (p ∷ ps) h x =
     let d = others_differ p ps h in
-    newest false p ps x d.0 ∙ go (same_name x p.name) refl p.is_array (int_kind ps d.1 x)
+    newest (λ kind. not (is_array_kind kind)) p ps x d.0
+    ∙ go (same_name x p.name) refl (wants_array p) (int_kind ps d.1 x)
     (λ e. (no_kind x ps (ap (λ z. is_among z (names_of ps)) (same_are x p.name e) ∙ d.0)).0)
   where
     go : (s : Bool) → same_name x p.name ≡ s → (k : Bool) → is_int (known_of ps) x ≡ is_among x (integers_of ps) →
@@ -121,7 +124,7 @@ pub array_kind : (ps : List Param) → differ (names_of ps) ≡ true → (x : Na
 array_kind [] h x = refl
 array_kind (p ∷ ps) h x =
     let d = others_differ p ps h in
-    newest true p ps x d.0 ∙ go (same_name x p.name) refl p.is_array (array_kind ps d.1 x)
+    newest is_array_kind p ps x d.0 ∙ go (same_name x p.name) refl (wants_array p) (array_kind ps d.1 x)
     (λ e. (no_kind x ps (ap (λ z. is_among z (names_of ps)) (same_are x p.name e) ∙ d.0)).1)
   where
     go : (s : Bool) → same_name x p.name ≡ s → (k : Bool) → is_array (known_of ps) x ≡ is_among x (arrays_of ps) →
@@ -142,12 +145,12 @@ parameters_known ps h x =
 -- what the head of a function keeps
 pub record HeadOf (f : Function) : Type 0 where
   pub params : differ (names_of f.params) ≡ true
-  pub main : (not (same_name f.name main_name) || (f.gives_int && not (list_any (λ p. p.is_array) f.params))) ≡ true
+  pub main : (not (same_name f.name main_name) || (f.gives_int && not (list_any (λ p. wants_array p) f.params))) ≡ true
 
 pub head_of : (program : Program) (f : Function) → faults_of program f ≡ [] → HeadOf f
 head_of program f h =
     let a =
-    both_true _ (not (same_name f.name main_name) || (f.gives_int && not (list_any (λ p. p.is_array) f.params)))
+    both_true _ (not (same_name f.name main_name) || (f.gives_int && not (list_any (λ p. wants_array p) f.params)))
     (kept (is_head program f) f.line (left_none _ _ h)) in
     let b = both_true _ (not f.gives_int || block_returns f.body) a.0 in
     let c =

@@ -1,7 +1,9 @@
 -- Names that are known, and those that a statement makes known.
 use Rattle.std.proofs.Common.{◌≡◌, Bool, true, false, List, [], ◌∷◌, refl}
 use Rattle.std.specs.Prelude.{if◌then◌else◌, not, ◌||◌, map}
-use Rattle.cw_model.specs.Syntax.{Name, Expr, Stmt, Declare, DeclareArray, Assign, AssignElement, Reduce, Call, Start}
+use Rattle.cw_model.specs.declared.syntax.NameKind.{NameKind}
+use Rattle.cw_model.specs.Syntax.{is_array_kind, Name, Expr, Stmt, Declare, DeclareArray, Assign, AssignElement, Reduce}
+use Rattle.cw_model.specs.Syntax.{Call, Start}
 use Rattle.cw_model.specs.Syntax.{Begin, Sync, If, IfElse, While, For, Scope, Cut, Region, Print, Return, Program}
 use Rattle.cw_model.specs.Names.{same_name, is_among}
 use Rattle.cw_model.specs.Typing.{Known, is_known, is_int, is_array, is_new, globals, declares}
@@ -14,26 +16,29 @@ pub record Unknown (known : Known) (x : Name) : Type 0 where
   pub no_int : is_int known x ≡ false
   pub no_array : is_array known x ≡ false
 
-pub not_there : (array : Bool) (known : Known) (x : Name) → is_among x (map (λ k. k.0) known) ≡ false →
-    is_known x array known ≡ false
-not_there array [] x h = refl
-not_there array (k ∷ ks) x h = go (same_name x k.0) h (λ g. not_there array ks x g)
+pub not_there : (such : NameKind → Bool) (known : Known) (x : Name) → is_among x (map (λ k. k.0) known) ≡ false →
+    is_known x such known ≡ false
+not_there such [] x h = refl
+not_there such (k ∷ ks) x h = go (same_name x k.0) h (λ g. not_there such ks x g)
   where
     go : (b : Bool) → (if b then true else is_among x (map (λ k. k.0) ks)) ≡ false →
-        (is_among x (map (λ k. k.0) ks) ≡ false → is_known x array ks ≡ false) →
-        (if b then (if array then k.1 else not k.1) else is_known x array ks) ≡ false
+        (is_among x (map (λ k. k.0) ks) ≡ false → is_known x such ks ≡ false) →
+        (if b then such k.1 else is_known x such ks) ≡ false
     go true g more = absurd cc
     go false g more = more g
 
 pub new_unknown : (program : Program) (known : Known) (x : Name) → is_new program known x ≡ true → Unknown known x
 new_unknown program known x h =
     let n = none_of (is_among x (map (λ k. k.0) known)) (is_among x (globals program)) (not_true _ h) in
-    record { no_int = not_there false known x n.0; no_array = not_there true known x n.0 }
+    record {
+      no_int = not_there (λ kind. not (is_array_kind kind)) known x n.0;
+      no_array = not_there is_array_kind known x n.0;
+    }
 
 -- a name is an integer or an array, and not both
 pub not_both : (known : Known) (x : Name) → is_int known x ≡ true → is_array known x ≡ false
 not_both [] x h = absurd cc
-not_both (k ∷ ks) x h = go (same_name x k.0) k.1 h (λ g. not_both ks x g)
+not_both (k ∷ ks) x h = go (same_name x k.0) (is_array_kind k.1) h (λ g. not_both ks x g)
   where
     go : (b array : Bool) → (if b then not array else is_int ks x) ≡ true →
         (is_int ks x ≡ true → is_array ks x ≡ false) → (if b then array else is_array ks x) ≡ false

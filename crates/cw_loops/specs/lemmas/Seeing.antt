@@ -2,23 +2,26 @@
 use Rattle.std.proofs.Common.{◌≡◌, ℕ, ◌+◌, Bool, true, false, List, [], ◌∷◌, ◌++◌, refl, sym, ◌∙◌, ap, subst}
 use Rattle.std.specs.Prelude.{if◌then◌else◌, not, ◌&&◌, ◌||◌, Option, Some, None}
 use Rattle.std.specs.List.{list_all}
+use Rattle.cw_model.specs.declared.syntax.NameKind.{NameKind}
+use Rattle.cw_model.specs.lemmas.Fits.{fits_kind, fit_kinds, arguments_fit}
 use Rattle.cw_model.specs.Lines.{unless}
 use Rattle.cw_model.specs.declared.syntax.CallKind.{CallKind}
+use Rattle.cw_model.specs.declared.syntax.NameKind.TheVariants as name_kind
 use Rattle.cw_model.specs.Syntax.{Name, Expr, Number, Variable, Element, Length, Negative, Not, Binary, Stmt, Declare}
 use Rattle.cw_model.specs.Syntax.{DeclareArray, Assign, AssignElement, Reduce, Call, Start, Begin, Sync, If, IfElse}
 use Rattle.cw_model.specs.Syntax.{While, For, Scope, Cut, Region, Print, Return, Block, End, Then, Param, Function}
-use Rattle.cw_model.specs.Syntax.{Program}
+use Rattle.cw_model.specs.Syntax.{Program, is_array_kind, is_written_kind, is_const_kind, wants_array}
 use Rattle.cw_model.specs.Names.{same_name, is_among, differ}
 use Rattle.cw_model.specs.Meaning.{function_named}
 use Rattle.cw_model.specs.Answers.{main_name}
 use Rattle.cw_model.specs.Captured.{read_by, read_by_all, read_in, read_in_block, declared_in, declared_in_block}
-use Rattle.cw_model.specs.Typing.{Known, is_int, is_array, is_fine, is_new, is_reducer, is_argument, are_arguments}
+use Rattle.cw_model.specs.Typing.{Known, is_int, is_array, is_fine, is_new, is_reducer, are_arguments}
 use Rattle.cw_model.specs.Typing.{called, is_target, is_call, is_head_of_loop, may_return, ends_block, surely_returns}
-use Rattle.cw_model.specs.Typing.{faults_in, faults_in_block, declares, Returns, Nowhere, WithInt, Alone}
-use Rattle.cw_model.specs.Ownership.{Around, InLoop, for_head, is_outer, may_read, may_write, are_free, are_inner}
+use Rattle.cw_model.specs.Typing.{faults_in, faults_in_block, declares, Returns, Nowhere, WithInt, Alone, is_writable}
+use Rattle.cw_model.specs.Ownership.{Around, InLoop, for_head, is_outer, may_read, may_write, are_inner}
 use Rattle.cw_model.specs.Ownership.{names_in, arrays_given, given, target_names, known_after, Taken, Declared}
 use Rattle.cw_model.specs.Ownership.{Closing, Leaves, Joins, CutOf, taken_after, declared_by, owner_faults}
-use Rattle.cw_model.specs.Ownership.{owner_faults_in}
+use Rattle.cw_model.specs.Ownership.{owner_faults_in, are_loose, may_lend, lent, arrays_lent}
 use Rattle.cw_model.specs.lemmas.Kept.{left_none, right_none, kept}
 use Rattle.cw_loops.specs.Lowered.{is_plain}
 use Rattle.cw_loops.specs.SourceLike.{is_source_expr, is_source_stmt, is_source_block, is_source_target}
@@ -102,31 +105,82 @@ inner_names around xs h = none_any (is_outer around) xs (not_true _ h)
 abbrev pub AllInner : Around → List Name → Type 0
 AllInner around xs = (x : Name) → is_among x xs ≡ true → is_outer around x ≡ false
 
+-- the arrays that are passed, given away or only read
+abbrev pub arrays_passed : List Param → List Expr → List Name
+arrays_passed [] es = []
+arrays_passed (p ∷ ps) [] = []
+arrays_passed (p ∷ ps) (e ∷ es) = (if wants_array p then names_in e else []) ++ arrays_passed ps es
+
+either_inner : (around : Around) (x : Name) (xs ys : List Name) → (is_among x xs ≡ true → is_outer around x ≡ false) →
+    (is_among x ys ≡ true → is_outer around x ≡ false) → is_among x (xs ++ ys) ≡ true → is_outer around x ≡ false
+either_inner around x xs ys one more o = go (side x xs ys o)
+  where
+    go : Side x xs ys → is_outer around x ≡ false
+    go (in_first q) = one q
+    go (in_second q) = more q
+
+-- each of them is given away or only read
+passed_inner : (around : Around) (ps : List Param) (es : List Expr) → AllInner around (arrays_given ps es) →
+    AllInner around (arrays_lent ps es) → AllInner around (arrays_passed ps es)
+passed_inner around [] es given' lent' x o = absurd cc
+passed_inner around (p ∷ ps) [] given' lent' x o = absurd cc
+passed_inner around (p ∷ ps) (e ∷ es) given' lent' x o =
+    by p.kind given' lent' (λ g l. passed_inner around ps es g l x) o
+  where
+    rest : (xs ys : List Name) → AllInner around (xs ++ ys) → AllInner around ys
+    rest xs ys h v q = h v (among_right v xs ys q)
+
+    by : (k : NameKind) → AllInner around ((if is_written_kind k then names_in e else []) ++ arrays_given ps es) →
+        AllInner around ((if is_const_kind k then names_in e else []) ++ arrays_lent ps es) →
+        (AllInner around (arrays_given ps es) → AllInner around (arrays_lent ps es) →
+        is_among x (arrays_passed ps es) ≡ true → is_outer around x ≡ false) →
+        is_among x ((if is_array_kind k then names_in e else []) ++ arrays_passed ps es) ≡ true →
+        is_outer around x ≡ false
+    by name_kind.Integer g l more o = more g l o
+    by name_kind.Array g l more o =
+        either_inner around x (names_in e) (arrays_passed ps es)
+        (λ q. g x (among_left x (names_in e) (arrays_given ps es) q))
+        (more (rest (names_in e) (arrays_given ps es) g) l) o
+    by name_kind.Const g l more o =
+        either_inner around x (names_in e) (arrays_passed ps es)
+        (λ q. l x (among_left x (names_in e) (arrays_lent ps es) q))
+        (more g (rest (names_in e) (arrays_lent ps es) l)) o
+
 -- what a call keeps of ownership
 pub record GivenKept (around : Around) (taken : Taken) (fs : List Function) (target : Option Name) (f : Name)
     (es : List Expr) : Type 0 where
   pub reads : list_all (λ e. may_read around taken e) es ≡ true
   pub targets : AllInner around (target_names target)
   pub arrays : AllInner around (given fs f es)
+  pub readers : AllInner around (lent fs f es)
 
 pub given_kept : (around : Around) (taken : Taken) (fs : List Function) (target : Option Name) (f : Name)
     (es : List Expr) →
     (list_all (λ e. may_read around taken e) es && may_write around taken (target_names target ++ given fs f es)
-    && differ (given fs f es)) ≡ true → GivenKept around taken fs target f es
+    && differ (given fs f es) && may_lend around (given fs f es) (lent fs f es)) ≡ true
+    → GivenKept around taken fs target f es
 given_kept around taken fs target f es h =
-    let p = both_true _ (differ (given fs f es)) h in
+    let m = both_true _ (may_lend around (given fs f es) (lent fs f es)) h in
+    let p = both_true _ (differ (given fs f es)) m.0 in
     let q =
     both_true (list_all (λ e. may_read around taken e) es)
     (may_write around taken (target_names target ++ given fs f es)) p.0 in
     let w =
-    both_true (are_free taken (target_names target ++ given fs f es))
+    both_true (are_loose taken (target_names target ++ given fs f es))
     (are_inner around (target_names target ++ given fs f es)) q.1 in
     let each = inner_names around (target_names target ++ given fs f es) w.1 in
     record {
       reads = q.0;
       targets = λ x o. each x (among_left x (target_names target) (given fs f es) o);
       arrays = λ x o. each x (among_right x (target_names target) (given fs f es) o);
+      readers = inner_names around (lent fs f es) (both_true (are_inner around (lent fs f es)) _ m.1).0;
     }
+
+-- none of the arrays that are passed is from outside the loop
+pub passed_kept : (around : Around) (taken : Taken) (fs : List Function) (target : Option Name) (f : Name)
+    (es : List Expr) → GivenKept around taken fs target f es →
+    AllInner around (arrays_passed (function_named f fs).params es)
+passed_kept around taken fs target f es g = passed_inner around (function_named f fs).params es g.arrays g.readers
 
 module _ (around : Around) (known : Known) (declared : List Name) where
   -- an expression of integers
@@ -134,7 +188,7 @@ module _ (around : Around) (known : Known) (declared : List Name) where
       is_among x (read_by e) ≡ true → Seen around known declared x
   fine_seen e source fine x o = let s = expr_seen known e source fine x o in record { plain = s.0; place = integer s.1 }
 
-  argument_seen : (array : Bool) (e : Expr) → is_source_expr e ≡ true → is_argument known array e ≡ true →
+  argument_seen : (array : Bool) (e : Expr) → is_source_expr e ≡ true → fits_kind known array e ≡ true →
       AllInner around (if array then names_in e else []) → (x : Name) → is_among x (read_by e) ≡ true →
       Seen around known declared x
   argument_seen false e source fine inner' x o = fine_seen e source fine x o
@@ -152,19 +206,19 @@ module _ (around : Around) (known : Known) (declared : List Name) where
   argument_seen true (Binary operator d e) source fine inner' x o = absurd cc
 
   arguments_seen : (ps : List Param) (es : List Expr) → list_all is_source_expr es ≡ true →
-      are_arguments known ps es ≡ true → AllInner around (arrays_given ps es) → (x : Name) →
+      fit_kinds known ps es ≡ true → AllInner around (arrays_passed ps es) → (x : Name) →
       is_among x (read_by_all es) ≡ true → Seen around known declared x
   arguments_seen [] [] source fine inner' x o = absurd cc
   arguments_seen [] (e ∷ es) source fine inner' x o = absurd cc
   arguments_seen (p ∷ ps) [] source fine inner' x o = absurd cc
   arguments_seen (p ∷ ps) (e ∷ es) source fine inner' x o =
       let s = both_true (is_source_expr e) (list_all is_source_expr es) source in
-      let f = both_true (is_argument known p.is_array e) (are_arguments known ps es) fine in
+      let f = both_true (fits_kind known (wants_array p) e) (fit_kinds known ps es) fine in
       go (side x (read_by e) (read_by_all es) o)
-      (argument_seen p.is_array e s.0 f.0
-      (λ v q. inner' v (among_left v (if p.is_array then names_in e else []) (arrays_given ps es) q)) x)
+      (argument_seen (wants_array p) e s.0 f.0
+      (λ v q. inner' v (among_left v (if wants_array p then names_in e else []) (arrays_passed ps es) q)) x)
       (arguments_seen ps es s.1 f.1
-      (λ v q. inner' v (among_right v (if p.is_array then names_in e else []) (arrays_given ps es) q)) x)
+      (λ v q. inner' v (among_right v (if wants_array p then names_in e else []) (arrays_passed ps es) q)) x)
     where
       go : Side x (read_by e) (read_by_all es) → (is_among x (read_by e) ≡ true → Seen around known declared x) →
           (is_among x (read_by_all es) ≡ true → Seen around known declared x) → Seen around known declared x
@@ -197,7 +251,7 @@ pub data Home (v : Name) (known : Known) (declared : List Name) (x : Name) : Typ
 
 pub home : (v : Name) (known : Known) (owners : List Name) → SameKnown known owners →
     (over declared : List Name) (x : Name) →
-    Place (InLoop (v ∷ owners) v over) ((v, false) ∷ known) declared x → Home v known declared x
+    Place (InLoop (v ∷ owners) v over) ((v, name_kind.Integer) ∷ known) declared x → Home v known declared x
 home v known owners same over declared x s = by s
   where
     of_array : (r : Bool) → same_name x v ≡ r → (if r then false else is_array known x) ≡ true →
@@ -211,7 +265,7 @@ home v known owners same over declared x s = by s
     of_int true e p = declared_there (ap (λ r. if r then true else is_among x declared) e)
     of_int false e p = known_before p
 
-    by : Place (InLoop (v ∷ owners) v over) ((v, false) ∷ known) declared x → Home v known declared x
+    by : Place (InLoop (v ∷ owners) v over) ((v, name_kind.Integer) ∷ known) declared x → Home v known declared x
     by (inner p) = declared_there (later_among x v declared p)
     by (integer p) = of_int (same_name x v) refl p
     by (array p out) = of_array (same_name x v) refl p out
@@ -229,8 +283,8 @@ seen_more around known declared declared' x h s = record { plain = s.plain; plac
     go (array o out) = array o out
 
 -- one name less is known, and declared instead
-seen_before : (around : Around) (known : Known) (y : Name) (kind : Bool) (declared declared' : List Name) (x : Name) →
-    (is_among x declared ≡ true → is_among x declared' ≡ true) → is_among y declared' ≡ true
+seen_before : (around : Around) (known : Known) (y : Name) (kind : NameKind) (declared declared' : List Name)
+    (x : Name) → (is_among x declared ≡ true → is_among x declared' ≡ true) → is_among y declared' ≡ true
     → Seen around ((y, kind) ∷ known) declared x → Seen around known declared' x
 seen_before around known y kind declared declared' x h here s = record { plain = s.plain; place = go s.place }
   where
@@ -249,8 +303,8 @@ seen_before around known y kind declared declared' x h here s = record { plain =
 
     go : Place around ((y, kind) ∷ known) declared x → Place around known declared' x
     go (inner o) = inner (h o)
-    go (integer o) = of_int (same_name x y) kind refl o
-    go (array o out) = of_array (same_name x y) kind refl o out
+    go (integer o) = of_int (same_name x y) (is_array_kind kind) refl o
+    go (array o out) = of_array (same_name x y) (is_array_kind kind) refl o out
 
 module _ (program : Program) (fs : List Function) (fs_is : program.functions ≡ fs) where
   abbrev StmtSeen : Stmt → Type 0
@@ -277,7 +331,9 @@ module _ (program : Program) (fs : List Function) (fs_is : program.functions ≡
       call_kept fs known target f es
       (ap (λ w. is_call known target (called f w) es) (sym fs_is) ∙ kept _ line types) in
       let g = given_kept around taken fs target f es (kept _ line owns) in
-      arguments_seen around known [] (function_named f fs).params es t.1 k.arguments g.arrays x o
+      arguments_seen around known [] (function_named f fs).params es t.1
+      (arguments_fit known (function_named f fs).params es k.arguments)
+      (passed_kept around taken fs target f es g) x o
 
   tested_seen : (e : Expr) (b : Block) (returns : Returns) (known : Known) (around : Around) → is_source_expr e ≡ true →
       is_fine known e ≡ true → (x : Name) →
@@ -357,10 +413,10 @@ module _ (program : Program) (fs : List Function) (fs_is : program.functions ≡
       declared : List Name
       declared = v ∷ declared_in_block b
 
-      inside_known : SameKnown ((v, false) ∷ known) (v ∷ owners)
+      inside_known : SameKnown ((v, name_kind.Integer) ∷ known) (v ∷ owners)
       inside_known w = known_more w v owners (is_int known w) (is_array known w) (same w)
 
-      types' : faults_in_block program Nowhere ((v, false) ∷ known) b ≡ []
+      types' : faults_in_block program Nowhere ((v, name_kind.Integer) ∷ known) b ≡ []
       types' = right_none (unless (is_head_of_loop program known v y z from to grain over) line) _ types
 
       owns' : owner_faults_in fs (InLoop (v ∷ owners) v over) (v ∷ owners) (depth + 1) Joins taken [] b ≡ []
@@ -375,8 +431,8 @@ module _ (program : Program) (fs : List Function) (fs_is : program.functions ≡
       body : is_among x (read_in_block b) ≡ true → Seen around known declared x
       body p =
           let s =
-          more Nowhere ((v, false) ∷ known) (v ∷ owners) (InLoop (v ∷ owners) v over) inside_known (depth + 1) Joins
-          taken [] (both_true (list_all is_plain over) (is_source_block b) s3.1).1 types' owns' x p in
+          more Nowhere ((v, name_kind.Integer) ∷ known) (v ∷ owners) (InLoop (v ∷ owners) v over) inside_known
+          (depth + 1) Joins taken [] (both_true (list_all is_plain over) (is_source_block b) s3.1).1 types' owns' x p in
           record { plain = s.plain; place = at_home (home v known owners same over (declared_in_block b) x s.place) }
 
       late : Side x (read_by to) (read_in_block b) → Seen around known declared x
@@ -406,20 +462,21 @@ module _ (program : Program) (fs : List Function) (fs_is : program.functions ≡
       declared : List Name
       declared = l ∷ r ∷ declared_in_block b
 
-      inside_known : SameKnown ((r, true) ∷ (l, true) ∷ known) (r ∷ l ∷ owners)
+      inside_known : SameKnown ((r, name_kind.Array) ∷ (l, name_kind.Array) ∷ known) (r ∷ l ∷ owners)
       inside_known w =
-          known_array_more w r (l ∷ owners) (is_int ((l, true) ∷ known) w) (is_array ((l, true) ∷ known) w)
+          known_array_more w r (l ∷ owners) (is_int ((l, name_kind.Array) ∷ known) w)
+          (is_array ((l, name_kind.Array) ∷ known) w)
           (known_array_more w l owners (is_int known w) (is_array known w) (same w))
 
       go : Side x (read_by e) (read_in_block b) → Seen around known declared x
       go (in_first p) = fine_seen around known declared e s2.0 k.fine x p
       go (in_second p) =
-          seen_before around known l true (r ∷ declared_in_block b) declared x
+          seen_before around known l name_kind.Array (r ∷ declared_in_block b) declared x
           (later_among x l (r ∷ declared_in_block b)) (front_among l (r ∷ declared_in_block b))
-          (seen_before around ((l, true) ∷ known) r true (declared_in_block b) (r ∷ declared_in_block b) x
-          (later_among x r (declared_in_block b)) (front_among r (declared_in_block b))
-          (more Nowhere ((r, true) ∷ (l, true) ∷ known) (r ∷ l ∷ owners) around inside_known (depth + 1) Joins
-          ((a, CutOf) ∷ taken) [] s3.1 (right_none _ _ types) (right_none _ _ owns) x p))
+          (seen_before around ((l, name_kind.Array) ∷ known) r name_kind.Array (declared_in_block b)
+          (r ∷ declared_in_block b) x (later_among x r (declared_in_block b)) (front_among r (declared_in_block b))
+          (more Nowhere ((r, name_kind.Array) ∷ (l, name_kind.Array) ∷ known) (r ∷ l ∷ owners) around inside_known
+          (depth + 1) Joins ((a, CutOf) ∷ taken) [] s3.1 (right_none _ _ types) (right_none _ _ owns) x p))
 
   -- a statement before others
   later_seen : (s : Stmt) (known : Known) (around : Around) (rest : List Name) (x : Name) →
@@ -428,10 +485,10 @@ module _ (program : Program) (fs : List Function) (fs_is : program.functions ≡
     where
       go : Adds s → Seen around known (declared_in s ++ rest) x
       go (an_int y e same) = subst (λ t. Seen around known (declared_in t ++ rest) x) (sym same)
-          (seen_before around known y false rest (y ∷ rest) x (later_among x y rest) (front_among y rest)
+          (seen_before around known y name_kind.Integer rest (y ∷ rest) x (later_among x y rest) (front_among y rest)
           (subst (λ t. Seen around (declares t known) rest x) same h))
       go (an_array y e same) = subst (λ t. Seen around known (declared_in t ++ rest) x) (sym same)
-          (seen_before around known y true rest (y ∷ rest) x (later_among x y rest) (front_among y rest)
+          (seen_before around known y name_kind.Array rest (y ∷ rest) x (later_among x y rest) (front_among y rest)
           (subst (λ t. Seen around (declares t known) rest x) same h))
       go (nothing same ints arrays owners_same) =
           seen_more around known rest (declared_in s ++ rest) x (among_right x (declared_in s) rest)
@@ -475,8 +532,8 @@ module _ (program : Program) (fs : List Function) (fs_is : program.functions ≡
         (both_true (is_int known y) (is_fine known e) (kept _ line types)).1 x o
     stmt_seen (AssignElement a i e) returns known owners around same depth line taken source types owns x o =
         let s = both_true (is_source_expr i) (is_source_expr e) (both_true (is_plain a) _ source).1 in
-        let f = both_true (is_array known a && is_fine known i) (is_fine known e) (kept _ line types) in
-        element_seen known around i e s.0 s.1 (both_true (is_array known a) (is_fine known i) f.0).1 f.1 x o
+        let f = both_true (is_writable known a && is_fine known i) (is_fine known e) (kept _ line types) in
+        element_seen known around i e s.0 s.1 (both_true (is_writable known a) (is_fine known i) f.0).1 f.1 x o
     stmt_seen (Reduce how r e) returns known owners around same depth line taken source types owns x o =
         fine_seen around known [] e (both_true (is_plain r) (is_source_expr e) source).1
         (both_true (is_reducer program how r) (is_fine known e) (kept _ line types)).1 x o

@@ -42,14 +42,14 @@ waits_at b s (a ∷ around) =
 abbrev pub waits_under : (b s : State) → Waits (under b s)
 waits_under b s = waits_at b s s.around
 
--- a run that goes on from a join goes on upon what it stands upon
-pub went_under : (b s : State) (frame : Standing)
+-- a run that goes on from a join goes on upon what it stands upon, with what its call reads
+pub went_under : (b s : State) (frame : Standing) → frame.readers ≡ s.readers
     → went_on (under b s) frame (waits_under b s) ≡ under b (resumed s frame quiet)
-went_under b s frame = at s.around
+went_under b s frame reads = at s.around ∙ ap (λ r. record (under b (resumed s frame quiet)) { readers = r }) (sym reads)
   where
     at : (around : List Around)
         → went_on (under b (record s { around = around })) frame (waits_at b s around)
-        ≡ under b (resumed (record s { around = around }) frame quiet)
+        ≡ record (under b (resumed (record s { around = around }) frame quiet)) { readers = s.readers }
     at [] =
         ap (λ t. record (went_on (under b (record s { around = [] })) frame (waits_at b s []))
         { trace = trace_under b [] t }) (sym (joined_quiet s.trace))

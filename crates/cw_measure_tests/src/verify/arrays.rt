@@ -81,6 +81,7 @@ fn call(kind: CallKind, function: u32, site: u32, passed: u32) -> Instr {
         line: 9,
         target: None,
         passed,
+        lent: 0,
     };
     Instr::Call(kind, callee)
 }

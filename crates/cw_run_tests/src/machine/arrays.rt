@@ -38,6 +38,7 @@ pub(crate) fn code_of(
         reducers: Vec::new(alloc),
         tags: Vec::new(alloc),
         passed: Vec::new(alloc),
+        lent: Vec::new(alloc),
     };
     for (name, how) in [(b"m", Reduction::Max), (b"s", Reduction::Sum)] {
         code.reducers.push(Reducer {
@@ -61,6 +62,7 @@ pub(crate) fn code_of(
             slots: part.slots,
             array_params: part.array_params,
             arrays: part.arrays,
+            readers: 0,
         })?;
         for kind in [CallKind::Plain, CallKind::Spawned] {
             code.sites.push(Site {
@@ -90,6 +92,7 @@ pub(crate) fn calls(kind: CallKind, function: u32, target: Option<u32>, passed: 
             line: 9,
             target,
             passed,
+            lent: 0,
         },
     )
 }

@@ -17,6 +17,7 @@ use Rattle.cw_model.specs.Outcome.{joined}
 use Rattle.cw_code.specs.declared.code.BlockKind.TheVariants.{Scope, Region}
 use Rattle.cw_code.specs.declared.code.Callee.{Callee}
 use Rattle.cw_code.specs.declared.code.Halves.{Halves}
+use Rattle.cw_code.specs.declared.code.Loan.{Loan}
 use Rattle.cw_code.specs.declared.code.Func.{Func}
 use Rattle.cw_code.specs.declared.code.Instr.{Instr}
 use Rattle.cw_code.specs.declared.code.Instr.TheVariants as instr
@@ -26,7 +27,7 @@ use Rattle.cw_code.specs.Run.{apply_unary, operated, set_array, adds, settled, p
 use Rattle.cw_code.specs.Run.{arguments_of, may_begin, begun, begins, call_of, on_arrays, enter, recur, parts_of}
 use Rattle.cw_code.specs.Run.{looped, on_range, start, back, opened, opened_region, cut_arrays, may_cut, cuts, Opened}
 use Rattle.cw_code.specs.Run.{Around, Caller, Block, resumes, closed, uncut_arrays, resumes_uncut, cut_ends}
-use Rattle.cw_code.specs.Run.{passed_by, act}
+use Rattle.cw_code.specs.Run.{moved_out, reader, lent_in, passed_by, lent_by, act}
 use Rattle.cw_strands.specs.Jobs.{joins}
 use Rattle.cw_strands.specs.Strands.{Turn, Goes, turn_call, turn_in, turn_of}
 
@@ -106,16 +107,20 @@ module _ (code : Code) (s : State) (P : (joins : Bool) → Turn → Transition �
     with_arrays turn None go k = moves.stuck false turn
     with_arrays turn (Some given) go k = k given
 
-    calls : (kind : CallKind) (c : Callee) (passed : List ℕ) (o : Option Func) →
-        P false (turn_call kind c.target (map (λ a. Whole a) passed)) (enter s kind c passed o)
-    calls kind c passed None = moves.stuck false (turn_call kind c.target (map (λ a. Whole a) passed))
-    calls kind c passed (Some f) =
+    calls : (kind : CallKind) (c : Callee) (passed : List ℕ) (loans : List Loan) (o : Option Func) →
+        P false (turn_call kind c.target (map (λ a. Whole a) passed)) (enter s kind c passed loans o)
+    calls kind c passed loans None = moves.stuck false (turn_call kind c.target (map (λ a. Whole a) passed))
+    calls kind c passed loans (Some f) =
         either false (turn_call kind c.target (map (λ a. Whole a) passed)) (nat_lt MOST_DEPTH (s.depth + 1))
         (Stops trap.TooDeep c.line s.trace.lines)
-        (on_arrays (arrays_in passed s.arrays) (λ given. begins s (call_of s kind c passed f given)))
+        (on_arrays (arrays_in passed s.arrays)
+        (λ given. on_arrays (lent_in loans (moved_out passed s.arrays) s.readers)
+        (λ lent. begins s (call_of s kind c passed f given lent))))
         (moves.stops false (turn_call kind c.target (map (λ a. Whole a) passed)) trap.TooDeep c.line s.trace.lines)
         (with_arrays (turn_call kind c.target (map (λ a. Whole a) passed)) (arrays_in passed s.arrays) _
-        (λ given. begin (call_of s kind c passed f given)))
+        (λ given. with_arrays (turn_call kind c.target (map (λ a. Whole a) passed))
+        (lent_in loans (moved_out passed s.arrays) s.readers) _
+        (λ lent. begin (call_of s kind c passed f given lent))))
 
     recurs : (kind : CallKind) (passed : List ℕ) (o : Option Func) →
         P false (turn_call kind None (map (λ a. Whole a) passed)) (recur s kind passed o)
@@ -130,6 +135,7 @@ module _ (code : Code) (s : State) (P : (joins : Bool) → Turn → Transition �
           arguments = arguments_of f s.operands;
           given = given;
           taken = map (λ a. Whole a) passed;
+          lent = [];
         }))
 
     ranges : (arguments : List ℤ) (go : ℤ → ℤ → List ℤ → Transition) →
@@ -151,6 +157,7 @@ module _ (code : Code) (s : State) (P : (joins : Bool) → Turn → Transition �
       arguments = low ∷ (low +ℤ n) ∷ captured;
       given = map (λ xs. take (natural n) (drop (natural low) xs)) given;
       taken = parts_of (natural low) passed given;
+      lent = [];
     })
 
     starts : (line : ℕ) (passed : List ℕ) (o : Option Func) → P false Goes (start s line passed o)
@@ -213,7 +220,8 @@ module _ (code : Code) (s : State) (P : (joins : Bool) → Turn → Transition �
         top false Goes _
         (λ v rest. moves.local (if is_zero v then s.place + 1 + n else s.place + 1) rest s.slots s.arrays [] [])
     acts_by (Some (instr.GoBack n)) = moves.local (s.place - n) s.operands s.slots s.arrays [] []
-    acts_by (Some (instr.Call kind c)) = calls kind c (passed_by code c.passed) (slice_get code.funcs c.function)
+    acts_by (Some (instr.Call kind c)) =
+        calls kind c (passed_by code c.passed) (lent_by code c.lent) (slice_get code.funcs c.function)
     acts_by (Some (instr.Recur kind c)) = recurs kind (passed_by code c.passed) (slice_get code.funcs c.function)
     acts_by (Some (instr.Start c line)) = starts line (passed_by code c.passed) (slice_get code.funcs c.function)
     acts_by (Some (instr.NewArray a line)) =
@@ -226,6 +234,11 @@ module _ (code : Code) (s : State) (P : (joins : Bool) → Turn → Transition �
         (λ xs. top false Goes _ (λ v rest. operates line rest (in_bounds (element xs v))))
     acts_by (Some (instr.SetElement a line)) =
         on_it (slice_get s.arrays a) _ (λ xs. two _ (λ i v rest. sets a line rest _ (written xs i v)))
+    acts_by (Some (instr.ReadLength r)) =
+        on_it (reader s.readers r) _
+        (λ xs. moves.local (s.place + 1) (pos (length xs) ∷ s.operands) s.slots s.arrays [] [])
+    acts_by (Some (instr.ReadElement r line)) =
+        on_it (reader s.readers r) _ (λ xs. top false Goes _ (λ v rest. operates line rest (in_bounds (element xs v))))
     acts_by (Some (instr.Cut h line)) =
         on_it (slice_get s.arrays h.array) _ (λ xs. top false Goes _ (λ v rest. cut_at h line xs rest (cut_place xs v)))
     acts_by (Some instr.EndCut) = uncuts s.around refl

@@ -118,6 +118,7 @@ module _ (code : Code) (fits : Fits code) (steps_well : FitSteps code fits) (set
         place = w.place;
         slots = w.slots;
         arrays = w.arrays;
+        readers = w.readers;
         depth = w.depth;
         limit = limit;
         before = before;
@@ -184,6 +185,7 @@ module _ (code : Code) (fits : Fits code) (steps_well : FitSteps code fits) (set
           operands = frame.operands;
           slots = slots;
           arrays = arrays;
+          readers = frame.readers;
           results = results ++ b.results;
           arrived = returned ++ b.arrived;
         })
@@ -204,8 +206,13 @@ module _ (code : Code) (fits : Fits code) (steps_well : FitSteps code fits) (set
             arrays = s.arrays;
             results = s.results;
             returned = s.arrived;
-            good = record
-                { as_many = g.call.as_many; ints = g.call.ints; arrays = g.call.arrays; cuts = g.call.cuts };
+            good = record {
+              as_many = g.call.as_many;
+              ints = g.call.ints;
+              arrays = g.call.arrays;
+              readers = g.call.readers;
+              cuts = g.call.cuts;
+            };
             same = refl;
             same_arrays = refl;
             others = g.others;
@@ -238,8 +245,13 @@ module _ (code : Code) (fits : Fits code) (steps_well : FitSteps code fits) (set
             arrays = s.arrays;
             results = s.results;
             returned = s.arrived;
-            good = record
-                { as_many = g.call.as_many; ints = g.call.ints; arrays = g.call.arrays; cuts = g.call.cuts };
+            good = record {
+              as_many = g.call.as_many;
+              ints = g.call.ints;
+              arrays = g.call.arrays;
+              readers = g.call.readers;
+              cuts = g.call.cuts;
+            };
             same = refl;
             same_arrays = refl;
             others = g.others;
@@ -279,6 +291,7 @@ module _ (code : Code) (fits : Fits code) (steps_well : FitSteps code fits) (set
         operands = frame.operands;
         slots = slots;
         arrays = arrays;
+        readers = frame.readers;
         results = first ++ (second ++ others);
         arrived = first' ++ (second' ++ others');
       })
@@ -287,11 +300,18 @@ module _ (code : Code) (fits : Fits code) (steps_well : FitSteps code fits) (set
         operands = frame.operands;
         slots = settled second frame.slots;
         arrays = settled second' frame.arrays;
+        readers = frame.readers;
         results = others;
         arrived = others';
       })
   gone_back f shape b frame slots arrays first second others first' second' others' same same' g =
-      let s : State = record b { place = frame.place; operands = frame.operands; slots = slots; arrays = arrays } in
+      let s : State = record b {
+        place = frame.place;
+        operands = frame.operands;
+        slots = slots;
+        arrays = arrays;
+        readers = frame.readers;
+      } in
       let one = settles f shape s (first ++ second) others (first' ++ second') others'
       (subst (λ r. Good f shape (record s { results = r; arrived = (first' ++ second') ++ others' }))
       (sym (append_assoc first second others))
@@ -317,6 +337,7 @@ module _ (code : Code) (fits : Fits code) (steps_well : FitSteps code fits) (set
         operands = frame.operands;
         slots = a.slots;
         arrays = a.arrays;
+        readers = frame.readers;
         results = a.results ++ r;
         arrived = a.returned ++ (s.arrived ++ []);
       }))
@@ -326,13 +347,14 @@ module _ (code : Code) (fits : Fits code) (steps_well : FitSteps code fits) (set
         operands = frame.operands;
         slots = a.slots;
         arrays = a.arrays;
+        readers = frame.readers;
         results = a.results ++ s.results;
         arrived = a.returned ++ r;
       }))
       (sym (append-nil s.arrived)) a.good)) in
       record {
         seat = a.seat;
-        call = record { as_many = g.as_many; ints = g.ints; arrays = g.arrays; cuts = g.cuts };
+        call = record { as_many = g.as_many; ints = g.ints; arrays = g.arrays; readers = g.readers; cuts = g.cuts };
         others = a.others;
       }
   gives_fit x (Upon b) s frame t good a = cases s.around a.good a.others
@@ -343,6 +365,7 @@ module _ (code : Code) (fits : Fits code) (steps_well : FitSteps code fits) (set
             operands = frame.operands;
             slots = a.slots;
             arrays = a.arrays;
+            readers = frame.readers;
             results = a.results ++ results_under b around s.results;
             arrived = a.returned ++ arrived_under b around s.arrived;
           })
@@ -354,7 +377,7 @@ module _ (code : Code) (fits : Fits code) (steps_well : FitSteps code fits) (set
           s.results b.results a.returned s.arrived b.arrived a.same a.same_arrays g in
           record {
             seat = a.seat;
-            call = record { as_many = k.as_many; ints = k.ints; arrays = k.arrays; cuts = k.cuts };
+            call = record { as_many = k.as_many; ints = k.ints; arrays = k.arrays; readers = k.readers; cuts = k.cuts };
             others = others;
           }
       cases (y ∷ around) g others =
@@ -366,6 +389,7 @@ module _ (code : Code) (fits : Fits code) (steps_well : FitSteps code fits) (set
             operands = frame.operands;
             slots = a.slots;
             arrays = a.arrays;
+            readers = frame.readers;
             results = a.results ++ r;
             arrived = a.returned ++ (s.arrived ++ []);
           })) (sym (append-nil s.results))
@@ -374,11 +398,12 @@ module _ (code : Code) (fits : Fits code) (steps_well : FitSteps code fits) (set
             operands = frame.operands;
             slots = a.slots;
             arrays = a.arrays;
+            readers = frame.readers;
             results = a.results ++ s.results;
             arrived = a.returned ++ r;
           })) (sym (append-nil s.arrived)) g)) in
           record {
             seat = a.seat;
-            call = record { as_many = k.as_many; ints = k.ints; arrays = k.arrays; cuts = k.cuts };
+            call = record { as_many = k.as_many; ints = k.ints; arrays = k.arrays; readers = k.readers; cuts = k.cuts };
             others = others;
           }

@@ -18,6 +18,7 @@ use Rattle.cw_code.specs.declared.code.Callee.{Callee}
 use Rattle.cw_code.specs.declared.code.Halves.{Halves}
 use Rattle.cw_code.specs.declared.code.Func.{Func}
 use Rattle.cw_code.specs.declared.code.Instr.{Instr}
+use Rattle.cw_code.specs.declared.code.Loan.{Loan}
 use Rattle.cw_code.specs.declared.code.Instr.TheVariants as instr
 use Rattle.cw_code.specs.Code.{Code, reducer_names}
 use Rattle.cw_code.specs.Fits.{Shape, nexts, Table, FlowsIntoEach, LieFrom, Fits, leaves}
@@ -27,7 +28,8 @@ use Rattle.cw_code.specs.Run.{is_full, apply_unary, operated, set_array, adds, s
 use Rattle.cw_code.specs.Run.{Entering, arguments_of, may_begin, begun, begins, call_of, on_arrays, enter, recur}
 use Rattle.cw_code.specs.Run.{parts_of, looped, on_range, start, given_back, result_of, returns_to, going_on}
 use Rattle.cw_code.specs.Run.{rejoined, event_of, back, opened, opened_region, cut_arrays, may_cut, cuts, Around}
-use Rattle.cw_code.specs.Run.{Caller, Block, resumes, closed, resumes_uncut, cut_ends, passed_by, act, step}
+use Rattle.cw_code.specs.Run.{Caller, Block, resumes, closed, resumes_uncut, cut_ends, moved_out, reader, lent_in}
+use Rattle.cw_code.specs.Run.{passed_by, lent_by, act, step}
 use Rattle.cw_strands.specs.Jobs.{ToJoin, joins, is_first, has_come, Standing, standing, Came, Arrives, Returns}
 use Rattle.cw_strands.specs.Jobs.{Falls, Beyond, Lost, moved, travel}
 use Rattle.cw_strands.specs.Over.{under, transition_under}
@@ -143,13 +145,18 @@ module _ (f : Func) where
       with_arrays None go k = tt
       with_arrays (Some given) go k = k given
 
-      calls : (kind : CallKind) (c : Callee) (passed : List ℕ) (o : Option Func) → StaysIn f (enter s kind c passed o)
-      calls kind c passed None = tt
-      calls kind c passed (Some g) =
+      calls : (kind : CallKind) (c : Callee) (passed : List ℕ) (loans : List Loan) (o : Option Func)
+          → StaysIn f (enter s kind c passed loans o)
+      calls kind c passed loans None = tt
+      calls kind c passed loans (Some g) =
           either (nat_lt MOST_DEPTH (s.depth + 1)) (Stops trap.TooDeep c.line s.trace.lines)
-          (on_arrays (arrays_in passed s.arrays) (λ given. begins s (call_of s kind c passed g given)))
+          (on_arrays (arrays_in passed s.arrays)
+          (λ given. on_arrays (lent_in loans (moved_out passed s.arrays) s.readers)
+          (λ lent. begins s (call_of s kind c passed g given lent))))
           tt
-          (with_arrays (arrays_in passed s.arrays) _ (λ given. begin (call_of s kind c passed g given)))
+          (with_arrays (arrays_in passed s.arrays) _
+          (λ given. with_arrays (lent_in loans (moved_out passed s.arrays) s.readers) _
+          (λ lent. begin (call_of s kind c passed g given lent))))
 
       recurs : (kind : CallKind) (passed : List ℕ) (o : Option Func) → StaysIn f (recur s kind passed o)
       recurs kind passed None = tt
@@ -162,6 +169,7 @@ module _ (f : Func) where
         arguments = arguments_of g s.operands;
         given = given;
         taken = map (λ a. Whole a) passed;
+        lent = [];
       }))
 
       ranges : (arguments : List ℤ) (go : ℤ → ℤ → List ℤ → Transition)
@@ -182,6 +190,7 @@ module _ (f : Func) where
         arguments = low ∷ (low +ℤ n) ∷ captured;
         given = map (λ xs. take (natural n) (drop (natural low) xs)) given;
         taken = parts_of (natural low) passed given;
+        lent = [];
       })
 
       starts : (line : ℕ) (passed : List ℕ) (o : Option Func) → StaysIn f (start s line passed o)
@@ -236,7 +245,7 @@ module _ (f : Func) where
         top _ (λ v rest. if_next (is_zero v) (s.place + 1 + k) (s.place + 1) n.1.0 n.0)
     act_stays (Some (instr.GoBack k)) n = n.0
     act_stays (Some (instr.Call kind c)) n =
-        calls n.0 kind c (passed_by code c.passed) (slice_get code.funcs c.function)
+        calls n.0 kind c (passed_by code c.passed) (lent_by code c.lent) (slice_get code.funcs c.function)
     act_stays (Some (instr.Recur kind c)) n =
         recurs n.0 kind (passed_by code c.passed) (slice_get code.funcs c.function)
     act_stays (Some (instr.Start c line)) n =
@@ -248,6 +257,9 @@ module _ (f : Func) where
         on_it (slice_get s.arrays a) _ (λ xs. top _ (λ v rest. operates n.0 line rest (in_bounds (element xs v))))
     act_stays (Some (instr.SetElement a line)) n =
         on_it (slice_get s.arrays a) _ (λ xs. two _ (λ i v rest. sets n.0 a line rest _ (written xs i v)))
+    act_stays (Some (instr.ReadLength r)) n = on_it (reader s.readers r) _ (λ xs. n.0)
+    act_stays (Some (instr.ReadElement r line)) n =
+        on_it (reader s.readers r) _ (λ xs. top _ (λ v rest. operates n.0 line rest (in_bounds (element xs v))))
     act_stays (Some (instr.Cut h line)) n =
         on_it (slice_get s.arrays h.array) _ (λ xs. top _ (λ v rest. cut_at n.0 h line xs rest (cut_place xs v)))
     act_stays (Some instr.EndCut) n = uncuts n.0 s.around refl

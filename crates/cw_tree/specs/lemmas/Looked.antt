@@ -1,23 +1,23 @@
 -- A tree whose slots, indices and counts are right is its program with each name looked up.
-use Rattle.std.proofs.Common.{◌≡◌, ℕ, ◌==◌, List, [], ◌∷◌, ◌++◌, length, Bool, true, false, not, ◌&&◌, if◌then◌else◌}
+use Rattle.std.proofs.Common.{◌≡◌, ℕ, ◌==◌, List, [], ◌∷◌, ◌++◌, length, drop, Bool, true, false, not, ◌&&◌, if◌then◌else◌}
 use Rattle.std.proofs.Common.{Option, Some, None, refl, sym, ap, ◌∙◌, bytes_eq}
 use Rattle.std.specs.Prelude.{map, option_map}
 use Rattle.std.specs.List.{list_all}
 use Rattle.std.proofs.lemmas.Bool.{eqb-true}
 use Rattle.std.proofs.lemmas.Slice.Eq.{bytes_eq-Decides}
-use Rattle.cw_model.specs.Syntax.{Name, Reducer}
+use Rattle.cw_model.specs.Syntax.{Name, Param, Reducer}
 use Rattle.cw_model.specs.Names.{is_among}
 use Rattle.cw_model.specs.Answers.{main_name}
 use Rattle.cw_model.specs.lemmas.Kept.{both_left, both_right}
 use Rattle.cw_tree.specs.Resolved.{Use, Listed, Expr, Number, Variable, Element, Length, Negative, Not, Binary}
-use Rattle.cw_tree.specs.Resolved.{Argument, Int, Array, Head, Parts, Stmt, Declare, DeclareArray, Assign}
+use Rattle.cw_tree.specs.Resolved.{Argument, Int, Array, Shared, Head, Parts, Stmt, Declare, DeclareArray, Assign}
 use Rattle.cw_tree.specs.Resolved.{AssignElement, Reduce, Call, Sync, If, IfElse, While, For, Scope, Cut, Region}
 use Rattle.cw_tree.specs.Resolved.{Print, Return, Block, End, Then, Function, Resolved, Lists, Locals, slot_of}
 use Rattle.cw_tree.specs.Resolved.{use_of, next_use, listed_in, with_int, with_array, locals_after, captured_in}
 use Rattle.cw_tree.specs.Resolved.{ints_in_block, arrays_in_block, locals_of, lists_of, tags_of, resolved_expr}
-use Rattle.cw_tree.specs.Resolved.{resolved_argument, resolved_stmt, resolved_block, resolved_function, resolved}
+use Rattle.cw_tree.specs.Resolved.{is_reader, passed_to, params_of, resolved_argument, resolved_arguments, resolved_stmt, resolved_block, resolved_function, resolved}
 use Rattle.cw_tree.specs.Resolved.{plain_expr, plain_argument, plain_stmt, plain_block, plain_function, plain}
-use Rattle.cw_tree.specs.Slots.{is_use, is_next, is_listed, same_uses, same_names, is_right_expr, is_right_argument}
+use Rattle.cw_tree.specs.Slots.{is_use, is_next, is_listed, same_uses, same_names, is_right_expr, is_right_argument, are_right_arguments}
 use Rattle.cw_tree.specs.Slots.{is_right_target, is_right_return, is_right_head, is_right_cut, is_right_stmt}
 use Rattle.cw_tree.specs.Slots.{is_right_block, is_right_function, is_resolved}
 
@@ -53,29 +53,43 @@ not_true : (b : Bool) → not b ≡ true → b ≡ false
 not_true true h = cc
 not_true false h = refl
 
-argument_is : (l : Locals) (a : Argument) → is_right_argument l a ≡ true → a ≡ resolved_argument l (plain_argument a)
-argument_is l (Int (Variable u)) h =
+argument_is : (l : Locals) (ps : List Param) (a : Argument) → is_right_argument l ps a ≡ true
+    → a ≡ resolved_argument l ps (plain_argument a)
+argument_is l ps (Int (Variable u)) h =
     let none = not_true (is_among u.name l.arrays) (both_left (not (is_among u.name l.arrays)) (is_use l.ints u) h) in
     ap (λ w. Int (Variable w)) (use_is l.ints u (both_right (not (is_among u.name l.arrays)) (is_use l.ints u) h))
-    ∙ sym (ap (λ b. if b then Array (use_of l.arrays u.name) else Int (Variable (use_of l.ints u.name))) none)
-argument_is l (Int (Number n)) h = refl
-argument_is l (Int (Element u e)) h = ap Int (expr_is l (Element u e) h)
-argument_is l (Int (Length u)) h = ap Int (expr_is l (Length u) h)
-argument_is l (Int (Negative e)) h = ap Int (expr_is l (Negative e) h)
-argument_is l (Int (Not e)) h = ap Int (expr_is l (Not e) h)
-argument_is l (Int (Binary o d e)) h = ap Int (expr_is l (Binary o d e) h)
-argument_is l (Array u) h =
-    ap Array (use_is l.arrays u (both_right (is_among u.name l.arrays) (is_use l.arrays u) h))
-    ∙ sym (ap (λ b. if b then Array (use_of l.arrays u.name) else Int (Variable (use_of l.ints u.name)))
-    (both_left (is_among u.name l.arrays) (is_use l.arrays u) h))
+    ∙ sym (ap (λ b. if b then passed_to ps (use_of l.arrays u.name) else Int (Variable (use_of l.ints u.name))) none)
+argument_is l ps (Int (Number n)) h = refl
+argument_is l ps (Int (Element u e)) h = ap Int (expr_is l (Element u e) h)
+argument_is l ps (Int (Length u)) h = ap Int (expr_is l (Length u) h)
+argument_is l ps (Int (Negative e)) h = ap Int (expr_is l (Negative e) h)
+argument_is l ps (Int (Not e)) h = ap Int (expr_is l (Not e) h)
+argument_is l ps (Int (Binary o d e)) h = ap Int (expr_is l (Binary o d e) h)
+argument_is l ps (Array u) h =
+    let two = both_left (is_among u.name l.arrays && is_use l.arrays u) (not (is_reader ps)) h in
+    let takes =
+    not_true (is_reader ps) (both_right (is_among u.name l.arrays && is_use l.arrays u) (not (is_reader ps)) h) in
+    ap Array (use_is l.arrays u (both_right (is_among u.name l.arrays) (is_use l.arrays u) two))
+    ∙ sym (ap (λ b. if b then Shared (use_of l.arrays u.name) else Array (use_of l.arrays u.name)) takes)
+    ∙ sym (ap (λ b. if b then passed_to ps (use_of l.arrays u.name) else Int (Variable (use_of l.ints u.name)))
+    (both_left (is_among u.name l.arrays) (is_use l.arrays u) two))
+argument_is l ps (Shared u) h =
+    let two = both_left (is_among u.name l.arrays && is_use l.arrays u) (is_reader ps) h in
+    let reads = both_right (is_among u.name l.arrays && is_use l.arrays u) (is_reader ps) h in
+    ap Shared (use_is l.arrays u (both_right (is_among u.name l.arrays) (is_use l.arrays u) two))
+    ∙ sym (ap (λ b. if b then Shared (use_of l.arrays u.name) else Array (use_of l.arrays u.name)) reads)
+    ∙ sym (ap (λ b. if b then passed_to ps (use_of l.arrays u.name) else Int (Variable (use_of l.ints u.name)))
+    (both_left (is_among u.name l.arrays) (is_use l.arrays u) two))
 
-arguments_are : (l : Locals) (rest : List Argument) → list_all (is_right_argument l) rest ≡ true
-    → rest ≡ map (resolved_argument l) (map plain_argument rest)
-arguments_are l [] h = refl
-arguments_are l (a ∷ rest) h =
-    ap (λ q. q ∷ rest) (argument_is l a (both_left (is_right_argument l a) (list_all (is_right_argument l) rest) h))
-    ∙ ap (λ q. resolved_argument l (plain_argument a) ∷ q)
-    (arguments_are l rest (both_right (is_right_argument l a) (list_all (is_right_argument l) rest) h))
+arguments_are : (l : Locals) (ps : List Param) (rest : List Argument) → are_right_arguments l ps rest ≡ true
+    → rest ≡ resolved_arguments l ps (map plain_argument rest)
+arguments_are l ps [] h = refl
+arguments_are l ps (a ∷ rest) h =
+    ap (λ q. q ∷ rest)
+    (argument_is l ps a (both_left (is_right_argument l ps a) (are_right_arguments l (drop 1 ps) rest) h))
+    ∙ ap (λ q. resolved_argument l ps (plain_argument a) ∷ q)
+    (arguments_are l (drop 1 ps) rest
+    (both_right (is_right_argument l ps a) (are_right_arguments l (drop 1 ps) rest) h))
 
 target_is : (l : Locals) (t : Option Use) → is_right_target l t ≡ true
     → t ≡ option_map (use_of l.ints) (option_map (λ u. u.name) t)
@@ -204,15 +218,16 @@ module _ (lists : Lists) where
         (expr_is l e (both_right (is_listed lists.reducers s) (is_right_expr l e) h))
     stmt_is l (Call kind site target f es) h =
         let two =
-        both_left (is_right_target l target && is_listed lists.functions f) (list_all (is_right_argument l) es) h in
+        both_left (is_right_target l target && is_listed lists.functions f)
+        (are_right_arguments l (params_of lists f.name) es) h in
         ap (λ q. Call kind site q f es)
         (target_is l target (both_left (is_right_target l target) (is_listed lists.functions f) two))
         ∙ ap (λ q. Call kind site (option_map (use_of l.ints) (option_map (λ u. u.name) target)) q es)
         (listed_is lists.functions f (both_right (is_right_target l target) (is_listed lists.functions f) two))
         ∙ ap (Call kind site (option_map (use_of l.ints) (option_map (λ u. u.name) target))
         (listed_in lists.functions f.name))
-        (arguments_are l es (both_right (is_right_target l target && is_listed lists.functions f)
-        (list_all (is_right_argument l) es) h))
+        (arguments_are l (params_of lists f.name) es (both_right (is_right_target l target && is_listed lists.functions f)
+        (are_right_arguments l (params_of lists f.name) es) h))
     stmt_is l Sync h = refl
     stmt_is l (If e b) h =
         ap (λ q. If q b) (expr_is l e (both_left (is_right_expr l e) (is_right_block lists l b) h)) ∙ ap

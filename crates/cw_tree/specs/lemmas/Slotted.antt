@@ -5,6 +5,7 @@ use Rattle.cw_model.specs.Syntax as model
 use Rattle.cw_model.specs.Syntax.{Name, Param}
 use Rattle.cw_tree.specs.Declares.{declares_in, declares_in_block}
 use Rattle.cw_tree.specs.Resolved as spec
+use Rattle.cw_model.specs.Syntax.{wants_array}
 
 pub one_more : (names : List Name) (x : Name) → length (names ++ x ∷ []) ≡ length names + 1
 one_more names x = rw length-append refl
@@ -132,12 +133,12 @@ mutual
 -- each parameter is an integer or an array
 pub params_count : (ps : List Param) → length (spec.locals_of ps).ints + length (spec.locals_of ps).arrays ≡ length ps
 params_count [] = refl
-params_count (p ∷ ps) = first p.is_array (params_count ps)
+params_count (p ∷ ps) = first (wants_array p) (params_count ps)
   where
     first : (b : Bool) → length (spec.locals_of ps).ints + length (spec.locals_of ps).arrays ≡ length ps →
         length
-        (map (λ p. p.name) (if not b then p ∷ filter (λ p. not p.is_array) ps else filter (λ p. not p.is_array) ps))
-        + length (map (λ p. p.name) (if b then p ∷ filter (λ p. p.is_array) ps else filter (λ p. p.is_array) ps))
+        (map (λ p. p.name) (if not b then p ∷ filter (λ p. not (wants_array p)) ps else filter (λ p. not (wants_array p)) ps))
+        + length (map (λ p. p.name) (if b then p ∷ filter (λ p. wants_array p) ps else filter (λ p. wants_array p) ps))
         ≡ suc (length ps)
     first true h = omega (arith, h)
     first false h = omega (arith, h)

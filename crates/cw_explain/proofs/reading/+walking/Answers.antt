@@ -1,5 +1,6 @@
-use Rattle.std.proofs.Common.{◌≡◌, ◌≤◌, ◌∷◌, ◌++◌, ◌+◌, ◌||◌, List, Some, IfSome, arith, drop, is_some, length, true, false, refl, subst, sym, ap, ◌∙◌}
+use Rattle.std.proofs.Common.{◌≡◌, ◌≤◌, ◌∷◌, ◌++◌, ◌+◌, ◌||◌, List, Some, IfSome, arith, drop, is_some, length, false, refl, subst, sym, ap, ◌∙◌}
 use Rattle.std.proofs.lemmas.Grind.{common_steps}
+use Rattle.cw_model.specs.declared.syntax.NameKind.TheVariants as name_kind
 use Rattle.cw_model.specs.Ownership.{CutOf, Joins, Leaves, Taken, taken_after, taken_after_all}
 use Rattle.cw_model.specs.Syntax as model
 use Rattle.cw_tree.specs.declared.syntax.Ast.{Ast}
@@ -200,7 +201,7 @@ in_parts-returns-clause-decides t c =
     (spot_of more inner.around inner.depth) Joins ((cut.array, CutOf) ∷ taken_of c.args.seen.now) (taken_of c.cut.new.self) b (is_some c.in_ok-found.found)
     c.in_ok-inner.ensures.line (ap (λ (a : Ast). (program_of a).functions) c.in_ok-inner.ensures.ast)
     (parted_spot c.args.line place.depth inner.depth cut.left cut.right locals more place.around inner.around
-    (c.in_ok-add-2.ensures ∙ ap (with_local cut.right true c.args.line) c.in_ok-add.ensures) c.in_ok-inner.ensures.depth c.in_ok-inner.ensures.around c.requires.around)
+    (c.in_ok-add-2.ensures ∙ ap (with_local cut.right name_kind.Array c.args.line) c.in_ok-add.ensures) c.in_ok-inner.ensures.depth c.in_ok-inner.ensures.around c.requires.around)
     c.in_ok-cut.ensures c.in_ok-found.ensures.decides
 
 pub in_parts-returns-clause-holds : goal.in_parts-returns-clause-holds
@@ -217,7 +218,7 @@ in_parts-returns-clause-holds t c =
     (spot_of more inner.around inner.depth) Joins ((cut.array, CutOf) ∷ taken_of c.args.seen.now) (taken_of c.cut.new.self) b c.in_ok-found.found
     c.in_ok-inner.ensures.line (ap (λ (a : Ast). (program_of a).functions) c.in_ok-inner.ensures.ast)
     (parted_spot c.args.line place.depth inner.depth cut.left cut.right locals more place.around inner.around
-    (c.in_ok-add-2.ensures ∙ ap (with_local cut.right true c.args.line) c.in_ok-add.ensures) c.in_ok-inner.ensures.depth c.in_ok-inner.ensures.around c.requires.around)
+    (c.in_ok-add-2.ensures ∙ ap (with_local cut.right name_kind.Array c.args.line) c.in_ok-add.ensures) c.in_ok-inner.ensures.depth c.in_ok-inner.ensures.around c.requires.around)
     c.in_ok-cut.ensures c.in_ok-found.ensures.holds
 
 pub inside-returns-then-is_some-clause-decides : goal.inside-returns-then-is_some-clause-decides

@@ -1,4 +1,4 @@
-use Rattle.std.proofs.Common.{◌≡◌, ◌∷◌, ◌+◌, List, Contains, arith, drop, is_some, map, true, sym, subst, ◌∙◌}
+use Rattle.std.proofs.Common.{◌≡◌, ◌∷◌, ◌+◌, List, Contains, arith, drop, is_some, map, sym, subst, ◌∙◌}
 use Rattle.std.proofs.lemmas.Grind.{common_steps}
 use Rattle.cw_tree.specs.declared.syntax.Function.{Function}
 use Rattle.cw_tree.specs.SyntaxView.{function_of, program_of}

@@ -1,5 +1,6 @@
-use Rattle.std.proofs.Common.{◌≡◌, ◌∷◌, ◌++◌, [], arith, false, true}
+use Rattle.std.proofs.Common.{◌≡◌, ◌∷◌, ◌++◌, [], arith}
 use Rattle.std.proofs.lemmas.Grind.{common_steps}
+use Rattle.cw_model.specs.declared.syntax.NameKind.TheVariants as name_kind
 use Rattle.cw_explain.specs.Uses.{uses_in}
 use Rattle.cw_tree.specs.SyntaxView.{expr_of, program_of}
 use Rattle.cw_explain.specs.Names.{locals_of}
@@ -9,8 +10,8 @@ use Rattle.cw_explain.proofs.statements.+of_expr.Goals as goal
 pub returns-in_ok-reason-in-Element-clause-holds : goal.returns-in_ok-reason-in-Element-clause-holds
 returns-in_ok-reason-in-Element-clause-holds t c =
     let inner = uses_in (expr_of c.deref-in-Element.result.now) in
-    let seen : uses_in (expr_of c.args.e.now) ≡ (c.in-Element.a, true) ∷ inner = grind (arith, common_steps) in
-    in_rest (program_of c.args.ast.now) (locals_of c.args.known.now) (c.in-Element.a, true) inner (uses_in (expr_of c.args.e.now)) c.in_ok-reason-in-Element.reason
+    let seen : uses_in (expr_of c.args.e.now) ≡ (c.in-Element.a, name_kind.Const) ∷ inner = grind (arith, common_steps) in
+    in_rest (program_of c.args.ast.now) (locals_of c.args.known.now) (c.in-Element.a, name_kind.Const) inner (uses_in (expr_of c.args.e.now)) c.in_ok-reason-in-Element.reason
     seen c.in_ok-reason-in-Element.ensures.holds
 
 pub returns-in_ok-reason-in-Binary-clause-holds : goal.returns-in_ok-reason-in-Binary-clause-holds
@@ -24,18 +25,18 @@ returns-in_ok-reason-in-Binary-clause-holds t c =
 pub returns-in-Some-clause-holds : goal.returns-in-Some-clause-holds
 returns-in-Some-clause-holds t c =
     let inner = uses_in (expr_of c.in-Element.e.value) in
-    let seen : uses_in (expr_of c.args.e.now) ≡ (c.in-Element.a, true) ∷ inner = grind (arith, common_steps) in
-    in_first (program_of c.args.ast.now) (locals_of c.args.known.now) (c.in-Element.a, true) inner (uses_in (expr_of c.args.e.now)) c.in-Some.reason
+    let seen : uses_in (expr_of c.args.e.now) ≡ (c.in-Element.a, name_kind.Const) ∷ inner = grind (arith, common_steps) in
+    in_first (program_of c.args.ast.now) (locals_of c.args.known.now) (c.in-Element.a, name_kind.Const) inner (uses_in (expr_of c.args.e.now)) c.in-Some.reason
     seen c.in-Some.ensures.holds
 
 pub returns-in_ok-of_use-in-Variable-clause-holds : goal.returns-in_ok-of_use-in-Variable-clause-holds
 returns-in_ok-of_use-in-Variable-clause-holds t c =
-    let seen : uses_in (expr_of c.args.e.now) ≡ (c.in-Variable.x, false) ∷ [] = grind (arith, common_steps) in
-    in_first (program_of c.args.ast.now) (locals_of c.args.known.now) (c.in-Variable.x, false) [] (uses_in (expr_of c.args.e.now)) c.in_ok-of_use-in-Variable.field-0
+    let seen : uses_in (expr_of c.args.e.now) ≡ (c.in-Variable.x, name_kind.Integer) ∷ [] = grind (arith, common_steps) in
+    in_first (program_of c.args.ast.now) (locals_of c.args.known.now) (c.in-Variable.x, name_kind.Integer) [] (uses_in (expr_of c.args.e.now)) c.in_ok-of_use-in-Variable.field-0
     seen c.in_ok-of_use-in-Variable.ensures.holds
 
 pub returns-in_ok-of_use-in-Length-clause-holds : goal.returns-in_ok-of_use-in-Length-clause-holds
 returns-in_ok-of_use-in-Length-clause-holds t c =
-    let seen : uses_in (expr_of c.args.e.now) ≡ (c.in-Length.a, true) ∷ [] = grind (arith, common_steps) in
-    in_first (program_of c.args.ast.now) (locals_of c.args.known.now) (c.in-Length.a, true) [] (uses_in (expr_of c.args.e.now)) c.in_ok-of_use-in-Length.field-0
+    let seen : uses_in (expr_of c.args.e.now) ≡ (c.in-Length.a, name_kind.Const) ∷ [] = grind (arith, common_steps) in
+    in_first (program_of c.args.ast.now) (locals_of c.args.known.now) (c.in-Length.a, name_kind.Const) [] (uses_in (expr_of c.args.e.now)) c.in_ok-of_use-in-Length.field-0
     seen c.in_ok-of_use-in-Length.ensures.holds

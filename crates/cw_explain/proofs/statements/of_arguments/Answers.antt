@@ -1,4 +1,5 @@
 use Rattle.std.proofs.lemmas.List.{length-map}
+use Rattle.cw_model.specs.Syntax.{is_array_kind}
 use Rattle.cw_model.specs.Typing.{are_arguments}
 use Rattle.cw_explain.proofs.Walking.{unequal}
 use Rattle.std.proofs.Common.{map, not, ap, ◌∙◌, ◌≡◌, ◌<◌, length, refl, subst, sym, arith, get_or, true, false}
@@ -19,9 +20,9 @@ returns-in-Some-clause-holds c =
     let within : c.loop-i.i < length c.args.arguments.now = omega (arith, c.loop-i-test.true, c.loop-i.invariant.as_many) in
     let ps = c.as_slice-params.result.now in
     let counted : c.loop-i.i < length ps = c.loop-i-test.true in
-    let at_param = subst (λ (p : Param). IsMisuseIn program locals (uses_in_argument p.is_array (expr_of c.index-arguments-i.result)) c.in-Some.reason)
+    let at_param = subst (λ (p : Param). IsMisuseIn program locals (uses_in_argument p.kind (expr_of c.index-arguments-i.result)) c.in-Some.reason)
     c.index-params-i.is c.in-Some.ensures.holds in
-    let at_both = subst (λ (e : Expr). IsMisuseIn program locals (uses_in_argument (get_or ps c.loop-i.i c.index-params-i.result).is_array (expr_of e)) c.in-Some.reason)
+    let at_both = subst (λ (e : Expr). IsMisuseIn program locals (uses_in_argument (get_or ps c.loop-i.i c.index-params-i.result).kind (expr_of e)) c.in-Some.reason)
     c.index-arguments-i.is at_param in
     let all = in_arguments program locals ps c.args.arguments.now c.loop-i.i c.index-params-i.result c.index-arguments-i.result c.in-Some.reason
     counted within at_both in
@@ -34,7 +35,7 @@ returns-then-not-is_name-clause-holds c =
     let e = c.index-arguments-i.result in
     let counted : c.loop-i.i < length ps = c.loop-i-test.true in
     let within : c.loop-i.i < length c.args.arguments.now = omega (arith, c.loop-i-test.true, c.loop-i.invariant.as_many) in
-    let is_array : p.is_array ≡ true = grind (arith, common_steps) in
+    let array : is_array_kind p.kind ≡ true = grind (arith, common_steps) in
     let no_name : is_name (expr_of e) ≡ false = grind (arith, common_steps) in
     Wrong (
       c.of-name.ensures,
@@ -42,7 +43,7 @@ returns-then-not-is_name-clause-holds c =
       record {
         index = c.loop-i.i;
         counted = refl;
-        wanted = rw (sym c.as_slice-params.ensures.value) (rw c.of-wanted.ensures (param_at ps c.loop-i.i p p counted c.index-params-i.is is_array));
+        wanted = rw (sym c.as_slice-params.ensures.value) (rw c.of-wanted.ensures (param_at ps c.loop-i.i p p counted c.index-params-i.is array));
         given = argument_at c.args.arguments.now c.loop-i.i e e within c.index-arguments-i.is no_name;
       },
     )

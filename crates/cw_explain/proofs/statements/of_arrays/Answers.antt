@@ -1,4 +1,5 @@
-use Rattle.std.proofs.Common.{subst, true}
+use Rattle.std.proofs.Common.{subst}
+use Rattle.cw_model.specs.declared.syntax.NameKind.TheVariants as name_kind
 use Rattle.cw_model.specs.Syntax.{Name}
 use Rattle.cw_tree.specs.SyntaxView.{program_of}
 use Rattle.cw_explain.specs.Names.{locals_of}
@@ -11,4 +12,4 @@ returns-in-Some-clause-holds c =
     let program = program_of c.args.ast.now in
     let locals = locals_of c.args.known.now in
     in_arrays program locals c.args.names.now c.loop-a.a-index c.a-item.result c.in-Some.reason c.loop-a-test.true
-    (subst (λ (x : Name). IsMisuse program locals (x, true) c.in-Some.reason) c.a-item.is c.in-Some.ensures.holds)
+    (subst (λ (x : Name). IsMisuse program locals (x, name_kind.Array) c.in-Some.reason) c.a-item.is c.in-Some.ensures.holds)

@@ -1,4 +1,5 @@
-use Rattle.std.proofs.Common.{◌∷◌, ◌++◌, refl, true}
+use Rattle.std.proofs.Common.{◌∷◌, ◌++◌, refl}
+use Rattle.cw_model.specs.declared.syntax.NameKind.TheVariants as name_kind
 use Rattle.cw_explain.specs.Uses.{Use, uses_in}
 use Rattle.cw_tree.specs.SyntaxView.{expr_of, program_of}
 use Rattle.cw_explain.specs.Names.{locals_of}
@@ -7,12 +8,12 @@ use Rattle.cw_explain.proofs.statements.of_assign_element.Goals as goal
 
 pub returns-in-Some-clause-holds : goal.returns-in-Some-clause-holds
 returns-in-Some-clause-holds c =
-    let a : Use = (c.args.a.now, true) in
+    let a : Use = (c.args.a.now, name_kind.Array) in
     let ys = uses_in (expr_of c.args.i.now) ++ uses_in (expr_of c.args.e.now) in
     in_first (program_of c.args.ast.now) (locals_of c.args.known.now) a ys (a ∷ ys) c.in-Some.reason refl c.in-Some.ensures.holds
 
 pub returns-clause-holds : goal.returns-clause-holds
 returns-clause-holds c =
-    let a : Use = (c.args.a.now, true) in
+    let a : Use = (c.args.a.now, name_kind.Array) in
     let ys = uses_in (expr_of c.args.i.now) ++ uses_in (expr_of c.args.e.now) in
     in_rest (program_of c.args.ast.now) (locals_of c.args.known.now) a ys (a ∷ ys) c.in_ok-reason.reason refl c.in_ok-reason.ensures.holds

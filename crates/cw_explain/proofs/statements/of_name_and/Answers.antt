@@ -8,9 +8,9 @@ use Rattle.cw_explain.proofs.statements.of_name_and.Goals as goal
 pub returns-in-Some-clause-holds : goal.returns-in-Some-clause-holds
 returns-in-Some-clause-holds c =
     let ys = uses_in (expr_of c.args.e.now) in
-    in_first (program_of c.args.ast.now) (locals_of c.args.known.now) (c.args.x.now, c.args.wants_array) ys ((c.args.x.now, c.args.wants_array) ∷ ys) c.in-Some.reason refl c.in-Some.ensures.holds
+    in_first (program_of c.args.ast.now) (locals_of c.args.known.now) (c.args.x.now, c.args.wanted) ys ((c.args.x.now, c.args.wanted) ∷ ys) c.in-Some.reason refl c.in-Some.ensures.holds
 
 pub returns-clause-holds : goal.returns-clause-holds
 returns-clause-holds c =
     let ys = uses_in (expr_of c.args.e.now) in
-    in_rest (program_of c.args.ast.now) (locals_of c.args.known.now) (c.args.x.now, c.args.wants_array) ys ((c.args.x.now, c.args.wants_array) ∷ ys) c.in_ok-reason.reason refl c.in_ok-reason.ensures.holds
+    in_rest (program_of c.args.ast.now) (locals_of c.args.known.now) (c.args.x.now, c.args.wanted) ys ((c.args.x.now, c.args.wanted) ∷ ys) c.in_ok-reason.reason refl c.in_ok-reason.ensures.holds

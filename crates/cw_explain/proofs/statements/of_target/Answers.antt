@@ -1,5 +1,6 @@
-use Rattle.std.proofs.Common.{◌≡◌, ◌∷◌, ◌++◌, arith, false}
+use Rattle.std.proofs.Common.{◌≡◌, ◌∷◌, ◌++◌, arith}
 use Rattle.std.proofs.lemmas.Grind.{common_steps}
+use Rattle.cw_model.specs.declared.syntax.NameKind.TheVariants as name_kind
 use Rattle.cw_model.specs.Typing.{called}
 use Rattle.cw_tree.specs.SyntaxView.{exprs_of, program_of}
 use Rattle.cw_explain.specs.Names.{locals_of}
@@ -12,7 +13,7 @@ pub returns-in-Some-of_use-clause-holds : goal.returns-in-Some-of_use-clause-hol
 returns-in-Some-of_use-clause-holds c =
     let program = program_of c.args.ast.now in
     let es = uses_in_call (called c.args.call.now.callee program.functions) (exprs_of c.args.call.now.arguments.items) in
-    let x : Use = (c.in-Some.target, false) in
+    let x : Use = (c.in-Some.target, name_kind.Integer) in
     let seen : uses_as_target c.args.call.now.target ++ es ≡ x ∷ es = grind (arith, common_steps) in
     Misused (in_first program (locals_of c.args.known.now) x es (uses_as_target c.args.call.now.target ++ es)
     c.in-Some-of_use.reason seen c.in-Some-of_use.ensures.holds)

@@ -56,13 +56,13 @@ returns-in_ok-reason-in-Element-clause-decides t c =
     let last = subst (λ (y : Expr). true ≡ not (may_index around a y)) index c.in_ok-reason-in-Element.ensures.decides in
     found_last (is_taken taken a) (may_read around taken x) (may_index around a x) true (subst (λ (y : Name). false ≡ is_taken taken y) c.of-in-Element.ensures c.in_default.ensures.decides) none last ∙ parts
 
-pub returns-in_ok-of_touch-in-Variable-clause-holds : goal.returns-in_ok-of_touch-in-Variable-clause-holds
-returns-in_ok-of_touch-in-Variable-clause-holds t c =
+pub returns-in_ok-of_read-in-Variable-clause-holds : goal.returns-in_ok-of_read-in-Variable-clause-holds
+returns-in_ok-of_read-in-Variable-clause-holds t c =
     let w = where_of (locals_of c.args.known.now) c.args.around (taken_of c.args.taken.now) in
     let x = c.in-Variable.x in
     let seen : expr_of c.args.e.now ≡ Variable x = grind (arith, common_steps) in
-    read_taken w (Reads x) _ [] (doings_in (expr_of c.args.e.now)) c.in_ok-of_touch-in-Variable.field-0 (ap doings_in seen) c.of.ensures refl
-    c.in_ok-of_touch-in-Variable.ensures.holds
+    read_taken w (Reads x) _ [] (doings_in (expr_of c.args.e.now)) c.in_ok-of_read-in-Variable.field-0 (ap doings_in seen) c.of.ensures refl
+    c.in_ok-of_read-in-Variable.ensures.holds
 
 pub returns-in-Some-clause-holds : goal.returns-in-Some-clause-holds
 returns-in-Some-clause-holds t c =
@@ -97,13 +97,13 @@ returns-in_ok-reason-in-Element-clause-holds t c =
     (ap (λ (o : Around). may_index o a i) (judged_is locals c.args.around taken) ∙ broken (may_index (around_of locals c.args.around) a i) last)
     (c.in_ok-reason-in-Element.ensures.holds taken)
 
-pub returns-in-Some-of_touch-clause-holds : goal.returns-in-Some-of_touch-clause-holds
-returns-in-Some-of_touch-clause-holds t c =
+pub returns-in-Some-of_read-clause-holds : goal.returns-in-Some-of_read-clause-holds
+returns-in-Some-of_read-clause-holds t c =
     let w = where_of (locals_of c.args.known.now) c.args.around (taken_of c.args.taken.now) in
     let a = c.in-Length.a in
     let seen : expr_of c.args.e.now ≡ Length a = grind (arith, common_steps) in
-    read_taken w (Measures a) _ [] (doings_in (expr_of c.args.e.now)) c.in-Some-of_touch.reason (ap doings_in seen) c.of-in-Length.ensures refl
-    c.in-Some-of_touch.ensures.holds
+    read_taken w (Measures a) _ [] (doings_in (expr_of c.args.e.now)) c.in-Some-of_read.reason (ap doings_in seen) c.of-in-Length.ensures refl
+    c.in-Some-of_read.ensures.holds
 
 pub returns-in_ok-reason-in-Length-clause-holds : goal.returns-in_ok-reason-in-Length-clause-holds
 returns-in_ok-reason-in-Length-clause-holds t c =

@@ -23,7 +23,7 @@ returns-clause-decides c =
     let before = c.len-before.result in
     let at : before ≡ length given = grind (arith, common_steps) in
     let names = names_in (expr_of c.args.e.now) in
-    let kind : c.args.is_array ≡ true = grind (arith, common_steps) in
+    let kind : c.args.takes ≡ true = grind (arith, common_steps) in
     let slice = c.as_slice.ensures.value in
     c.of_lent-found.ensures.decides
     ∙ ap (λ (ws : List Word). not (lend_behind around taken (spelled (take before ws)) (spelled (drop before ws)))) slice
@@ -39,7 +39,7 @@ returns-clause-holds c =
     let before = c.len-before.result in
     let at : before ≡ length given = grind (arith, common_steps) in
     let names = names_in (expr_of c.args.e.now) in
-    let kind : c.args.is_array ≡ true = grind (arith, common_steps) in
+    let kind : c.args.takes ≡ true = grind (arith, common_steps) in
     let l = lender.Call c.args.callee in
     let found = c.of_lent-found.result in
     let sliced = subst (λ (ws : List Word). IfSome found (IsWrongOr w (map (lent_to l) (spelled (drop before ws))) (IsTwiceIn l (spelled ws)))) c.as_slice.ensures.value

@@ -29,19 +29,19 @@ loop-i-preserved c =
     let rest = exprs_of (drop (i + 1) es) in
     let given = spelled c.loop-i.given.items in
     let more = spelled c.of_argument.new.given.items in
-    let kind = c.is_array_at-is_array.ensures in
+    let kind = c.takes_array_at-takes.ensures in
     let split : all ≡ e ∷ rest = grind (arith, common_steps) in
     let later : drop (i + 1) ps ≡ drop 1 (drop i ps) = sym (drop-drop 1 i ps) in
     let no : is_some c.in_ok-found.found ≡ false = sym c.if-is_some.ensures in
     record {
-      same = call_on _ (keeps_argument around taken given c.is_array_at-is_array.result e) (keep_rest around taken more (drop (i + 1) ps) rest) (is_some c.in_ok-found.found)
-          (argument_step around taken given more (drop i ps) (drop (i + 1) ps) e rest all c.is_array_at-is_array.result split kind later c.in_ok-found.ensures.grows)
+      same = call_on _ (keeps_argument around taken given c.takes_array_at-takes.result e) (keep_rest around taken more (drop (i + 1) ps) rest) (is_some c.in_ok-found.found)
+          (argument_step around taken given more (drop i ps) (drop (i + 1) ps) e rest all c.takes_array_at-takes.result split kind later c.in_ok-found.ensures.grows)
           c.in_ok-found.ensures.decides no
           ∙ c.loop-i.invariant.same;
-      all = sym (given_step given more (drop i ps) (drop (i + 1) ps) e rest all c.is_array_at-is_array.result split kind later c.in_ok-found.ensures.grows)
+      all = sym (given_step given more (drop i ps) (drop (i + 1) ps) e rest all c.takes_array_at-takes.result split kind later c.in_ok-found.ensures.grows)
           ∙ c.loop-i.invariant.all;
       there = λ d h. c.loop-i.invariant.there d
-          (arguments_later (drop i ps) (drop (i + 1) ps) e rest all c.is_array_at-is_array.result split kind later d h);
+          (arguments_later (drop i ps) (drop (i + 1) ps) e rest all c.takes_array_at-takes.result split kind later d h);
     }
 
 pub returns-then-is_some-clause-decides : goal.returns-then-is_some-clause-decides
@@ -63,11 +63,11 @@ returns-then-is_some-clause-decides c =
     let rest = exprs_of (drop (i + 1) es) in
     let given = spelled c.loop-i.given.items in
     let more = spelled c.of_argument.new.given.items in
-    let kind = c.is_array_at-is_array.ensures in
+    let kind = c.takes_array_at-takes.ensures in
     let split : all ≡ e ∷ rest = grind (arith, common_steps) in
     let later : drop (i + 1) ps ≡ drop 1 (drop i ps) = sym (drop-drop 1 i ps) in
-    call_found _ (keeps_argument around taken given c.is_array_at-is_array.result e) (keep_rest around taken more (drop (i + 1) ps) rest) (is_some c.in_ok-found.found)
-    (argument_step around taken given more (drop i ps) (drop (i + 1) ps) e rest all c.is_array_at-is_array.result split kind later c.in_ok-found.ensures.grows)
+    call_found _ (keeps_argument around taken given c.takes_array_at-takes.result e) (keep_rest around taken more (drop (i + 1) ps) rest) (is_some c.in_ok-found.found)
+    (argument_step around taken given more (drop i ps) (drop (i + 1) ps) e rest all c.takes_array_at-takes.result split kind later c.in_ok-found.ensures.grows)
     c.in_ok-found.ensures.decides (sym c.if-is_some.ensures)
     ∙ ap not (c.loop-i.invariant.same ∙ whole)
 
@@ -87,14 +87,14 @@ returns-then-is_some-clause-holds c =
     let rest = exprs_of (drop (i + 1) es) in
     let given = spelled c.loop-i.given.items in
     let more = spelled c.of_argument.new.given.items in
-    let kind = c.is_array_at-is_array.ensures in
+    let kind = c.takes_array_at-takes.ensures in
     let split : all ≡ e ∷ rest = grind (arith, common_steps) in
     let later : drop (i + 1) ps ≡ drop 1 (drop i ps) = sym (drop-drop 1 i ps) in
     let w = where_of (locals_of c.args.known.now) c.args.around taken in
     let found = c.in_ok-found.found in
     let grown = sym c.loop-i.invariant.all
-    ∙ given_step given more (drop i ps) (drop (i + 1) ps) e rest all c.is_array_at-is_array.result split kind later c.in_ok-found.ensures.grows in
-    let told = argument_told w c.of-callee.result.text.now (drop i ps) (drop (i + 1) ps) e rest all c.is_array_at-is_array.result split kind later more
+    ∙ given_step given more (drop i ps) (drop (i + 1) ps) e rest all c.takes_array_at-takes.result split kind later c.in_ok-found.ensures.grows in
+    let told = argument_told w c.of-callee.result.text.now (drop i ps) (drop (i + 1) ps) e rest all c.takes_array_at-takes.result split kind later more
     (arrays_given ps (exprs_of es)) (doings_in_arguments ps (exprs_of es)) c.loop-i.invariant.there grown found c.in_ok-found.ensures.holds in
     let at = λ (f : model.Name) (qs : List model.Param) (xs : List Expr).
     IfSome found (IsWrongOr w (doings_in_arguments qs (exprs_of xs)) (IsGivenTwice f (arrays_given qs (exprs_of xs)))) in

@@ -1,5 +1,5 @@
 use Rattle.std.proofs.Common.{◌∷◌, ◌++◌, [], refl}
-use Rattle.cw_model.specs.Ownership.{are_free, may_index, may_read}
+use Rattle.cw_model.specs.Ownership.{are_loose, may_index, may_read}
 use Rattle.cw_tree.specs.SyntaxView.{expr_of}
 use Rattle.cw_explain.specs.Doings.{WritesElement, doings_in}
 use Rattle.cw_explain.specs.Held.{taken_of}
@@ -14,7 +14,7 @@ returns-clause-decides c =
     let around = around_of (locals_of c.args.known.now) c.args.around in
     let taken = taken_of c.args.taken.now in
     let i = expr_of c.args.i.now in
-    two_fail (may_read around taken i) (may_read around taken (expr_of c.args.e.now)) (are_free taken (c.args.a.now ∷ []))
+    two_fail (may_read around taken i) (may_read around taken (expr_of c.args.e.now)) (are_loose taken (c.args.a.now ∷ []))
     (may_index around c.args.a.now i) c.in_ok-reason.ensures.decides
 
 pub returns-in-Some-of_expr-clause-holds : goal.returns-in-Some-of_expr-clause-holds

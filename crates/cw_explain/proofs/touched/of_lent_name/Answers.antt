@@ -1,6 +1,6 @@
 use Rattle.std.proofs.Common.{subst}
 use Rattle.cw_model.specs.Names.{is_among}
-use Rattle.cw_model.specs.Ownership.{is_outer, is_taken}
+use Rattle.cw_model.specs.Ownership.{is_held, is_outer}
 use Rattle.cw_explain.specs.Disowned.{Lends}
 use Rattle.cw_explain.specs.Held.{spelled, taken_of}
 use Rattle.cw_explain.specs.Loops.{around_of, where_of}
@@ -14,7 +14,7 @@ use Rattle.cw_explain.proofs.touched.of_lent_name.Goals as goal
 pub returns-in-Some-clause-decides : goal.returns-in-Some-clause-decides
 returns-in-Some-clause-decides c =
     let x = c.args.name.text.now in
-    one_wrong (is_taken (taken_of c.args.taken.now) x) (is_outer (around_of (locals_of c.args.known.now) c.args.around) x)
+    one_wrong (is_held (taken_of c.args.taken.now) x) (is_outer (around_of (locals_of c.args.known.now) c.args.around) x)
     (is_among x (spelled c.args.earlier.now)) c.in-Some.ensures.decides
 
 pub returns-in-Some-clause-holds : goal.returns-in-Some-clause-holds
@@ -27,7 +27,7 @@ returns-in-Some-clause-holds c =
 pub returns-then-is_earlier-clause-decides : goal.returns-then-is_earlier-clause-decides
 returns-then-is_earlier-clause-decides c =
     let x = c.args.name.text.now in
-    one_right (is_taken (taken_of c.args.taken.now) x) (is_outer (around_of (locals_of c.args.known.now) c.args.around) x)
+    one_right (is_held (taken_of c.args.taken.now) x) (is_outer (around_of (locals_of c.args.known.now) c.args.around) x)
     (is_among x (spelled c.args.earlier.now)) _ c.in_default.ensures.decides c.if-is_earlier.ensures
 
 pub returns-then-is_earlier-clause-holds : goal.returns-then-is_earlier-clause-holds
@@ -39,5 +39,5 @@ returns-then-is_earlier-clause-holds c =
 pub returns-clause-decides : goal.returns-clause-decides
 returns-clause-decides c =
     let x = c.args.name.text.now in
-    one_right (is_taken (taken_of c.args.taken.now) x) (is_outer (around_of (locals_of c.args.known.now) c.args.around) x)
+    one_right (is_held (taken_of c.args.taken.now) x) (is_outer (around_of (locals_of c.args.known.now) c.args.around) x)
     (is_among x (spelled c.args.earlier.now)) false c.in_default.ensures.decides c.if-is_earlier.ensures

@@ -1,4 +1,4 @@
-use Rattle.std.proofs.Common.{◌++◌, ◌-◌, length, refl, ap, ◌∙◌, append_assoc, rules}
+use Rattle.std.proofs.Common.{[], ◌++◌, ◌-◌, length, refl, ap, ◌∙◌, append_assoc, rules}
 use Rattle.std.specs.Prelude.{slice_set}
 use Rattle.cw_loops.specs.View.{block_of, loop_of}
 use Rattle.cw_code.specs.declared.code.BlockKind.TheVariants as kind
@@ -15,11 +15,12 @@ returns c =
     let hole = c.hole.new.instrs.items in
     let mid = c.step.new.instrs.items in
     let all = c.put.new.instrs.items in
-    let body = emitted_inside kind.Scope (emitted_block c.args.first l.body) in
-    let turn = emitted_block c.args.first (turn_text l) in
+    let body = emitted_inside kind.Scope (emitted_block c.args.first [] l.body) in
+    let turn = emitted_block c.args.first [] (turn_text l) in
     let inside =
     c.in_ok-inside.ensures
-    ∙ ap (λ items. hole ++ emitted_inside kind.Scope (emitted_block c.args.first (block_of items))) c.deref.ensures.value
+    ∙ ap (λ ms. hole ++ emitted_inside kind.Scope (emitted_block c.args.first ms (block_of c.deref.result.now))) c.requires.places
+    ∙ ap (λ items. hole ++ emitted_inside kind.Scope (emitted_block c.args.first [] (block_of items))) c.deref.ensures.value
     ∙ ap (λ is. is ++ body) c.in_ok-test.ensures.instrs in
     let stepped = c.in_ok-step.ensures ∙ ap (λ is. is ++ written_step l) inside ∙ append_assoc _ body (written_step l) in
     c.land.ensures

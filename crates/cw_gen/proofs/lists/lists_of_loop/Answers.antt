@@ -1,4 +1,4 @@
-use Rattle.std.proofs.Common.{◌∙◌, ap, map, sym}
+use Rattle.std.proofs.Common.{[], ◌∙◌, ap, map, sym}
 use Rattle.std.specs.Prelude.{slice_set}
 use Rattle.cw_model.specs.declared.syntax.CallKind.TheVariants.{Plain, Spawned}
 use Rattle.cw_loops.specs.Expanded.{left_slot, right_slot, numbers}
@@ -15,7 +15,7 @@ returns c =
     let before = map (λ slots. slots.items) c.args.lists.now.items in
     let lefts = map (left_slot l.over) (numbers 0 l.over) in
     let rights = map (right_slot l.over) (numbers 0 l.over) in
-    let inner = put_lists_in first (block_of l.body.items) before in
+    let inner = put_lists_in first [] (block_of l.body.items) before in
     c.put_list-2.ensures
     ∙ ap (λ k. slice_set (map (λ slots. slots.items) c.put_list.new.lists.items) k c.in_ok-right.right.items) c.half_list-2.ensures
     ∙ ap (slice_set (map (λ slots. slots.items) c.put_list.new.lists.items) (half_list first Plain index)) c.in_ok-right.ensures
@@ -24,5 +24,7 @@ returns c =
     ∙ ap (λ k. slice_set (map (λ slots. slots.items) c.lists_in.new.lists.items) k c.in_ok-left.left.items) c.half_list.ensures
     ∙ ap (slice_set (map (λ slots. slots.items) c.lists_in.new.lists.items) (half_list first Spawned index)) c.in_ok-left.ensures
     ∙ ap (λ lists. slice_set lists (half_list first Spawned index) lefts)
-    (c.in_ok-lists_in.ensures ∙ ap (λ items. put_lists_in first (block_of items) before) c.deref.ensures.value))
+    (c.in_ok-lists_in.ensures
+    ∙ ap (λ items. put_lists_in first c.args.places.now (block_of items) before) c.deref.ensures.value
+    ∙ ap (λ ms. put_lists_in first ms (block_of l.body.items) before) c.requires.places))
     ∙ sym (lists_emitted first index (loop_of l) before)

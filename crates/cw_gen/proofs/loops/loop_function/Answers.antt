@@ -6,14 +6,15 @@ use Rattle.cw_code.specs.declared.code.Instr.TheVariants as instr
 use Rattle.cw_gen.specs.Emit.{emitted_block, emitted_branches}
 use Rattle.cw_gen.specs.Written.{written_test}
 use Rattle.cw_gen.proofs.Emitting.{if_else_emitted}
+use Rattle.cw_gen.proofs.LoopCode.{text_emitted}
 use Rattle.cw_gen.proofs.loops.loop_function.Goals as goal
 
 pub returns : goal.returns
 returns c =
     let l = loop_of c.args.l.now in
     let old = c.args.instrs.now.items in
-    let one = emitted_block c.args.first (leaf l) in
-    let other = emitted_block c.args.first (node c.args.index l) in
+    let one = emitted_block c.args.first [] (leaf l) in
+    let other = emitted_block c.args.first [] (node c.args.index l) in
     let code = written_test l ++ emitted_branches false one other in
     let last = instr.Return ∷ [] in
     let both =
@@ -24,3 +25,4 @@ returns c =
     ∙ ap (λ is. is ++ last) both
     ∙ append_assoc old code last
     ∙ ap (λ is. old ++ (is ++ last)) (sym (append-nil code))
+    ∙ ap (λ is. old ++ is) (sym (text_emitted c.args.first c.args.index l))

@@ -7,6 +7,6 @@ use Rattle.cw_gen.proofs.statements.+emit.Given as goal
 
 abbrev pub invariant-block-loop-line : goal.invariant-block-loop-line
 invariant-block-loop-line l = record {
-  instrs : l.instrs.items ++ spec.emitted_block l.first (view.block_of (drop l.line-index l.lines)) ≡ l.initial.instrs.items ++ spec.emitted_block l.first (view.block_of l.lines);
+  instrs : l.instrs.items ++ spec.emitted_block l.first l.places (view.block_of (drop l.line-index l.lines)) ≡ l.initial.instrs.items ++ spec.emitted_block l.first l.places (view.block_of l.lines);
   returns : returns_after l.returns (view.block_of (drop l.line-index l.lines)) ≡ returns_after false (view.block_of l.lines);
 }

@@ -32,6 +32,8 @@ returns c = record {
   most = refl;
   twice = refl;
   twice_traps = refl;
+  together = refl;
+  together_comes_to = refl;
   sums_can = refl;
   greatest_can = refl;
   squares_can = refl;
@@ -39,5 +41,6 @@ returns c = record {
   cut_can = refl;
   fib_can = refl;
   twice_can = refl;
+  together_can = refl;
   outer_cannot = refl;
 }

@@ -1,4 +1,4 @@
-use Rattle.std.proofs.Common.{map, ap, sym, ◌∙◌}
+use Rattle.std.proofs.Common.{map, ap, ◌∙◌}
 use Rattle.cw_tree.specs.ResolvedView as source
 use Rattle.cw_loops.specs.Slotted.{Call}
 use Rattle.cw_loops.specs.Moved as spec

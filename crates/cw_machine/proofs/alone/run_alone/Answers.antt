@@ -47,7 +47,7 @@ go-stop-requires-clause-running c =
     let count = asked_count f args n burden asked in
     let light = asked_burden f args n burden asked in
     let made : IsNewRun f args (room_of v.rooms.items v.code.main) v.code.reducers.items burden c.in_ok-run.run' = is_new c.room.ensures c.as_slice.ensures.value c.in_ok-run.ensures in
-    ∥∥₁_map v.ok (λ ok. record { verified = ok; burden = burden; light = light; state = first_state f args []; shows = first_run v ok (gauge_of v ok burden light) f args c.in_ok-run.run' c.func-f.ensures count made })
+    ∥∥₁_map v.ok (λ ok. record { verified = ok; burden = burden; light = light; state = first_state f args [] []; shows = first_run v ok (gauge_of v ok burden light) f args c.in_ok-run.run' c.func-f.ensures count made })
 
 pub go-stop-requires-clause-small : goal.go-stop-requires-clause-small
 go-stop-requires-clause-small c =
@@ -78,7 +78,7 @@ returns-in-Gave c =
     let end = c.in_ok-ended-in-Gave.ensures in
     let is = ∥∥₁_elim v.ok (IsEnded-prop code burden e end.all serial) (λ ok.
     let g = gauge_of v ok burden light in
-    ended v f args n burden count r c.func-f.ensures asked ok g c.in-Gave.value e c.go-stop.ensures.within end (subst (λ to. Reaches v ok g count to r n (first_state f args [])) c.in-Gave.is (c.go-stop.ensures.reaches ok g (first_state f args []) (first_run v ok g f args c.in_ok-run.run' c.func-f.ensures many made)))) in
+    ended v f args n burden count r c.func-f.ensures asked ok g c.in-Gave.value e c.go-stop.ensures.within end (subst (λ to. Reaches v ok g count to r n (first_state f args [] [])) c.in-Gave.is (c.go-stop.ensures.reaches ok g (first_state f args [] []) (first_run v ok g f args c.in_ok-run.run' c.func-f.ensures many made)))) in
     subst (λ (w : Verified). Runs (code_view w.code) args n burden e) c.deref-verified.ensures
     (told v args n burden c.in-Gave.value (shown_by r count) e (requested code f args n burden c.func-f.ensures asked) c.go-stop.ensures.within end is)
 
@@ -99,7 +99,7 @@ returns-in-On c =
     let serial = code_serial code args n in
     let e : is_over serial ≡ true = ∥∥₁_elim v.ok (hlevel Bool-set) (λ ok.
     let g = gauge_of v ok burden light in
-    over v f args n burden count r c.func-f.ensures asked ok g (subst (λ to. Reaches v ok g count to r n (first_state f args [])) c.in-On.is (c.go-stop.ensures.reaches ok g (first_state f args []) (first_run v ok g f args c.in_ok-run.run' c.func-f.ensures many made)))) in
+    over v f args n burden count r c.func-f.ensures asked ok g (subst (λ to. Reaches v ok g count to r n (first_state f args [] [])) c.in-On.is (c.go-stop.ensures.reaches ok g (first_state f args [] []) (first_run v ok g f args c.in_ok-run.run' c.func-f.ensures many made)))) in
     subst (λ (w : Verified). IsFailure (code_view w.code) args n burden fault.OverLimit) c.deref-verified.ensures
     (requested code f args n burden c.func-f.ensures asked, was_over serial e)
 
@@ -123,6 +123,6 @@ returns-in-Trapped c =
     let lines = r.machine.lines.items in
     let e = was_trapped trap line lines serial (∥∥₁_elim v.ok (IsTrapped-prop trap line lines serial) (λ ok.
     let g = gauge_of v ok burden light in
-    trapped v f args n burden count r c.func-f.ensures asked ok g trap line (subst (λ to. Reaches v ok g count to r n (first_state f args [])) c.in-Trapped.is (c.go-stop.ensures.reaches ok g (first_state f args []) (first_run v ok g f args c.in_ok-run.run' c.func-f.ensures many made))))) in
+    trapped v f args n burden count r c.func-f.ensures asked ok g trap line (subst (λ to. Reaches v ok g count to r n (first_state f args [] [])) c.in-Trapped.is (c.go-stop.ensures.reaches ok g (first_state f args [] []) (first_run v ok g f args c.in_ok-run.run' c.func-f.ensures many made))))) in
     subst (λ (w : Verified). IsFailure (code_view w.code) args n burden (fault.Trap trap line r.machine.lines)) c.deref-verified.ensures
     (requested code f args n burden c.func-f.ensures asked, e)

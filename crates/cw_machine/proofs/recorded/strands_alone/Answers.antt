@@ -26,12 +26,12 @@ asked_as : (v : Verified) (args : List ℤ) (params n : ℕ) → params ≡ main
 asked_as v args params n e h = ap (λ k. is_asked k (length args) n no_burden) (sym e) ∙ h
 
 -- a machine where main begins, and a recorder that was told of nothing
-begins : (v : Verified) (ok : IsFit v) (main : Main v) (args : List ℤ) (r : Recording) → BeginsRun v args r.machine → parts.Starts r.recorder → ShowsRecording v (from_main v ok) 0 r (first_state main.func args [])
+begins : (v : Verified) (ok : IsFit v) (main : Main v) (args : List ℤ) (r : Recording) → BeginsRun v args r.machine → parts.Starts r.recorder → ShowsRecording v (from_main v ok) 0 r (first_state main.func args [] [])
 begins v ok main args r machine recorder = record { shows = machine ok main.func main.found; records = recorder }
 
 -- what a run from where main begins came to
-came : (v : Verified) (ok : IsFit v) (main : Main v) (args : List ℤ) (n count : ℕ) (r r' : Recording) (to to' : Moved) → BeginsRun v args r.machine → parts.Starts r.recorder → ReachesAny v r n count to' r' → to' ≡ to → Reaches v (from_main v ok) count to r' n (first_state main.func args [])
-came v ok main args n count r r' to to' machine recorder runs is = subst (λ x. Reaches v (from_main v ok) count x r' n (first_state main.func args [])) is (runs ok (first_state main.func args []) (begins v ok main args r machine recorder))
+came : (v : Verified) (ok : IsFit v) (main : Main v) (args : List ℤ) (n count : ℕ) (r r' : Recording) (to to' : Moved) → BeginsRun v args r.machine → parts.Starts r.recorder → ReachesAny v r n count to' r' → to' ≡ to → Reaches v (from_main v ok) count to r' n (first_state main.func args [] [])
+came v ok main args n count r r' to to' machine recorder runs is = subst (λ x. Reaches v (from_main v ok) count x r' n (first_state main.func args [] [])) is (runs ok (first_state main.func args [] []) (begins v ok main args r machine recorder))
 
 pub begun-requires : goal.begun-requires
 begun-requires c =
@@ -41,7 +41,7 @@ begun-requires c =
 pub go-stop-requires-clause-running : goal.go-stop-requires-clause-running
 go-stop-requires-clause-running c =
     let v = c.deref-verified.result.now in
-    ∥∥₁_map v.ok (λ ok. let main = main_of v ok in record { verified = ok; state = first_state main.func c.args.args.now []; shows = begins v ok main c.args.args.now _ c.in_ok-machine.ensures c.new.ensures })
+    ∥∥₁_map v.ok (λ ok. let main = main_of v ok in record { verified = ok; state = first_state main.func c.args.args.now [] []; shows = begins v ok main c.args.args.now _ c.in_ok-machine.ensures c.new.ensures })
 
 pub returns-in-Gave : goal.returns-in-Gave
 returns-in-Gave c =
@@ -70,7 +70,7 @@ returns-in-On c =
     let serial = code_serial code args n in
     let e : is_over serial ≡ true = ∥∥₁_elim v.ok (hlevel Bool-set) (λ ok.
     let main = main_of v ok in
-    passed v main.func args n no_burden r.machine main.found (asked_of v main args n no_burden asked) ok (by_machine v (from_main v ok) moved.On r c.go-stop.result.1 n (first_state main.func args []) (came v ok main args n c.go-stop.result.1 _ r _ _ c.in_ok-machine.ensures c.new.ensures c.go-stop.ensures c.in-On.is))) in
+    passed v main.func args n no_burden r.machine main.found (asked_of v main args n no_burden asked) ok (by_machine v (from_main v ok) moved.On r c.go-stop.result.1 n (first_state main.func args [] []) (came v ok main args n c.go-stop.result.1 _ r _ _ c.in_ok-machine.ensures c.new.ensures c.go-stop.ensures c.in-On.is))) in
     subst (λ (w : Verified). IsFailure (code_view w.code) args n no_burden fault.OverLimit) c.deref-verified.ensures (asked, was_over serial e)
 
 pub returns-in-Trapped : goal.returns-in-Trapped
@@ -88,5 +88,5 @@ returns-in-Trapped c =
     let lines = m.lines.items in
     let e = was_trapped trap line lines serial (∥∥₁_elim v.ok (IsTrapped-prop trap line lines serial) (λ ok.
     let main = main_of v ok in
-    stopped v main.func args n no_burden m main.found (asked_of v main args n no_burden asked) ok trap line (by_machine v (from_main v ok) (moved.Trapped trap line) r c.go-stop.result.1 n (first_state main.func args []) (came v ok main args n c.go-stop.result.1 _ r _ _ c.in_ok-machine.ensures c.new.ensures c.go-stop.ensures c.in-Trapped.is)))) in
+    stopped v main.func args n no_burden m main.found (asked_of v main args n no_burden asked) ok trap line (by_machine v (from_main v ok) (moved.Trapped trap line) r c.go-stop.result.1 n (first_state main.func args [] []) (came v ok main args n c.go-stop.result.1 _ r _ _ c.in_ok-machine.ensures c.new.ensures c.go-stop.ensures c.in-Trapped.is)))) in
     subst (λ (w : Verified). IsFailure (code_view w.code) args n no_burden (fault.Trap trap line m.lines)) c.deref-verified.ensures (asked, e)

@@ -24,8 +24,8 @@ asked_as : (v : Verified) (args : List ℤ) (params n : ℕ) (burden : Burden) �
 asked_as v args params n burden e h = ap (λ k. is_asked k (length args) n burden) (sym e) ∙ h
 
 -- what a run from where main begins came to
-came : (v : Verified) (ok : IsFit v) (main : Main v) (args : List ℤ) (n : ℕ) (m m' : Machine) (to to' : Moved) → BeginsRun v args m → ReachesAny v m n to' m' → to' ≡ to → Reaches v (from_main v ok) to m' n (first_state main.func args [])
-came v ok main args n m m' to to' begins runs is = subst (λ x. Reaches v (from_main v ok) x m' n (first_state main.func args [])) is (runs ok (first_state main.func args []) (begins ok main.func main.found))
+came : (v : Verified) (ok : IsFit v) (main : Main v) (args : List ℤ) (n : ℕ) (m m' : Machine) (to to' : Moved) → BeginsRun v args m → ReachesAny v m n to' m' → to' ≡ to → Reaches v (from_main v ok) to m' n (first_state main.func args [] [])
+came v ok main args n m m' to to' begins runs is = subst (λ x. Reaches v (from_main v ok) x m' n (first_state main.func args [] [])) is (runs ok (first_state main.func args [] []) (begins ok main.func main.found))
 
 pub begun-requires : goal.begun-requires
 begun-requires c =
@@ -35,7 +35,7 @@ begun-requires c =
 pub run-requires : goal.run-requires
 run-requires c =
     let v = c.deref-verified.result.now in
-    ∥∥₁_map v.ok (λ ok. let main = main_of v ok in record { verified = ok; state = first_state main.func c.args.args.now []; shows = c.in_ok-machine.ensures ok main.func main.found })
+    ∥∥₁_map v.ok (λ ok. let main = main_of v ok in record { verified = ok; state = first_state main.func c.args.args.now [] []; shows = c.in_ok-machine.ensures ok main.func main.found })
 
 pub returns-in-Gave : goal.returns-in-Gave
 returns-in-Gave c =

@@ -7,7 +7,7 @@ use Rattle.cw_tree.specs.ResolvedView.{expr_of, stmt_of, block_of}
 use Rattle.std.proofs.lemmas.Grind.{common_steps}
 use Rattle.cw_own.specs.Bounds.{small_stmt, small_block}
 use Rattle.cw_own.specs.Sets.{row_of}
-use Rattle.cw_own.specs.Taken.{taken_of, taken_after, taken_after_all, left_by, known_after, other_of, turns, turns_in, turns_within}
+use Rattle.cw_own.specs.Taken.{held_of, taken_of, taken_after, taken_after_all, left_by, known_after, other_of, turns, turns_in, turns_within}
 use Rattle.cw_own.specs.Rules.{loop_of, block_lines, keeps, seen_by, lines_within, lines_in}
 use Rattle.cw_own.proofs.Small.{appended, lowest_append}
 use Rattle.cw_own.proofs.Branches.{if_else_is, line_is}
@@ -19,10 +19,10 @@ note_within-returns-in-IfElse-clause-turns t c =
     let known = row_of c.args.known.now in
     let b = block_of c.in-IfElse.block.items in
     let d = block_of c.in-IfElse.field-2.value.items in
-    let rows = map row_of c.args.rest.now.left.now in
+    let rows = map held_of c.args.rest.now.left.now in
     let e : stmt_of c.args.stmt.now ≡ spec.IfElse (expr_of c.in-IfElse.field-0) b d = ap stmt_of c.in-IfElse.is ∙ if_else_is c.in-IfElse.field-0 c.in-IfElse.block c.in-IfElse.field-2 in
     c.note_other-other.ensures.turns
-    ∙ ap (λ s. drop (length (turns_in known (other_of s))) (map row_of c.note_block-branch-in-IfElse.new.rest.left.now)) e
+    ∙ ap (λ s. drop (length (turns_in known (other_of s))) (map held_of c.note_block-branch-in-IfElse.new.rest.left.now)) e
     ∙ ap (drop (length (turns_in known d))) (c.note_block-branch-in-IfElse.ensures.turns ∙ ap (λ ls. drop (length (turns_in known (block_of ls))) rows) c.deref-in-IfElse.ensures.value)
     ∙ drop_both (turns_in known b) (turns_in known d) rows
     ∙ sym (ap (λ s. drop (length (turns_within known s)) rows) e)
@@ -69,7 +69,7 @@ note_all-loop-line-preserved t c =
     c.note_within-taken.ensures.lines
     ∙ ap (λ o. lowest o (lines_within around known (taken_of c.seen_by-seen.result) s)) (c.note.ensures ∙ ap (λ b. lowest least (unless b line.line)) c.keeps.ensures)
     ∙ ap (λ t. lowest (lowest least (unless (keeps around t s) line.line)) (lines_within around known t s)) seen in
-    let left = drop (length (turns_in (row_of c.args.known) (block_of c.args.lines.now))) (map row_of c.args.rest.now.left.now) in
+    let left = drop (length (turns_in (row_of c.args.known) (block_of c.args.lines.now))) (map held_of c.args.rest.now.left.now) in
     record {
       small = both_right (small_stmt s) (small_block (block_of rest)) (ap small_block (sym split) ∙ c.loop-line.invariant.small);
       taken =

@@ -13,7 +13,7 @@ loop-param-preserved c =
     let item : Param = parsed.param_of c.param-item.result in
     let split : map parsed.param_of (drop c.loop-param.param-index c.args.params.now) ≡ item ∷ rest = grind (arith, common_steps) in
     ap (λ ps. map param_of ps ++ rest) c.in_ok-push.ensures.items
-    ∙ map_pushed param_of c.loop-param.found.items (record { name = c.in_ok-name.name; is_array = c.param-item.result.is_array }) rest
-    ∙ ap (λ (x : List ℕ). found ++ (record { name = x; is_array = c.param-item.result.is_array }) ∷ rest) c.in_ok-name.ensures
+    ∙ map_pushed param_of c.loop-param.found.items (record { name = c.in_ok-name.name; kind = c.param-item.result.kind }) rest
+    ∙ ap (λ (x : List ℕ). found ++ (record { name = x; kind = c.param-item.result.kind }) ∷ rest) c.in_ok-name.ensures
     ∙ ap (λ (ps : List Param). found ++ ps) (sym split)
     ∙ c.loop-param.invariant

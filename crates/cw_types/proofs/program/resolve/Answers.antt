@@ -2,6 +2,7 @@ use Rattle.std.proofs.Common.{◌≡◌, ℕ, ◌+◌, ◌≤◌, List, [], ◌�
 use Rattle.std.proofs.lemmas.List.{length-map}
 use Rattle.cw_model.specs.Answers.{main_name}
 use Rattle.cw_model.specs.Sizes.{first_places, regions_in_block}
+use Rattle.cw_model.specs.Syntax as model
 use Rattle.cw_model.specs.Syntax.{Name, Reducer}
 use Rattle.cw_tree.specs.declared.syntax.Function.{Function}
 use Rattle.cw_tree.specs.SyntaxView as parsed
@@ -17,11 +18,12 @@ tags_by_region : (ms : List Marked) → code.tags_of ms ≡ map (λ (d : Name ×
 tags_by_region [] = refl
 tags_by_region (m ∷ ms) = ap (λ xs. m.tag.now ∷ xs) (tags_by_region ms)
 
-abbrev lists_from : List Name → List Name → List Name → spec.Lists
-lists_from fs rs ts = record { functions = fs; reducers = rs; tags = ts }
+abbrev lists_from : List model.Function → List Name → List Name → List Name → spec.Lists
+lists_from cs fs rs ts = record { callees = cs; functions = fs; reducers = rs; tags = ts }
 
-lists_same : (fs gs rs ss ts us : List Name) → fs ≡ gs → rs ≡ ss → ts ≡ us → lists_from fs rs ts ≡ lists_from gs ss us
-lists_same fs gs rs ss ts us p q r = ap (λ xs. lists_from xs rs ts) p ∙ ap (λ xs. lists_from gs xs ts) q ∙ ap (λ xs. lists_from gs ss xs) r
+lists_same : (cs ds : List model.Function) (fs gs rs ss ts us : List Name) → cs ≡ ds → fs ≡ gs → rs ≡ ss → ts ≡ us → lists_from cs fs rs ts ≡ lists_from ds gs ss us
+lists_same cs ds fs gs rs ss ts us o p q r =
+    ap (λ xs. lists_from xs fs rs ts) o ∙ ap (λ xs. lists_from ds xs rs ts) p ∙ ap (λ xs. lists_from ds gs xs ts) q ∙ ap (λ xs. lists_from ds gs ss xs) r
 
 abbrev tree_from : List Reducer → List spec.Function → List Name → ℕ → spec.Resolved
 tree_from rs fs ts m = record { reducers = rs; functions = fs; tags = ts; main = m }
@@ -55,7 +57,7 @@ tag_table-requires c =
 
 pub functions-requires : goal.functions-requires
 functions-requires c =
-    subst (λ (fs : List Function). All (λ f. length f.params.items + declares_in_block (parsed.block_of f.body.items) ≤ 256) fs) (sym c.deref-7.ensures.value)
+    subst (λ (fs : List Function). All (λ f. length f.params.items + declares_in_block (parsed.block_of f.body.items) ≤ 256) fs) (sym c.deref-8.ensures.value)
     (all_small c.args.ast.now.functions.items (heads_small (parsed.program_of c.args.ast.now) c.requires))
 
 pub returns : goal.returns
@@ -70,13 +72,13 @@ returns c =
     let reducers : c.in_ok-reducer_table.reducer_table ≡ spec.reducer_names P.reducers =
     c.in_ok-reducer_table.ensures ∙ ap (λ rs. spec.reducer_names (map parsed.reducer_of rs)) c.deref-4.ensures.value in
     let lists =
-    lists_same c.in_ok-function_table.function_table (spec.function_names P.functions) c.in_ok-reducer_table.reducer_table (spec.reducer_names P.reducers) c.in_ok-tag_table.tag_table (spec.tags_of P)
-    functions reducers (c.in_ok-tag_table.ensures ∙ ap code.tags_of c.deref-5.ensures.value ∙ tags) in
+    lists_same (map parsed.function_of c.deref-6.result.now) P.functions c.in_ok-function_table.function_table (spec.function_names P.functions) c.in_ok-reducer_table.reducer_table (spec.reducer_names P.reducers) c.in_ok-tag_table.tag_table (spec.tags_of P)
+    (ap (map parsed.function_of) c.deref-6.ensures.value) functions reducers (c.in_ok-tag_table.ensures ∙ ap code.tags_of c.deref-5.ensures.value ∙ tags) in
     tree_same (map reducer_of c.in_ok-reducers.reducers.items) P.reducers (map function_of c.in_ok-functions.functions.items) (map (spec.resolved_function (spec.lists_of P)) P.functions)
     c.in_ok-tags.tags.items (spec.tags_of P) c.find-main.result (spec.slot_of main_name (spec.function_names P.functions))
-    (c.in_ok-reducers.ensures ∙ ap (map parsed.reducer_of) c.deref-6.ensures.value)
+    (c.in_ok-reducers.ensures ∙ ap (map parsed.reducer_of) c.deref-7.ensures.value)
     (c.in_ok-functions.ensures
-    ∙ ap (λ fs. map (spec.resolved_function (lists_from c.in_ok-function_table.function_table c.in_ok-reducer_table.reducer_table c.in_ok-tag_table.tag_table)) (map parsed.function_of fs)) c.deref-7.ensures.value
+    ∙ ap (λ fs. map (spec.resolved_function (lists_from (map parsed.function_of c.deref-6.result.now) c.in_ok-function_table.function_table c.in_ok-reducer_table.reducer_table c.in_ok-tag_table.tag_table)) (map parsed.function_of fs)) c.deref-8.ensures.value
     ∙ ap (λ ls. map (spec.resolved_function ls) P.functions) lists)
-    (c.in_ok-tags.ensures ∙ ap code.tags_of c.deref-8.ensures.value ∙ tags)
+    (c.in_ok-tags.ensures ∙ ap code.tags_of c.deref-9.ensures.value ∙ tags)
     (c.find-main.ensures ∙ ap (spec.slot_of main_name) functions)

@@ -7,5 +7,6 @@ use Rattle.cw_types.proofs.resolve.arguments.Given as goal
 
 abbrev pub invariant-loop-e : goal.invariant-loop-e
 invariant-loop-e l =
-    map argument_of l.found.items ++ map (spec.resolved_argument (locals_view l.locals)) (map parsed.expr_of (drop l.e-index l.es))
-    ≡ map (spec.resolved_argument (locals_view l.locals)) (map parsed.expr_of l.es)
+    map argument_of l.found.items
+    ++ spec.resolved_arguments (locals_view l.locals) (map parsed.param_of l.left) (map parsed.expr_of (drop l.e-index l.es))
+    ≡ spec.resolved_arguments (locals_view l.locals) (map parsed.param_of l.params) (map parsed.expr_of l.es)

@@ -9,7 +9,7 @@ use Rattle.cw_verify.specs.Table.{shape_view, shapes_of, come_all, next_distance
 use Rattle.cw_verify.proofs.Lists.{same_some}
 use Rattle.cw_verify.proofs.Numbering.{known_next}
 use Rattle.cw_verify.proofs.Spreading.{shapes_at, tells_from}
-use Rattle.cw_verify.proofs.Tables.{visited_ready}
+use Rattle.cw_verify.proofs.Tables.{may_both, visited_ready, visited_unready, visited_frozen}
 use Rattle.cw_verify.proofs.search.Search.visit.Goals as goal
 
 pub returns-clause-visits : goal.returns-clause-visits
@@ -26,9 +26,47 @@ returns-clause-visits c = λ i is.
     let at = shapes_at items k found found c.requires.row c.index-2.ensures ∙ ap (λ o. Some (option_map shape_view o)) c.in-Some.is in
     let ready = sym c.is_ready.ensures ∙ c.if-not-is_ready.false in
     let left = c.in_ok-left.ensures ∙ ap (λ s. leaves code s here) c.in_ok-shape-in-Some.ensures in
-    let comes = visited_ready code start (shapes_of items) k here shape at ready ∙ ap (come_all (shapes_of items) (next_distances start k here)) (sym left) in
+    let thawed = sym c.is_thawed.ensures ∙ c.if-not-is_thawed.false in
+    let acts = may_both code shape here ready thawed in
+    let comes = visited_ready code start (shapes_of items) k here shape at acts ∙ ap (come_all (shapes_of items) (next_distances start k here)) (sym left) in
     subst (λ o. Tells c.spread.result o c.args.self.now c.spread.new.self) (sym comes ∙ ap (visited code start (shapes_of items) k) same)
     (tells_from c.spread.result (come_all (shapes_of items) (next_distances start k here) (shape_view c.in_ok-left.left)) c.args.self.now c.spread.new.self c.next-number.new.self c.spread.ensures.spreads)
+
+pub returns-then-not-is_ready-clause-visits : goal.returns-then-not-is_ready-clause-visits
+returns-then-not-is_ready-clause-visits c = λ i is.
+    let code = code_view c.args.code.now in
+    let start = c.args.f.now.start in
+    let k = c.args.k in
+    let items = c.args.self.now.found.items in
+    let found = c.index-2.result.now in
+    let shape = shape_view c.in-Some.shape in
+    let here = c.index.result.now in
+    let is_here : slice_get code.instrs (start + k) ≡ Some here = slice_get-get_or code.instrs (start + k) here c.requires.there ∙ ap Some (sym c.index.ensures) in
+    let same : i ≡ here = same_some i here (sym is ∙ is_here) in
+    let at = shapes_at items k found found c.requires.row c.index-2.ensures ∙ ap (λ o. Some (option_map shape_view o)) c.in-Some.is in
+    ap (visited code start (shapes_of items) k) same ∙ visited_unready code start (shapes_of items) k here shape at (sym c.is_ready.ensures ∙ c.if-not-is_ready.true)
+
+pub returns-then-not-is_thawed-clause-visits : goal.returns-then-not-is_thawed-clause-visits
+returns-then-not-is_thawed-clause-visits c = λ i is.
+    let code = code_view c.args.code.now in
+    let start = c.args.f.now.start in
+    let k = c.args.k in
+    let items = c.args.self.now.found.items in
+    let found = c.index-2.result.now in
+    let shape = shape_view c.in-Some.shape in
+    let here = c.index.result.now in
+    let is_here : slice_get code.instrs (start + k) ≡ Some here = slice_get-get_or code.instrs (start + k) here c.requires.there ∙ ap Some (sym c.index.ensures) in
+    let same : i ≡ here = same_some i here (sym is ∙ is_here) in
+    let at = shapes_at items k found found c.requires.row c.index-2.ensures ∙ ap (λ o. Some (option_map shape_view o)) c.in-Some.is in
+    ap (visited code start (shapes_of items) k) same ∙ visited_frozen code start (shapes_of items) k here shape at (sym c.is_thawed.ensures ∙ c.if-not-is_thawed.true)
+
+pub spread-requires-clause-named : goal.spread-requires-clause-named
+spread-requires-clause-named c =
+    let code = code_view c.args.code.now in
+    let place = c.args.f.now.start + c.args.k in
+    let here = c.index.result.now in
+    let is_here : slice_get code.instrs place ≡ Some here = slice_get-get_or code.instrs place here c.requires.there ∙ ap Some (sym c.index.ensures) in
+    c.requires.named here is_here
 
 pub spread-requires-clause-known : goal.spread-requires-clause-known
 spread-requires-clause-known c =

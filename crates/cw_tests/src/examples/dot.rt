@@ -1,0 +1,66 @@
+//! The program examples/dot.cilk, and the files beside it.
+
+use crate::examples::Example;
+
+pub const EXAMPLE: Example = Example {
+    words: "dot.cilk 2000",
+    source: "// Two sums of products: of n numbers with themselves, and with the same numbers in reverse. An array that is only read is
+// not cut: each half is a range of its numbers, and both halves read the whole. One array stands for both arguments, and
+// a spawned call reads it beside the rest of main.
+// cilkwork run dot.cilk 2000
+// The numbers are those from 1 to n, so the first sum is n(n + 1)(2n + 1) / 6, for 2000 that is 2668667000, and the second
+// one, of i(n + 1 - i), is n(n + 1)(n + 2) / 6, 1335334000. For n = 3 they are 1 + 4 + 9 = 14 and 3 + 4 + 3 = 10.
+
+int dot(const int a[], const int b[], int from, int to) {
+  int total = 0;
+  int i = from;
+  if (to - from <= 250) {
+    while (i < to) {
+      total = total + a[i] * b[i];
+      i = i + 1;
+    }
+    return total;
+  }
+  int middle = from + (to - from) / 2;
+  int rest = 0;
+  total = cilk_spawn dot(a, b, from, middle);
+  rest = dot(a, b, middle, to);
+  cilk_sync;
+  return total + rest;
+}
+
+int main(int n) {
+  int a[n];
+  int b[n];
+  int squares = 0;
+  int others = 0;
+  cilk_for (int i = 0; i < n; i++) grain 250 over (a, b) {
+    a[i] = i + 1;
+    b[i] = n - i;
+  }
+  squares = cilk_spawn dot(a, a, 0, n);
+  others = dot(a, b, 0, n);
+  cilk_sync;
+  print(squares);
+  print(others);
+  return 0;
+}
+",
+    run: "2668667000
+1335334000
+return 0
+",
+    scale: "tag,work,span,parallelism,burdened_span,burdened_parallelism
+,119058,10747,11.078,115747,1.028
+",
+    sites: "site,kind,line,callee,calls,own_work,own_span,work,span
+0,root,26,main,1,50368,6388,119058,10747
+1,spawn,20,dot,14,34314,0,59972,25782
+2,call,21,dot,14,34314,4328,59972,25782
+3,spawn,35,dot,1,31,0,34345,4359
+4,call,36,dot,1,31,31,34345,4359
+",
+    greedy: "processors,work,span,greedy
+8,119058,10747,15029
+",
+};
