@@ -117,7 +117,7 @@ impl Meter {
     }
 
     /// A call in place begins by the instruction after `count` ones, at the site of this number.
-    #[inline(never)]
+    #[inline(always)]
     pub fn call(&mut self, count: u64, site: u32) -> Result<(), AllocError>
         ensures { OnOk result (Begins self.old self.new count false (Some (Invocation site))) }
     {
@@ -275,7 +275,7 @@ impl Meter {
     }
 
     // The innermost part, whose block has joined, ends at this count.
-    #[inline(never)]
+    #[inline(always)]
     fn close(&mut self, count: u64) -> Result<(), AllocError>
         ensures { OnOk result (ClosesPart self.old self.new count) }
     {
