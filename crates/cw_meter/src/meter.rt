@@ -204,7 +204,7 @@ impl Meter {
         ensures { OnOk result (Ends self.old self.new count) }
     {
         self.join(count)?;
-        self.close(count)?;
+        self.close_apart(count)?;
         Ok(())
     }
 
@@ -283,6 +283,15 @@ impl Meter {
             Some(part) => self.tables.close(count, part),
             None => Ok(()),
         }
+    }
+
+    // The same apart, for a scope, a cut or a region: the loop of a run has room for the ends of calls alone.
+    #[inline(never)]
+    fn close_apart(&mut self, count: u64) -> Result<(), AllocError>
+        ensures { OnOk result (ClosesPart self.old self.new count) }
+    {
+        self.close(count)?;
+        Ok(())
     }
 
     /// What was counted over a run that has ended after `count` instructions, of so many call sites, the run's own call
