@@ -1,11 +1,12 @@
 #!/usr/bin/env python3
 """Processor time of runs beside that of the same instructions in a switch loop of C, without measures and with them.
 
-    times.py PROGRAM [ROUNDS]   the least of so many interleaved rounds (7), and the ratios beside those that are wanted;
+    times.py PROGRAM [ROUNDS]   the least of so many interleaved rounds (15), and the ratios beside those that are wanted;
                                 wants gcc, which compiles bench/switch.c and bench/measures.c
 
-Sizes are such that what begins and ends a process is a small part. Where other work runs beside, ratios still compare,
-since the rounds are interleaved; seconds do not.
+Sizes are such that what begins and ends a process is a small part, and rounds short: a machine that is shared is now and
+then slower for seconds. Where other work runs beside, ratios still compare, since the rounds are interleaved; seconds do
+not.
 """
 import os
 import pathlib
@@ -17,8 +18,8 @@ import tempfile
 HERE = pathlib.Path(__file__).resolve().parent
 LIMIT = "4611686018427387904"
 # programs, their argument, and the ratios that are wanted without measures and with them
-PROGRAMS = [("fib", "31", 0.65, 0.75), ("chain", "6000", 0.9, 0.85), ("sieve", "3000000", 0.5, 0.5),
-            ("mergesort", "300000", 0.55, 0.6), ("matrix", "150", 0.6, 0.65), ("queens", "11", 0.7, 0.8)]
+PROGRAMS = [("fib", "29", 0.65, 0.75), ("chain", "4000", 0.9, 0.85), ("sieve", "1000000", 0.5, 0.5),
+            ("mergesort", "100000", 0.55, 0.6), ("matrix", "110", 0.6, 0.65), ("queens", "10", 0.7, 0.8)]
 
 
 def source(name):
@@ -54,7 +55,7 @@ def commands(program, folder):
     return found
 
 
-def main(program, rounds="7"):
+def main(program, rounds="15"):
     least, above = {}, 0
     with tempfile.TemporaryDirectory() as folder:
         asked = commands(os.path.abspath(program), folder)

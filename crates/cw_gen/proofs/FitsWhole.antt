@@ -1,9 +1,10 @@
 -- The code of each function fits, and the functions lie one after another.
-use Rattle.std.proofs.Common.{◌≡◌, ℕ, zero, suc, ◌+◌, ◌-◌, ◌<◌, ◌≤◌, List, [], ◌∷◌, ◌++◌, length, Bool, true, false, not, if◌then◌else◌, Option, Some, None, refl, sym, ap, ◌∙◌, subst, arith, append_assoc, length-append, true≢false}
+use Rattle.std.proofs.Common.{◌≡◌, ℕ, zero, suc, ◌+◌, ◌-◌, ◌^◌, ◌<◌, ◌≤◌, List, [], ◌∷◌, ◌++◌, length, Bool, true, false, not, if◌then◌else◌, Option, Some, None, refl, sym, ap, ◌∙◌, subst, arith, append_assoc, length-append, true≢false}
 use Rattle.std.specs.Prelude.{slice_get, map, replicate}
 use Rattle.std.proofs.Math.Seq.{get_or-append_seam}
 use Rattle.std.proofs.lemmas.List.{append-nil, length-replicate}
 use Rattle.std.proofs.lemmas.Option.{slice_get-get_or, slice_get_within}
+use Rattle.cw_model.specs.declared.limits.TheConstants.{MOST_DECLARED, MOST_INSTRUCTIONS}
 use Rattle.cw_model.specs.declared.syntax.NameKind.{NameKind}
 use Rattle.cw_model.specs.Syntax.{Param, Function, Program}
 use Rattle.cw_model.specs.Answers.{main_name}
@@ -11,14 +12,16 @@ use Rattle.cw_model.specs.Typing.{WithInt, Alone, block_returns}
 use Rattle.cw_model.specs.Meaning.{function_named}
 use Rattle.cw_tree.specs.Resolved.{Lists, Locals, locals_of}
 use Rattle.cw_loops.specs.Lowered.{lowered}
-use Rattle.cw_loops.specs.Slotted.{slotted_function, lowered_lists}
+use Rattle.cw_loops.specs.SlotLaws.{IsWithinLimits}
+use Rattle.cw_loops.specs.Slotted.{slotted_block, slotted_function, lowered_lists}
 use Rattle.cw_code.specs.declared.code.Func.{Func}
 use Rattle.cw_code.specs.declared.code.Instr.{Instr}
 use Rattle.cw_code.specs.Code.{Code, reducer_names}
 use Rattle.cw_code.specs.Fits.{gives_value, array_params_of, readers_of, are_apart, names_well, Shape, first_shape, FlowsInto, FitsFunc, LieFrom, Fits}
-use Rattle.cw_gen.specs.Emit.{Tables, first_list, most_jump, emitted_end, emitted_func, emitted_instrs, emitted_funcs}
+use Rattle.cw_gen.specs.Emit.{Tables, first_list, most_jump, arrays_in_block, emitted_end, emitted_func, emitted_instrs, emitted_funcs}
 use Rattle.cw_gen.proofs.CodedReducers.{names_kept}
 use Rattle.cw_gen.proofs.Codes.{main_locals}
+use Rattle.cw_gen.proofs.FewArrays.{FewGiven, few_in, few_given}
 use Rattle.cw_gen.proofs.Entries.{ints_of, arrays_of, as_counted, main_slot}
 use Rattle.cw_gen.proofs.Marked.{length_owned}
 use Rattle.cw_gen.proofs.MarkedParams.{counted_ints, counted_arrays, counted_readers, both_counted, marks_short}
@@ -52,7 +55,7 @@ within_shapes zero ss place shape h = (omega arith, there (slice_get ss place) r
 within_shapes (suc start) ss zero shape h = cc
 within_shapes (suc start) ss (suc place) shape h = let more = within_shapes start ss place shape h in (omega (arith, more.0), omega (arith, more.1))
 
-module _ (code : Code) (fs : List Function) (lists : Lists) (small : length code.instrs ≤ most_jump) (functions : texts.Table code fs lists) (reducers_are : reducer_names code.reducers ≡ lists.reducers) (tags_are : code.tags ≡ lists.tags) (least : TurnsClose fs) where
+module _ (code : Code) (fs : List Function) (lists : Lists) (small : length code.instrs ≤ MOST_INSTRUCTIONS) (functions : texts.Table code fs lists) (reducers_are : reducer_names code.reducers ≡ lists.reducers) (tags_are : code.tags ≡ lists.tags) (least : TurnsClose fs) where
   abbrev first : ℕ
   first = first_list code.sites
 
@@ -64,7 +67,7 @@ module _ (code : Code) (fs : List Function) (lists : Lists) (small : length code
   function_shapes size g =
       block_shapes fs size [] (locals_of g.params) [] g.body ++ (if g.gives_int then [] else reached (block_returns g.body) (end_shape fs size [] (locals_of g.params) [] g.body) ∷ [])
 
-  module _ (g : Function) (start : ℕ) (fine : FunctionFine fs lists tables g) (stands_code : HasAt code.instrs start (function_code first lists g)) where
+  module _ (g : Function) (start : ℕ) (fine : FunctionFine fs lists tables g) (stands_code : HasAt code.instrs start (function_code first lists g)) (few : length (locals_of g.params).arrays ≤ MOST_DECLARED + length (function_code first lists g)) where
     abbrev f : Func
     f = emitted_func first start (slotted_function lists g)
 
@@ -219,10 +222,19 @@ module _ (code : Code) (fs : List Function) (lists : Lists) (small : length code
     found_at : (place : ℕ) (shape : Shape) (i : Instr) → flat (slice_get tab place) ≡ Some shape → slice_get code.instrs place ≡ Some i → FitsHere place (Some shape) i
     found_at place shape i e e' = let is = within place shape e in subst (λ o. FitsHere place o i) e (fits_at place i is.0 is.1 e')
 
+    -- the arrays of a call are few
+    numbered : f.arrays + f.readers ≤ 2 ^ 32
+    numbered =
+        let given = length locals.arrays in
+        let most = given + length body in
+        let all : arrays_in_block given (slotted_block lists locals g.body) ≤ most = few_in first (marks_for g.params) lists given most locals g.body (omega arith) (omega arith) in
+        omega (arith, ap arrays_of same_room, all, few, length_within code.instrs start (function_code first lists g) stands_code, small, length-append body (emitted_end g.gives_int))
+
     pub function_fits : FitsFunc code f
     function_fits = record {
       room = omega (arith, room.0, counted_ints g.params);
       array_room = omega (arith, room.1, counted_arrays g.params, both_counted kinds);
+      numbered = numbered;
       names = λ place i le below e. named (flat (slice_get tab place)) place i (fits_at place i le below e);
       table = table_of tab;
       is_table = record {
@@ -242,19 +254,19 @@ module _ (code : Code) (fs : List Function) (lists : Lists) (small : length code
     pub lie : LieFrom start (emitted_funcs first start (map (slotted_function lists) gs)) (start + length (emitted_instrs first (map (slotted_function lists) gs)))
     pub each : (k : ℕ) (f : Func) → slice_get (emitted_funcs first start (map (slotted_function lists) gs)) k ≡ Some f → FitsFunc code f
 
-  row_fits : (pre : List Instr) (gs : List Function) → code.instrs ≡ pre ++ emitted_instrs first (map (slotted_function lists) gs) → FunctionsFine fs lists tables gs → RowFits (length pre) gs
-  row_fits pre [] e fine = record { lie = omega arith; each = λ k f e'. cc }
-  row_fits pre (g ∷ gs) e fine =
+  row_fits : (pre : List Instr) (gs : List Function) → code.instrs ≡ pre ++ emitted_instrs first (map (slotted_function lists) gs) → FunctionsFine fs lists tables gs → FewGiven first lists gs → RowFits (length pre) gs
+  row_fits pre [] e fine few = record { lie = omega arith; each = λ k f e'. cc }
+  row_fits pre (g ∷ gs) e fine few =
       let here = function_code first lists g in
       let there = emitted_instrs first (map (slotted_function lists) gs) in
       let stands_here : HasAt code.instrs (length pre) here = subst (λ l. HasAt l (length pre) here) (sym e) (has_all pre here there) in
-      let more = row_fits (pre ++ here) gs (e ∙ sym (append_assoc pre here there)) fine.1 in
+      let more = row_fits (pre ++ here) gs (e ∙ sym (append_assoc pre here there)) fine.1 few.1 in
       let at : length (pre ++ here) ≡ length pre + length here = length-append pre here in
       let more' : RowFits (length pre + length here) gs = subst (λ m. RowFits m gs) at more in
       let whole : length pre + length here + length there ≡ length pre + length (here ++ there) = omega (arith, length-append here there) in
       record {
-        lie = (refl, not_empty g (length pre) fine.0 stands_here, subst (λ m. LieFrom (length pre + length here) (emitted_funcs first (length pre + length here) (map (slotted_function lists) gs)) m) whole more'.lie);
-        each = λ k f e'. pick k f e' (function_fits g (length pre) fine.0 stands_here) more'.each;
+        lie = (refl, not_empty g (length pre) fine.0 stands_here few.0, subst (λ m. LieFrom (length pre + length here) (emitted_funcs first (length pre + length here) (map (slotted_function lists) gs)) m) whole more'.lie);
+        each = λ k f e'. pick k f e' (function_fits g (length pre) fine.0 stands_here few.0) more'.each;
       }
     where
       pick : (k : ℕ) (f : Func) → slice_get (emitted_func first (length pre) (slotted_function lists g) ∷ emitted_funcs first (length pre + length (function_code first lists g)) (map (slotted_function lists) gs)) k ≡ Some f → FitsFunc code (emitted_func first (length pre) (slotted_function lists g)) →
@@ -263,15 +275,15 @@ module _ (code : Code) (fs : List Function) (lists : Lists) (small : length code
       pick (suc k) f e' here rest = rest k f e'
 
 -- where functions are compiled, the code of a lowered program fits
-pub generated_fits : (program : Program) → is_function main_name program.functions ≡ true → length (code_of program).instrs ≤ most_jump → TurnsClose (lowered program).functions → texts.Table (code_of program) (lowered program).functions (lowered_lists program) →
+pub generated_fits : (program : Program) → is_function main_name program.functions ≡ true → IsWithinLimits program → length (code_of program).instrs ≤ MOST_INSTRUCTIONS → TurnsClose (lowered program).functions → texts.Table (code_of program) (lowered program).functions (lowered_lists program) →
     ProgramFine (lowered program) (lowered_lists program) (tables_in (code_of program)) → are_apart (code_of program).tags ≡ true → Fits (code_of program)
-generated_fits program is_main small least functions fine apart =
+generated_fits program is_main limits small least functions fine apart =
     let code = code_of program in
     let main = function_named main_name (lowered program).functions in
     let entry = functions.entry main_name fine.main in
     let at : slice_get code.funcs code.main ≡ Some entry.0 = ap (slice_get code.funcs) (main_slot program is_main) ∙ entry.1 in
     let none_before : 0 + length code.instrs ≡ length code.instrs = omega arith in
-    let all = row_fits code (lowered program).functions (lowered_lists program) small functions (names_kept program.reducers) refl least [] (lowered program).functions refl fine.functions in
+    let all = row_fits code (lowered program).functions (lowered_lists program) small functions (names_kept program.reducers) refl least [] (lowered program).functions refl fine.functions (few_given (first_list code.sites) (lowered_lists program) program limits) in
     record {
       main = ap gives_value at ∙ entry.2.gives ∙ fine.gives;
       of_integers = omega (arith, ap array_params_of at, entry.2.readers, (main_locals main.params fine.ints).1);

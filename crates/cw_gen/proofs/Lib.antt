@@ -76,6 +76,7 @@ pub mod Fitting
 pub mod Entries
 pub mod FitsWhole
 pub mod FewFunctions
+pub mod FewArrays
 pub mod Views
 pub mod Emitting
 pub mod LoopCode

@@ -25,6 +25,7 @@ use Rattle.cw_loops.specs.declared.tree.Tree.{Tree}
 use Rattle.cw_loops.specs.Lowered.{lowered}
 use Rattle.cw_loops.specs.LoweringLaws.{IsOwnedSource, OwnedIsLowerable, LoweringKeepsAnswers, LoweringKeepsSize}
 use Rattle.cw_loops.specs.Seen.{functions_of, IsLowered}
+use Rattle.cw_loops.specs.SlotLaws.{IsWithinLimits}
 use Rattle.cw_loops.specs.Slotted.{lowered_lists, slotted_functions}
 use Rattle.cw_loops.specs.SourceLike.{is_source_like}
 use Rattle.cw_gen.specs.Emit.{most_jump, emitted_sites_of, emitted}
@@ -99,11 +100,14 @@ module _ (least : WhilesAreLeast) (lowerable : OwnedIsLowerable) (answers : Lowe
     few_calls : length (call_sites program) ≤ MOST_CALL_STATEMENTS
     few_calls = omega (arith, site_count sites sites_are, few_sites)
 
+    keeps : IsWithinLimits program
+    keeps = record { limits = limits; loops = few }
+
     -- what the code relies on
     fine : Relied program
     fine =
         program_fine program owned_source numbered (functions_known program owned_source (lowerable program owned_source)) (functions_free program least owned_source (lowerable program owned_source))
-        (all_pass program owned_source numbered few_calls (few_functions program (record { limits = limits; loops = few })) (as_many_sites program))
+        (all_pass program owned_source numbered few_calls (few_functions program keeps) (as_many_sites program))
 
     -- the code is that of the program, each name looked up
     code_is : code_view made ≡ code_of program
@@ -121,12 +125,13 @@ module _ (least : WhilesAreLeast) (lowerable : OwnedIsLowerable) (answers : Lowe
     pub generated : length made.instrs.items ≤ MOST_INSTRUCTIONS → Generates program (code_view made)
     generated h =
         let closes = turns_close program least in
-        let short : IsShort program = omega (arith, code_count program fine, sizes program owned_source, size, h) in
+        let within_limit : length (code_of program).instrs ≤ MOST_INSTRUCTIONS = omega (arith, code_count program fine, sizes program owned_source, size, h) in
+        let short : IsShort program = omega (arith, within_limit) in
         let main = lowered_main program typed in
         let params = ap length main.params in
         subst (λ c. Generates program c) (sym code_is) (record {
           serial = λ args fit enough n. same_run program short closes fine args (enough ∙ sym params) n ∙ ap (λ a. Some a) (answers program owned_source args n fit enough);
-          fits = generated_fits program (source_main program typed) short closes (table_of program fine) fine (tags_are_apart program);
+          fits = generated_fits program (source_main program typed) keeps within_limit closes (table_of program fine) fine (tags_are_apart program);
           params = same_params program short fine ∙ params;
           sites = same_sites program;
           main_line = head_is (lists_of program) program.functions main_name (source_main program typed);

@@ -144,96 +144,108 @@ each_sync = (
                                                                                                   (
                                                                                                     (cell_slot_sync, tt),
                                                                                                     (
-                                                                                                      (cell_slot_sync, tt),
+                                                                                                      (cell_slots_sync, tt),
                                                                                                       (
-                                                                                                        (cell_slot_sync, tt),
+                                                                                                        (cell_slot_constant_sync, tt),
                                                                                                         (
-                                                                                                          (cell_slot_sync, (narrow_sync, tt)),
+                                                                                                          (cell_slot_constant_sync, tt),
                                                                                                           (
-                                                                                                            (cell_slot_sync, (narrow_sync, tt)),
+                                                                                                            (cell_slot_sync, tt),
                                                                                                             (
-                                                                                                              (cell_slot_sync, (narrow_sync, tt)),
+                                                                                                              (cell_slot_sync, tt),
                                                                                                               (
-                                                                                                                (cell_constant_sync, (narrow_sync, tt)),
+                                                                                                                (cell_slot_sync, tt),
                                                                                                                 (
-                                                                                                                  (cell_constant_sync, (narrow_sync, tt)),
+                                                                                                                  (cell_slot_sync, (narrow_sync, tt)),
                                                                                                                   (
-                                                                                                                    (cell_constant_sync, (narrow_sync, tt)),
+                                                                                                                    (cell_slot_sync, (narrow_sync, tt)),
                                                                                                                     (
-                                                                                                                      (cell_slots_sync, (narrow_sync, tt)),
+                                                                                                                      (cell_slot_sync, (narrow_sync, tt)),
                                                                                                                       (
-                                                                                                                        (cell_slots_sync, (narrow_sync, tt)),
+                                                                                                                        (cell_constant_sync, (narrow_sync, tt)),
                                                                                                                         (
-                                                                                                                          (cell_slots_sync, (narrow_sync, tt)),
+                                                                                                                          (cell_constant_sync, (narrow_sync, tt)),
                                                                                                                           (
-                                                                                                                            (cell_slot_constant_sync, (narrow_sync, tt)),
+                                                                                                                            (cell_constant_sync, (narrow_sync, tt)),
                                                                                                                             (
-                                                                                                                              (cell_slot_constant_sync, (narrow_sync, tt)),
+                                                                                                                              (cell_slots_sync, (narrow_sync, tt)),
                                                                                                                               (
-                                                                                                                                (cell_slot_constant_sync, (narrow_sync, tt)),
+                                                                                                                                (cell_slots_sync, (narrow_sync, tt)),
                                                                                                                                 (
-                                                                                                                                  (narrow_sync, (wide_sync, tt)),
+                                                                                                                                  (cell_slots_sync, (narrow_sync, tt)),
                                                                                                                                   (
-                                                                                                                                    (narrow_sync, (wide_sync, tt)),
+                                                                                                                                    (cell_slot_constant_sync, (narrow_sync, tt)),
                                                                                                                                     (
-                                                                                                                                      (narrow_sync, (wide_sync, tt)),
+                                                                                                                                      (cell_slot_constant_sync, (narrow_sync, tt)),
                                                                                                                                       (
-                                                                                                                                        (narrow_sync, (wide_sync, tt)),
+                                                                                                                                        (cell_slot_constant_sync, (narrow_sync, tt)),
                                                                                                                                         (
                                                                                                                                           (narrow_sync, (wide_sync, tt)),
                                                                                                                                           (
                                                                                                                                             (narrow_sync, (wide_sync, tt)),
                                                                                                                                             (
-                                                                                                                                              (cell_slot_sync, (wide_sync, tt)),
+                                                                                                                                              (narrow_sync, (wide_sync, tt)),
                                                                                                                                               (
-                                                                                                                                                (cell_slot_sync, (wide_sync, tt)),
+                                                                                                                                                (narrow_sync, (wide_sync, tt)),
                                                                                                                                                 (
-                                                                                                                                                  (cell_slot_sync, (wide_sync, tt)),
+                                                                                                                                                  (narrow_sync, (wide_sync, tt)),
                                                                                                                                                   (
-                                                                                                                                                    (cell_slot_sync, (wide_sync, tt)),
+                                                                                                                                                    (narrow_sync, (wide_sync, tt)),
                                                                                                                                                     (
                                                                                                                                                       (cell_slot_sync, (wide_sync, tt)),
                                                                                                                                                       (
                                                                                                                                                         (cell_slot_sync, (wide_sync, tt)),
                                                                                                                                                         (
-                                                                                                                                                          (cell_constant_sync, (wide_sync, tt)),
+                                                                                                                                                          (cell_slot_sync, (wide_sync, tt)),
                                                                                                                                                           (
-                                                                                                                                                            (cell_constant_sync, (wide_sync, tt)),
+                                                                                                                                                            (cell_slot_sync, (wide_sync, tt)),
                                                                                                                                                             (
-                                                                                                                                                              (cell_constant_sync, (wide_sync, tt)),
+                                                                                                                                                              (cell_slot_sync, (wide_sync, tt)),
                                                                                                                                                               (
-                                                                                                                                                                (cell_constant_sync, (wide_sync, tt)),
+                                                                                                                                                                (cell_slot_sync, (wide_sync, tt)),
                                                                                                                                                                 (
                                                                                                                                                                   (cell_constant_sync, (wide_sync, tt)),
                                                                                                                                                                   (
                                                                                                                                                                     (cell_constant_sync, (wide_sync, tt)),
                                                                                                                                                                     (
-                                                                                                                                                                      (cell_slots_sync, (wide_sync, tt)),
+                                                                                                                                                                      (cell_constant_sync, (wide_sync, tt)),
                                                                                                                                                                       (
-                                                                                                                                                                        (cell_slots_sync, (wide_sync, tt)),
+                                                                                                                                                                        (cell_constant_sync, (wide_sync, tt)),
                                                                                                                                                                         (
-                                                                                                                                                                          (cell_slots_sync, (wide_sync, tt)),
+                                                                                                                                                                          (cell_constant_sync, (wide_sync, tt)),
                                                                                                                                                                           (
-                                                                                                                                                                            (cell_slots_sync, (wide_sync, tt)),
+                                                                                                                                                                            (cell_constant_sync, (wide_sync, tt)),
                                                                                                                                                                             (
                                                                                                                                                                               (cell_slots_sync, (wide_sync, tt)),
                                                                                                                                                                               (
                                                                                                                                                                                 (cell_slots_sync, (wide_sync, tt)),
                                                                                                                                                                                 (
-                                                                                                                                                                                  (cell_slot_constant_sync, (wide_sync, tt)),
+                                                                                                                                                                                  (cell_slots_sync, (wide_sync, tt)),
                                                                                                                                                                                   (
-                                                                                                                                                                                    (cell_slot_constant_sync, (wide_sync, tt)),
+                                                                                                                                                                                    (cell_slots_sync, (wide_sync, tt)),
                                                                                                                                                                                     (
-                                                                                                                                                                                      (cell_slot_constant_sync, (wide_sync, tt)),
+                                                                                                                                                                                      (cell_slots_sync, (wide_sync, tt)),
                                                                                                                                                                                       (
-                                                                                                                                                                                        (cell_slot_constant_sync, (wide_sync, tt)),
+                                                                                                                                                                                        (cell_slots_sync, (wide_sync, tt)),
                                                                                                                                                                                         (
                                                                                                                                                                                           (cell_slot_constant_sync, (wide_sync, tt)),
                                                                                                                                                                                           (
                                                                                                                                                                                             (cell_slot_constant_sync, (wide_sync, tt)),
                                                                                                                                                                                             (
-                                                                                                                                                                                              tt,
-                                                                                                                                                                                              tt,
+                                                                                                                                                                                              (cell_slot_constant_sync, (wide_sync, tt)),
+                                                                                                                                                                                              (
+                                                                                                                                                                                                (cell_slot_constant_sync, (wide_sync, tt)),
+                                                                                                                                                                                                (
+                                                                                                                                                                                                  (cell_slot_constant_sync, (wide_sync, tt)),
+                                                                                                                                                                                                  (
+                                                                                                                                                                                                    (cell_slot_constant_sync, (wide_sync, tt)),
+                                                                                                                                                                                                    (
+                                                                                                                                                                                                      tt,
+                                                                                                                                                                                                      tt,
+                                                                                                                                                                                                    ),
+                                                                                                                                                                                                  ),
+                                                                                                                                                                                                ),
+                                                                                                                                                                                              ),
                                                                                                                                                                                             ),
                                                                                                                                                                                           ),
                                                                                                                                                                                         ),
@@ -459,96 +471,108 @@ each_send = (
                                                                                                   (
                                                                                                     (cell_slot_send, tt),
                                                                                                     (
-                                                                                                      (cell_slot_send, tt),
+                                                                                                      (cell_slots_send, tt),
                                                                                                       (
-                                                                                                        (cell_slot_send, tt),
+                                                                                                        (cell_slot_constant_send, tt),
                                                                                                         (
-                                                                                                          (cell_slot_send, (narrow_send, tt)),
+                                                                                                          (cell_slot_constant_send, tt),
                                                                                                           (
-                                                                                                            (cell_slot_send, (narrow_send, tt)),
+                                                                                                            (cell_slot_send, tt),
                                                                                                             (
-                                                                                                              (cell_slot_send, (narrow_send, tt)),
+                                                                                                              (cell_slot_send, tt),
                                                                                                               (
-                                                                                                                (cell_constant_send, (narrow_send, tt)),
+                                                                                                                (cell_slot_send, tt),
                                                                                                                 (
-                                                                                                                  (cell_constant_send, (narrow_send, tt)),
+                                                                                                                  (cell_slot_send, (narrow_send, tt)),
                                                                                                                   (
-                                                                                                                    (cell_constant_send, (narrow_send, tt)),
+                                                                                                                    (cell_slot_send, (narrow_send, tt)),
                                                                                                                     (
-                                                                                                                      (cell_slots_send, (narrow_send, tt)),
+                                                                                                                      (cell_slot_send, (narrow_send, tt)),
                                                                                                                       (
-                                                                                                                        (cell_slots_send, (narrow_send, tt)),
+                                                                                                                        (cell_constant_send, (narrow_send, tt)),
                                                                                                                         (
-                                                                                                                          (cell_slots_send, (narrow_send, tt)),
+                                                                                                                          (cell_constant_send, (narrow_send, tt)),
                                                                                                                           (
-                                                                                                                            (cell_slot_constant_send, (narrow_send, tt)),
+                                                                                                                            (cell_constant_send, (narrow_send, tt)),
                                                                                                                             (
-                                                                                                                              (cell_slot_constant_send, (narrow_send, tt)),
+                                                                                                                              (cell_slots_send, (narrow_send, tt)),
                                                                                                                               (
-                                                                                                                                (cell_slot_constant_send, (narrow_send, tt)),
+                                                                                                                                (cell_slots_send, (narrow_send, tt)),
                                                                                                                                 (
-                                                                                                                                  (narrow_send, (wide_send, tt)),
+                                                                                                                                  (cell_slots_send, (narrow_send, tt)),
                                                                                                                                   (
-                                                                                                                                    (narrow_send, (wide_send, tt)),
+                                                                                                                                    (cell_slot_constant_send, (narrow_send, tt)),
                                                                                                                                     (
-                                                                                                                                      (narrow_send, (wide_send, tt)),
+                                                                                                                                      (cell_slot_constant_send, (narrow_send, tt)),
                                                                                                                                       (
-                                                                                                                                        (narrow_send, (wide_send, tt)),
+                                                                                                                                        (cell_slot_constant_send, (narrow_send, tt)),
                                                                                                                                         (
                                                                                                                                           (narrow_send, (wide_send, tt)),
                                                                                                                                           (
                                                                                                                                             (narrow_send, (wide_send, tt)),
                                                                                                                                             (
-                                                                                                                                              (cell_slot_send, (wide_send, tt)),
+                                                                                                                                              (narrow_send, (wide_send, tt)),
                                                                                                                                               (
-                                                                                                                                                (cell_slot_send, (wide_send, tt)),
+                                                                                                                                                (narrow_send, (wide_send, tt)),
                                                                                                                                                 (
-                                                                                                                                                  (cell_slot_send, (wide_send, tt)),
+                                                                                                                                                  (narrow_send, (wide_send, tt)),
                                                                                                                                                   (
-                                                                                                                                                    (cell_slot_send, (wide_send, tt)),
+                                                                                                                                                    (narrow_send, (wide_send, tt)),
                                                                                                                                                     (
                                                                                                                                                       (cell_slot_send, (wide_send, tt)),
                                                                                                                                                       (
                                                                                                                                                         (cell_slot_send, (wide_send, tt)),
                                                                                                                                                         (
-                                                                                                                                                          (cell_constant_send, (wide_send, tt)),
+                                                                                                                                                          (cell_slot_send, (wide_send, tt)),
                                                                                                                                                           (
-                                                                                                                                                            (cell_constant_send, (wide_send, tt)),
+                                                                                                                                                            (cell_slot_send, (wide_send, tt)),
                                                                                                                                                             (
-                                                                                                                                                              (cell_constant_send, (wide_send, tt)),
+                                                                                                                                                              (cell_slot_send, (wide_send, tt)),
                                                                                                                                                               (
-                                                                                                                                                                (cell_constant_send, (wide_send, tt)),
+                                                                                                                                                                (cell_slot_send, (wide_send, tt)),
                                                                                                                                                                 (
                                                                                                                                                                   (cell_constant_send, (wide_send, tt)),
                                                                                                                                                                   (
                                                                                                                                                                     (cell_constant_send, (wide_send, tt)),
                                                                                                                                                                     (
-                                                                                                                                                                      (cell_slots_send, (wide_send, tt)),
+                                                                                                                                                                      (cell_constant_send, (wide_send, tt)),
                                                                                                                                                                       (
-                                                                                                                                                                        (cell_slots_send, (wide_send, tt)),
+                                                                                                                                                                        (cell_constant_send, (wide_send, tt)),
                                                                                                                                                                         (
-                                                                                                                                                                          (cell_slots_send, (wide_send, tt)),
+                                                                                                                                                                          (cell_constant_send, (wide_send, tt)),
                                                                                                                                                                           (
-                                                                                                                                                                            (cell_slots_send, (wide_send, tt)),
+                                                                                                                                                                            (cell_constant_send, (wide_send, tt)),
                                                                                                                                                                             (
                                                                                                                                                                               (cell_slots_send, (wide_send, tt)),
                                                                                                                                                                               (
                                                                                                                                                                                 (cell_slots_send, (wide_send, tt)),
                                                                                                                                                                                 (
-                                                                                                                                                                                  (cell_slot_constant_send, (wide_send, tt)),
+                                                                                                                                                                                  (cell_slots_send, (wide_send, tt)),
                                                                                                                                                                                   (
-                                                                                                                                                                                    (cell_slot_constant_send, (wide_send, tt)),
+                                                                                                                                                                                    (cell_slots_send, (wide_send, tt)),
                                                                                                                                                                                     (
-                                                                                                                                                                                      (cell_slot_constant_send, (wide_send, tt)),
+                                                                                                                                                                                      (cell_slots_send, (wide_send, tt)),
                                                                                                                                                                                       (
-                                                                                                                                                                                        (cell_slot_constant_send, (wide_send, tt)),
+                                                                                                                                                                                        (cell_slots_send, (wide_send, tt)),
                                                                                                                                                                                         (
                                                                                                                                                                                           (cell_slot_constant_send, (wide_send, tt)),
                                                                                                                                                                                           (
                                                                                                                                                                                             (cell_slot_constant_send, (wide_send, tt)),
                                                                                                                                                                                             (
-                                                                                                                                                                                              tt,
-                                                                                                                                                                                              tt,
+                                                                                                                                                                                              (cell_slot_constant_send, (wide_send, tt)),
+                                                                                                                                                                                              (
+                                                                                                                                                                                                (cell_slot_constant_send, (wide_send, tt)),
+                                                                                                                                                                                                (
+                                                                                                                                                                                                  (cell_slot_constant_send, (wide_send, tt)),
+                                                                                                                                                                                                  (
+                                                                                                                                                                                                    (cell_slot_constant_send, (wide_send, tt)),
+                                                                                                                                                                                                    (
+                                                                                                                                                                                                      tt,
+                                                                                                                                                                                                      tt,
+                                                                                                                                                                                                    ),
+                                                                                                                                                                                                  ),
+                                                                                                                                                                                                ),
+                                                                                                                                                                                              ),
                                                                                                                                                                                             ),
                                                                                                                                                                                           ),
                                                                                                                                                                                         ),

@@ -117,7 +117,7 @@ impl Meter {
     }
 
     /// A call in place begins by the instruction after `count` ones, at the site of this number.
-    #[inline(never)]
+    #[inline(always)]
     pub fn call(&mut self, count: u64, site: u32) -> Result<(), AllocError>
         ensures { OnOk result (Begins self.old self.new count false (Some (Invocation site))) }
     {
@@ -204,7 +204,7 @@ impl Meter {
         ensures { OnOk result (Ends self.old self.new count) }
     {
         self.join(count)?;
-        self.close(count)?;
+        self.close_apart(count)?;
         Ok(())
     }
 
@@ -275,7 +275,7 @@ impl Meter {
     }
 
     // The innermost part, whose block has joined, ends at this count.
-    #[inline(never)]
+    #[inline(always)]
     fn close(&mut self, count: u64) -> Result<(), AllocError>
         ensures { OnOk result (ClosesPart self.old self.new count) }
     {
@@ -283,6 +283,15 @@ impl Meter {
             Some(part) => self.tables.close(count, part),
             None => Ok(()),
         }
+    }
+
+    // The same apart, for a scope, a cut or a region: the loop of a run has room for the ends of calls alone.
+    #[inline(never)]
+    fn close_apart(&mut self, count: u64) -> Result<(), AllocError>
+        ensures { OnOk result (ClosesPart self.old self.new count) }
+    {
+        self.close(count)?;
+        Ok(())
     }
 
     /// What was counted over a run that has ended after `count` instructions, of so many call sites, the run's own call

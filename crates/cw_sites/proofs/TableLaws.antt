@@ -216,6 +216,18 @@ table_joined base busy os es old new n small h l f r m k = record {
   here_is = k ∙ h.here_is;
 }
 
+-- where no instruction is to be given to a site, nothing is flushed
+pub flushed_none : (t : SiteTable) (count : ℕ) → t.noted ≡ count → Flushed t t count
+flushed_none t count e =
+    let none : 0 ≡ count - t.noted = omega (arith, e) in
+    record {
+      rows = λ le q fits. let P : ℕ → Type 0 = λ k. row_of t.rows q ≡ given_row q t.here k (row_of t.rows q) in subst P none (row_none q t.here (row_of t.rows q));
+      laid = λ l. l;
+      paths = λ le l q fits. let P : ℕ → Type 0 = λ k. strand_path q t.paths ≡ given_strand_path q t.here k (strand_path q t.paths) in subst P none (strand_path_none q t.here (strand_path q t.paths));
+      noted_is = e;
+      here_is = refl;
+    }
+
 -- the public calls
 
 pub call_begins : (base : ℕ) (busy : ℕ → ℕ) (os : List Open) (es fs : List Event) (old mid new : SiteTable) (count site : ℕ) → Since old.noted count es fs → Small busy (called site (es ++ fs) os) [] → Tells base busy os es old → Flushed old mid count → RowBegun mid new site (strand_path 0 mid.paths).now.weight → Tells base busy (called site (es ++ fs) os) [] new

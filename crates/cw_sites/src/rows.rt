@@ -16,10 +16,10 @@ pub struct Row {
     pub own: u64,
     /// The work of those that ended and lie in no other invocation of the site.
     pub work: u64,
-    /// Their span.
-    pub span: u64,
     /// How many of its invocations are open.
     pub active: u64,
+    /// Their span.
+    pub span: u64,
     /// The work so far as the outermost open one began.
     pub at_work: u64,
     /// The weight of the strand's path as it began.
@@ -43,8 +43,8 @@ const ZERO: Row = Row {
     calls: 0,
     own: 0,
     work: 0,
-    span: 0,
     active: 0,
+    span: 0,
     at_work: 0,
     at_path: 0,
 };

@@ -236,6 +236,11 @@ impl SiteTable {
         requires { IsReady self.old }
         ensures { Joins self.old self.new count }
     {
+        // Mostly a call has just ended, and all is given to its site.
+        if self.noted == count {
+            self.paths.join();
+            return;
+        }
         self.flush_ready(count);
         self.paths.join();
     }

@@ -81,20 +81,20 @@ module _ (keep : (code : Code) → CallsKeep code) (apart : OutsLieApart) (old m
         (subst (λ l. Lends v is p c.ground.base (level ∷ handed_levels (levels_of c.state)) (o ∷ c.outs) l) (sym are)
         (out_is, below keep old limit spawn is j c apart mid (lent_parts x) x.first cut, c.lends))
 
-    abbrev first : jobs.Job
-    first = spawn_job c.state spawn.target (map (λ a. Whole a) (passed_by (code_view v.code) spawn.passed)) j.limit (j.before + (c.later + 1))
+    abbrev handed_job : jobs.Job
+    handed_job = spawn_job c.state spawn.target (map (λ a. Whole a) (passed_by (code_view v.code) spawn.passed)) j.limit (j.before + (c.later + 1))
 
-    rests_are : AreOut p (levels_of c.at.1.next) after (first ∷ c.jobs_out)
+    rests_are : AreOut p (levels_of c.at.1.next) after (handed_job ∷ c.jobs_out)
     rests_are =
         let b = c.ground.job.before in
         let e = c.at.0 in
         let q = cut.before in
         let n : j.before + (c.later + 1) ≡ (lent_parts x).before = omega (arith, b, e, q) in
-        let is_first : first ≡ rest_of s.waiting p.limit (lent_parts x).before = s.rest j.limit (j.before + (c.later + 1)) ∙ ap (λ l. rest_of s.waiting l (j.before + (c.later + 1))) c.ground.job.limit ∙ ap (λ k. rest_of s.waiting p.limit k) n in
+        let is_rest : handed_job ≡ rest_of s.waiting p.limit (lent_parts x).before = s.rest j.limit (j.before + (c.later + 1)) ∙ ap (λ l. rest_of s.waiting l (j.before + (c.later + 1))) c.ground.job.limit ∙ ap (λ k. rest_of s.waiting p.limit k) n in
         let lent = reverse old.lent.items in
-        subst (λ z. AreOut p z after (first ∷ c.jobs_out)) (sym s.levels)
-        (subst (λ z. AreOut p (level ∷ levels_of c.state) z (first ∷ c.jobs_out)) (sym are)
-        (subst (λ k. IsOutAt p level k (x ∷ lent) first × AreOut p (levels_of c.state) (older k (x ∷ lent)) c.jobs_out) (sym c.at.1.apart) (is_first, c.are)))
+        subst (λ z. AreOut p z after (handed_job ∷ c.jobs_out)) (sym s.levels)
+        (subst (λ z. AreOut p (level ∷ levels_of c.state) z (handed_job ∷ c.jobs_out)) (sym are)
+        (subst (λ k. IsOutAt p level k (x ∷ lent) handed_job × AreOut p (levels_of c.state) (older k (x ∷ lent)) c.jobs_out) (sym c.at.1.apart) (is_rest, c.are)))
 
     -- the strand as it goes on, over the one that it was
     abbrev pub on_with : (lent : Strand) → Strand
@@ -112,13 +112,13 @@ module _ (keep : (code : Code) → CallsKeep code) (apart : OutsLieApart) (old m
         (subst (λ y. has_come y (code_view v.code) c.state ≡ false) (sym c.ground.job.extent) c.at.1.before) c.at.1.steps (omega (arith, e0, w, jl, jb)) c.is_of in
         record {
           ground = c.ground;
-          strand = Going next (c.later + 1) (first ∷ c.jobs_out);
+          strand = Going next (c.later + 1) (handed_job ∷ c.jobs_out);
           is_of = is_of;
-          held = subst (λ m. HeldIn (on_with lent) is j c.ground m (Going next (c.later + 1) (first ∷ c.jobs_out))) (sym going) (record {
+          held = subst (λ m. HeldIn (on_with lent) is j c.ground m (Going next (c.later + 1) (handed_job ∷ c.jobs_out))) (sym going) (record {
             counts = sym e0;
             outs = o ∷ c.outs;
             lends = subst (Lends v is p c.ground.base (handed_levels (levels_of next)) (o ∷ c.outs)) (sym same) lent_lends;
-            are = subst (λ z. AreOut p (levels_of next) z (first ∷ c.jobs_out)) (sym same) rests_are;
+            are = subst (λ z. AreOut p (levels_of next) z (handed_job ∷ c.jobs_out)) (sym same) rests_are;
             shows = record {
               shows = h.shows;
               tells = subst (TellsAll (code_view v.code) p.burden (origin_of p) (Going next old.count [])) (sym cut.meter) c.at.1.shows.tells;

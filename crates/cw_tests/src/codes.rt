@@ -105,6 +105,7 @@ const CALLEE: Callee = Callee {
     line: 0,
     target: None,
     passed: 0,
+    lent: 0,
 };
 
 const INNER: Inner = Inner {
@@ -119,7 +120,7 @@ const HALVES: Halves = Halves {
 };
 
 // One of each kind, with 0 for each number that it has.
-const KINDS: [Instr; 30] = [
+const KINDS: [Instr; 32] = [
     Instr::Push(0),
     Instr::Load(0),
     Instr::Store(0),
@@ -139,6 +140,8 @@ const KINDS: [Instr; 30] = [
     Instr::Length(0),
     Instr::Element(0, 0),
     Instr::SetElement(0, 0),
+    Instr::ReadLength(0),
+    Instr::ReadElement(0, 0),
     Instr::Cut(HALVES, 0),
     Instr::EndCut,
     Instr::Sync,
@@ -167,6 +170,7 @@ fn code(alloc: Global) -> Result<Code, AllocError> {
         slots: 0,
         array_params: 0,
         arrays: 1,
+        readers: 0,
     })?;
     funcs.push(Func {
         start: 10,
@@ -176,6 +180,7 @@ fn code(alloc: Global) -> Result<Code, AllocError> {
         slots: 3,
         array_params: 1,
         arrays: 3,
+        readers: 0,
     })?;
     let mut passed = Vec::new(alloc);
     for _ in 0..4u32 {
@@ -195,6 +200,7 @@ fn code(alloc: Global) -> Result<Code, AllocError> {
         reducers: Vec::new(alloc),
         tags: Vec::new(alloc),
         passed,
+        lent: Vec::new(alloc),
     })
 }
 

@@ -128,6 +128,7 @@ return x; }";
         line: 4,
         target: Some(0),
         passed: 1,
+        lent: 1,
     };
     let instrs = [
         Instr::Load(0),
@@ -252,6 +253,7 @@ fn a_loop_has_slots_and_lists_of_its_own(rt: HostRuntime) -> Result<(), Fail> {
         slots: 1,
         array_params: 0,
         arrays: 1,
+        readers: 0,
     };
     let turns = Func {
         start: 9,
@@ -261,6 +263,7 @@ fn a_loop_has_slots_and_lists_of_its_own(rt: HostRuntime) -> Result<(), Fail> {
         slots: 4,
         array_params: 1,
         arrays: 3,
+        readers: 0,
     };
     match code_of(rt.alloc(), LOOP) {
         Ok(code) => {

@@ -9,20 +9,19 @@ use Rattle.std.specs.List.{slice_index}
 use Rattle.atomic_table.specs.Table.{State, Me, step, keeps, takes, gives, stepped, Allows, Splits, Joins, opening}
 use Rattle.atomic_table.proofs.Lists.{at_set, set_else}
 use Rattle.cw_jobs.specs.declared.job.Job.{Job}
-use Rattle.cw_jobs.specs.declared.effect.Effect.{Effect}
+use Rattle.cw_yard.specs.declared.left.Left.{Left}
 use Rattle.cw_yard.specs.declared.view.Stage.{Stage}
 use Rattle.cw_yard.specs.declared.view.Stage.TheVariants.{Free, Held, Out, Back, Taken}
 use Rattle.cw_yard.specs.declared.view.CellView.{CellView}
 use Rattle.cw_yard.specs.declared.view.CellView.TheVariants.{Idle, Rest, Owner, Duty}
-use Rattle.cw_jobs.specs.Means.{IsMeaningOf}
-use Rattle.cw_yard.specs.Cells.{Phase, free, held, opened, putting, full, taken, Spot, Lies, Pending, Knows, serving, cell_of, Fits, Funds, Stands, Kept}
+use Rattle.cw_yard.specs.Cells.{Means, Phase, free, held, opened, putting, full, taken, Spot, Lies, Pending, Knows, serving, cell_of, Fits, Funds, Stands, Kept}
 use Rattle.cw_yard.specs.Steps.{Gains, Reads}
 
 abbrev St : Type 0
-St = State (Option Effect) CellView
+St = State (Option Left) CellView
 
 abbrev Slot : Type 0
-Slot = mathlib.Core.Option.Option (Option Effect)
+Slot = mathlib.Core.Option.Option (Option Left)
 
 abbrev pick : {A : Type 0} → Bool → A → A → A
 pick true x y = x
@@ -206,7 +205,7 @@ put_known (Out m i) n j d e = e
 put_known (Back m i m' i') n j d e = absurd (subst (λ p. Serves p false n j d) e.0 (refl, refl, refl))
 put_known (Taken m i) n j d e = absurd (subst (λ p. Serves p false n j d) e (refl, refl, refl))
 
-full_known : (k : Stage) (n : ℕ) (j : Job) (d : ℕ) (e : Effect) → Knows k (putting n j d) → Knows k (full n j e)
+full_known : (k : Stage) (n : ℕ) (j : Job) (d : ℕ) (e : Left) → Knows k (putting n j d) → Knows k (full n j e)
 full_known Free n j d x e = absurd (subst (λ p. Serves p true n j d) e (refl, refl, refl))
 full_known (Held m i) n j d x e = absurd (subst (λ p. Serves p true n j d) e (refl, refl, refl))
 full_known (Out m i) n j d x e = e
@@ -239,7 +238,7 @@ puts slots id c m j lt s h len at _ =
       λ m' j' e. ap (λ (v : CellView). (arm v, (c, None) ∷ [])) e,
     )
 
-pub marks : (slots id c m : ℕ) (j : Job) (e : Effect) → c < slots → IsMeaningOf j e → Allows Kept slots id (Duty c true m j, (c, Some e) ∷ []) c (λ _. 2) (λ _ x. x ≡ (Idle, []))
+pub marks : (slots id c m : ℕ) (j : Job) (e : Left) → c < slots → Means j e → Allows Kept slots id (Duty c true m j, (c, Some e) ∷ []) c (λ _. 2) (λ _ x. x ≡ (Idle, []))
 marks slots id c m j e lt means s h len at _ =
     let mine = h.2 id (Duty c true m j) at in
     let here = h.1 c (subst (λ z. c < z) (sym len) lt) in (
@@ -255,7 +254,7 @@ marks slots id c m j e lt means s h len at _ =
 -- the owner reads the mark
 module _ (slots id c m : ℕ) (j : Job) (lt : c < slots) (s : St) (h : Kept s) (len : length s.homes ≡ slots) (at : get_elem? s.views id ≡ some (Owner c (Out m j))) where
   abbrev Reading : Type 0
-  Reading = (w : CellView) × (a : Rattle.atomic_table.specs.Table.Act (Option Effect)) × Rattle.atomic_table.specs.Table.Valid s.homes [] a × Kept (stepped s c (slice_index s.words c) id [] w a)
+  Reading = (w : CellView) × (a : Rattle.atomic_table.specs.Table.Act (Option Left)) × Rattle.atomic_table.specs.Table.Valid s.homes [] a × Kept (stepped s c (slice_index s.words c) id [] w a)
       × Reads c (Owner c (Out m j)) (slice_index s.words c) (w, Rattle.atomic_table.specs.Table.carried_after [] a)
 
   abbrev lt' : c < length s.homes
@@ -271,7 +270,7 @@ module _ (slots id c m : ℕ) (j : Job) (lt : c < slots) (s : St) (h : Kept s) (
     ((λ two. absurd (less two)), λ _. refl),
   )
 
-  takes_it : (e : Effect) (n : ℕ) (k : Job) → (h.0 c).1 ≡ full n k e → k ≡ j → Lies (h.1 c lt').0 (h.1 c lt').1 (full n k e) → Reading
+  takes_it : (e : Left) (n : ℕ) (k : Job) → (h.0 c).1 ≡ full n k e → k ≡ j → Lies (h.1 c lt').0 (h.1 c lt').1 (full n k e) → Reading
   takes_it e n k is eq lies = let here = h.1 c lt' in let two : slice_index s.words c ≡ 2 = index_of s.words c here.0 here.2 ∙ lies.0 in (
     Owner c (Taken m j),
     takes c (Some e),
@@ -279,7 +278,7 @@ module _ (slots id c m : ℕ) (j : Job) (lt : c < slots) (s : St) (h : Kept s) (
     moved s h slots c id (slice_index s.words c) (id, taken m j) (Owner c (Taken m j)) (set s.homes c none) none lt len (length-set s.homes c none) (set_at s.homes c here.1 none here.3)
         (λ i ne. set_else s.homes c i none ne) (two, refl) (refl, refl) (λ far. absurd (far refl))
         (alone (h.0 c) (id, taken m j) id (h.2 id (Owner c (Out m j)) at).0 (λ b x y d q. serves (full n k e) _ b x y d is q)) (own_used (h.0 c) id (h.2 id (Owner c (Out m j)) at).0) tt,
-    ((λ _. (e, refl, subst (λ z. IsMeaningOf z e) eq lies.2)), λ less. absurd (less two)),
+    ((λ _. (e, refl, subst (λ z. Means z e) eq lies.2)), λ less. absurd (less two)),
   )
 
   one : (here : ℕ) → get_elem? s.words c ≡ some here → here ≡ 0 → ¬ (slice_index s.words c ≡ 2)
@@ -367,7 +366,7 @@ cuts id k s h at =
     (λ (p : (i ≡ d) × (Owner k Free ≡ u)). subst (Funds (upd h.0 k x) i) p.1 tt)
     (snoc_at (set s.views id rest) (Owner k Free) u i e))
 
-abbrev nothing : Option Effect
+abbrev nothing : Option Left
 nothing = None
 
 all_none : (n c : ℕ) → c < n → get_elem? (map some (replicate n nothing)) c ≡ some (some None)

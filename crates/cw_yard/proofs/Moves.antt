@@ -8,7 +8,7 @@ use Rattle.crossbeam_deque.specs.Tasks.{Pushes, Pops, Takes, Forks}
 use Rattle.crossbeam_deque.proofs.Lists.{at_set, at_snoc, set_again}
 use Rattle.atomic_table.specs.Seated.{TableId}
 use Rattle.atomic_table.specs.declared.shared.Seat.{Seat}
-use Rattle.cw_jobs.specs.declared.effect.Effect.{Effect}
+use Rattle.cw_yard.specs.declared.left.Left.{Left}
 use Rattle.cw_yard.specs.declared.view.CellView.{CellView}
 use Rattle.cw_yard.specs.declared.task.Task.{Task}
 use Rattle.cw_yard.specs.declared.task.Item.{Item}
@@ -27,7 +27,7 @@ one_view x v zero e = some-injective x v e
 one_view x v (suc p) e = absurd (some-ne-none v (sym e))
 
 abbrev Token : Type 0
-Token = Seat (Option Effect) CellView
+Token = Seat (Option Left) CellView
 
 abbrev Plays : DequeView → Type 0
 Plays Fresh = ⊥

@@ -4,7 +4,7 @@ use Rattle.std.proofs.Math.ListN.{get_or}
 use Rattle.std.proofs.lemmas.Option.{slice_get_read}
 use Rattle.atomic_table.specs.Seated.{TableId}
 use Rattle.atomic_table.specs.declared.shared.Seat.{Seat as Token}
-use Rattle.cw_jobs.specs.declared.effect.Effect.{Effect}
+use Rattle.cw_yard.specs.declared.left.Left.{Left}
 use Rattle.cw_yard.specs.declared.view.CellView.{CellView}
 use Rattle.cw_yard.specs.declared.task.DequeView.{DequeView}
 use Rattle.cw_yard.specs.declared.task.DequeView.TheVariants.{Fresh, Marked, Owner, Thief}
@@ -85,14 +85,14 @@ each_at P [] k x h e = none_some x e
 each_at P (a ∷ xs) zero x h e = subst P (some_is a x e) h.0
 each_at P (a ∷ xs) (suc k) x h e = each_at P xs k x h.1 e
 
-begins : (z : TableId) (v : DequeView) → Begins z v → (t : Token (Option Effect) CellView) × (v ≡ Owner t [])
+begins : (z : TableId) (v : DequeView) → Begins z v → (t : Token (Option Left) CellView) × (v ≡ Owner t [])
 begins z Fresh h = absurd h
 begins z (Marked t) h = absurd h
 begins z (Owner t os) h = (t, ap (λ l. Owner t l) h.1)
 begins z (Thief t ss) h = absurd h
 
 -- a fresh deque may have guests
-pub may_guest : (z : TableId) (owns : List OwnDeque) (k : ℕ) (w : OwnDeque) → Each (IsFresh z) owns → k < length owns → w ≡ get_or owns k w → (t : Token (Option Effect) CellView) × (worker_view w ≡ Owner t [])
+pub may_guest : (z : TableId) (owns : List OwnDeque) (k : ℕ) (w : OwnDeque) → Each (IsFresh z) owns → k < length owns → w ≡ get_or owns k w → (t : Token (Option Left) CellView) × (worker_view w ≡ Owner t [])
 may_guest z owns k w h lt is = begins z (worker_view w) (each_at (IsFresh z) owns k w h (slice_get_read owns (length owns) k w refl lt is)).0
 
 pub deques_set : (y : Yard) (owns : List OwnDeque) (k : ℕ) (old new : OwnDeque) → k < length owns → old ≡ get_or owns k old → worker_deque new ≡ worker_deque old → worker_flavor new ≡ worker_flavor old → worker_view new ≡ worker_view old → ServesDeques y owns → ServesDeques y (set owns k new)
@@ -157,7 +157,7 @@ pub lead_init : (y : Yard) (owns : List OwnDeque) (w : OwnDeque) → Lead y (own
 lead_init y owns w h k x o e f = h k x o (before_at owns w x k e) f
 
 abbrev pub seat : OwnDeque → Part → Seat
-seat w p = record { own = w; free = p.free; passes = p.passes; watch = p.watch }
+seat w p = record { own = w; free = p.free; passes = p.passes; watch = p.watch; spare = p.spare }
 
 pub seated : (y : Yard) (cells : ℕ) (owns : List OwnDeque) (w : OwnDeque) (p : Part)
     → Lead y (owns ++ w ∷ []) → IsFresh (table_of y) w → IsPart y cells p → IsNewSeat y cells (length owns) (seat w p)

@@ -4,12 +4,16 @@ use mathlib.Core.Option.{none, some}
 use lib.ListN.{get_elem?}
 use Rattle.atomic_table.specs.Table.{State}
 use Rattle.cw_jobs.specs.declared.job.Job.{Job}
-use Rattle.cw_jobs.specs.declared.effect.Effect.{Effect}
+use Rattle.cw_yard.specs.declared.left.Left.{Left}
 use Rattle.cw_yard.specs.declared.view.Stage.{Stage}
 use Rattle.cw_yard.specs.declared.view.Stage.TheVariants.{Free, Held, Out, Back, Taken}
 use Rattle.cw_yard.specs.declared.view.CellView.{CellView}
 use Rattle.cw_yard.specs.declared.view.CellView.TheVariants.{Idle, Rest, Owner, Duty}
 use Rattle.cw_jobs.specs.Means.{IsMeaningOf}
+
+-- an effect that was left means this job
+abbrev pub Means : Job → Left → Type 0
+Means j l = IsMeaningOf j l.effect.value
 
 -- a cell is free, open for a number (its duty not yet given out, given out, or in use), full, or being emptied
 pub data Phase : Type 0 where
@@ -17,7 +21,7 @@ pub data Phase : Type 0 where
   held : ℕ → Job → Phase
   opened : ℕ → Job → ℕ → Phase
   putting : ℕ → Job → ℕ → Phase
-  full : ℕ → Job → Effect → Phase
+  full : ℕ → Job → Left → Phase
   taken : ℕ → Job → Phase
 
 -- the token that owns the cell, and its phase
@@ -25,12 +29,12 @@ abbrev pub Spot : Type 0
 Spot = ℕ × Phase
 
 -- what the word and the slot of a cell are
-abbrev pub Lies : ℕ → mathlib.Core.Option.Option (Option Effect) → Phase → Type 0
+abbrev pub Lies : ℕ → mathlib.Core.Option.Option (Option Left) → Phase → Type 0
 Lies w h free = (w ≡ 0) × (h ≡ some None)
 Lies w h (held n j) = (w ≡ 0) × (h ≡ some None)
 Lies w h (opened n j d) = (w ≡ 0) × (h ≡ some None)
 Lies w h (putting n j d) = (w ≡ 0) × (h ≡ none)
-Lies w h (full n j e) = (w ≡ 2) × (h ≡ some (Some e)) × IsMeaningOf j e
+Lies w h (full n j e) = (w ≡ 2) × (h ≡ some (Some e)) × Means j e
 Lies w h (taken n j) = (w ≡ 2) × (h ≡ none)
 
 -- the job n is given out, and its effect not yet taken
@@ -65,9 +69,9 @@ Fits x id (Rest k) = Unit {0}
 Fits x id (Owner c k) = (x.0 ≡ id) × Knows k x.1
 Fits x id (Duty c b n j) = x.1 ≡ serving b n j id
 
-abbrev pub Stands : State (Option Effect) CellView → ℕ → Phase → Type 0
+abbrev pub Stands : State (Option Left) CellView → ℕ → Phase → Type 0
 Stands s c p =
-    (w : ℕ) × (h : mathlib.Core.Option.Option (Option Effect))
+    (w : ℕ) × (h : mathlib.Core.Option.Option (Option Left))
     × (get_elem? s.words c ≡ some w) × (get_elem? s.homes c ≡ some h) × Lies w h p
 
 -- who owns the rest owns each cell from the k-th on, and all of them are free
@@ -78,7 +82,7 @@ Funds b id (Owner c k) = Unit {0}
 Funds b id (Duty c t n j) = Unit {0}
 
 -- Each cell is in its phase, and each token knows what is so
-abbrev pub Kept : State (Option Effect) CellView → Type 0
+abbrev pub Kept : State (Option Left) CellView → Type 0
 Kept s =
     (board : ℕ → Spot)
     × ((c : ℕ) → c < length s.homes → Stands s c (board c).1)

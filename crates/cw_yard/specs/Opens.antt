@@ -4,7 +4,7 @@ use Rattle.crossbeam_deque.specs.Handles.{Pass, view, IsPassOf, stealer_deque, w
 use Rattle.crossbeam_utils.specs.Padded.{padded_value}
 use Rattle.atomic_table.specs.Seated.{TableId}
 use Rattle.atomic_table.specs.declared.shared.Seat.{Seat as Token}
-use Rattle.cw_jobs.specs.declared.effect.Effect.{Effect}
+use Rattle.cw_yard.specs.declared.left.Left.{Left}
 use Rattle.cw_yard.specs.declared.view.CellView.{CellView}
 use Rattle.cw_yard.specs.declared.view.CellView.TheVariants.{Rest}
 use Rattle.cw_yard.specs.Marks.{IsWatchOf}
@@ -29,7 +29,7 @@ abbrev pub Victim : Type 0
 Victim = CachePadded (Stealer Item Global DequeView DequeRule)
 
 -- the token owns each cell from this one on
-abbrev pub AllRest : TableId → Token (Option Effect) CellView → ℕ → Type 0
+abbrev pub AllRest : TableId → Token (Option Left) CellView → ℕ → Type 0
 AllRest z t next = (t.table_id ≡ z) × (t.me ≡ (Rest next, [])) × (z.words ≡ z.slots + 1)
 
 abbrev pub Begins : TableId → DequeView → Type 0

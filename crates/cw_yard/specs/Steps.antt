@@ -4,12 +4,12 @@ use Rattle.atomic_table.specs.Table.{Me}
 use Rattle.atomic_table.specs.Seated.{TableId}
 use Rattle.atomic_table.specs.declared.shared.Seat.{Seat}
 use Rattle.cw_jobs.specs.declared.job.Job.{Job}
-use Rattle.cw_jobs.specs.declared.effect.Effect.{Effect}
+use Rattle.cw_yard.specs.declared.left.Left.{Left}
 use Rattle.cw_yard.specs.declared.view.Stage.{Stage}
 use Rattle.cw_yard.specs.declared.view.Stage.TheVariants.{Free, Held, Out, Back, Taken}
 use Rattle.cw_yard.specs.declared.view.CellView.{CellView}
 use Rattle.cw_yard.specs.declared.view.CellView.TheVariants.{Idle, Rest, Owner, Duty}
-use Rattle.cw_jobs.specs.Means.{IsMeaningOf}
+use Rattle.cw_yard.specs.Cells.{Means}
 
 -- a token of this table, and one of its cells, each of which has a word; there is one word more, the end mark
 abbrev pub Fitting : TableId → TableId → ℕ → Type 0
@@ -30,14 +30,14 @@ Gains (Owner c k) = GainsStage k
 Gains (Duty c b n j) = Unit {0}
 
 abbrev pub Mine : Type 0
-Mine = Me (Option Effect) CellView
+Mine = Me (Option Left) CellView
 
 -- the owner reads the mark: at 2 the slot is out with it, and has a meaning of its job
 abbrev pub ReadsStage : ℕ → Stage → ℕ → Mine → Type 0
 ReadsStage c Free r n = Unit {0}
 ReadsStage c (Held m j) r n = Unit {0}
 ReadsStage c (Out m j) r n =
-    (r ≡ 2 → (e : Effect) × (n ≡ (Owner c (Taken m j), (c, Some e) ∷ [])) × IsMeaningOf j e)
+    (r ≡ 2 → (e : Left) × (n ≡ (Owner c (Taken m j), (c, Some e) ∷ [])) × Means j e)
     × (¬ (r ≡ 2) → n ≡ (Owner c (Out m j), []))
 ReadsStage c (Back m j m' j') r n = Unit {0}
 ReadsStage c (Taken m j) r n = Unit {0}
@@ -49,7 +49,7 @@ Reads c (Owner c' k) r n = ReadsStage c' k r n
 Reads c (Duty c' b m j) r n = Unit {0}
 
 -- the token of a whole table of so many cells, all of them free
-abbrev pub IsWhole : ℕ → TableId → Seat (Option Effect) CellView → Type 0
+abbrev pub IsWhole : ℕ → TableId → Seat (Option Left) CellView → Type 0
 IsWhole cells z t = (t.table_id ≡ z) × (z.slots ≡ cells) × (z.words ≡ cells + 1) × (t.me ≡ (Rest 0, []))
 
 -- the owner holds the cell for the number and the job of a stage
@@ -61,6 +61,6 @@ abbrev pub PutsFrom : ℕ → CellView → Mine → Type 0
 PutsFrom cell v me = (n : ℕ) (j : Job) → v ≡ Duty cell false n j → me ≡ (Duty cell true n j, (cell, None) ∷ [])
 
 -- the cell is free, and what lay in it means the job that it was open for
-abbrev pub Empties : ℕ → (old new : Mine) → Effect → Type 0
+abbrev pub Empties : ℕ → (old new : Mine) → Left → Type 0
 Empties cell old new e =
-    (new ≡ (Owner cell Free, [])) × ((n : ℕ) (j : Job) → old.0 ≡ Owner cell (Out n j) → IsMeaningOf j e)
+    (new ≡ (Owner cell Free, [])) × ((n : ℕ) (j : Job) → old.0 ≡ Owner cell (Out n j) → Means j e)

@@ -4,28 +4,28 @@ ghost use Rattle.cw_jobs.specs.declared.job.Job.{Job};
 ghost use Rattle.cw_yard.specs.declared.view.Stage.{Stage};
 ghost use Rattle.cw_yard.specs.declared.view.Stage.TheVariants.{Free, Held, Out, Back, Taken};
 ghost use Rattle.cw_yard.specs.declared.view.CellView.TheVariants.{Idle, Rest, Owner, Duty};
-ghost use Rattle.cw_jobs.specs.Means.{IsMeaningOf};
-ghost use Rattle.cw_yard.specs.Cells.{Kept, dealt, duty, back, rest_of, owner_of};
+ghost use Rattle.cw_yard.specs.declared.left.Left.{Left};
+ghost use Rattle.cw_yard.specs.Cells.{Kept, Means, dealt, duty, back, rest_of, owner_of};
 ghost use Rattle.cw_yard.specs.Steps.{Fitting, Gains, Reads, IsWhole, HoldsAs, PutsFrom, Empties};
 
+use crate::left::Left;
 use crate::view::CellView;
 use atomic_table::{Join, Play, Seat, Shared, Split, Table, TableRule};
-use cw_jobs::effect::Effect;
 use cw_jobs::job::Job;
 use std::alloc::{AllocError, Global};
 use std::marker::{Brand, PhantomData};
 
 pub struct CellRule;
 
-impl TableRule<Option<Effect>, CellView, ()> for CellRule {
+impl TableRule<Option<Left>, CellView, ()> for CellRule {
     ghost holds = { λ _. Kept };
 
     ghost first = { λ _. Rest 0 };
 }
 
-pub type Cells = Shared<Option<Effect>, CellView, (), CellRule>;
+pub type Cells = Shared<Option<Left>, CellView, (), CellRule>;
 
-pub type Token = Seat<Option<Effect>, CellView>;
+pub type Token = Seat<Option<Left>, CellView>;
 
 /// The stage that a cell is opened at: held for a number and its job. Each call of a program
 /// picks it.
@@ -41,31 +41,31 @@ pub struct Opens<B> {
     of: PhantomData<B>,
 }
 
-impl<B: Holding> Play<Option<Effect>, CellView> for Opens<B> {
+impl<B: Holding> Play<Option<Left>, CellView> for Opens<B> {
     ghost then = { λ s me r n. HoldsAs s.word B.stage n };
 }
 
 pub struct Frees;
 
-impl Play<Option<Effect>, CellView> for Frees {
+impl Play<Option<Left>, CellView> for Frees {
     ghost then = { λ s me r n. (n ≡ (Owner s.word Free, [])) × Gains me.0 };
 }
 
 pub struct Puts;
 
-impl Play<Option<Effect>, CellView> for Puts {
+impl Play<Option<Left>, CellView> for Puts {
     ghost then = { λ s me r n. PutsFrom s.word me.0 n };
 }
 
 pub struct Marks;
 
-impl Play<Option<Effect>, CellView> for Marks {
+impl Play<Option<Left>, CellView> for Marks {
     ghost then = { λ s me r n. n ≡ (Idle, []) };
 }
 
 pub struct ReadsMark;
 
-impl Play<Option<Effect>, CellView> for ReadsMark {
+impl Play<Option<Left>, CellView> for ReadsMark {
     ghost then = { λ s me r n. Reads s.word me.0 r n };
 }
 
@@ -91,7 +91,7 @@ impl Split<CellView> for Cuts {
     ghost right = { owner_of };
 }
 
-pub type CellTable = Table<Option<Effect>, CellView, (), CellRule, Global>;
+pub type CellTable = Table<Option<Left>, CellView, (), CellRule, Global>;
 
 /// The table of so many cells, all of them free, and the token that owns them.
 pub fn new(alloc: Global, cells: usize) -> Result<(CellTable, Token), AllocError>
@@ -150,29 +150,29 @@ pub fn undo(table: &Cells, token: &mut Token, other: Token, cell: usize)
     table.load::<Frees>(token, cell);
 }
 
-/// Puts the effect, then marks the cell full.
-pub fn settle(table: &Cells, mut token: Token, cell: usize, effect: Effect)
+/// Puts an effect, then marks the cell full.
+pub fn settle(table: &Cells, mut token: Token, cell: usize, left: Left)
     requires table { Fitting table.now.table_id token.table_id cell }
     requires means { (n : ℕ) × (j : Job) × (token.me ≡ (Duty cell false n j, []))
-        × IsMeaningOf j effect }
+        × Means j left }
 {
     table.load::<Puts>(&mut token, cell);
-    let _none = table.exchange(&mut token, cell, Some(effect));
+    let _none = table.exchange(&mut token, cell, Some(left));
     table.store::<Marks>(&mut token, cell, 2);
 }
 
-/// The effect, if the mark says so; the cell is free then.
-pub fn collect(table: &Cells, token: &mut Token, cell: usize) -> Option<Effect>
+/// What was left there, if the mark says so; the cell is free then.
+pub fn collect(table: &Cells, token: &mut Token, cell: usize) -> Option<Left>
     requires table { Fitting table.now.table_id token.old.table_id cell }
     requires out { (n : ℕ) × (j : Job) × (token.old.me ≡ (Owner cell (Out n j), [])) }
     ensures same { token.new.table_id ≡ token.old.table_id }
     ensures later { result ≡ None → token.new.me ≡ token.old.me }
-    ensures done { (e : Effect) → result ≡ Some e → Empties cell token.old.me token.new.me e }
+    ensures done { (e : Left) → result ≡ Some e → Empties cell token.old.me token.new.me e }
 {
     if table.load::<ReadsMark>(token, cell) != 2 {
         return None;
     }
-    let effect = table.exchange(token, cell, None);
+    let left = table.exchange(token, cell, None);
     table.store::<Frees>(token, cell, 0);
-    effect
+    left
 }

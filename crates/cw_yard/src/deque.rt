@@ -4,7 +4,7 @@ ghost use Rattle.crossbeam_deque.specs.Handles.{view, IsPassOf, SamePass, SameWo
 ghost use Rattle.std.specs.Prelude.{Option};
 ghost use Rattle.atomic_table.specs.declared.shared.Seat.{Seat};
 ghost use Rattle.cw_yard.specs.declared.view.CellView.{CellView};
-ghost use Rattle.cw_jobs.specs.declared.effect.Effect.{Effect};
+ghost use Rattle.cw_yard.specs.declared.left.Left.{Left};
 ghost use Rattle.cw_yard.specs.declared.task.DequeView.TheVariants.{Fresh, Owner, Thief};
 ghost use Rattle.cw_yard.specs.declared.task.Item.TheVariants.{Work};
 ghost use Rattle.cw_yard.specs.Ledger.{Dealt, MayPush, pushed, Retakes, TakesLast, Steals, marked, begun, as_thief, IsOwner, IsThief};
@@ -86,7 +86,7 @@ pub fn new(alloc: Global, capacity: usize, mark: Token) -> Result<OwnDeque, Allo
 
 /// A pass for a thief.
 pub fn guest(own: &mut OwnDeque) -> ThiefPass
-    requires { (t : Seat (Option Effect) CellView) × (worker_view own.old ≡ Owner t []) }
+    requires { (t : Seat (Option Left) CellView) × (worker_view own.old ≡ Owner t []) }
     ensures same { SameWorker own.old own.new × (worker_view own.new ≡ worker_view own.old) }
     ensures thief { IsPassOf (worker_deque own.old) result
         × (view result ≡ as_thief (worker_view own.old)) }

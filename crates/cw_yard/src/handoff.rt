@@ -14,6 +14,7 @@ ghost use Rattle.cw_yard.specs.Tickets.{ticket_job, ticket_number, duty_job};
 
 use crate::cells::{Cells, Holding, Token};
 use crate::deque::{OwnDeque, ThiefPass, Victim};
+use crate::left::Spare;
 use crate::task::Task;
 use crate::ticket::{Duty, FreeCell, Ticket};
 use cw_jobs::effect::Effect;
@@ -63,17 +64,25 @@ pub fn offer(
 // A job that is not the asked ticket's: its effect is left in its cell, as if it had been stolen.
 // It is kept out of `retake`, whose frame it would make larger.
 #[inline(never)]
-fn give_up(table: &Cells, cell: usize, duty: Token, job: Job)
+fn give_up(table: &Cells, cell: usize, duty: Token, job: Job, spare: &mut Spare)
     requires table { IsOfTable table.now.table_id duty.table_id }
     requires inside { cell < duty.table_id.slots }
     requires names { duty.me ≡ (OnDuty cell false (number_of duty.me.0) job, []) }
 {
-    let effect = job.give_up();
-    crate::cells::settle(table, duty, cell, effect);
+    let Some(room) = spare.take() else {
+        return;
+    };
+    let left = room.with(job.give_up());
+    crate::cells::settle(table, duty, cell, left);
 }
 
 /// The job of the ticket, with its cell, which is free.
-pub fn retake(table: &Cells, own: &mut OwnDeque, ticket: Ticket) -> Result<(Job, FreeCell), Ticket>
+pub fn retake(
+    table: &Cells,
+    own: &mut OwnDeque,
+    ticket: Ticket,
+    spare: &mut Spare,
+) -> Result<(Job, FreeCell), Ticket>
     requires table { IsOfTable table.now.table_id ticket.token.table_id }
     requires own { OwnsAt table.now.table_id (worker_view own.old) × (worker_flavor own.old ≡ 1) }
     ensures same { SameWorker own.old own.new × OwnsAt table.now.table_id (worker_view own.new) }
@@ -85,7 +94,7 @@ pub fn retake(table: &Cells, own: &mut OwnDeque, ticket: Ticket) -> Result<(Job,
     };
     let Task { job, cell, duty } = task;
     if cell != ticket.cell {
-        give_up(table, cell, duty, job);
+        give_up(table, cell, duty, job, spare);
         return Err(ticket);
     }
     let Ticket { cell: _, mut token } = ticket;
@@ -93,16 +102,34 @@ pub fn retake(table: &Cells, own: &mut OwnDeque, ticket: Ticket) -> Result<(Job,
     Ok((job, FreeCell { cell, token }))
 }
 
-/// A job that a pass at another's deque got, with the duty to settle it.
-pub fn steal(table: &Cells, other: &Victim, pass: &mut ThiefPass) -> Option<(Job, Duty)>
+/// A job that a pass at another's deque got, with the duty to settle it. Without room for its effect none is.
+pub fn steal(
+    table: &Cells,
+    other: &Victim,
+    pass: &mut ThiefPass,
+    spare: &mut Spare,
+) -> Option<(Job, Duty)>
     requires thief { IsPassOf (stealer_deque other.now) pass.old
         × StealsAt table.now.table_id (view pass.old) }
     ensures same { SamePass pass.old pass.new × StealsAt table.now.table_id (view pass.new) }
     ensures some { IfSome result (IsStolen table.now.table_id pass.old pass.new) }
     ensures none { IfNone result (view pass.new ≡ view pass.old) }
 {
-    let Task { job, cell, duty } = crate::deque::steal(other, pass)?;
-    Some((job, Duty { cell, token: duty }))
+    let left = spare.take()?;
+    match crate::deque::steal(other, pass) {
+        Some(Task { job, cell, duty }) => {
+            let duty = Duty {
+                cell,
+                token: duty,
+                left,
+            };
+            Some((job, duty))
+        }
+        None => {
+            spare.put(left);
+            None
+        }
+    }
 }
 
 /// Leaves the effect of a stolen job in its cell.
@@ -110,8 +137,13 @@ pub fn settle(table: &Cells, duty: Duty, effect: Effect)
     requires table { IsOfTable table.now.table_id duty.token.table_id }
     requires means { (j : Job) × (duty_job duty ≡ Some j) × IsMeaningOf j effect }
 {
-    let Duty { cell, token } = duty;
-    crate::cells::settle(table, token, cell, effect);
+    let Duty {
+        cell,
+        token,
+        left: room,
+    } = duty;
+    let left = room.with(effect);
+    crate::cells::settle(table, token, cell, left);
 }
 
 /// A meaning of the ticket's job, with its cell, which is free.
@@ -122,7 +154,7 @@ pub fn collect(table: &Cells, ticket: Ticket) -> Result<(Effect, FreeCell), Tick
 {
     let Ticket { cell, mut token } = ticket;
     match crate::cells::collect(table, &mut token, cell) {
-        Some(effect) => Ok((effect, FreeCell { cell, token })),
+        Some(left) => Ok((left.into_effect(), FreeCell { cell, token })),
         None => Err(Ticket { cell, token }),
     }
 }

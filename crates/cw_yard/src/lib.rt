@@ -4,6 +4,7 @@
 pub(crate) mod cells;
 pub(crate) mod deque;
 pub(crate) mod handoff;
+pub(crate) mod left;
 pub(crate) mod mark;
 pub mod open;
 pub mod seat;

@@ -12,6 +12,7 @@ ghost use Rattle.cw_yard.specs.Opens.{IsFresh, AllRest, ServesDeques, IsPart, Ar
 
 use crate::cells::{Cells, Token};
 use crate::deque::{OwnDeque, ThiefPass, Victim};
+use crate::left::Spare;
 use crate::mark::Watch;
 use crate::seat::{Seat, Yard};
 use crate::ticket::FreeCell;
@@ -31,12 +32,16 @@ pub const MOST_CELLS: usize = 4_096;
 /// word 0, so the line that it lies on is written by nobody.
 const RESERVED: usize = 64;
 
+/// Jobs that a deque has room for at first. It grows.
+const FIRST_ROOM: usize = 32;
+
 /// What a seat has beside its deque.
 #[derive(Drop)]
 pub struct Part {
     free: Vec<FreeCell>,
     passes: Vec<ThiefPass>,
     watch: Watch,
+    spare: Spare,
 }
 
 // A deque whose mark is the next cell's token.
@@ -173,10 +178,12 @@ fn parts(
         let free = free_cells(alloc, &yard.table.shared, all, from, cells)?;
         let passes = passes(alloc, yard, owns)?;
         let watch = mark::another(&yard.mark.shared, watch);
+        let spare = Spare::new(alloc)?;
         made.push(Part {
             free,
             passes,
             watch,
+            spare,
         })?;
         from += cells;
         k += 1;
@@ -204,6 +211,7 @@ fn seats(
                 free,
                 passes,
                 watch,
+                spare,
             },
         ) = parts.pop()
         else {
@@ -214,6 +222,7 @@ fn seats(
             free,
             passes,
             watch,
+            spare,
         })?;
     }
     Ok(made)
@@ -224,7 +233,13 @@ fn open_all(alloc: Global, workers: usize, cells: usize) -> Result<(Yard, Vec<Se
     ensures { IfOk result (λ r. (workers_of r.0 ≡ workers) × AreSeats r.0 cells r.1.items) }
 {
     let (table, mut all) = crate::cells::new(alloc, RESERVED + workers * cells)?;
-    let mut owns = deques(alloc, &table.shared, &mut all, workers, cells)?;
+    let mut owns = deques(
+        alloc,
+        &table.shared,
+        &mut all,
+        workers,
+        cells.min(FIRST_ROOM),
+    )?;
     pass_by(&table.shared, &mut all, workers, RESERVED);
     let (mark, mut watch) = mark::unmarked(alloc)?;
     let stealers = stealers(alloc, &owns)?;

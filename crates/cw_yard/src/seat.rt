@@ -3,6 +3,7 @@ ghost use Rattle.std.specs.Prelude.{◌≡◌, ◌+◌};
 
 use crate::cells::CellTable;
 use crate::deque::{OwnDeque, ThiefPass, Victim};
+use crate::left::Spare;
 use crate::mark::{MarkTable, Watch};
 use crate::ticket::FreeCell;
 use crossbeam_utils::CachePadded;
@@ -19,12 +20,13 @@ pub struct Yard {
     ghost words: { table.shared.table_id.words ≡ table.shared.table_id.slots + 1 },
 }
 
-/// What one worker has of a yard, and nobody else: its deque, its free cells, a pass at each worker's deque, and its
-/// token of the end mark.
+/// What one worker has of a yard, and nobody else: its deque, its free cells, a pass at each worker's deque, its token
+/// of the end mark, and room for an effect.
 #[derive(Drop)]
 pub struct Seat {
     pub(crate) own: OwnDeque,
     pub(crate) free: Vec<FreeCell>,
     pub(crate) passes: Vec<ThiefPass>,
     pub(crate) watch: Watch,
+    pub(crate) spare: Spare,
 }

@@ -5,6 +5,7 @@ ghost use Rattle.cw_yard.specs.declared.view.CellView.TheVariants.{Owner};
 ghost use Rattle.cw_yard.specs.Words.{is_out, is_duty};
 
 use crate::cells::Token;
+use crate::left::Left;
 
 /// A job that was offered, to be taken back or its effect collected. It must be spent.
 pub struct Ticket {
@@ -15,10 +16,11 @@ pub struct Ticket {
     ghost empty: { token.me.1 ≡ [] },
 }
 
-/// The duty to settle a stolen job. It must be spent.
+/// The duty to settle a stolen job, with room for its effect. It must be spent.
 pub struct Duty {
     pub(crate) cell: usize,
     pub(crate) token: Token,
+    pub(crate) left: Left,
     ghost inside: { cell < token.table_id.slots },
     ghost open: { is_duty cell token.me.0 ≡ true },
     ghost empty: { token.me.1 ≡ [] },

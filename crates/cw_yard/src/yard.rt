@@ -68,7 +68,7 @@ impl Yard {
         ensures seat { IsSeatOf self.now seat.new }
         ensures ticket { RetakesFor ticket (offered_by seat.old) (offered_by seat.new) result }
     {
-        match handoff::retake(&self.table.shared, &mut seat.own, ticket) {
+        match handoff::retake(&self.table.shared, &mut seat.own, ticket, &mut seat.spare) {
             Ok((job, free)) => {
                 match seat.free.push(free) {
                     Ok(()) => {}
@@ -81,8 +81,9 @@ impl Yard {
     }
 
     /// Steals a job of a worker, with the duty to settle it: the oldest that lies in its deque, at the end away from
-    /// its owner (Blumofe and Leiserson 1999). None where the deque is empty or another took that job at the same
-    /// time. The numbers of what one seat steals of one victim rise. Takes no memory and waits for nobody.
+    /// its owner (Blumofe and Leiserson 1999). None where the deque is empty, or another took that job at the same
+    /// time, or there is no memory for room for its effect. The numbers of what one seat steals of one victim rise.
+    /// Takes memory for one effect with the first call after each theft, and waits for nobody.
     pub fn steal(&self, seat: &mut Seat, victim: usize) -> Option<(Job, Duty)>
         requires seat { IsSeatOf self.now seat.old }
         requires victim { victim < workers_of self.now }
@@ -92,7 +93,7 @@ impl Yard {
     {
         let stealer = &self.stealers[victim];
         let pass = &mut seat.passes[victim];
-        handoff::steal(&self.table.shared, stealer, pass)
+        handoff::steal(&self.table.shared, stealer, pass, &mut seat.spare)
     }
 
     /// Leaves the effect of a stolen job in its cell, for who offered it, and rings the bell for all. Takes no memory and

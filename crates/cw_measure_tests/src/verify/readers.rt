@@ -340,19 +340,36 @@ fn slots(rt: HostRuntime) -> Result<(), AllocError> {
     Ok(())
 }
 
-// The number of the refusal of a function that reads so many arrays, and names none.
-fn refusal_of_readers(alloc: Global, readers: usize) -> Result<u8, AllocError> {
+// The number of the refusal of a function of so many array slots that reads so many arrays, and names none.
+fn refusal_of_many(alloc: Global, arrays: usize, readers: usize) -> Result<u8, AllocError> {
     let mut code = no_code(alloc);
+    let f = Func {
+        arrays,
+        ..reading(true, 0, 0, readers)
+    };
     place(&mut code, on_integers(true, 0, 0), &[ONE, END])?;
-    place(&mut code, reading(true, 0, 0, readers), &[ONE, END])?;
+    place(&mut code, f, &[ONE, END])?;
     refusal_of(alloc, code)
 }
 
 #[test]
 fn many(rt: HostRuntime) -> Result<(), AllocError> {
     let alloc = rt.alloc();
-    assert!(rt; refusal_of_readers(alloc, 4_294_967_296)? == 0);
-    // more than have numbers: no memory has room for a call of it
-    assert!(rt; refusal_of_readers(alloc, 4_294_967_297)? == 9);
+    assert!(rt; refusal_of_many(alloc, 0, 4_294_967_296)? == 0);
+    assert!(rt; refusal_of_many(alloc, 1, 4_294_967_295)? == 0);
+    // more than have numbers
+    assert!(rt; refusal_of_many(alloc, 0, 4_294_967_297)? == 6);
+    assert!(rt; refusal_of_many(alloc, 1, 4_294_967_296)? == 6);
+    assert!(rt; refusal_of_many(alloc, 4_294_967_296, 1)? == 6);
+    assert!(rt; refusal_of_many(alloc, 4_294_967_297, 0)? == 6);
+    // more than a count tells
+    assert!(rt; refusal_of_many(alloc, 1, 18_446_744_073_709_551_615)? == 6);
+    assert!(rt;
+        refusal_of_many(
+            alloc,
+            18_446_744_073_709_551_615,
+            18_446_744_073_709_551_615
+        )? == 6
+    );
     Ok(())
 }

@@ -44,7 +44,7 @@ writable_arrays known [] h = refl
 writable_arrays known (a ∷ over) h =
     let first = writable_array known a (both_left (is_writable known a) (list_all (λ a. is_writable known a) over) h) in
     let more =
-        writable_arrays known over (both_right (is_writable known a) (list_all (λ a. is_writable known a) over) h) in
+    writable_arrays known over (both_right (is_writable known a) (list_all (λ a. is_writable known a) over) h) in
     cc
 
 pub argument_fits : (known : Known) (k : NameKind) (e : Expr) → is_argument known k e ≡ true
@@ -73,5 +73,5 @@ arguments_fit known (p ∷ ps) [] h = cc
 arguments_fit known (p ∷ ps) (e ∷ es) h =
     let first = argument_fits known p.kind e (both_left (is_argument known p.kind e) (are_arguments known ps es) h) in
     let more =
-        arguments_fit known ps es (both_right (is_argument known p.kind e) (are_arguments known ps es) h) in
+    arguments_fit known ps es (both_right (is_argument known p.kind e) (are_arguments known ps es) h) in
     cc

@@ -17,5 +17,5 @@ pub store-requires : goal.store-requires
 store-requires c =
     let m = c.requires.means in
     let e = c.load.ensures.2 m.0 m.1 (ap (λ x. x.0) m.2) in
-    let f : c.exchange-none.new.seat.me ≡ (Duty c.args.cell true m.0 m.1, (c.args.cell, Some c.args.effect) ∷ []) = c.exchange-none.ensures.3 ∙ ap (λ x. (x.0, (c.args.cell, Some c.args.effect) ∷ rest x.1)) e in
+    let f : c.exchange-none.new.seat.me ≡ (Duty c.args.cell true m.0 m.1, (c.args.cell, Some c.args.left) ∷ []) = c.exchange-none.ensures.3 ∙ ap (λ x. (x.0, (c.args.cell, Some c.args.left) ∷ rest x.1)) e in
     (c.exchange-none.ensures.0 ∙ (c.load.ensures.0 ∙ c.requires.table.0), omega (arith, c.requires.table), rw f (marks _ _ _ _ _ _ c.requires.table.1 m.3))
