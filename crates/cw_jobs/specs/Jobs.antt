@@ -9,8 +9,9 @@ use Rattle.cw_model.specs.Outcome.{quiet}
 use Rattle.cw_code.specs.declared.code.Func.{Func}
 use Rattle.cw_code.specs.declared.code.Halves.{Halves}
 use Rattle.cw_code.specs.Code.{Code, code_view}
-use Rattle.cw_code.specs.Run.{Around, Caller, Block, State}
-use Rattle.cw_code.specs.Fits.{Outer, main_params}
+use Rattle.cw_code.specs.Run.{Slots, Around, Caller, Block, State, is_full}
+use Rattle.cw_code.specs.Fits.{Outer, Shape, main_params}
+use Rattle.cw_code.specs.Frozen.{all_frozen, IsFrozenIn}
 use Rattle.cw_code.specs.Good.{Seat, GoodState}
 use Rattle.cw_verify.specs.declared.verified.Verified.{Verified}
 use Rattle.cw_verify.specs.Resolved.{IsVerified}
@@ -24,7 +25,7 @@ use Rattle.cw_jobs.specs.declared.call.Rest.{Rest as Frame}
 use Rattle.cw_text.specs.declared.fault.Fault.{Fault}
 use Rattle.cw_text.specs.declared.fault.Fault.TheVariants as fault
 use Rattle.cw_jobs.specs.Calls.{cell, placed, LiesAs, HoldsCall}
-use Rattle.cw_jobs.specs.Cuts.{cut_slots, CutsStand, AreNone, AreOwn, AreThere, RoundThere}
+use Rattle.cw_jobs.specs.Cuts.{cut_slots, CutsStand, AreNone, AreThere, RoundThere}
 
 -- code that fits, and its instructions stand for it
 abbrev pub Ok : Verified → Type 0
@@ -59,9 +60,23 @@ pub record IsOutermost (s : State) : Type 0 where
   pub results : s.results ≡ []
   pub arrived : s.arrived ≡ []
 
+-- some sync block of a call at such a place has the slot as frozen
+abbrev pub IsFrozenBy : Shape → (slot : ℕ) → Type 0
+IsFrozenBy shape a = IsFrozenIn (length shape.outer) (all_frozen shape) a
+
+-- the slot has its array, and is frozen in a call at this place
+abbrev pub IsKeptAt : (v : Verified) → Ok v → (place : ℕ) → Slots (List ℤ) → (slot : ℕ) → Type 0
+IsKeptAt v ok place arrays a =
+    (is_full (slice_get arrays a) ≡ true) × (seat : Seat (code_view v.code) ok.fits place) × IsFrozenBy seat.shape a
+
+-- the slice of each slot has one owner, or the call only reads it up to a join
+abbrev pub OwnsSlots : (v : Verified) → Ok v → (place : ℕ) → List Placed → Slots (List ℤ) → Type 0
+OwnsSlots v ok place slices arrays =
+    (a : ℕ) → a < length arrays → IsOwn (placed slices a) ⊎ IsKeptAt v ok place arrays a
+
 -- a job is one of the definitions: its call holds the job's, and over some block in which what waits for the empty
--- slots has come the run of the job begins well. Each slice has one owner; an array that is cut is in its parts alone;
--- and nothing stands round a whole call
+-- slots has come the run of the job begins well. Each slice of a slot has one owner, or is only read; an array that is
+-- cut is in its parts alone; and nothing stands round a whole call
 pub record IsJob (v : Verified) (ok : Ok v) (p : Parts) (j : Job) : Type 0 where
   pub extent : j.extent ≡ extent_of p.extent
   pub limit : j.limit ≡ p.limit
@@ -71,7 +86,7 @@ pub record IsJob (v : Verified) (ok : Ok v) (p : Parts) (j : Job) : Type 0 where
   pub begins : base.trace ≡ quiet
   pub blocks : AreBlocks base.around
   pub good : GoodState (code_view v.code) ok.fits (under base (job_start j))
-  pub own : AreOwn p.rest.slices.items
+  pub own : OwnsSlots v ok j.place p.rest.slices.items j.arrays
   pub bare : AreNone p.rest.slices.items (cut_slots base.around)
   pub cuts : (seat : Seat (code_view v.code) ok.fits j.place) →
       CutsStand (length j.arrays) seat.func.array_params base.around
@@ -89,10 +104,11 @@ abbrev pub IsPartIn : ℕ → List Outer → Type 0
 IsPartIn a [] = ⊥
 IsPartIn a (o ∷ outer) = IsPartOf a o.cut ⊎ IsPartIn a outer
 
--- an array that must come back where it lay: that of a parameter, or a part of an open cut
+-- an array that must come back where it lay: that of a parameter, a part of an open cut, or one that is frozen
 abbrev pub IsFixed : (v : Verified) → Ok v → (place slot : ℕ) → Type 0
 IsFixed v ok place a =
-    (seat : Seat (code_view v.code) ok.fits place) × ((a < seat.func.array_params) ⊎ IsPartIn a seat.shape.outer)
+    (seat : Seat (code_view v.code) ok.fits place)
+    × ((a < seat.func.array_params) ⊎ IsPartIn a seat.shape.outer ⊎ IsFrozenBy seat.shape a)
 
 -- the array of a slot that comes home: the job's own, where a new one was made in the slot
 abbrev pub own_or : Option (Option Placed) → Placed → Placed
