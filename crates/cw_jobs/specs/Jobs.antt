@@ -119,10 +119,15 @@ own_or None p = p
 abbrev pub home_of : (back : List Placed) → (replaced : List (Option Placed)) → (slot : ℕ) → Placed
 home_of back replaced a = own_or (slice_get replaced a) (placed back a)
 
+-- a new array that was made in a slot has one owner
+abbrev pub NewAreOwn : (back : List Placed) → (replaced : List (Option Placed)) → Type 0
+NewAreOwn back replaced = (a : ℕ) (own : Placed) → slice_get replaced a ≡ Some (Some own) → IsOwn (placed back a)
+
 -- what comes back of a job's arrays lies where it lay
 abbrev pub KeepsHomes : (slices back : List Placed) → (replaced : List (Option Placed)) → Type 0
 KeepsHomes slices back replaced =
     (length back ≡ length slices) × ((a : ℕ) → LiesAs (home_of back replaced a) (placed slices a))
+    × NewAreOwn back replaced
 
 -- no new array is made in a slot
 abbrev pub IsOwnIn : List (Option Placed) → (slot : ℕ) → Type 0
