@@ -114,6 +114,16 @@ pub record HasShared (m : Machine) (cell : ℕ) (p : Placed) (m' : Machine) : Ty
   pub views : m'.views.items ≡ m.views.items
   pub rest : StaysBut m m'
 
+-- the slice with this number of a call at a first cell may be handed out, as a share or not
+abbrev pub MayHandOne : Machine → (first slice : ℕ) → (shared : Bool) → (passed : List ℕ) → Type 0
+MayHandOne m first a true passed = MayShare m (first + a)
+MayHandOne m first a false passed = MayLend m (first + a) (stays_here m.cuts.items first passed a)
+
+-- and it was
+abbrev pub HasHanded : Machine → (first slice : ℕ) → (shared : Bool) → (passed : List ℕ) → Placed → Machine → Type 0
+HasHanded m first a true passed p m' = HasShared m (first + a) p m'
+HasHanded m first a false passed p m' = HasLentOut m (first + a) (stays_here m.cuts.items first passed a) p m'
+
 -- slices of a call that waits are out, from a cell on below another, with so many blocks and calls round it: so many of
 -- them are of slots, and these slots the spawned call was lent
 abbrev pub out_of : (level first floor slots : ℕ) → (lent : List ℕ) → List Placed → Out
@@ -132,7 +142,8 @@ ComesRound cells first slots (Block o ∷ around) =
 -- its arrays out; the rest, as parts that go to the join, is the job of the rest of the block; what waits for the joins
 -- of that call lies in the rest too; and the rest has nothing of what the spawn took
 pub record HandedOut (v : Verified) (ok : Ok v) (m : Machine) (s : State) (w : Waiting) (around : List Around)
-    (passed : List ℕ) (lent : List Loan) (first : ℕ) (m' : Machine) (r : Rest) : Type 0 where
+    (passed : List ℕ) (lent : List Loan) (first slots : ℕ) (m' : Machine) (r : Rest) : Type 0 where
+  pub slots_are : slots ≡ length w.arrays
   pub shows : Shows v
       (lending ok (out_of (length around) first m.first_array (length w.arrays) (slots_lent lent) r.slices.items)) m' s
   pub job : (p : Parts) → p.rest ≡ r → p.extent ≡ extent.ToJoin → IsJob v ok.verified p (rest_of w p.limit p.before)
@@ -153,8 +164,7 @@ pub record Hands (v : Verified) (ok : Ok v) (m : Machine) (s : State) (w : Waiti
   pub frozen : SharesFrozen v ok s
 
 -- a machine may hand out the call that waits nearest
-pub record MayHand (m : Machine) (passed : List ℕ) (lent : List Loan) : Type 0 where
-  pub code : Verified
+pub record MayHand (code : Verified) (m : Machine) (passed : List ℕ) (lent : List Loan) : Type 0 where
   pub ok : Ok code
   pub state : State
   pub waiting : Waiting
@@ -165,7 +175,8 @@ pub record MayHand (m : Machine) (passed : List ℕ) (lent : List Loan) : Type 0
 -- slots, and those that it reads
 pub record MayHandArrays (m : Machine) (first : ℕ) (passed : List ℕ) (lent : List Loan) (slots count : ℕ) : Type 0
   where
-    pub may : MayHand m passed lent
+    pub code : Verified
+    pub may : MayHand code m passed lent
     pub ends : first + count ≡ m.first_array
     pub slots_are : slots ≡ length may.waiting.arrays
     pub as_many : count ≡ length may.waiting.arrays + length may.waiting.readers
@@ -196,10 +207,10 @@ pub record HandsArrays (m : Machine) (first : ℕ) (passed : List ℕ) (lent : L
       → Shows v (lending ok (out_of (length around) first m.first_array slots (slots_lent lent) slices)) m' s
 
 -- whatever state it held, it holds it while the call is out
-abbrev pub HandsOut : Machine → List ℕ → List Loan → (first : ℕ) → Machine → Rest → Type 0
-HandsOut m passed lent first m' r =
+abbrev pub HandsOut : Machine → List ℕ → List Loan → (first slots : ℕ) → Machine → Rest → Type 0
+HandsOut m passed lent first slots m' r =
     (v : Verified) (ok : Ok v) (s : State) (w : Waiting) (around : List Around)
-    → Hands v ok m s w around passed lent → HandedOut v ok m s w around passed lent first m' r
+    → Hands v ok m s w around passed lent → HandedOut v ok m s w around passed lent first slots m' r
 
 -- more slices, which have no numbers
 abbrev pub HasMoreBare : List Placed → List Placed → Type 0
