@@ -7,6 +7,7 @@
 use cw_jobs::call::Parts;
 use cw_jobs::effect::Effect;
 use cw_jobs::job::Job;
+use cw_machine::hands::Lender;
 use cw_machine::run::Run;
 use cw_model::trap::Trap;
 use std::snapshot::Snapshot;
