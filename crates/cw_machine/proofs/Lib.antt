@@ -8,6 +8,7 @@ pub mod Stepping
 pub mod Blocks
 pub mod Still
 pub mod Reading
+pub mod Shares
 pub mod Remaining
 pub mod Under
 pub mod Rows
