@@ -53,7 +53,7 @@ pub mod Unwinds
 pub mod Inner
 pub mod SpawnRounds
 pub mod Nothing
-pub mod Kept
+pub mod Freezing
 pub mod Striding
 pub mod Bursting
 pub mod BurstingIn

@@ -103,10 +103,18 @@ pub record IsEmptied (r r' : Rest) : Type 0 where
   pub as_many : length r'.slices.items ≡ length r.slices.items
   pub bare : (a : ℕ) → (placed r'.slices.items a).items ≡ []
 
--- the run of a job on these slices, with so many parameters and blocks round it
-abbrev pub ok_of : (v : Verified) → IsFit v → (params : ℕ) → List Placed → (round : ℕ) → Ok v
-ok_of v is params slices round =
-    record { verified = is; outer = round; params = params; home = home_in slices; given = slices; outs = [] }
+-- the run of a job on these slices, so many of them of slots, with so many parameters and blocks round it
+abbrev pub ok_of : (v : Verified) → IsFit v → (params slots : ℕ) → List Placed → (round : ℕ) → Ok v
+ok_of v is params slots slices round =
+    record {
+      verified = is;
+      outer = round;
+      params = params;
+      home = home_in slices;
+      given = slices;
+      slots = slots;
+      outs = [];
+    }
 
 -- the values that wait for slots lie in their cells
 abbrev pub WaitIn : List ℤ → Results ℤ → Type 0
@@ -140,7 +148,8 @@ pub record IsBase (v : Verified) (is : IsFit v) (j : Job) (r : Rest) (base : Sta
 
 -- what the run of a job stands in
 abbrev pub job_ok : (v : Verified) (is : IsFit v) (j : Job) (r : Rest) (base : State) → IsBase v is j r base → Ok v
-job_ok v is j r base b = ok_of v is b.good.seat.func.array_params r.slices.items (length base.around)
+job_ok v is j r base b =
+    ok_of v is b.good.seat.func.array_params (length j.arrays) r.slices.items (length base.around)
 
 -- a machine holds a state of the run of a job, with nothing out
 pub record HoldsOf (v : Verified) (is : IsFit v) (j : Job) (r : Rest) (m : Machine) (s : State) : Type 0 where

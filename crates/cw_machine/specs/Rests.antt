@@ -13,8 +13,15 @@ use Rattle.cw_machine.specs.Shows.{Shows, StaysBut}
 -- the same run, with these arrays out
 abbrev pub with_outs : {v : Verified} → Ok v → List Out → Ok v
 with_outs ok outs =
-    record
-    { verified = ok.verified; outer = ok.outer; params = ok.params; home = ok.home; given = ok.given; outs = outs }
+    record {
+      verified = ok.verified;
+      outer = ok.outer;
+      params = ok.params;
+      home = ok.home;
+      given = ok.given;
+      slots = ok.slots;
+      outs = outs;
+    }
 
 -- the same run, with arrays of one call more out
 abbrev pub lending : {v : Verified} → Ok v → Out → Ok v

@@ -81,7 +81,8 @@ setting_of {v} {is} {p} {j} g = record {
 
 -- with these arrays out
 abbrev pub ok_with : {v : Verified} {is : IsFit v} {p : Parts} {j : jobs.Job} → Ground v is p j → List Out → Ok v
-ok_with {v} {is} {p} {j} g outs = with_outs (ok_of v is g.params p.rest.slices.items (length g.base.around)) outs
+ok_with {v} {is} {p} {j} g outs =
+    with_outs (ok_of v is g.params (length j.arrays) p.rest.slices.items (length g.base.around)) outs
 
 -- a job that is out is the rest of the block that waits at a level, with what is out of the machine for it
 pub record IsLent (v : Verified) (is : IsFit v) (p : Parts) (base : State) (l : Level) (o : Out) (h : Lent) : Type 0
