@@ -18,7 +18,8 @@ use Rattle.cw_machine.specs.declared.machine.Machine.{Machine}
 use Rattle.cw_machine.specs.Arrays.{ReadsAll, RoundReads, Ok, view, Memory, Has, HasComing, CutIn, taken_round, StandsOn, Floors, RoundOn}
 use Rattle.cw_machine.specs.Shows.{Stands, Round, Shows, cut_cell, cut_cells}
 use Rattle.cw_jobs.specs.Cuts.{parts_round, cut_slots}
-use Rattle.cw_machine.specs.Hands.{is_among, is_cut_among, stays_here, lent_count, ComesRound}
+use Rattle.cw_machine.specs.Arrays.{is_among}
+use Rattle.cw_machine.specs.Hands.{is_cut_among, stays_here, lent_count, ComesRound}
 use Rattle.cw_machine.proofs.Cells.{not_first, not_second}
 use Rattle.cw_machine.proofs.Decided.{taken, not_taken, equal, eq_of, below, not_below}
 use Rattle.cw_machine.proofs.Order.{some_same, full_value}

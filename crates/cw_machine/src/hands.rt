@@ -191,13 +191,7 @@ impl Machine {
     // The arrays of the call that waits nearest, whose first cell is this one, each into the slice of its slot, and
     // those that it reads into the slices behind these.
     #[inline(never)]
-    fn hand_each(
-        &mut self,
-        lender: Lender,
-        passed: &[u32],
-        lent: &[Loan],
-        slices: &mut Vec<Slice>,
-    )
+    fn hand_each(&mut self, lender: Lender, passed: &[u32], lent: &[Loan], slices: &mut Vec<Slice>)
         requires { ∥ MayHandArrays self.old lender.first passed.now lent.now lender.slots (length slices.old.items) ∥₁ }
         ensures out { HandsArrays self.old lender.first passed.now lent.now lender.slots self.new slices.new.items }
         ensures as_many { length slices.new.items ≡ length slices.old.items }

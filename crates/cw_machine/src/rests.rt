@@ -2,7 +2,6 @@
 
 ghost use Rattle.std.specs.Prelude.{◌≡◌, ◌+◌, length};
 ghost use Rattle.cw_machine.specs.Rests.{MayTake, TakesBack, AreBare, MayLay, HasLaid};
-
 ghost use Rattle.cw_code.specs.Fits.{slots_lent};
 
 use crate::hands::is_shared;

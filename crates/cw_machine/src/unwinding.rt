@@ -7,7 +7,7 @@ ghost use Rattle.cw_machine.specs.Shows.{StaysBut};
 ghost use Rattle.cw_machine.specs.Unwinding.{ComesHome, MayComeHome};
 
 use crate::gives::take_home;
-use crate::hands::{is_shared, Lender};
+use crate::hands::{Lender, is_shared};
 use crate::machine::Machine;
 use cw_code::code::Loan;
 use cw_slices::Slice;
