@@ -204,8 +204,8 @@ pub record KeepsSlots (s : State) (o : Out) (back : Rest) (replaced : List (Opti
 
 -- a machine holds a state while slices of the call that runs are out, and their rest came back at this frame
 pub record IsGiving (v : Verified) (ok : Ok v) (o : Out) (m : Machine) (s : State) (frame : Standing) (waits : Waits s)
-    (back : Rest) (replaced : List (Option Placed)) (slots : ℕ) (lent : List ℕ) (target : Option ℕ) : Type 0 where
-  pub slots_are : o.slots ≡ slots
+    (back : Rest) (replaced : List (Option Placed)) (count : ℕ) (lent : List ℕ) (target : Option ℕ) : Type 0 where
+  pub slots_are : o.slots ≡ count
   pub lent_are : o.lent ≡ lent
   -- the rest reads what the call does
   pub readers : frame.readers ≡ s.readers

@@ -79,9 +79,9 @@ parted blocks w (suc n) =
     (record { cells = patched w.from (outs (suc n)) old.cells; rights = old.rights; spot = old.spot })
 
 -- the right to so many places from where a view lies was halved, so often in all
-abbrev pub halved : List Lodged → View → (count times : ℕ) → List Lodged
-halved blocks w zero d = blocks
-halved blocks w (suc n) d =
+abbrev pub shared_by : List Lodged → View → (count times : ℕ) → List Lodged
+shared_by blocks w zero d = blocks
+shared_by blocks w (suc n) d =
     let old = block blocks w.block in
     slice_set blocks w.block
     (record { cells = old.cells; rights = patched w.from (replicate (suc n) d) old.rights; spot = old.spot })
@@ -110,7 +110,7 @@ pub record HasShared (m : Machine) (cell : ℕ) (p : Placed) (m' : Machine) : Ty
   pub right : 0 < length p.items →
       let w = view m.views.items cell in
       (d : ℕ) × (p.spot.halved ≡ suc d) × AreHalved (rights_at m.blocks.items w) w.from w.len d
-  pub blocks : m'.blocks.items ≡ halved m.blocks.items (view m.views.items cell) (length p.items) p.spot.halved
+  pub blocks : m'.blocks.items ≡ shared_by m.blocks.items (view m.views.items cell) (length p.items) p.spot.halved
   pub views : m'.views.items ≡ m.views.items
   pub rest : StaysBut m m'
 

@@ -1,11 +1,11 @@
 -- The rest of the block that has spawned a call is handed out.
-use Rattle.std.proofs.Common.{◌≡◌, ℕ, suc, ◌≤◌, false, List, [], ◌∷◌, length, refl, sym, ap, ◌∙◌, subst, inl, inr, arith}
+use Rattle.std.proofs.Common.{◌≡◌, ℕ, suc, ◌≤◌, List, [], ◌∷◌, length, refl, sym, ap, ◌∙◌, subst, inl, inr, arith}
 use Rattle.std.specs.Prelude.{map, reverse}
 use Rattle.std.proofs.Math.Logic.{∥∥₁_elim, ∥∥₁_map}
 use Rattle.cw_model.specs.declared.burden.Burden.{Burden}
 use Rattle.cw_model.specs.declared.limits.TheConstants.{MOST_BURDEN}
 use Rattle.cw_code.specs.Code.{Code, code_view}
-use Rattle.cw_code.specs.Run.{Readers, Taken, Whole, slot_taken, Waiting, Around, Caller, State, passed_by}
+use Rattle.cw_code.specs.Run.{Taken, Whole, slot_taken, Waiting, Around, Caller, State, passed_by}
 use Rattle.cw_strands.specs.Jobs as jobs
 use Rattle.cw_strands.specs.Jobs.{has_come}
 use Rattle.cw_strands.specs.Over.{beneath, under}
@@ -21,31 +21,20 @@ use Rattle.cw_machine.specs.Rests.{lending}
 use Rattle.cw_machine.specs.Unwinding.{LieBelow, IsLevel, OutsLieApart}
 use Rattle.cw_machine.specs.Calls.{listed}
 use Rattle.cw_machine.specs.Hands.{out_of, Hands, MayHand, HandedOut}
-use Rattle.cw_machine.specs.Keeping.{keeps_with, keeps_between}
 use Rattle.cw_machine.specs.Stretches.{newest_spawn}
 use Rattle.cw_strand.specs.declared.strand.Lent.{Lent}
 use Rattle.cw_strand.specs.declared.strand.Strand.{Strand}
-use Rattle.cw_strand.specs.Levels.{Level, levels_of, handed_levels, waiting_over}
+use Rattle.cw_strand.specs.Levels.{Level, levels_of, waiting_over}
 use Rattle.cw_strand.specs.Holds.{its_parts, its_code, ok_with, KeepsJob}
 use Rattle.cw_strand.specs.Moves.{CameTo, HasCome, HasCut}
 use Rattle.cw_strand.proofs.Levels.{HasSpawned, LevelsAfter, levels_move, round_many}
 use Rattle.cw_strand.proofs.Onward.{lends_above, levels_under, newest_round}
 use Rattle.cw_strand.proofs.RunsOn.{sound_of}
 
--- a rest that is not kept is of a call that reads nothing, and so is the call that it spawned
-none_read : (readers readers' : Readers) → keeps_with readers readers' ≡ false → (readers ≡ []) × (readers' ≡ [])
-none_read [] [] e = (refl, refl)
-none_read [] (xs ∷ readers') e = cc
-none_read (xs ∷ readers) readers' e = cc
-
 -- what waits over what stands round a run is the same call
 over_is : (b : State) (w : Waiting) (around : List Around) → beneath b (Caller w ∷ around) ≡ Caller (waiting_over b w around) ∷ beneath b around
 over_is b w [] = refl
 over_is b w (a ∷ around) = refl
-
-over_readers : (b : State) (w : Waiting) (around : List Around) → (waiting_over b w around).readers ≡ w.readers
-over_readers b w [] = refl
-over_readers b w (a ∷ around) = refl
 
 over_kind : (b : State) (w : Waiting) (around : List Around) → (waiting_over b w around).kind ≡ w.kind
 over_kind b w [] = refl
@@ -103,7 +92,7 @@ module _ (keep : (code : Code) → CallsKeep code) (self : Strand) (limit : ℕ)
   w = spawned.waiting
 
   abbrev level : Level
-  level = record { waiting = w; around = c.state.around; kept = keeps_between c.state next }
+  level = record { waiting = w; around = c.state.around }
 
   abbrev above_it : List Around
   above_it = beneath base c.state.around
@@ -113,9 +102,9 @@ module _ (keep : (code : Code) → CallsKeep code) (self : Strand) (limit : ℕ)
 
   above : AllAbove c.outs (length above_it)
   above k o e =
-      let lt = lends_above v is p base (handed_levels (levels_of c.state)) c.outs lent (newest_spawn c.state.readers c.state.around) (levels_under c.state.readers c.state.around) c.lends k o e in
+      let lt = lends_above v is p base (levels_of c.state.around) c.outs lent (newest_spawn c.state.around) (levels_under c.state.around) c.lends k o e in
       let many = round_many base c.state.around in
-      let low = newest_round c.state.readers c.state.around in
+      let low = newest_round c.state.around in
       omega (arith, lt, many, low)
 
   -- the machine may hand it out
@@ -127,8 +116,6 @@ module _ (keep : (code : Code) → CallsKeep code) (self : Strand) (limit : ℕ)
     none = over_operands base w c.state.around ∙ spawned.none;
     taken = ap (map slot_taken) (over_taken base w c.state.around ∙ spawned.taken_is) ∙ taken_all (passed_by code spawn.passed);
     above = above;
-    waits_apart = over_readers base w c.state.around ∙ spawned.readers_are ∙ (none_read c.state.readers next.readers c.at.1.apart).0;
-    runs_apart = (none_read c.state.readers next.readers c.at.1.apart).1;
   }
 
   pub may_hand : MayHand self.run.machine (listed v spawn.passed)

@@ -44,14 +44,13 @@ use Rattle.cw_strand.specs.declared.strand.Lent.{Lent}
 use Rattle.cw_strand.specs.declared.strand.Mode.{Mode}
 use Rattle.cw_strand.specs.declared.strand.Mode.TheVariants as mode
 use Rattle.cw_strand.specs.declared.strand.Strand.{Strand}
-use Rattle.cw_strand.specs.Levels.{levels_of, handed_levels}
-use Rattle.cw_strand.specs.Holds.{its_parts, its_code, lent_parts, Ground, setting_of, ok_with, Lends, Stands, HeldIn, Holds, IsRunning, IsWaiting, HasStopped, stops, is_lost}
+use Rattle.cw_strand.specs.Levels.{levels_of}
+use Rattle.cw_strand.specs.Holds.{its_parts, its_code, lent_parts, Ground, setting_of, ok_with, Lends, rests_at, Stands, HeldIn, Holds, IsRunning, IsWaiting, HasStopped, stops, is_lost}
 use Rattle.cw_strand.specs.Moves.{MayPopHome, HasPoppedHome, HasLost}
 use Rattle.cw_strand.specs.Giving.{passes_limit, IsOfRest, GivesBack, HasTaken, HasJoined}
 use Rattle.cw_strand.proofs.Course.{wants}
 use Rattle.cw_strand.proofs.RunsOn.{sound_of, IsHeldBack, waiting_of}
 use Rattle.cw_strand.proofs.Same.{spare_as, Newest}
-use Rattle.cw_strand.proofs.Onward.{waited_lends}
 use Rattle.cw_strand.proofs.TakenBack.{Split, split}
 use Rattle.cw_strand.proofs.Homes.{rest_slices, newly, may_home, stands_on, stands_in, goes_so, stops_on, came_home}
 use Rattle.cw_strand.proofs.Given.{out, rests, out_is, waits, giving}
@@ -122,9 +121,9 @@ module _ (self : Strand) (job : Job) (others : List Job) (newest : Newest self j
       module _ (waiting : IsWaiting self) (remain : ShownRemain) where
         pub stands_waits : (is : IsFit (its_code self)) (j : jobs.Job) (g : Ground (its_code self) is (its_parts self) j) → IsHeldBack self is j g → Stands self is j g
         stands_waits is j g h = record {
-          levels = h.waited.level ∷ handed_levels (levels_of h.state);
+          levels = h.waited.level ∷ levels_of h.state.around;
           outs = h.waited.runs.outs;
-          lends = waited_lends self is j g h.state h.count h.out h.waited;
+          lends = h.waited.runs.lends;
           remains = remain v (ok_with g h.waited.runs.outs) self.run.machine (under g.base h.state) h.waited.runs.shows.shows;
         }
 

@@ -45,14 +45,14 @@ use Rattle.cw_strand.specs.declared.strand.Lent.{Lent}
 use Rattle.cw_strand.specs.declared.strand.Mode.{Mode}
 use Rattle.cw_strand.specs.declared.strand.Mode.TheVariants as mode
 use Rattle.cw_strand.specs.declared.strand.Strand.{Strand}
-use Rattle.cw_strand.specs.Levels.{levels_in, levels_of, handed_levels}
-use Rattle.cw_strand.specs.Holds.{its_parts, its_code, lent_parts, Ground, setting_of, ok_with, Lends, AreOut, Stands, HeldIn, Holds, IsRunning, IsWaiting, HasStopped, is_lost}
+use Rattle.cw_strand.specs.Levels.{levels_of}
+use Rattle.cw_strand.specs.Holds.{its_parts, its_code, lent_parts, Ground, setting_of, ok_with, Lends, rests_at, Stands, HeldIn, Holds, IsRunning, IsWaiting, HasStopped, is_lost}
 use Rattle.cw_strand.specs.Moves.{MayPopHome, HasPoppedHome, HasLost}
 use Rattle.cw_strand.specs.Giving.{passes_limit, IsOfRest, GivesBack, HasTaken, HasJoined}
 use Rattle.cw_strand.proofs.Course.{wants}
 use Rattle.cw_strand.proofs.RunsOn.{sound_of, IsHeldBack, waiting_of}
 use Rattle.cw_strand.proofs.Same.{Newest}
-use Rattle.cw_strand.proofs.TakenBack.{Split, split, rests_out}
+use Rattle.cw_strand.proofs.TakenBack.{Split, split}
 use Rattle.cw_strand.proofs.Homes.{rest_slices, newly, may_home, stands_on, stands_in, goes_so, stops_on}
 use Rattle.cw_strand.proofs.Given.{out, rests, out_is, waits, giving}
 use Rattle.cw_strand.proofs.Effects.{CostsAs, IsOver, meant, homes_in, cost_in, over_in, never_ends, gave_over, gave_limit, gave_within}
@@ -122,7 +122,7 @@ module _ (self : Strand) (job : Job) (others : List Job) (newest : Newest self j
     abbrev jo : jobs.Job
     jo = out self job others newest is j g h
 
-    abbrev sp : Split v is p g.base h.waited.level (handed_levels (levels_of h.state)) h.waited.runs.outs newest.lent newest.rest
+    abbrev sp : Split v is p g.base h.waited.level (levels_of h.state.around) h.waited.runs.outs newest.lent newest.rest
     sp = split self job others newest is j g h
 
     came : Came v is q jo back replaced shown
@@ -143,10 +143,6 @@ module _ (self : Strand) (job : Job) (others : List Job) (newest : Newest self j
       abbrev now : State
       now = resumed h.state came.frame came.trace
 
-      -- neither it nor the rest reads an array
-      reads : came.frame.readers ≡ h.state.readers
-      reads = came.holds.reads_none ∙ sym (out_is self job others newest is j g h).holds.reads_none
-
       costs : came.cost ≡ shown.cost
       costs = sym came.shown_is.cost
 
@@ -163,7 +159,7 @@ module _ (self : Strand) (job : Job) (others : List Job) (newest : Newest self j
 
       shows_now : Shows v (ok_with g sp.others) r.machine (under g.base now)
       shows_now =
-          let given = subst (Shows v (ok_with g sp.others) joined.given) (went_under g.base h.state came.frame reads) (joined.gives v (ok_with g sp.others) sp.out (under g.base h.state) came.frame (waits_under g.base h.state) gives_it) in
+          let given = subst (Shows v (ok_with g sp.others) joined.given) (went_under g.base h.state came.frame) (joined.gives v (ok_with g sp.others) sp.out (under g.base h.state) came.frame (waits_under g.base h.state) gives_it) in
           let taken = subst (λ l. HasTaken joined.given l shown.totals.items r.machine) came.shown_is.lines joined.takes in
           shows_joined v (ok_with g sp.others) joined.given r.machine shown.totals.items g.base h.state came.frame came.trace taken given came.shown_is.totals
 
@@ -190,8 +186,8 @@ module _ (self : Strand) (job : Job) (others : List Job) (newest : Newest self j
         held = subst (λ a. HeldIn (record self { run = new.run; lent = new.lent; count = new.count; spares = new.spares; mode = new.mode }) is j g a (Going now (h.count + came.cost) rs)) (sym going) (record {
           counts = total;
           outs = sp.others;
-          lends = subst (λ r. Lends v is p g.base (handed_levels (levels_in r h.state.around)) sp.others (reverse new.lent.items)) (sym reads) (subst (Lends v is p g.base (handed_levels (levels_of h.state)) sp.others) (sym left) sp.rest);
-          are = subst (λ r. AreOut p (levels_in r h.state.around) (reverse new.lent.items) rs) (sym reads) (subst (λ z. AreOut p (levels_of h.state) z rs) (sym left) (rests_out self job others newest is j g h).still);
+          lends = subst (Lends v is p g.base (levels_of h.state.around) sp.others) (sym left) sp.rest;
+          are = ap (rests_at p (levels_of h.state.around)) (sym left);
           shows = record {
             shows = subst (λ (x : Run). Shows v (ok_with g sp.others) x.machine (under g.base now)) (sym run_is) shows_now;
             tells = subst (λ (x : Run). TellsAll code p.burden (origin_of p) (Going now new.count []) x.meter) (sym run_is) (subst (λ k. TellsAll code p.burden (origin_of p) (Going now k []) r.meter) total tells_now);

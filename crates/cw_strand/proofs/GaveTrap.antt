@@ -44,7 +44,7 @@ use Rattle.cw_strand.specs.declared.strand.Mode.{Mode}
 use Rattle.cw_strand.specs.declared.strand.Mode.TheVariants as mode
 use Rattle.cw_strand.specs.declared.strand.Strand.{Strand}
 use Rattle.cw_strand.specs.Levels.{levels_of}
-use Rattle.cw_strand.specs.Holds.{its_parts, its_code, lent_parts, Ground, setting_of, ok_with, Lends, Stands, HeldIn, Holds, IsRunning, IsWaiting, HasStopped, is_lost}
+use Rattle.cw_strand.specs.Holds.{its_parts, its_code, lent_parts, Ground, setting_of, ok_with, Lends, rests_at, Stands, HeldIn, Holds, IsRunning, IsWaiting, HasStopped, is_lost}
 use Rattle.cw_strand.specs.Moves.{MayPopHome, HasPoppedHome, HasLost}
 use Rattle.cw_strand.specs.Giving.{passes_limit, IsOfRest, GivesBack, HasTaken, HasJoined}
 use Rattle.cw_strand.proofs.Course.{wants}

@@ -31,11 +31,11 @@ use Rattle.cw_machine.specs.Hands.{ComesRound}
 use Rattle.cw_machine.specs.lemmas.Joins.{waits_under, went_under, comes_back, comes_back_round}
 use Rattle.cw_strand.specs.declared.strand.Lent.{Lent}
 use Rattle.cw_strand.specs.declared.strand.Strand.{Strand}
-use Rattle.cw_strand.specs.Levels.{Level, levels_of, handed_levels, ResultWaits, IsBackAt, waiting_over}
-use Rattle.cw_strand.specs.Holds.{its_parts, its_code, lent_parts, Ground, ok_with, IsLent, Lends}
+use Rattle.cw_strand.specs.Levels.{Level, levels_of, ResultWaits, IsBackAt, waiting_over}
+use Rattle.cw_strand.specs.Holds.{its_parts, its_code, lent_parts, Ground, ok_with, IsLent, Lends, rests_at}
 use Rattle.cw_strand.proofs.RunsOn.{IsHeldBack}
 use Rattle.cw_strand.proofs.Same.{Newest}
-use Rattle.cw_strand.proofs.TakenBack.{Split, split, rests_out, lends_it}
+use Rattle.cw_strand.proofs.TakenBack.{Split, split, lends_it}
 
 -- the run of a rest that came to its join came there
 pub record ComesThere (code : Code) (job : jobs.Job) (frame : Standing) (t : Trace) : Type 0 where
@@ -98,7 +98,7 @@ outermost_is place (Block o ∷ around) b = outermost_is place around b
 out_alone : (s : State) (f : Func) (shape : Shape) → s.operands ≡ [] → Good f shape s → Good f shape (under s (job_start (rest_at s 0 0)))
 out_alone s f shape none g =
     let k = subst (λ ops. Good f shape (record s { operands = ops })) none g in
-    record { as_many = k.as_many; ints = k.ints; arrays = k.arrays; readers = k.readers; cuts = k.cuts }
+    record { as_many = k.as_many; ints = k.ints; arrays = k.arrays; cuts = k.cuts }
 
 -- the rest that is out begins well over the state in which its block goes on
 out_starts : (code : Code) (fits : Fits code) (s : State) (limit before : ℕ) → s.operands ≡ [] → GoodState code fits s → GoodState code fits (under s (job_start (rest_at s limit before)))
@@ -124,7 +124,7 @@ module _ (self : Strand) (job : Job) (others : List Job) (newest : Newest self j
   abbrev l : Level
   l = h.waited.level
 
-  abbrev sp : Split v is p g.base l (handed_levels (levels_of s)) h.waited.runs.outs newest.lent newest.rest
+  abbrev sp : Split v is p g.base l (levels_of s.around) h.waited.runs.outs newest.lent newest.rest
   sp = split self job others newest is j g h
 
   -- it is the rest of the block that the strand goes on with
@@ -132,7 +132,7 @@ module _ (self : Strand) (job : Job) (others : List Job) (newest : Newest self j
   out = rest_at s p.limit q.before
 
   abbrev pub rests : List jobs.Job
-  rests = (rests_out self job others newest is j g h).rests
+  rests = rests_at p (levels_of s.around) newest.rest
 
   rest_is : rest_of l.waiting p.limit q.before ≡ out
   rest_is =
@@ -141,7 +141,6 @@ module _ (self : Strand) (job : Job) (others : List Job) (newest : Newest self j
       ∙ ap (λ x. record (rest_of l.waiting p.limit q.before) { place = s.place; slots = x }) (sym b.slots)
       ∙ ap (λ x. record (rest_of l.waiting p.limit q.before) { place = s.place; slots = s.slots; arrays = x }) (sym b.arrays)
       ∙ ap (λ x. record (rest_of l.waiting p.limit q.before) { place = s.place; slots = s.slots; arrays = s.arrays; depth = x }) (sym b.depth)
-      ∙ ap (λ x. record (rest_of l.waiting p.limit q.before) { place = s.place; slots = s.slots; arrays = s.arrays; depth = s.depth; readers = x }) (sym b.readers)
 
   pub out_is : IsJob v is q out
   out_is = subst (IsJob v is q) rest_is sp.is_lent.job
@@ -149,7 +148,7 @@ module _ (self : Strand) (job : Job) (others : List Job) (newest : Newest self j
   pub waits : IsStrandOf code j (Waits s h.count (out ∷ rests))
   waits =
       subst (λ x. IsStrandOf code j (Waits s h.count (x ∷ rests))) rest_is
-      (subst (λ o. IsStrandOf code j (Waits s h.count o)) (rests_out self job others newest is j g h).are h.is_of)
+      (subst (λ o. IsStrandOf code j (Waits s h.count o)) (h.waited.runs.are ∙ ap (rests_at p (l ∷ levels_of s.around)) newest.are) h.is_of)
 
   pub none : s.operands ≡ []
   none = waits.2.0.none
@@ -167,8 +166,8 @@ module _ (self : Strand) (job : Job) (others : List Job) (newest : Newest self j
         arrived code is.fits is.steps settles (under g.base s) there.budget (job_start out) frame t there.left
         (out_starts code is.fits (under g.base s) p.limit q.before none shown.good) there.there
 
-    pub good : frame.readers ≡ s.readers → GoodState code is.fits (went_on (under g.base s) frame (waits_under g.base s))
-    good reads = subst (GoodState code is.fits) (sym (went_under g.base s frame reads)) (gives_fit code is.fits is.steps settles ToJoin (Upon g.base) s frame quiet shown.good came)
+    pub good : GoodState code is.fits (went_on (under g.base s) frame (waits_under g.base s))
+    good = subst (GoodState code is.fits) (sym (went_under g.base s frame)) (gives_fit code is.fits is.steps settles ToJoin (Upon g.base) s frame quiet shown.good came)
 
     pub together : AreTogether v (ok_with g sp.others) s.place frame.place
     together = λ seat seat'.
@@ -226,7 +225,7 @@ module _ (self : Strand) (job : Job) (others : List Job) (newest : Newest self j
             level = it.level;
             had = subst (λ x. HasArrays x s.arrays) (sym same) out_is.holds.has;
             together = together;
-            good = good (holds.reads_none ∙ sym out_is.holds.reads_none);
+            good = good;
             holds = holds;
             homes = subst (λ x. KeepsHomes x back.slices.items replaced) (sym same) homes;
             fixed = fixed;

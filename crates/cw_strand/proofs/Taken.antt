@@ -78,7 +78,7 @@ totals_both code old more new a b joined h k = record {
 good_with : (code : Code) (fits : Fits code) (s : State) (t : Trace) → GoodState code fits s → GoodState code fits (record s { trace = t })
 good_with code fits s t g = record {
   seat = g.seat;
-  call = record { as_many = g.call.as_many; ints = g.call.ints; arrays = g.call.arrays; readers = g.call.readers; cuts = g.call.cuts };
+  call = record { as_many = g.call.as_many; ints = g.call.ints; arrays = g.call.arrays; cuts = g.call.cuts };
   others = g.others;
 }
 

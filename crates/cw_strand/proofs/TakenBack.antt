@@ -22,11 +22,11 @@ use Rattle.cw_machine.specs.Stretches.{newest_spawn}
 use Rattle.cw_strand.specs.declared.strand.Lent.{Lent}
 use Rattle.cw_strand.specs.declared.strand.Mode.TheVariants as mode
 use Rattle.cw_strand.specs.declared.strand.Strand.{Strand}
-use Rattle.cw_strand.specs.Levels.{Level, levels_of, handed_levels}
-use Rattle.cw_strand.specs.Holds.{its_parts, its_code, lent_parts, Ground, ok_with, IsLent, Lends, AreOut, Holds, AreSpare, IsRunning, IsWaiting}
+use Rattle.cw_strand.specs.Levels.{Level, levels_of}
+use Rattle.cw_strand.specs.Holds.{its_parts, its_code, lent_parts, Ground, ok_with, IsLent, Lends, rests_at, Holds, AreSpare, IsRunning, IsWaiting}
 use Rattle.cw_strand.specs.Moves.{HasSpared}
 use Rattle.cw_strand.proofs.Levels.{round_many}
-use Rattle.cw_strand.proofs.Onward.{lends_above, levels_under, newest_round, waited_lends, Others, others_of}
+use Rattle.cw_strand.proofs.Onward.{lends_above, levels_under, newest_round}
 use Rattle.cw_strand.proofs.RunsOn.{sound_of, IsHeldBack, waiting_of}
 use Rattle.cw_strand.proofs.Same.{same_strand, Newest}
 
@@ -57,18 +57,14 @@ module _ (self : Strand) (job : Job) (others : List Job) (newest : Newest self j
     abbrev l : Level
     l = h.waited.level
 
-    pub split : Split v is p g.base l (handed_levels (levels_of s)) h.waited.runs.outs newest.lent newest.rest
-    split = split_of v is p g.base l (handed_levels (levels_of s)) h.waited.runs.outs newest.lent newest.rest (subst (Lends v is p g.base (l ∷ handed_levels (levels_of s)) h.waited.runs.outs) newest.are (waited_lends self is j g s h.count h.out h.waited))
-
-    -- and of those of the definitions
-    pub rests_out : Others p l (levels_of s) newest.lent newest.rest h.out
-    rests_out = others_of p l (levels_of s) newest.lent newest.rest h.out h.waited.apart (subst (λ z. AreOut p (l ∷ levels_of s) z h.out) newest.are h.waited.runs.are)
+    pub split : Split v is p g.base l (levels_of s.around) h.waited.runs.outs newest.lent newest.rest
+    split = split_of v is p g.base l (levels_of s.around) h.waited.runs.outs newest.lent newest.rest (subst (Lends v is p g.base (l ∷ levels_of s.around) h.waited.runs.outs) newest.are h.waited.runs.lends)
 
     above : AllAbove split.others (length (under g.base s).around)
     above k o e =
-        let lt = lends_above v is p g.base (handed_levels (levels_of s)) split.others newest.rest (newest_spawn s.readers s.around) (levels_under s.readers s.around) split.rest k o e in
+        let lt = lends_above v is p g.base (levels_of s.around) split.others newest.rest (newest_spawn s.around) (levels_under s.around) split.rest k o e in
         let many = round_many g.base s.around in
-        let low = newest_round s.readers s.around in
+        let low = newest_round s.around in
         omega (arith, lt, many, low)
 
     pub lends_it : IsLending v (ok_with g split.others) split.out self.run.machine (under g.base s) job.parts.value.rest.slices.items
@@ -87,11 +83,12 @@ module _ (self : Strand) (job : Job) (others : List Job) (newest : Newest self j
       goes_with = record self { run = record self.run { machine = m }; lent = new.lent; spares = new.spares; mode = mode.Going }
 
       abbrev rests : List jobs.Job
-      rests = rests_out.rests
+      rests = rests_at p (levels_of s.around) newest.rest
 
       pub taken : Holds goes_with is j
       taken =
-          let was = subst (λ o. IsStrandOf (code_view v.code) j (Waits s h.count o)) rests_out.are h.is_of in
+          let are : h.out ≡ rest_of l.waiting p.limit (lent_parts newest.lent).before ∷ rests = h.waited.runs.are ∙ ap (rests_at p (l ∷ levels_of s.around)) newest.are in
+          let was = subst (λ o. IsStrandOf (code_view v.code) j (Waits s h.count o)) are h.is_of in
           record {
             ground = g;
             strand = Going s h.count rests;
@@ -99,8 +96,8 @@ module _ (self : Strand) (job : Job) (others : List Job) (newest : Newest self j
             held = record {
               counts = h.waited.runs.counts;
               outs = split.others;
-              lends = subst (Lends v is p g.base (handed_levels (levels_of s)) split.others) (sym left) split.rest;
-              are = subst (λ z. AreOut p (levels_of s) z rests) (sym left) rests_out.still;
+              lends = subst (Lends v is p g.base (levels_of s.around) split.others) (sym left) split.rest;
+              are = ap (rests_at p (levels_of s.around)) (sym left);
               shows = record {
                 shows = takes v (ok_with g split.others) split.out (under g.base s) lends_it;
                 tells = h.waited.runs.shows.tells;
