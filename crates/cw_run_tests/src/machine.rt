@@ -2,7 +2,6 @@
 
 mod arrays;
 mod measures;
-mod readers;
 mod schedules;
 mod strands;
 
