@@ -28,7 +28,7 @@ use Rattle.cw_code.specs.Fits.{params_of, array_params_of, readers_of, gives_val
 use Rattle.cw_code.specs.Good.{IsNotAmong, slots_in, slot_cut, ints_round, arrays_round, all_of, Holds, CutsAgree, Seat, Good, IsGiven, Resumed, Resumes, AllResume, GoodState, GoodTransition, Facts, FitBegins, FitFacts, FitSteps, NeverStuckFrom}
 use Rattle.cw_code.specs.lemmas.Slots.{set_other}
 use Rattle.cw_code.proofs.Tests.{taken, both_true, first_true, second_true, at_most, equal, le_of, lt_of, eq_of}
-use Rattle.cw_code.proofs.Slots.{set_full, full_there, row_there, slots_in_both, none_waits}
+use Rattle.cw_code.proofs.Slots.{set_full, full_there, row_there, not_in_first, slots_in_both, none_waits}
 use Rattle.cw_code.proofs.Keeps.{none_of, AllThere, still_full, finds, with_rows, with_slot, with_taken, with_all_taken, with_block, with_outer, with_settled, with_filled, begins_full}
 use Rattle.cw_code.proofs.Taken.{lie_within, missing, there, gives_back, there_arrays, reader_full, AllLoaned, there_lent, whole_slots, part_slots, covered, joined}
 
@@ -243,6 +243,7 @@ module _ (code : Code) (fits : Fits code) where
           let resumes : Resumes code fits e.func (waiting_at s e) s.around = record {
             seat = next_seat s.place seat (s.place + 1) (left_by e.kind e.target) h.leads;
             enough = omega (arith, many, room');
+            apart = λ a k. not_in_first a (map slot_taken e.taken) (slots_in s.arrived) (not_in_first a (map slot_taken e.taken ++ slots_in s.arrived) (all_of (arrays_round s.around)) (arrays_gone.apart a k));
             on = waits e.kind e.target h.keeps h.target h.gives h.leads;
           } in
           subst (GoodTransition code fits) (sym (taken (may_begin s e) (On (begun s e)) Stuck may))

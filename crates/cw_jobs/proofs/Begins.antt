@@ -1,8 +1,8 @@
 -- The job of a whole run begins well.
-use Rattle.std.proofs.Common.{◌≡◌, ℕ, zero, suc, ◌+◌, ◌-◌, ◌<◌, ◌≤◌, ℤ, pos, true, Option, Some, None, List, [], ◌∷◌, ◌++◌, length, refl, sym, ap, ◌∙◌, subst, arith}
+use Rattle.std.proofs.Common.{◌≡◌, ◌⊎◌, inl, inr, ⊎_elim, ℕ, zero, suc, ◌+◌, ◌-◌, ◌<◌, ◌≤◌, ℤ, pos, true, Option, Some, None, List, [], ◌∷◌, ◌++◌, length, refl, sym, ap, ◌∙◌, subst, arith}
 use Rattle.std.specs.Prelude.{replicate, slice_get}
 use Rattle.std.proofs.lemmas.List.{length-map, length-replicate}
-use Rattle.std.proofs.lemmas.Option.{slice_get_within, get_or_from_slice_get}
+use Rattle.std.proofs.lemmas.Option.{slice_get_within}
 use Rattle.std.proofs.lemmas.Bool.Decides.{nat_tests}
 use Rattle.cw_model.specs.declared.burden.Burden.{Burden}
 use Rattle.cw_model.specs.declared.limits.TheConstants.{MOST_LIMIT, MOST_BURDEN}
@@ -15,10 +15,9 @@ use Rattle.cw_strands.specs.Jobs.{root_job}
 use Rattle.cw_jobs.specs.declared.call.Extent.TheVariants as extent
 use Rattle.cw_jobs.specs.declared.call.Parts.{Parts}
 use Rattle.cw_jobs.specs.declared.call.Rest.{Rest}
-use Rattle.cw_slices.specs.Placed.{IsOwn}
-use Rattle.cw_jobs.specs.Calls.{cell, Keeps, nowhere, HasArrays, HoldsCall}
-use Rattle.cw_jobs.specs.Cuts.{AreOwn}
-use Rattle.cw_jobs.specs.Jobs.{Ok, IsJob, IsSound, is_asked, IsRoot, IsFirst, code_of}
+use Rattle.cw_slices.specs.Placed.{Placed, IsOwn}
+use Rattle.cw_jobs.specs.Calls.{cell, placed, Keeps, HasArrays, HasReaders, HoldsCall}
+use Rattle.cw_jobs.specs.Jobs.{Ok, OwnsSlots, IsJob, IsSound, is_asked, IsRoot, IsFirst, code_of}
 
 some_same : {A : Type 0} (x y : A) → Some x ≡ Some y → x ≡ y
 some_same x y e = cc
@@ -88,13 +87,30 @@ module _ (v : Verified) (f : Func) (args : List ℤ) (r : Rest) (ok : Ok v) (fou
   has : HasArrays r.slices.items (arrays_of f [])
   has a xs e =
       let g = empty_get f.arrays a xs (ap (λ l. slice_get l a) (sym arrays_are) ∙ e) in
-      let at = first.empty a g.0 in
-      (at.0 ∙ g.1, at.1)
+      (first.empty a g.0).0 ∙ g.1
 
-  owned : AreOwn r.slices.items
-  owned a p e =
-      let lt : a < length r.slices.items = slice_get_within r.slices.items a p e in
-      subst (λ q. IsOwn q) (get_or_from_slice_get r.slices.items a p nowhere e) (first.empty a (omega (arith, lt, first.as_many))).1
+  many_arrays : length (arrays_of f []) ≡ f.arrays
+  many_arrays = ap length arrays_are ∙ length-map (replicate f.arrays []) (λ (x : List ℤ). Some x) ∙ length-replicate f.arrays []
+
+  owned : OwnsSlots v ok f.start r.slices.items (arrays_of f [])
+  owned a lt = inl (first.empty a (omega (arith, lt, many_arrays))).1
+
+  -- there is no slice but those of the slots
+  nowhere_own : (slices : List Placed) (a : ℕ) → length slices ≤ a → IsOwn (placed slices a)
+  nowhere_own [] a le = refl
+  nowhere_own (p ∷ slices) zero le = absurd (omega (arith, le))
+  nowhere_own (p ∷ slices) (suc a) le = nowhere_own slices a (omega (arith, le))
+
+  less_or : (a n : ℕ) → (a < n) ⊎ (n ≤ a)
+  less_or a zero = inr (omega arith)
+  less_or zero (suc n) = inl (omega arith)
+  less_or (suc a) (suc n) = ⊎_elim (λ lt. inl (omega (arith, lt))) (λ le. inr (omega (arith, le))) (less_or a n)
+
+  all_own : (a : ℕ) → IsOwn (placed r.slices.items a)
+  all_own a = ⊎_elim (λ lt. (first.empty a lt).1) (λ le. nowhere_own r.slices.items a (let many = first.as_many in omega (arith, le, many))) (less_or a f.arrays)
+
+  reads : HasReaders r.slices.items []
+  reads k xs e = cc
 
   holds : (n : ℕ) → HoldsCall r (root_job f args n)
   holds n = record {
@@ -102,9 +118,9 @@ module _ (v : Verified) (f : Func) (args : List ℤ) (r : Rest) (ok : Ok v) (fou
     deep = first.deep;
     enough = (let e = ap length cells_are in let m = length-map (args ++ replicate (f.slots - f.params) (pos 0)) (λ (x : ℤ). Some x) in omega (arith, e, m));
     keeps = keeps;
-    as_many = first.as_many ∙ sym (ap length arrays_are ∙ length-map (replicate f.arrays []) (λ (x : List ℤ). Some x) ∙ length-replicate f.arrays []);
+    as_many = omega (arith, first.as_many, many_arrays);
     has = has;
-    reads_none = refl;
+    reads = reads;
   }
 
   pub root_is : (p : Parts) (n : ℕ) → p.extent ≡ extent.WholeCall → p.rest ≡ r → p.limit ≡ n → p.before ≡ 0 → IsJob v ok p (root_job f args n)
@@ -117,11 +133,12 @@ module _ (v : Verified) (f : Func) (args : List ℤ) (r : Rest) (ok : Ok v) (fou
     begins = refl;
     blocks = tt;
     good = ok.begins v.code.main f args [] [] found count (sym none_taken) (sym none_read);
-    own = subst (λ (q : Rest). AreOwn q.slices.items) (sym same) owned;
+    own = subst (λ (q : Rest). OwnsSlots v ok f.start q.slices.items (arrays_of f [])) (sym same) owned;
     bare = λ k a slice e there. cc;
     cuts = λ seat. tt;
     there = (tt, tt, tt);
     outermost = λ e. record { around = refl; results = refl; arrived = refl };
+    unshared = λ e. subst (λ (q : Rest). (a : ℕ) → IsOwn (placed q.slices.items a)) (sym same) all_own;
   }
 
 -- the parts of the job of a whole run

@@ -1,6 +1,6 @@
 -- The cuts that are open in a call.
 use Rattle.std.specs.Prelude.{◌≡◌, ◌≢◌, ℕ, ◌<◌, ◌≤◌, List, [], ◌∷◌, ◌++◌, Option, Some, None, slice_get}
-use Rattle.cw_slices.specs.Placed.{Placed, IsOwn}
+use Rattle.cw_slices.specs.Placed.{Placed}
 use Rattle.cw_code.specs.declared.code.Halves.{Halves}
 use Rattle.cw_code.specs.Run.{Results, Around, Caller, Block}
 use Rattle.cw_code.specs.Good.{IsNotAmong, slot_cut}
@@ -47,10 +47,6 @@ CutsStand slots params (Block o ∷ around) =
 -- the slices of these slots have no numbers
 abbrev pub AreNone : List Placed → List ℕ → Type 0
 AreNone slices slots = (k a : ℕ) (p : Placed) → slice_get slots k ≡ Some a → slice_get slices a ≡ Some p → p.items ≡ []
-
--- each slice has one owner
-abbrev pub AreOwn : List Placed → Type 0
-AreOwn slices = (a : ℕ) (p : Placed) → slice_get slices a ≡ Some p → IsOwn p
 
 -- the slots that wait for values are there
 abbrev pub AreThere : {A : Type 0} → (slots : ℕ) → Results A → Type 0

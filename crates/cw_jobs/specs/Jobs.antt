@@ -9,8 +9,9 @@ use Rattle.cw_model.specs.Outcome.{quiet}
 use Rattle.cw_code.specs.declared.code.Func.{Func}
 use Rattle.cw_code.specs.declared.code.Halves.{Halves}
 use Rattle.cw_code.specs.Code.{Code, code_view}
-use Rattle.cw_code.specs.Run.{Around, Caller, Block, State}
-use Rattle.cw_code.specs.Fits.{Outer, main_params}
+use Rattle.cw_code.specs.Run.{Slots, Around, Caller, Block, State, is_full}
+use Rattle.cw_code.specs.Fits.{Outer, Shape, main_params}
+use Rattle.cw_code.specs.Frozen.{all_frozen, IsFrozenIn}
 use Rattle.cw_code.specs.Good.{Seat, GoodState}
 use Rattle.cw_verify.specs.declared.verified.Verified.{Verified}
 use Rattle.cw_verify.specs.Resolved.{IsVerified}
@@ -24,7 +25,7 @@ use Rattle.cw_jobs.specs.declared.call.Rest.{Rest as Frame}
 use Rattle.cw_text.specs.declared.fault.Fault.{Fault}
 use Rattle.cw_text.specs.declared.fault.Fault.TheVariants as fault
 use Rattle.cw_jobs.specs.Calls.{cell, placed, LiesAs, HoldsCall}
-use Rattle.cw_jobs.specs.Cuts.{cut_slots, CutsStand, AreNone, AreOwn, AreThere, RoundThere}
+use Rattle.cw_jobs.specs.Cuts.{cut_slots, CutsStand, AreNone, AreThere, RoundThere}
 
 -- code that fits, and its instructions stand for it
 abbrev pub Ok : Verified → Type 0
@@ -59,9 +60,27 @@ pub record IsOutermost (s : State) : Type 0 where
   pub results : s.results ≡ []
   pub arrived : s.arrived ≡ []
 
+-- some sync block of a call at such a place has the slot as frozen
+abbrev pub IsFrozenBy : Shape → (slot : ℕ) → Type 0
+IsFrozenBy shape a = IsFrozenIn (length shape.outer) (all_frozen shape) a
+
+-- the slot has its array, and is frozen in a call at this place
+abbrev pub IsKeptAt : (v : Verified) → Ok v → (place : ℕ) → Slots (List ℤ) → (slot : ℕ) → Type 0
+IsKeptAt v ok place arrays a =
+    (is_full (slice_get arrays a) ≡ true) × (seat : Seat (code_view v.code) ok.fits place) × IsFrozenBy seat.shape a
+
+-- a slice has numbers, and the call only reads them up to a join
+abbrev pub IsReadAt : (v : Verified) → Ok v → (place : ℕ) → List Placed → Slots (List ℤ) → (slot : ℕ) → Type 0
+IsReadAt v ok place slices arrays a = (0 < length (placed slices a).items) × IsKeptAt v ok place arrays a
+
+-- the slice of each slot has one owner, or is only read
+abbrev pub OwnsSlots : (v : Verified) → Ok v → (place : ℕ) → List Placed → Slots (List ℤ) → Type 0
+OwnsSlots v ok place slices arrays =
+    (a : ℕ) → a < length arrays → IsOwn (placed slices a) ⊎ IsReadAt v ok place slices arrays a
+
 -- a job is one of the definitions: its call holds the job's, and over some block in which what waits for the empty
--- slots has come the run of the job begins well. Each slice has one owner; an array that is cut is in its parts alone;
--- and nothing stands round a whole call
+-- slots has come the run of the job begins well. Each slice of a slot has one owner, or is only read; an array that is
+-- cut is in its parts alone; and nothing stands round a whole call, which has no share
 pub record IsJob (v : Verified) (ok : Ok v) (p : Parts) (j : Job) : Type 0 where
   pub extent : j.extent ≡ extent_of p.extent
   pub limit : j.limit ≡ p.limit
@@ -71,13 +90,14 @@ pub record IsJob (v : Verified) (ok : Ok v) (p : Parts) (j : Job) : Type 0 where
   pub begins : base.trace ≡ quiet
   pub blocks : AreBlocks base.around
   pub good : GoodState (code_view v.code) ok.fits (under base (job_start j))
-  pub own : AreOwn p.rest.slices.items
+  pub own : OwnsSlots v ok j.place p.rest.slices.items j.arrays
   pub bare : AreNone p.rest.slices.items (cut_slots base.around)
   pub cuts : (seat : Seat (code_view v.code) ok.fits j.place) →
       CutsStand (length j.arrays) seat.func.array_params base.around
   pub there : AreThere (length j.slots) base.results × AreThere (length j.arrays) base.arrived
       × RoundThere (length j.slots) (length j.arrays) base.around
   pub outermost : j.extent ≡ WholeCall → IsOutermost base
+  pub unshared : j.extent ≡ WholeCall → (a : ℕ) → IsOwn (placed p.rest.slices.items a)
 
 -- the slot has a part of the array of this cut
 abbrev pub IsPartOf : ℕ → Option Halves → Type 0
@@ -103,14 +123,23 @@ own_or None p = p
 abbrev pub home_of : (back : List Placed) → (replaced : List (Option Placed)) → (slot : ℕ) → Placed
 home_of back replaced a = own_or (slice_get replaced a) (placed back a)
 
--- what comes back of a job's arrays lies where it lay
-abbrev pub KeepsHomes : (slices back : List Placed) → (replaced : List (Option Placed)) → Type 0
-KeepsHomes slices back replaced =
-    (length back ≡ length slices) × ((a : ℕ) → LiesAs (home_of back replaced a) (placed slices a))
+-- a new array that was made in a slot has one owner
+abbrev pub NewAreOwn : (back : List Placed) → (replaced : List (Option Placed)) → Type 0
+NewAreOwn back replaced = (a : ℕ) (own : Placed) → slice_get replaced a ≡ Some (Some own) → IsOwn (placed back a)
 
 -- no new array is made in a slot
 abbrev pub IsOwnIn : List (Option Placed) → (slot : ℕ) → Type 0
 IsOwnIn replaced a = (p : Placed) → slice_get replaced a ≢ Some (Some p)
+
+-- none is made in a slot of which the job had a share
+abbrev pub KeepsShares : (slices : List Placed) → (replaced : List (Option Placed)) → Type 0
+KeepsShares slices replaced = (a : ℕ) → 0 < (placed slices a).spot.halved → IsOwnIn replaced a
+
+-- what comes back of a job's arrays lies where it lay
+abbrev pub KeepsHomes : (slices back : List Placed) → (replaced : List (Option Placed)) → Type 0
+KeepsHomes slices back replaced =
+    (length back ≡ length slices) × ((a : ℕ) → LiesAs (home_of back replaced a) (placed slices a))
+    × NewAreOwn back replaced × KeepsShares slices replaced
 
 -- the slots that are empty in a job have what they had, and where they had it
 pub record KeepsEmpty (j : Job) (r back : Frame) (replaced : List (Option Placed)) : Type 0 where

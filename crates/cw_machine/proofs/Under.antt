@@ -1,16 +1,17 @@
 -- The blocks of a machine under those that its state is shown in, after a change of both.
 use Rattle.std.proofs.Common.{◌≡◌, ◌≢◌, ◌⊎◌, inl, inr, ⊎_elim, ℕ, zero, suc, ◌+◌, ◌^◌, ◌<◌, ◌≤◌, ℤ, Bool, Option, Some, None, List, [], ◌∷◌, ◌++◌, length, refl, sym, ap, ◌∙◌, subst, arith, length-append}
-use Rattle.std.specs.Prelude.{take, is_some, slice_get, slice_set}
-use Rattle.std.proofs.lemmas.List.{length-set, length-map, get_or-set_other, get_or-set_same}
+use Rattle.std.specs.Prelude.{take, replicate, is_some, slice_get, slice_set}
+use Rattle.std.proofs.lemmas.List.{length-set, length-map, length-replicate, get_or-set_other, get_or-set_same}
 use Rattle.std.proofs.lemmas.Option.{slice_get_within}
 use Rattle.cw_slices.specs.Placed.{Spot}
-use Rattle.cw_slices.specs.Blocks.{Lodged, ins}
+use Rattle.cw_slices.specs.Blocks.{Lodged, ins, IsWhole}
 use Rattle.cw_machine.specs.declared.machine.View.{View}
-use Rattle.cw_machine.specs.Arrays.{Out, view, no_block, block, found, put, kept_of, Memory, Has, ReadsAt, AreAway, Floored, IsOut, LiesUnder}
+use Rattle.cw_machine.specs.Arrays.{Out, view, no_block, block, IsBare, found, put, kept_of, Memory, Has, shares_at, AreAway, Floored, IsOut, LiesUnder}
 use Rattle.cw_machine.proofs.Blocks.{found_is, is_found}
 use Rattle.cw_machine.proofs.Order.{some_same}
 use Rattle.cw_machine.proofs.Places.{same_or}
-use Rattle.cw_machine.proofs.Still.{kept_put}
+use Rattle.cw_machine.proofs.Shares.{all_shares_as, none_high}
+use Rattle.cw_machine.proofs.Still.{OutsSeen, seen_below, outs_on, outs_back, kept_put, block_take, block_past}
 use Rattle.cw_machine.proofs.Writes.{cell_put_other, cell_put_same}
 
 never : (x : Option ℤ) → None ≡ Some x → ⊥
@@ -24,7 +25,7 @@ pub out_low : (m : Memory) (first round : ℕ) (outs : List Out) (b k : ℕ) →
 out_low m first round outs b k floors away o =
     let f = floors o.index o.out o.is_out in
     let lt = o.within in
-    let low = ((away o.index o.out o.is_out).each o.slot o.slice o.is_slice (omega (arith, lt))).low in
+    let low = (((away o.index o.out o.is_out).each o.slot o.slice o.is_slice (omega (arith, lt))).lent o.moved).low in
     let e = o.in_block in
     omega (arith, f, low, e)
 
@@ -36,25 +37,9 @@ out_owned m first round outs b k floors away o =
     let x = away o.index o.out o.is_out in
     let ends = x.ends in
     let slot = slice_get_within o.out.slices o.slot o.slice o.is_slice in
-    let own = (x.each o.slot o.slice o.is_slice (omega (arith, lt))).has.own o.at o.within in
+    let own = ((x.each o.slot o.slice o.is_slice (omega (arith, lt))).lent o.moved).has.own o.at o.within in
     let e : m.owner b k ≡ o.out.first + o.slot = ap (λ c. m.owner c k) o.in_block ∙ ap (m.owner (view m.views (o.out.first + o.slot)).block) o.in_place ∙ own in
     omega (arith, f, ends, slot, e)
-
-out_views : (m : Memory) (views' : List View) (first round : ℕ) (outs : List Out) (b k : ℕ) → Floored outs first → AreAway m first round outs → ((c : ℕ) → c < first → view views' c ≡ view m.views c) → IsOut m.views outs b k → IsOut views' outs b k
-out_views m views' first round outs b k floors away same o =
-    let f = floors o.index o.out o.is_out in
-    let ends = (away o.index o.out o.is_out).ends in
-    let slot = slice_get_within o.out.slices o.slot o.slice o.is_slice in
-    let is = same (o.out.first + o.slot) (omega (arith, f, ends, slot)) in
-    record { index = o.index; out = o.out; slot = o.slot; slice = o.slice; at = o.at; is_out = o.is_out; is_slice = o.is_slice; within = o.within; in_block = o.in_block ∙ ap (λ (w : View). w.block) (sym is); in_place = o.in_place ∙ ap (λ (w : View). w.from + o.at) (sym is) }
-
-out_back : (m : Memory) (views' : List View) (first round : ℕ) (outs : List Out) (b k : ℕ) → Floored outs first → AreAway m first round outs → ((c : ℕ) → c < first → view views' c ≡ view m.views c) → IsOut views' outs b k → IsOut m.views outs b k
-out_back m views' first round outs b k floors away same o =
-    let f = floors o.index o.out o.is_out in
-    let ends = (away o.index o.out o.is_out).ends in
-    let slot = slice_get_within o.out.slices o.slot o.slice o.is_slice in
-    let is = same (o.out.first + o.slot) (omega (arith, f, ends, slot)) in
-    record { index = o.index; out = o.out; slot = o.slot; slice = o.slice; at = o.at; is_out = o.is_out; is_slice = o.is_slice; within = o.within; in_block = o.in_block ∙ ap (λ (w : View). w.block) is; in_place = o.in_place ∙ ap (λ (w : View). w.from + o.at) is }
 
 -- other views above what is out
 pub under_views : (m : Memory) (views' : List View) (real blocks : List Lodged) (first round : ℕ) (outs : List Out) → Floored outs first → AreAway m first round outs → ((c : ℕ) → c < first → view views' c ≡ view m.views c) → LiesUnder outs m.views real blocks → LiesUnder outs views' real blocks
@@ -63,26 +48,18 @@ under_views m views' real blocks first round outs floors away same u = record {
   spots = u.spots;
   as_long = u.as_long;
   same = u.same;
-  missing = λ b k e. out_views m views' first round outs b k floors away same (u.missing b k e);
-  gone = λ b k o. u.gone b k (out_back m views' first round outs b k floors away same o);
+  missing = λ b k e. outs_on m.views views' outs seen b k (u.missing b k e);
+  gone = λ b k o. u.gone b k (outs_back m.views views' outs seen b k o);
+  righted = u.righted;
+  rights = λ b k d e. u.rights b k d e ∙ ap (λ n. (block real b).spot.halved + n) (sym (all_shares_as m.views views' outs b k seen));
 }
+  where
+    seen : OutsSeen m.views views' outs
+    seen = seen_below m views' first round outs floors away same
 
 -- what is found in a block is found in the one that it lies under
 pub found_under : (outs : List Out) (views : List View) (real blocks : List Lodged) (b k : ℕ) (x : ℤ) → LiesUnder outs views real blocks → found real b k ≡ Some x → found blocks b k ≡ Some x
 found_under outs views real blocks b k x u e = let f = found_is real b k x e in is_found blocks b k x f.0 (u.same b k x f.1)
-
--- what a call reads is not out
-pub read_in : (m : Memory) (first round : ℕ) (outs : List Out) (b k : ℕ) (x : ℤ) → Floored outs first → AreAway m first round outs → ReadsAt m outs first b k x → IsOut m.views outs b k → ⊥
-read_in m first round outs b k x floors away h o =
-    let lt = o.within in
-    let y = away o.index o.out o.is_out in
-    let ends = y.ends in
-    let slot = slice_get_within o.out.slices o.slot o.slice o.is_slice in
-    let own = (y.each o.slot o.slice o.is_slice (omega (arith, lt))).has.own o.at o.within in
-    let e : m.owner b k ≡ o.out.first + o.slot = ap (λ c. m.owner c k) o.in_block ∙ ap (m.owner (view m.views (o.out.first + o.slot)).block) o.in_place ∙ own in
-    let le = h.above o.index o.out o.is_out (floors o.index o.out o.is_out) in
-    let e' = h.owned in
-    omega (arith, ends, slot, e, e', le)
 
 -- and the other way round where it is not out
 pub found_beside : (outs : List Out) (views : List View) (real blocks : List Lodged) (b k : ℕ) (x : ℤ) → LiesUnder outs views real blocks → (IsOut views outs b k → ⊥) → found blocks b k ≡ Some x → found real b k ≡ Some x
@@ -117,6 +94,13 @@ has_in m real first round outs c xs floors away u le h = record {
   own = h.own;
 }
 
+put_rights : (blocks : List Lodged) (b k : ℕ) (x : ℤ) (c : ℕ) → (block (put blocks b k x) c).rights ≡ (block blocks c).rights
+put_rights [] b k x c = refl
+put_rights (w ∷ blocks) zero k x zero = refl
+put_rights (w ∷ blocks) zero k x (suc c) = refl
+put_rights (w ∷ blocks) (suc b) k x zero = refl
+put_rights (w ∷ blocks) (suc b) k x (suc c) = put_rights blocks b k x c
+
 -- a number is written
 pub under_put : (outs : List Out) (views : List View) (real blocks : List Lodged) (b k : ℕ) (x y : ℤ) → found real b k ≡ Some y → LiesUnder outs views real blocks → LiesUnder outs views (put real b k x) (put blocks b k x)
 under_put outs views real blocks b k x y e u =
@@ -141,6 +125,10 @@ under_put outs views real blocks b k x y e u =
           (λ at. absurd (never_in y (sym f.1 ∙ sym (ap (λ i. slice_get (block real i).cells j) at.0 ∙ ap (λ i. slice_get (block real b).cells i) at.1) ∙ u.gone c j o)))
           (λ n. other c j n ∙ u.gone c j o)
           (place_or c j);
+      righted = λ c. ap length (put_rights real b k x c) ∙ u.righted c ∙ sym (long real c (kept_put real b k x y e c));
+      rights = λ c j d is.
+          u.rights c j d (sym (ap (λ l. slice_get l j) (put_rights real b k x c)) ∙ is)
+          ∙ ap (λ n. n + shares_at views outs c j) (sym (ap (λ (q : Spot × List Bool). q.0.halved) (kept_put real b k x y e c)));
     }
   where
     long : (blocks : List Lodged) (c : ℕ) → kept_of (put blocks b k x) c ≡ kept_of blocks c → length (block (put blocks b k x) c).cells ≡ length (block blocks c).cells
@@ -150,10 +138,20 @@ under_put outs views real blocks b k x y e u =
     place_or c j = ⊎_elim (λ e. ⊎_elim (λ e'. inl (e, e')) (λ n. inr (λ _. n)) (same_or j k)) (λ n. inr (λ e. absurd (n e))) (same_or c b)
 
 -- more blocks, which are empty
-more_cells : (blocks more : List Lodged) (c : ℕ) → ((k : ℕ) → (block more k).cells ≡ []) → (block (blocks ++ more) c).cells ≡ (block blocks c).cells
-more_cells [] more c none = none c
+more_cells : (blocks more : List Lodged) (c : ℕ) → ((k : ℕ) → IsBare (block more k)) → (block (blocks ++ more) c).cells ≡ (block blocks c).cells
+more_cells [] more c none = (none c).0
 more_cells (w ∷ blocks) more zero none = refl
 more_cells (w ∷ blocks) more (suc c) none = more_cells blocks more c none
+
+more_rights : (blocks more : List Lodged) (c : ℕ) → ((k : ℕ) → IsBare (block more k)) → (block (blocks ++ more) c).rights ≡ (block blocks c).rights
+more_rights [] more c none = (none c).1
+more_rights (w ∷ blocks) more zero none = refl
+more_rights (w ∷ blocks) more (suc c) none = more_rights blocks more c none
+
+pub more_halved : (blocks more : List Lodged) (c : ℕ) → ((k : ℕ) → IsBare (block more k)) → (block (blocks ++ more) c).spot.halved ≡ (block blocks c).spot.halved
+more_halved [] more c none = (none c).2
+more_halved (w ∷ blocks) more zero none = refl
+more_halved (w ∷ blocks) more (suc c) none = more_halved blocks more c none
 
 more_spots : (real blocks more : List Lodged) (c : ℕ) → length real ≡ length blocks → ((b : ℕ) → (block real b).spot ≡ (block blocks b).spot) → (block (real ++ more) c).spot ≡ (block (blocks ++ more) c).spot
 more_spots [] [] more c n e = refl
@@ -162,10 +160,11 @@ more_spots (w ∷ real) [] more c n e = absurd (omega (arith, n))
 more_spots (w ∷ real) (w' ∷ blocks) more zero n e = e 0
 more_spots (w ∷ real) (w' ∷ blocks) more (suc c) n e = more_spots real blocks more c (omega (arith, n)) (λ b. e (suc b))
 
-pub under_more : (outs : List Out) (views : List View) (real blocks more : List Lodged) → ((k : ℕ) → (block more k).cells ≡ []) → LiesUnder outs views real blocks → LiesUnder outs views (real ++ more) (blocks ++ more)
+pub under_more : (outs : List Out) (views : List View) (real blocks more : List Lodged) → ((k : ℕ) → IsBare (block more k)) → LiesUnder outs views real blocks → LiesUnder outs views (real ++ more) (blocks ++ more)
 under_more outs views real blocks more none u =
     let r : (c : ℕ) → (block (real ++ more) c).cells ≡ (block real c).cells = λ c. more_cells real more c none in
     let s : (c : ℕ) → (block (blocks ++ more) c).cells ≡ (block blocks c).cells = λ c. more_cells blocks more c none in
+    let t : (c : ℕ) → (block (real ++ more) c).rights ≡ (block real c).rights = λ c. more_rights real more c none in
     record {
       as_many = length-append real more ∙ ap (λ n. n + length more) u.as_many ∙ sym (length-append blocks more);
       spots = λ c. more_spots real blocks more c u.as_many u.spots;
@@ -173,11 +172,22 @@ under_more outs views real blocks more none u =
       same = λ c k x is. ap (λ l. slice_get l k) (s c) ∙ u.same c k x (sym (ap (λ l. slice_get l k) (r c)) ∙ is);
       missing = λ c k is. u.missing c k (sym (ap (λ l. slice_get l k) (r c)) ∙ is);
       gone = λ c k o. ap (λ l. slice_get l k) (r c) ∙ u.gone c k o;
+      righted = λ c. ap length (t c) ∙ u.righted c ∙ sym (ap length (r c));
+      rights = λ c k d is. u.rights c k d (sym (ap (λ l. slice_get l k) (t c)) ∙ is) ∙ ap (λ n. n + shares_at views outs c k) (sym (more_halved real more c none));
     }
 
+-- of rights that are all alike each is
+pub replicated : (n d k x : ℕ) → slice_get (replicate n d) k ≡ Some x → x ≡ d
+replicated zero d k x e = absurd (none_right x e)
+  where
+    none_right : (x : ℕ) → None ≡ Some x → ⊥
+    none_right x e = cc
+replicated (suc n) d zero x e = sym (some_same d x e)
+replicated (suc n) d (suc k) x e = replicated n d k x e
+
 -- a new block, all in, at a cell of the call that runs
-pub under_set : (m : Memory) (views' : List View) (real : List Lodged) (first round : ℕ) (outs : List Out) (c : ℕ) (w : Lodged) (xs : List ℤ) → w.cells ≡ ins xs → first ≤ c → Floored outs first → AreAway m first round outs → ((d : ℕ) → d < first → view views' d ≡ view m.views d) → LiesUnder outs m.views real m.blocks → LiesUnder outs views' (slice_set real c w) (slice_set m.blocks c w)
-under_set m views' real first round outs c w xs all le floors away same u = under_views m views' (slice_set real c w) (slice_set m.blocks c w) first round outs floors away same (record {
+pub under_set : (m : Memory) (views' : List View) (real : List Lodged) (first round : ℕ) (outs : List Out) (c : ℕ) (w : Lodged) (xs : List ℤ) → w.cells ≡ ins xs → IsWhole w → first ≤ c → Floored outs first → AreAway m first round outs → ((d : ℕ) → d < first → view views' d ≡ view m.views d) → LiesUnder outs m.views real m.blocks → LiesUnder outs views' (slice_set real c w) (slice_set m.blocks c w)
+under_set m views' real first round outs c w xs all whole le floors away same u = under_views m views' (slice_set real c w) (slice_set m.blocks c w) first round outs floors away same (record {
   as_many = length-set real c w ∙ u.as_many ∙ sym (length-set m.blocks c w);
   spots = λ b. both (λ v v'. v.spot ≡ v'.spot) real m.blocks c b u.as_many (λ d. u.spots d) refl;
   as_long = λ b. both (λ v v'. length v.cells ≡ length v'.cells) real m.blocks c b u.as_many (λ d. u.as_long d) refl;
@@ -187,8 +197,28 @@ under_set m views' real first round outs c w xs all le floors away same u = unde
       (λ n. u.missing b k (sym (ap (λ (v : Lodged). slice_get v.cells k) (get_or-set_other real c b w no_block n)) ∙ is))
       (same_or b c);
   gone = λ b k o. ap (λ (v : Lodged). slice_get v.cells k) (get_or-set_other real c b w no_block (λ e. (let lt = out_low m first round outs b k floors away o in omega (arith, lt, le, e)))) ∙ u.gone b k o;
+  righted = λ b. ⊎_elim
+      (λ x. ap (λ (v : Lodged). length v.rights) x.1 ∙ ap length whole ∙ length-replicate (length w.cells) w.spot.halved ∙ sym (ap (λ (v : Lodged). length v.cells) x.1))
+      (λ x. ap (λ (v : Lodged). length v.rights) x ∙ u.righted b ∙ sym (ap (λ (v : Lodged). length v.cells) x))
+      (set_cases real c b);
+  rights = λ b k d is. ⊎_elim
+      (λ x.
+      let alike = replicated (length w.cells) w.spot.halved k d (sym (ap (λ l. slice_get l k) whole) ∙ sym (ap (λ (v : Lodged). slice_get v.rights k) x.1) ∙ is) in
+      let at = x.0 in
+      let none = none_high m first round outs floors away b k (omega (arith, le, at)) in
+      let spot : (block (slice_set real c w) b).spot.halved ≡ w.spot.halved = ap (λ (v : Lodged). v.spot.halved) x.1 in
+      omega (arith, alike, none, spot))
+      (λ x. u.rights b k d (sym (ap (λ (v : Lodged). slice_get v.rights k) x) ∙ is) ∙ ap (λ (v : Lodged). v.spot.halved + shares_at m.views outs b k) (sym x))
+      (set_cases real c b);
 })
   where
+    set_cases : (real : List Lodged) (c b : ℕ) → ((b ≡ c) × (block (slice_set real c w) b ≡ w)) ⊎ (block (slice_set real c w) b ≡ block real b)
+    set_cases [] c b = inr refl
+    set_cases (v ∷ real) zero zero = inl (refl, refl)
+    set_cases (v ∷ real) zero (suc b) = inr refl
+    set_cases (v ∷ real) (suc c) zero = inr refl
+    set_cases (v ∷ real) (suc c) (suc b) = ⊎_elim (λ x. inl (ap suc x.0, x.1)) (λ x. inr x) (set_cases real c b)
+
     both : (P : Lodged → Lodged → Type 0) (real blocks : List Lodged) (c b : ℕ) → length real ≡ length blocks → ((d : ℕ) → P (block real d) (block blocks d)) → P w w → P (block (slice_set real c w) b) (block (slice_set blocks c w) b)
     both P [] [] c b n h same = h b
     both P [] (v ∷ blocks) c b n h same = absurd (omega (arith, n))
@@ -214,21 +244,7 @@ under_set m views' real first round outs c w xs all le floors away same u = unde
     lt_or (suc a) zero = inr (omega arith)
     lt_or (suc a) (suc b) = ⊎_elim (λ e. inl (omega (arith, e))) (λ e. inr (omega (arith, e))) (lt_or a b)
 
--- fewer blocks
-block_take : (bs : List Lodged) (n c : ℕ) → c < n → block (take n bs) c ≡ block bs c
-block_take [] zero c lt = refl
-block_take [] (suc n) c lt = refl
-block_take (w ∷ bs) zero c lt = absurd (omega (arith, lt))
-block_take (w ∷ bs) (suc n) zero lt = refl
-block_take (w ∷ bs) (suc n) (suc c) lt = block_take bs n c (omega (arith, lt))
-
-block_past : (bs : List Lodged) (n c : ℕ) → n ≤ c → block (take n bs) c ≡ no_block
-block_past [] zero c le = refl
-block_past [] (suc n) c le = refl
-block_past (w ∷ bs) zero c le = refl
-block_past (w ∷ bs) (suc n) zero le = absurd (omega (arith, le))
-block_past (w ∷ bs) (suc n) (suc c) le = block_past bs n c (omega (arith, le))
-
+-- fewer views
 view_kept : (views : List View) (n c : ℕ) → c < n → view (take n views) c ≡ view views c
 view_kept [] zero c lt = refl
 view_kept [] (suc n) c lt = refl
@@ -253,10 +269,21 @@ under_take m real first round outs floors away u = under_views m (take first m.v
       (λ le. absurd (nowhere k (sym (ap (λ (v : Lodged). slice_get v.cells k) (block_past real first b le)) ∙ is)))
       (either b first);
   gone = λ b k o. ap (λ (v : Lodged). slice_get v.cells k) (block_take real first b (out_low m first round outs b k floors away o)) ∙ u.gone b k o;
+  righted = λ b. ⊎_elim
+      (λ lt. let v = block_take real first b lt in ap (λ (v : Lodged). length v.rights) v ∙ u.righted b ∙ sym (ap (λ (v : Lodged). length v.cells) v))
+      (λ le. let v = block_past real first b le in ap (λ (v : Lodged). length v.rights) v ∙ sym (ap (λ (v : Lodged). length v.cells) v))
+      (either b first);
+  rights = λ b k d is. ⊎_elim
+      (λ lt. let v = block_take real first b lt in u.rights b k d (sym (ap (λ (v : Lodged). slice_get v.rights k) v) ∙ is) ∙ ap (λ (v : Lodged). v.spot.halved + shares_at m.views outs b k) (sym v))
+      (λ le. absurd (no_right k d (sym (ap (λ (v : Lodged). slice_get v.rights k) (block_past real first b le)) ∙ is)))
+      (either b first);
 })
   where
     nowhere : (k : ℕ) → slice_get no_block.cells k ≡ Some None → ⊥
     nowhere k e = cc
+
+    no_right : (k d : ℕ) → slice_get no_block.rights k ≡ Some d → ⊥
+    no_right k d e = cc
 
     many : (real blocks : List Lodged) (n : ℕ) → length real ≡ length blocks → length (take n real) ≡ length (take n blocks)
     many [] [] n e = refl

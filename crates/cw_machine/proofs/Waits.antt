@@ -18,7 +18,8 @@ use Rattle.cw_machine.specs.declared.machine.Machine.{Machine}
 use Rattle.cw_machine.specs.Arrays.{ReadsAll, RoundReads, Ok, view, Memory, Has, HasComing, CutIn, taken_round, StandsOn, Floors, RoundOn}
 use Rattle.cw_machine.specs.Shows.{Stands, Round, Shows, cut_cell, cut_cells}
 use Rattle.cw_jobs.specs.Cuts.{parts_round, cut_slots}
-use Rattle.cw_machine.specs.Hands.{is_among, is_cut_among, stays_here, lent_count, ComesRound}
+use Rattle.cw_machine.specs.Arrays.{is_among}
+use Rattle.cw_machine.specs.Hands.{is_cut_among, stays_here, lent_count, ComesRound}
 use Rattle.cw_machine.proofs.Cells.{not_first, not_second}
 use Rattle.cw_machine.proofs.Decided.{taken, not_taken, equal, eq_of, below, not_below}
 use Rattle.cw_machine.proofs.Order.{some_same, full_value}
@@ -283,11 +284,11 @@ module _ (v : Verified) (ok : Ok v) (m : Machine) (s : State) (w : Waiting) (aro
   beyond = on_arrays.6
 
   -- what the call that waits reads lies behind its arrays
-  reads_waiting : ReadsAll memory ok.outs waiting_frame.first_array (length w.arrays) m.first_array w.readers
-  reads_waiting = (subst (λ fs. RoundReads memory ok.outs m.first_array fs (Caller w ∷ around)) frames_are (subst (λ a. RoundReads memory ok.outs m.first_array (reverse m.frames.items) a) is_waiting shows.arrays.4.round)).0
+  pub reads_waiting : ReadsAll memory ok.outs waiting_frame.first_array (length w.arrays) m.first_array w.readers
+  reads_waiting = (subst (λ fs. RoundReads (code_view v.code) memory ok.outs m.first_array fs (Caller w ∷ around)) frames_are (subst (λ a. RoundReads (code_view v.code) memory ok.outs m.first_array (reverse m.frames.items) a) is_waiting shows.arrays.4.round)).0
 
-  pub ends_exact : w.readers ≡ [] → waiting_frame.first_array + length w.arrays ≡ m.first_array
-  ends_exact none = let e = reads_waiting.ends in let n = ap length none in omega (arith, e, n)
+  pub ends_exact : waiting_frame.first_array + (length w.arrays + length w.readers) ≡ m.first_array
+  ends_exact = reads_waiting.ends
 
   pub in_cells : Round v ok m.cells.items m.first (length s.slots) (reverse m.frames.items) (Caller w ∷ around)
   in_cells = subst (λ r. Round v ok m.cells.items m.first (length s.slots) (reverse m.frames.items) r) is_waiting shows.holds.round
@@ -310,7 +311,7 @@ module _ (v : Verified) (ok : Ok v) (m : Machine) (s : State) (w : Waiting) (aro
       ∙ ap (λ fs. cut_cells ok.outer m.first_array fs (Caller w ∷ around)) frames_are
 
   -- each slot is full, or waited for once
-  abbrev waits : List ℕ
+  abbrev pub waits : List ℕ
   waits = (passed ++ slots_in w.arrived) ++ all_of (arrays_round around)
 
   pub record Rests : Type 0 where

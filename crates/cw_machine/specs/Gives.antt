@@ -3,9 +3,10 @@ use Rattle.std.specs.Prelude.{◌≡◌, ◌≢◌, ℕ, zero, suc, ◌+◌, ◌
 use Rattle.std.specs.Prelude.{length, Option, Some, None, slice_get, slice_set}
 use Rattle.std.specs.Option.{option_flatten}
 use Rattle.cw_slices.specs.Placed.{Placed, IsOwn}
-use Rattle.cw_slices.specs.Blocks.{Lodged, ins}
+use Rattle.cw_slices.specs.Blocks.{Lodged, ins, IsWhole}
 use Rattle.cw_code.specs.Code.{code_view}
 use Rattle.cw_code.specs.Run.{Slots, Results, Around, Caller, Block, State, is_full, settled}
+use Rattle.cw_code.specs.Frozen.{AreBlocks}
 use Rattle.cw_code.specs.Good.{IsNotAmong, slots_in, Seat, GoodState}
 use Rattle.cw_strands.specs.Jobs.{Standing}
 use Rattle.cw_verify.specs.declared.verified.Verified.{Verified}
@@ -71,29 +72,35 @@ pub record ComesBack (v : Verified) (ok : Ok v) (o : Out) (m : Machine) (s : Sta
   pub level : o.level ≡ length s.around
   pub first : o.first ≡ m.first_array
   pub had : HasArrays o.slices s.arrays
-  pub wide : length s.arrays ≡ length o.slices
+  pub wide : length s.arrays + length s.readers ≡ length o.slices
+  pub slots_are : o.slots ≡ length s.arrays
   pub homes : KeepsHomes o.slices back replaced
   pub empty : (a : ℕ) → slice_get s.arrays a ≡ Some None → (home_of back replaced a).items ≡ (placed o.slices a).items
 
 -- a machine holds some state while these slices come home
-pub record MayHome (m : Machine) (back : List Placed) (replaced : List (Option Placed)) : Type 0 where
+pub record MayHome (m : Machine) (slots : ℕ) (lent : List ℕ) (back : List Placed) (replaced : List (Option Placed))
+    : Type 0 where
   pub code : Verified
   pub ok : Ok code
   pub out : Out
   pub state : State
   pub comes : ComesBack code ok out m state back replaced
+  pub slots_are : out.slots ≡ slots
+  pub lent_are : out.lent ≡ lent
 
 -- each state that it held it holds with the numbers that came home
-abbrev pub LaysHomes : Machine → List Placed → List (Option Placed) → Machine → Type 0
-LaysHomes m back replaced m' =
-    (v : Verified) (ok : Ok v) (o : Out) (s : State) → ComesBack v ok o m s back replaced
-    → Shows v ok m' (record s { arrays = homed s.arrays back replaced (length back) })
+abbrev pub LaysHomes : Machine → (slots : ℕ) → (lent : List ℕ) → List Placed → List (Option Placed) → Machine → Type 0
+LaysHomes m slots lent back replaced m' =
+    (v : Verified) (ok : Ok v) (o : Out) (s : State) → ComesBack v ok o m s back replaced → o.slots ≡ slots
+    → o.lent ≡ lent → Shows v ok m' (record s { arrays = homed s.arrays back replaced slots })
 
--- a slot of the call that runs may have a new array: no cut has its part there, and no call that waits its array
+-- a slot of the call that runs may have a new array: no cut has its part there, no call that waits its array, and the
+-- run was given no share for it
 pub record IsFree (v : Verified) (ok : Ok v) (s : State) (a : ℕ) : Type 0 where
   pub full : is_full (slice_get s.arrays a) ≡ true
   pub apart : IsNotAmong a (parts_round s.around)
   pub past : taken_round ok.params s.around ≤ a
+  pub spared : AreBlocks s.around → a < ok.slots → 0 < (placed ok.given a).spot.halved → ⊥
 
 -- a machine holds a state with nothing out of the call that runs, whose slots are so many, and may have these arrays
 pub record MakesNew (v : Verified) (ok : Ok v) (m : Machine) (s : State) (made : List (Option Placed)) (count : ℕ)
@@ -120,6 +127,8 @@ LaysMade m made count m' =
 pub record HasMade (m : Machine) (cell : ℕ) (xs : List ℤ) (m' : Machine) : Type 0 where
   pub block : Lodged
   pub are : block.cells ≡ ins xs
+  pub whole : IsWhole block
+  pub own : block.spot.halved ≡ 0
   pub small : length xs < 2 ^ 60
   pub blocks : m'.blocks.items ≡ slice_set m.blocks.items cell block
   pub views : m'.views.items ≡ slice_set m.views.items cell (record { block = cell; from = 0; len = length xs })
@@ -198,7 +207,13 @@ pub record KeepsSlots (s : State) (o : Out) (back : Rest) (replaced : List (Opti
 
 -- a machine holds a state while slices of the call that runs are out, and their rest came back at this frame
 pub record IsGiving (v : Verified) (ok : Ok v) (o : Out) (m : Machine) (s : State) (frame : Standing) (waits : Waits s)
-    (back : Rest) (replaced : List (Option Placed)) (target : Option ℕ) : Type 0 where
+    (back : Rest) (replaced : List (Option Placed)) (count : ℕ) (lent : List ℕ) (target : Option ℕ) : Type 0 where
+  pub slots_are : o.slots ≡ count
+  pub lent_are : o.lent ≡ lent
+  -- as many as the call has
+  pub wide : o.slots ≡ length s.arrays
+  -- the rest reads what the call does
+  pub readers : frame.readers ≡ s.readers
   pub shows : Shows v (lending ok o) m s
   pub above : AllAbove ok.outs (length s.around)
   pub level : o.level ≡ length s.around
@@ -217,17 +232,18 @@ pub record IsGiving (v : Verified) (ok : Ok v) (o : Out) (m : Machine) (s : Stat
   pub awaits : (a : ℕ) → target ≡ Some a → IsNotAmong a (slots_in waits.newest) → ⊥
 
 -- each state that a machine held while the rest ran it holds now at the join to which the rest came
-abbrev pub Gives : Machine → Rest → List (Option Placed) → Option ℕ → Machine → Type 0
-Gives m back replaced target m' =
+abbrev pub Gives : Machine → Rest → List (Option Placed) → (slots : ℕ) → (lent : List ℕ) → Option ℕ → Machine → Type 0
+Gives m back replaced slots lent target m' =
     (v : Verified) (ok : Ok v) (o : Out) (s : State) (frame : Standing) (waits : Waits s)
-    → IsGiving v ok o m s frame waits back replaced target → Shows v ok m' (went_on s frame waits)
+    → IsGiving v ok o m s frame waits back replaced slots lent target → Shows v ok m' (went_on s frame waits)
 
 -- a machine holds some state while the rest ran that comes back
-pub record MayGive (m : Machine) (back : Rest) (replaced : List (Option Placed)) (target : Option ℕ) : Type 0 where
+pub record MayGive (m : Machine) (back : Rest) (replaced : List (Option Placed)) (slots : ℕ) (lent : List ℕ)
+    (target : Option ℕ) : Type 0 where
   pub code : Verified
   pub ok : Ok code
   pub out : Out
   pub state : State
   pub frame : Standing
   pub waits : Waits state
-  pub gives : IsGiving code ok out m state frame waits back replaced target
+  pub gives : IsGiving code ok out m state frame waits back replaced slots lent target

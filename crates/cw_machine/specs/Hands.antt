@@ -1,29 +1,28 @@
 -- The rest of a block is handed out at a spawn: arrays of the call that waits are out, and the machine goes on showing
 -- the same state.
-use Rattle.std.specs.Prelude.{◌≡◌, ℕ, zero, suc, ◌+◌, ◌-◌, ◌<◌, ◌≤◌, ℤ, Bool, true, false, if◌then◌else◌, nat_lt}
-use Rattle.std.specs.Prelude.{nat_eq, List, [], ◌∷◌, ◌++◌, length, map, reverse, Some, slice_get, slice_set}
-use Rattle.cw_slices.specs.Placed.{Placed, IsOwn, after}
-use Rattle.cw_slices.specs.Blocks.{Lodged, outs, patched, Have, AreIn}
+use Rattle.std.specs.Prelude.{◌≡◌, ◌⊎◌, ℕ, zero, suc, ◌+◌, ◌-◌, ◌<◌, ◌≤◌, ℤ, Bool, true, false, if◌then◌else◌, nat_lt}
+use Rattle.std.specs.Prelude.{nat_eq, List, [], ◌∷◌, ◌++◌, length, map, replicate, reverse, Some, slice_get}
+use Rattle.std.specs.Prelude.{slice_set}
+use Rattle.cw_slices.specs.Placed.{Placed, IsOwn, after, shared_after}
+use Rattle.cw_slices.specs.Blocks.{Lodged, outs, patched, Have, AreIn, AreAlike, AreHalved}
 use Rattle.cw_model.specs.declared.syntax.CallKind.TheVariants.{Spawned}
+use Rattle.cw_code.specs.declared.code.Loan.{Loan}
+use Rattle.cw_code.specs.Code.{code_view}
 use Rattle.cw_code.specs.Run.{slot_taken, Waiting, Around, Caller, Block, State}
+use Rattle.cw_code.specs.Fits.{slots_lent}
 use Rattle.cw_strands.specs.Strands.{rest_of}
 use Rattle.cw_jobs.specs.declared.call.Extent.TheVariants as extent
 use Rattle.cw_jobs.specs.declared.call.Parts.{Parts}
 use Rattle.cw_jobs.specs.declared.call.Rest.{Rest}
-use Rattle.cw_jobs.specs.Cuts.{AreNone, AreOwn}
+use Rattle.cw_jobs.specs.Cuts.{AreNone}
 use Rattle.cw_jobs.specs.Jobs.{IsJob}
 use Rattle.cw_verify.specs.declared.verified.Verified.{Verified}
 use Rattle.cw_machine.specs.declared.machine.Frame.{Frame}
 use Rattle.cw_machine.specs.declared.machine.Machine.{Machine}
 use Rattle.cw_machine.specs.declared.machine.View.{View}
-use Rattle.cw_machine.specs.Arrays.{Out, Ok, AllAbove, view, block}
-use Rattle.cw_machine.specs.Shows.{cell, Comes, Shows, StaysBut}
+use Rattle.cw_machine.specs.Arrays.{Out, Ok, AllAbove, is_among, shares_slice, view, block, lent_before, KeepsLent}
+use Rattle.cw_machine.specs.Shows.{cell, Comes, Shows, SharesFrozen, StaysBut}
 use Rattle.cw_machine.specs.Rests.{lending, AreBare}
-
--- a number is one of these
-abbrev pub is_among : (a : ℕ) → List ℕ → Bool
-is_among a [] = false
-is_among a (b ∷ bs) = if nat_eq b a then true else is_among a bs
 
 -- a cell is among those of arrays that are cut, the newest first, before the first one below another cell: the newest
 -- are those of the call that waits nearest, and those of the calls below it lie below its first cell
@@ -52,21 +51,44 @@ pub record HasAll (views : List View) (blocks : List Lodged) (cell : ℕ) : Type
   pub within : (view views cell).from + (view views cell).len ≤ length (block blocks (view views cell).block).cells
   pub all : AreIn (block blocks (view views cell).block).cells (view views cell).from (view views cell).len
 
--- the array of a cell may be lent, where there is one to lend
+-- the rights to so many places from where a view lies
+abbrev pub rights_at : List Lodged → View → List ℕ
+rights_at blocks w = (block blocks w.block).rights
+
+-- the array of a cell may be lent, where there is one to lend: no share of it is out
 pub record MayLend (m : Machine) (cell : ℕ) (stays : Bool) : Type 0 where
   pub seen : cell < length m.views.items
   pub there : 0 < lent_count stays (view m.views.items cell).len → HasAll m.views.items m.blocks.items cell
+  pub whole : 0 < lent_count stays (view m.views.items cell).len →
+      let w = view m.views.items cell in
+      AreHalved (rights_at m.blocks.items w) w.from w.len (block m.blocks.items w.block).spot.halved
+
+-- the array of a cell may be shared, where there is one: as often as others share one place of it they share each
+pub record MayShare (m : Machine) (cell : ℕ) : Type 0 where
+  pub seen : cell < length m.views.items
+  pub there : 0 < (view m.views.items cell).len → HasAll m.views.items m.blocks.items cell
+  pub alike : 0 < (view m.views.items cell).len →
+      let w = view m.views.items cell in AreAlike (rights_at m.blocks.items w) w.from w.len
 
 -- so many numbers from where a view lies are out
 abbrev pub parted : List Lodged → View → (count : ℕ) → List Lodged
 parted blocks w zero = blocks
 parted blocks w (suc n) =
     let old = block blocks w.block in
-    slice_set blocks w.block (record { cells = patched w.from (outs (suc n)) old.cells; spot = old.spot })
+    slice_set blocks w.block
+    (record { cells = patched w.from (outs (suc n)) old.cells; rights = old.rights; spot = old.spot })
+
+-- the right to so many places from where a view lies was halved, so often in all
+abbrev pub shared_by : List Lodged → View → (count times : ℕ) → List Lodged
+shared_by blocks w zero d = blocks
+shared_by blocks w (suc n) d =
+    let old = block blocks w.block in
+    slice_set blocks w.block
+    (record { cells = old.cells; rights = patched w.from (replicate (suc n) d) old.rights; spot = old.spot })
 
 -- the array of a cell was lent, if it does not stay, and nothing else changed
 pub record HasLentOut (m : Machine) (cell : ℕ) (stays : Bool) (p : Placed) (m' : Machine) : Type 0 where
-  pub own : IsOwn p
+  pub bare : length p.items ≡ 0 → IsOwn p
   pub count : length p.items ≡ lent_count stays (view m.views.items cell).len
   pub items : 0 < length p.items
       → Have (block m.blocks.items (view m.views.items cell).block).cells (view m.views.items cell).from p.items
@@ -76,9 +98,37 @@ pub record HasLentOut (m : Machine) (cell : ℕ) (stays : Bool) (p : Placed) (m'
   pub views : m'.views.items ≡ m.views.items
   pub rest : StaysBut m m'
 
--- slices of a call that waits are out, from a cell on below another, with so many blocks and calls round it
-abbrev pub out_of : (level first floor : ℕ) → List Placed → Out
-out_of level first floor slices = record { level = level; first = first; floor = floor; slices = slices }
+-- the array of a cell was shared, and nothing else changed
+pub record HasShared (m : Machine) (cell : ℕ) (p : Placed) (m' : Machine) : Type 0 where
+  pub bare : length p.items ≡ 0 → IsOwn p
+  pub count : length p.items ≡ (view m.views.items cell).len
+  pub items : 0 < length p.items
+      → Have (block m.blocks.items (view m.views.items cell).block).cells (view m.views.items cell).from p.items
+  pub place : 0 < length p.items → p.spot
+      ≡ shared_after (view m.views.items cell).from p.spot.halved
+      (block m.blocks.items (view m.views.items cell).block).spot
+  pub right : 0 < length p.items →
+      let w = view m.views.items cell in
+      (d : ℕ) × (p.spot.halved ≡ suc d) × AreHalved (rights_at m.blocks.items w) w.from w.len d
+  pub blocks : m'.blocks.items ≡ shared_by m.blocks.items (view m.views.items cell) (length p.items) p.spot.halved
+  pub views : m'.views.items ≡ m.views.items
+  pub rest : StaysBut m m'
+
+-- the slice with this number of a call at a first cell may be handed out, as a share or not
+abbrev pub MayHandOne : Machine → (first slice : ℕ) → (shared : Bool) → (passed : List ℕ) → Type 0
+MayHandOne m first a true passed = MayShare m (first + a)
+MayHandOne m first a false passed = MayLend m (first + a) (stays_here m.cuts.items first passed a)
+
+-- and it was
+abbrev pub HasHanded : Machine → (first slice : ℕ) → (shared : Bool) → (passed : List ℕ) → Placed → Machine → Type 0
+HasHanded m first a true passed p m' = HasShared m (first + a) p m'
+HasHanded m first a false passed p m' = HasLentOut m (first + a) (stays_here m.cuts.items first passed a) p m'
+
+-- slices of a call that waits are out, from a cell on below another, with so many blocks and calls round it: so many of
+-- them are of slots, and these slots the spawned call was lent
+abbrev pub out_of : (level first floor slots : ℕ) → (lent : List ℕ) → List Placed → Out
+out_of level first floor slots lent slices =
+    record { level = level; first = first; floor = floor; slots = slots; lent = lent; slices = slices }
 
 -- what waits for the joins of the open blocks of a call lies in the cells of its slots
 abbrev pub ComesRound : List ℤ → (first slots : ℕ) → List Around → Type 0
@@ -92,56 +142,78 @@ ComesRound cells first slots (Block o ∷ around) =
 -- its arrays out; the rest, as parts that go to the join, is the job of the rest of the block; what waits for the joins
 -- of that call lies in the rest too; and the rest has nothing of what the spawn took
 pub record HandedOut (v : Verified) (ok : Ok v) (m : Machine) (s : State) (w : Waiting) (around : List Around)
-    (passed : List ℕ) (first : ℕ) (m' : Machine) (r : Rest) : Type 0 where
-  pub shows : Shows v (lending ok (out_of (length around) first m.first_array r.slices.items)) m' s
+    (passed : List ℕ) (lent : List Loan) (first slots : ℕ) (m' : Machine) (r : Rest) : Type 0 where
+  pub slots_are : slots ≡ length w.arrays
+  pub shows : Shows v
+      (lending ok (out_of (length around) first m.first_array (length w.arrays) (slots_lent lent) r.slices.items)) m' s
   pub job : (p : Parts) → p.rest ≡ r → p.extent ≡ extent.ToJoin → IsJob v ok.verified p (rest_of w p.limit p.before)
   pub comes : Comes r.cells.items 0 (length w.slots) w.results × ComesRound r.cells.items 0 (length w.slots) around
   pub taken : AreNone r.slices.items passed
 
--- a spawn has just begun its call: the call that spawned waits nearest, with no operand, these slots were taken, and
--- all that is out is of calls below it
+-- a spawn has just begun its call: the call that spawned waits nearest, with no operand, these slots were taken, these
+-- arrays were lent, and that call keeps them, all that is out is of calls below it, and what the run was given as shares
+-- its first call only reads
 pub record Hands (v : Verified) (ok : Ok v) (m : Machine) (s : State) (w : Waiting) (around : List Around)
-    (passed : List ℕ) : Type 0 where
+    (passed : List ℕ) (lent : List Loan) : Type 0 where
   pub shows : Shows v ok m s
   pub is : s.around ≡ Caller w ∷ around
   pub spawned : w.kind ≡ Spawned
   pub none : w.operands ≡ []
   pub taken : map slot_taken w.taken ≡ passed
+  pub loans : lent_before (code_view v.code) w.place ≡ slots_lent lent
+  pub kept : KeepsLent v ok.verified w (slots_lent lent)
   pub above : AllAbove ok.outs (length around)
-  -- neither the call that waits nor the one that runs reads an array
-  pub waits_apart : w.readers ≡ []
-  pub runs_apart : s.readers ≡ []
+  pub frozen : SharesFrozen v ok s
 
 -- a machine may hand out the call that waits nearest
-pub record MayHand (m : Machine) (passed : List ℕ) : Type 0 where
-  pub code : Verified
+pub record MayHand (code : Verified) (m : Machine) (passed : List ℕ) (lent : List Loan) : Type 0 where
   pub ok : Ok code
   pub state : State
   pub waiting : Waiting
   pub around : List Around
-  pub hands : Hands code ok m state waiting around passed
+  pub hands : Hands code ok m state waiting around passed lent
 
--- a machine may hand out the arrays of the call that waits nearest, which has so many, from a cell on
-pub record MayHandArrays (m : Machine) (first : ℕ) (passed : List ℕ) (count : ℕ) : Type 0 where
-  pub may : MayHand m passed
-  pub ends : first + length may.waiting.arrays ≡ m.first_array
-  pub as_many : count ≡ length may.waiting.arrays
+-- a machine may hand out the arrays of the call that waits nearest, which has so many, from a cell on: so many of its
+-- slots, and those that it reads
+pub record MayHandArrays (m : Machine) (first : ℕ) (passed : List ℕ) (lent : List Loan) (slots count : ℕ) : Type 0
+  where
+    pub code : Verified
+    pub may : MayHand code m passed lent
+    pub ends : first + count ≡ m.first_array
+    pub slots_are : slots ≡ length may.waiting.arrays
+    pub as_many : count ≡ length may.waiting.arrays + length may.waiting.readers
+
+-- so many numbers of an array are in its slice: of a share all, else what does not stay here
+abbrev pub handed_count : (shared stays : Bool) → (len : ℕ) → ℕ
+handed_count true stays len = len
+handed_count false stays len = lent_count stays len
+
+-- a slice has the right to its places that a machine has, or has no places and is its own
+abbrev pub IsAsOwn : Machine → (cell : ℕ) → Placed → Type 0
+IsAsOwn m cell p = IsOwn p ⊎ (p.spot.halved ≡ (block m.blocks.items (view m.views.items cell).block).spot.halved)
 
 -- the arrays of that call are out as these slices, each with what its array has that does not stay here
-pub record HandsArrays (m : Machine) (first : ℕ) (passed : List ℕ) (m' : Machine) (slices : List Placed) : Type 0 where
+pub record HandsArrays (m : Machine) (first : ℕ) (passed : List ℕ) (lent : List Loan) (slots : ℕ) (m' : Machine)
+    (slices : List Placed) : Type 0 where
   pub stays : StaysBut m m'
-  pub own : AreOwn slices
-  pub counts : (a : ℕ) (p : Placed) → slice_get slices a ≡ Some p
-      → length p.items ≡ lent_count (stays_here m.cuts.items first passed a) (view m.views.items (first + a)).len
+  pub bare : (a : ℕ) (p : Placed) → slice_get slices a ≡ Some p → length p.items ≡ 0 → IsOwn p
+  pub own : (a : ℕ) (p : Placed) → slice_get slices a ≡ Some p → shares_slice slots (slots_lent lent) a ≡ false
+      → IsAsOwn m (first + a) p
+  pub shares : (a : ℕ) (p : Placed) → slice_get slices a ≡ Some p → shares_slice slots (slots_lent lent) a ≡ true
+      → 0 < length p.items → 0 < p.spot.halved
+  pub counts : (a : ℕ) (p : Placed) → slice_get slices a ≡ Some p → length p.items
+      ≡ handed_count (shares_slice slots (slots_lent lent) a) (stays_here m.cuts.items first passed a)
+      (view m.views.items (first + a)).len
   pub shows : (v : Verified) (ok : Ok v) (s : State) (w : Waiting) (around : List Around)
-      → Hands v ok m s w around passed → first + length w.arrays ≡ m.first_array → length slices ≡ length w.arrays
-      → Shows v (lending ok (out_of (length around) first m.first_array slices)) m' s
+      → Hands v ok m s w around passed lent → first + length slices ≡ m.first_array → slots ≡ length w.arrays
+      → length slices ≡ length w.arrays + length w.readers
+      → Shows v (lending ok (out_of (length around) first m.first_array slots (slots_lent lent) slices)) m' s
 
--- whatever state it held, it holds it while the call is out
-abbrev pub HandsOut : Machine → List ℕ → (first : ℕ) → Machine → Rest → Type 0
-HandsOut m passed first m' r =
-    (v : Verified) (ok : Ok v) (s : State) (w : Waiting) (around : List Around)
-    → Hands v ok m s w around passed → HandedOut v ok m s w around passed first m' r
+-- whatever state of this code it held, it holds it while the call is out
+abbrev pub HandsOut : Verified → Machine → List ℕ → List Loan → (first slots : ℕ) → Machine → Rest → Type 0
+HandsOut v m passed lent first slots m' r =
+    (ok : Ok v) (s : State) (w : Waiting) (around : List Around)
+    → Hands v ok m s w around passed lent → HandedOut v ok m s w around passed lent first slots m' r
 
 -- more slices, which have no numbers
 abbrev pub HasMoreBare : List Placed → List Placed → Type 0

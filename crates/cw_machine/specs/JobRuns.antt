@@ -2,7 +2,7 @@
 use Rattle.std.specs.Prelude.{◌≡◌, ◌≢◌, ◌⊎◌, ℕ, ◌+◌, ◌-◌, ◌^◌, ◌<◌, ◌≤◌, ℤ, pos, List, [], ◌∷◌, ◌++◌, length}
 use Rattle.std.specs.Prelude.{replicate, Option, Some, None, slice_get}
 use Rattle.cw_slices.specs.Placed.{Placed, IsOwn}
-use Rattle.cw_slices.specs.Blocks.{Lodged, ins, Have}
+use Rattle.cw_slices.specs.Blocks.{Lodged, ins, Have, IsWhole as IsUnshared}
 use Rattle.cw_model.specs.Outcome.{quiet}
 use Rattle.cw_code.specs.declared.code.Reducer.{Reducer}
 use Rattle.cw_code.specs.Code.{code_view}
@@ -13,23 +13,19 @@ use Rattle.cw_strands.specs.Over.{under}
 use Rattle.cw_jobs.specs.declared.call.Parts.{Parts}
 use Rattle.cw_jobs.specs.declared.call.Rest.{Rest}
 use Rattle.cw_jobs.specs.Calls.{cell, placed, HoldsCall, HoldsFrame}
-use Rattle.cw_jobs.specs.Cuts.{cut_slots, AreNone, AreOwn, AreThere, RoundThere}
+use Rattle.cw_jobs.specs.Cuts.{cut_slots, AreNone, AreThere, RoundThere}
 use Rattle.cw_jobs.specs.Totals.{none_told}
 use Rattle.cw_jobs.specs.Jobs.{AreBlocks, IsOutermost, IsJob, own_or, home_of, IsOwnIn, KeepsHomes, KeepsEmpty}
-use Rattle.cw_jobs.specs.Jobs.{KeepsFixed}
+use Rattle.cw_jobs.specs.Jobs.{KeepsFixed, OwnsSlots}
 use Rattle.cw_verify.specs.declared.verified.Verified.{Verified}
 use Rattle.cw_machine.specs.declared.machine.Machine.{Machine}
 use Rattle.cw_machine.specs.declared.machine.View.{View}
-use Rattle.cw_machine.specs.Arrays.{IsFit, Ok, view, block}
-use Rattle.cw_machine.specs.Shows.{Shows}
+use Rattle.cw_machine.specs.Arrays.{IsFit, Ok, view, block, IsBare, home_in}
+use Rattle.cw_machine.specs.Shows.{Shows, SharesFrozen}
 
 -- these cells, and zeros up to so many
 abbrev pub HasCells : (own : List ℤ) → (room : ℕ) → List ℤ → Type 0
 HasCells own room cells = cells ≡ own ++ replicate (room - length own) (pos 0)
-
--- where the array of a slot lies that is a block of its own
-abbrev pub home_in : List Placed → (slot : ℕ) → View
-home_in slices a = record { block = a; from = 0; len = length (placed slices a).items }
 
 -- no slice is too long
 abbrev pub AreSmall : List Placed → Type 0
@@ -51,11 +47,11 @@ pub record HasViews (old : List View) (slices : List Placed) (new : List View) :
 pub record HasBlocks (old : List Lodged) (count : ℕ) (new : List Lodged) : Type 0 where
   pub as_many : length new ≡ length old + count
   pub old_are : (k : ℕ) → k < length old → block new k ≡ block old k
-  pub bare : (k : ℕ) → length old ≤ k → (block new k).cells ≡ []
+  pub bare : (k : ℕ) → length old ≤ k → IsBare (block new k)
 
 -- a slice, as a block that is all in
 abbrev pub lodged : Placed → Lodged
-lodged p = record { cells = ins p.items; spot = p.spot }
+lodged p = record { cells = ins p.items; rights = replicate (length p.items) p.spot.halved; spot = p.spot }
 
 -- a machine with room for a rest, where its slices will lie
 pub record HasRoomFor (rest : Rest) (room : ℕ) (reducers : List Reducer) (m : Machine) : Type 0 where
@@ -73,13 +69,13 @@ pub record HasRoomFor (rest : Rest) (room : ℕ) (reducers : List Reducer) (m : 
       view m.views.items (length rest.slices.items + a) ≡ home_in rest.slices.items a
   pub small : AreSmall rest.slices.items
   pub blocks : length m.blocks.items ≡ length rest.slices.items + length rest.slices.items
-  pub bare : (k : ℕ) → (block m.blocks.items k).cells ≡ []
+  pub bare : (k : ℕ) → IsBare (block m.blocks.items k)
   pub totals : m.totals.items ≡ none_told reducers
 
 -- slices are the first blocks of a machine, and its other blocks have no numbers
 pub record HasSlices (slices : List Placed) (m : Machine) : Type 0 where
   pub lodges : (a : ℕ) → a < length slices → block m.blocks.items a ≡ lodged (placed slices a)
-  pub bare : (a : ℕ) → length slices ≤ a → (block m.blocks.items a).cells ≡ []
+  pub bare : (a : ℕ) → length slices ≤ a → IsBare (block m.blocks.items a)
 
 -- all but the blocks is as it was
 pub record KeepsAll (m m' : Machine) : Type 0 where
@@ -103,10 +99,18 @@ pub record IsEmptied (r r' : Rest) : Type 0 where
   pub as_many : length r'.slices.items ≡ length r.slices.items
   pub bare : (a : ℕ) → (placed r'.slices.items a).items ≡ []
 
--- the run of a job on these slices, with so many parameters and blocks round it
-abbrev pub ok_of : (v : Verified) → IsFit v → (params : ℕ) → List Placed → (round : ℕ) → Ok v
-ok_of v is params slices round =
-    record { verified = is; outer = round; params = params; home = home_in slices; given = slices; outs = [] }
+-- the run of a job on these slices, so many of them of slots, with so many parameters and blocks round it
+abbrev pub ok_of : (v : Verified) → IsFit v → (params slots : ℕ) → List Placed → (round : ℕ) → Ok v
+ok_of v is params slots slices round =
+    record {
+      verified = is;
+      outer = round;
+      params = params;
+      home = home_in slices;
+      given = slices;
+      slots = slots;
+      outs = [];
+    }
 
 -- the values that wait for slots lie in their cells
 abbrev pub WaitIn : List ℤ → Results ℤ → Type 0
@@ -128,7 +132,7 @@ RoundWaitsIn r (Block o ∷ around) =
 -- the block in which a job began, where what waits for the empty slots is what the job's rest has in them
 pub record IsBase (v : Verified) (is : IsFit v) (j : Job) (r : Rest) (base : State) : Type 0 where
   pub holds : HoldsCall r j
-  pub own : AreOwn r.slices.items
+  pub own : OwnsSlots v is j.place r.slices.items j.arrays
   pub good : GoodState (code_view v.code) is.fits (under base (job_start j))
   pub begins : base.trace ≡ quiet
   pub blocks : AreBlocks base.around
@@ -140,7 +144,8 @@ pub record IsBase (v : Verified) (is : IsFit v) (j : Job) (r : Rest) (base : Sta
 
 -- what the run of a job stands in
 abbrev pub job_ok : (v : Verified) (is : IsFit v) (j : Job) (r : Rest) (base : State) → IsBase v is j r base → Ok v
-job_ok v is j r base b = ok_of v is b.good.seat.func.array_params r.slices.items (length base.around)
+job_ok v is j r base b =
+    ok_of v is b.good.seat.func.array_params (length j.arrays) r.slices.items (length base.around)
 
 -- a machine holds a state of the run of a job, with nothing out
 pub record HoldsOf (v : Verified) (is : IsFit v) (j : Job) (r : Rest) (m : Machine) (s : State) : Type 0 where
@@ -148,26 +153,39 @@ pub record HoldsOf (v : Verified) (is : IsFit v) (j : Job) (r : Rest) (m : Machi
   pub is_base : IsBase v is j r base
   pub shows : Shows v (job_ok v is j r base is_base) m (under base s)
 
+-- what a run was given as shares its first call only reads
+abbrev pub OnlyReads : (v : Verified) (is : IsFit v) (j : Job) (r : Rest) (m : Machine) (s : State)
+    → HoldsOf v is j r m s → Type 0
+OnlyReads v is j r m s h = SharesFrozen v (job_ok v is j r h.base h.is_base) (under h.base s)
+
 -- the machine of a job, whichever of the definitions the job is
 abbrev pub BeginsJob : Verified → Rest → Machine → Type 0
 BeginsJob v rest m =
-    (is : IsFit v) (p : Parts) (j : Job) → p.rest ≡ rest → IsJob v is p j → HoldsOf v is j rest m (job_start j)
+    (is : IsFit v) (p : Parts) (j : Job) → p.rest ≡ rest → IsJob v is p j
+    → (h : HoldsOf v is j rest m (job_start j)) × OnlyReads v is j rest m (job_start j) h
 
 -- all cells of a block are in
 abbrev pub AllIn : List (Option ℤ) → Type 0
 AllIn cells = (k : ℕ) → slice_get cells k ≡ Some None → ⊥
 
+-- all of a block is in, and no share of it is out
+abbrev pub IsAllHere : Lodged → Type 0
+IsAllHere b = AllIn b.cells × IsUnshared b
+
 -- what a run was given is its first blocks still, all in, where it lay
 pub record KeepsGiven (given : List Placed) (m : Machine) : Type 0 where
   pub there : length given ≤ length m.blocks.items
-  pub all_in : (a : ℕ) → a < length given → AllIn (block m.blocks.items a).cells
+  pub all_here : (a : ℕ) → a < length given → IsAllHere (block m.blocks.items a)
   pub spot : (a : ℕ) → a < length given → (block m.blocks.items a).spot ≡ (placed given a).spot
   pub len : (a : ℕ) → a < length given → length (block m.blocks.items a).cells ≡ length (placed given a).items
+  -- a share has its numbers
+  pub same : (a : ℕ) → a < length given → 0 < (placed given a).spot.halved
+      → (block m.blocks.items a).cells ≡ ins (placed given a).items
 
 -- so many slices that a machine was given may be moved out
 pub record MayGiveUp (m : Machine) (count : ℕ) : Type 0 where
   pub there : count ≤ length m.blocks.items
-  pub all_in : (a : ℕ) → a < count → AllIn (block m.blocks.items a).cells
+  pub all_here : (a : ℕ) → a < count → IsAllHere (block m.blocks.items a)
 
 -- whatever a run was given comes back where it lay
 abbrev pub GivesUp : Machine → (count : ℕ) → List Placed → Type 0
@@ -199,14 +217,23 @@ cells_at m w = (block m.blocks.items w.block).cells
 abbrev pub IsSlots : (count slot : ℕ) → View → Type 0
 IsSlots count a w = (w.block ≡ a) ⊎ (w.block ≡ count + a)
 
--- all arrays of the first call of a machine, so many, lie in its blocks, and all are in
+-- the array in a slot is all of the slot's own slice
+pub record IsItsOwn (m : Machine) (count a : ℕ) : Type 0 where
+  pub lies : (slot_view m count a).block ≡ a
+  pub from : (slot_view m count a).from ≡ 0
+  pub len : (slot_view m count a).len ≡ length (cells_at m (slot_view m count a))
+
+-- all arrays of the first call of a machine, so many, lie in its blocks, and all are in; where a slot's own slice is a
+-- share it is the array, and what was made in a slot has one owner
 pub record MaySee (m : Machine) (count : ℕ) : Type 0 where
   pub views : count + count ≤ length m.views.items
   pub blocks : count + count ≤ length m.blocks.items
-  pub all_in : (b : ℕ) → AllIn (block m.blocks.items b).cells
+  pub all_here : (b : ℕ) → IsAllHere (block m.blocks.items b)
   pub there : (a : ℕ) → a < count → (slot_view m count a).block < length m.blocks.items
   pub within : (a : ℕ) → a < count →
       let w = slot_view m count a in Within w.from w.len (cells_at m w)
+  pub shares : (a : ℕ) → a < count → 0 < (block m.blocks.items a).spot.halved → IsItsOwn m count a
+  pub made_own : (a : ℕ) → a < count → (block m.blocks.items (count + a)).spot.halved ≡ 0
 
 -- an array is all of a block that is its slot's: the slot's own slice, or what was made in the slot
 pub record IsWhole (m : Machine) (count a : ℕ) : Type 0 where
@@ -214,24 +241,31 @@ pub record IsWhole (m : Machine) (count a : ℕ) : Type 0 where
   pub len : (slot_view m count a).len ≡ length (cells_at m (slot_view m count a))
   pub which : IsSlots count a (slot_view m count a)
 
--- the array in a slot is such a block, or was copied
+-- the array in a slot is such a block, or else was copied
 abbrev pub IsCopied : Machine → (count a : ℕ) → Option Placed → Type 0
 IsCopied m count a None = IsWhole m count a
 IsCopied m count a (Some p) =
-    let w = slot_view m count a in Copies (cells_at m w) w.from w.len p
+    let w = slot_view m count a in Copies (cells_at m w) w.from w.len p × (IsItsOwn m count a → ⊥)
 
 -- so many slots have their copies
 pub record HasCopies (m : Machine) (count upto : ℕ) (copies : List (Option Placed)) : Type 0 where
   pub as_many : length copies ≡ upto
   pub each : (a : ℕ) (o : Option Placed) → slice_get copies a ≡ Some o → IsCopied m count a o
 
+-- the array in a slot is the slot's own slice, and was not copied
+abbrev pub IsStill : Machine → (count a : ℕ) → Option Placed → Type 0
+IsStill m count a copy = (copy ≡ None) × ((slot_view m count a).block ≡ a)
+
 -- the copy of an array may be moved out, or the block that it is
 pub record MayMove (m : Machine) (count a : ℕ) (copy : Option Placed) : Type 0 where
   pub slot : a < count
   pub views : count + count ≤ length m.views.items
   pub blocks : count + count ≤ length m.blocks.items
-  pub own : AllIn (block m.blocks.items a).cells
-  pub made : AllIn (block m.blocks.items (count + a)).cells
+  pub own : IsAllHere (block m.blocks.items a)
+  pub made : IsAllHere (block m.blocks.items (count + a))
+  -- what was made in the slot has one owner, and the slot's own slice has one too, where it is not the array
+  pub made_own : (block m.blocks.items (count + a)).spot.halved ≡ 0
+  pub written_own : IsStill m count a copy ⊎ ((block m.blocks.items a).spot.halved ≡ 0)
   pub which : copy ≡ None → IsSlots count a (slot_view m count a)
   pub owned : (p : Placed) → copy ≡ Some p → IsOwn p
 
@@ -242,7 +276,7 @@ pub record IsMoved (m : Machine) (count a : ℕ) (copy : Option Placed) (slice :
   pub len : length (own_or (Some rep) slice).items ≡ length (block m.blocks.items a).cells
   pub copied : (p : Placed) → copy ≡ Some p → slice.items ≡ p.items
   pub whole : copy ≡ None → ins slice.items ≡ cells_at m (slot_view m count a)
-  pub own : IsOwn slice
+  pub own : (p : Placed) → rep ≡ Some p → IsOwn slice
   pub same : length slice.items ≡ length (block m.blocks.items a).cells → (p : Placed) → rep ≢ Some p
 
 -- a machine of which the blocks of a slot were taken
@@ -261,7 +295,7 @@ pub record SlotEnds (m : Machine) (count a : ℕ) (back : List Placed) (replaced
   pub spot : (home_of back replaced a).spot ≡ (block m.blocks.items a).spot
   pub len : length (home_of back replaced a).items ≡ length (block m.blocks.items a).cells
   pub items : (xs : List ℤ) → Seen m.blocks.items (slot_view m count a) xs → (placed back a).items ≡ xs
-  pub own : IsOwn (placed back a)
+  pub own : (p : Placed) → slice_get replaced a ≡ Some (Some p) → IsOwn (placed back a)
   pub same : length (placed back a).items ≡ length (block m.blocks.items a).cells → IsOwnIn replaced a
 
 -- what comes of the arrays of the first call
@@ -274,9 +308,9 @@ pub record SlotsEnd (m : Machine) (count : ℕ) (back : List Placed) (replaced :
 pub record HasCome (v : Verified) (is : IsFit v) (j : Job) (r : Rest) (m : Machine) (s : State) : Type 0 where
   pub holds : HoldsOf v is j r m s
   pub none : s.around ≡ []
-  -- the call has as many array slots as the job's
+  -- the call has as many array slots as the job's, and reads as many arrays
   pub arrays : length s.arrays ≡ length j.arrays
-  pub reads_none : s.readers ≡ []
+  pub readers : length s.readers ≡ length j.readers
 
 -- a job came to its join
 pub record CanEnd (m : Machine) (count : ℕ) : Type 0 where
@@ -296,7 +330,6 @@ pub record Ends (v : Verified) (is : IsFit v) (j : Job) (r : Rest) (s : State) (
   pub empty : KeepsEmpty j r back replaced
   pub homes : KeepsHomes r.slices.items back.slices.items replaced
   pub fixed : KeepsFixed v is j.place replaced
-  pub own : AreOwn back.slices.items
 
 abbrev pub EndsJob : Machine → (count : ℕ) → Rest → List (Option Placed) → Type 0
 EndsJob m count back replaced =

@@ -1,7 +1,8 @@
 -- Arrays of the call that runs come home, which were out while it waited.
-use Rattle.std.specs.Prelude.{◌≡◌, ℕ, ◌+◌, ◌<◌, ◌≤◌, ℤ, List, [], ◌∷◌, length, Some, slice_get, slice_set}
-use Rattle.cw_slices.specs.Placed.{Placed, after}
-use Rattle.cw_slices.specs.Blocks.{Lodged, ins, patched, AreOut}
+use Rattle.std.specs.Prelude.{◌≡◌, ℕ, zero, suc, ◌+◌, ◌-◌, ◌<◌, ◌≤◌, ℤ, Bool, true, false, List, [], ◌∷◌, length}
+use Rattle.std.specs.Prelude.{replicate, Some, slice_get, slice_set}
+use Rattle.cw_slices.specs.Placed.{Placed, after, shared_after}
+use Rattle.cw_slices.specs.Blocks.{Lodged, ins, patched, AreOut, AreHalved, Have}
 use Rattle.cw_code.specs.Run.{State}
 use Rattle.cw_verify.specs.declared.verified.Verified.{Verified}
 use Rattle.cw_machine.specs.declared.machine.Machine.{Machine}
@@ -12,32 +13,43 @@ use Rattle.cw_machine.specs.Shows.{Shows, StaysBut}
 -- the same run, with these arrays out
 abbrev pub with_outs : {v : Verified} → Ok v → List Out → Ok v
 with_outs ok outs =
-    record
-    { verified = ok.verified; outer = ok.outer; params = ok.params; home = ok.home; given = ok.given; outs = outs }
+    record {
+      verified = ok.verified;
+      outer = ok.outer;
+      params = ok.params;
+      home = ok.home;
+      given = ok.given;
+      slots = ok.slots;
+      outs = outs;
+    }
 
 -- the same run, with arrays of one call more out
 abbrev pub lending : {v : Verified} → Ok v → Out → Ok v
 lending ok o = with_outs ok (o ∷ ok.outs)
 
--- a machine holds a state while these slices of the call that runs are out, and else only arrays of calls that wait
-pub record IsLending (v : Verified) (ok : Ok v) (o : Out) (m : Machine) (s : State) (slices : List Placed)
-    : Type 0 where
+-- a machine holds a state while these slices of the call that runs are out, so many of slots, of which these were lent
+-- to the spawned call, and else only arrays of calls that wait
+pub record IsLending (v : Verified) (ok : Ok v) (o : Out) (m : Machine) (s : State) (slots : ℕ) (lent : List ℕ)
+    (slices : List Placed) : Type 0 where
   pub shows : Shows v (lending ok o) m s
   pub above : AllAbove ok.outs (length s.around)
   pub level : o.level ≡ length s.around
+  pub slots_are : o.slots ≡ slots
+  pub lent_are : o.lent ≡ lent
   pub are : o.slices ≡ slices
 
 -- a machine holds some state while these slices of the call that runs are out
-pub record MayTake (m : Machine) (slices : List Placed) : Type 0 where
+pub record MayTake (m : Machine) (slots : ℕ) (lent : List ℕ) (slices : List Placed) : Type 0 where
   pub code : Verified
   pub ok : Ok code
   pub out : Out
   pub state : State
-  pub lends : IsLending code ok out m state slices
+  pub lends : IsLending code ok out m state slots lent slices
 
 -- each state that a machine held while these slices were out it holds now that they are home
-abbrev pub TakesBack : Machine → List Placed → Machine → Type 0
-TakesBack m slices m' = (v : Verified) (ok : Ok v) (o : Out) (s : State) → IsLending v ok o m s slices → Shows v ok m' s
+abbrev pub TakesBack : Machine → (slots : ℕ) → (lent : List ℕ) → List Placed → Machine → Type 0
+TakesBack m slots lent slices m' =
+    (v : Verified) (ok : Ok v) (o : Out) (s : State) → IsLending v ok o m s slots lent slices → Shows v ok m' s
 
 -- slices without numbers
 abbrev pub AreBare : List Placed → Type 0
@@ -49,21 +61,53 @@ pub record HasGap (views : List View) (blocks : List Lodged) (cell : ℕ) (p : P
   pub there : (view views cell).block < length blocks
   pub within : (view views cell).from + length p.items ≤ length (block blocks (view views cell).block).cells
   pub out : AreOut (block blocks (view views cell).block).cells (view views cell).from (length p.items)
+  pub whole : AreHalved (block blocks (view views cell).block).rights (view views cell).from (length p.items)
+      (block blocks (view views cell).block).spot.halved
   pub place : p.spot ≡ after (view views cell).from (block blocks (view views cell).block).spot
 
--- a slice may go home to the array of a cell: one without numbers has no home
-abbrev pub MayLay : Machine → (cell : ℕ) → Placed → Type 0
-MayLay m cell p = 0 < length p.items → HasGap m.views.items m.blocks.items cell p
+-- a slice is the newest share of what lies in a view
+pub record HasHalf (views : List View) (blocks : List Lodged) (cell : ℕ) (p : Placed) : Type 0 where
+  pub seen : cell < length views
+  pub there : (view views cell).block < length blocks
+  pub within : (view views cell).from + length p.items ≤ length (block blocks (view views cell).block).cells
+  pub same : Have (block blocks (view views cell).block).cells (view views cell).from p.items
+  pub newest : AreHalved (block blocks (view views cell).block).rights (view views cell).from (length p.items)
+      p.spot.halved
+  pub out : (block blocks (view views cell).block).spot.halved < p.spot.halved
+  pub place : p.spot
+      ≡ shared_after (view views cell).from p.spot.halved (block blocks (view views cell).block).spot
+
+abbrev pub HasPlace : (shared : Bool) → List View → List Lodged → (cell : ℕ) → Placed → Type 0
+HasPlace true views blocks cell p = HasHalf views blocks cell p
+HasPlace false views blocks cell p = HasGap views blocks cell p
+
+-- a slice, a share or not, may go home to the array of a cell: one without numbers has no home
+abbrev pub MayLay : Machine → (cell : ℕ) → (shared : Bool) → Placed → Type 0
+MayLay m cell shared p = 0 < length p.items → HasPlace shared m.views.items m.blocks.items cell p
 
 -- numbers are laid where a view lies
 abbrev pub laid : List Lodged → View → List ℤ → List Lodged
 laid blocks w [] = blocks
 laid blocks w (x ∷ xs) =
     let old = block blocks w.block in
-    slice_set blocks w.block (record { cells = patched w.from (ins (x ∷ xs)) old.cells; spot = old.spot })
+    slice_set blocks w.block
+    (record { cells = patched w.from (ins (x ∷ xs)) old.cells; rights = old.rights; spot = old.spot })
 
--- numbers came home to the array of a cell, and nothing else changed
-pub record HasLaid (m : Machine) (cell : ℕ) (xs : List ℤ) (m' : Machine) : Type 0 where
-  pub blocks : m'.blocks.items ≡ laid m.blocks.items (view m.views.items cell) xs
+-- the right to so many places from where a view lies is halved once less than so often
+abbrev pub merged : List Lodged → View → (count times : ℕ) → List Lodged
+merged blocks w zero d = blocks
+merged blocks w (suc n) d =
+    let old = block blocks w.block in
+    slice_set blocks w.block
+    (record { cells = old.cells; rights = patched w.from (replicate (suc n) (d - 1)) old.rights; spot = old.spot })
+
+-- a slice is laid where a view lies: its numbers, or of a share the right to them
+abbrev pub laid_by : (shared : Bool) → List Lodged → View → Placed → List Lodged
+laid_by true blocks w p = merged blocks w (length p.items) p.spot.halved
+laid_by false blocks w p = laid blocks w p.items
+
+-- a slice came home to the array of a cell, and nothing else changed
+pub record HasLaid (m : Machine) (cell : ℕ) (shared : Bool) (p : Placed) (m' : Machine) : Type 0 where
+  pub blocks : m'.blocks.items ≡ laid_by shared m.blocks.items (view m.views.items cell) p
   pub views : m'.views.items ≡ m.views.items
   pub rest : StaysBut m m'

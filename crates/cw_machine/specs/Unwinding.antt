@@ -40,21 +40,25 @@ RestsAreKept =
     → KeepsGiven ok.given m × MayGiveUp m (length ok.given)
 
 -- slices come home to what is out of a call, the newest that is out: as many, as long and in the same places
-pub record ComesTo (v : Verified) (ok : Ok v) (o : Out) (m : Machine) (cell : ℕ) (back : List Placed)
-    (replaced : List (Option Placed)) : Type 0 where
+pub record ComesTo (v : Verified) (ok : Ok v) (o : Out) (m : Machine) (cell slots : ℕ) (lent : List ℕ)
+    (back : List Placed) (replaced : List (Option Placed)) : Type 0 where
   pub remains : Remains v (lending ok o) m
   pub first : o.first ≡ cell
+  pub slots_are : o.slots ≡ slots
+  pub lent_are : o.lent ≡ lent
   pub below : LieBelow ok.outs cell
   pub homes : KeepsHomes o.slices back replaced
 
 -- they come home to some
-pub record MayComeHome (m : Machine) (cell : ℕ) (back : List Placed) (replaced : List (Option Placed)) : Type 0 where
+pub record MayComeHome (m : Machine) (cell slots : ℕ) (lent : List ℕ) (back : List Placed)
+    (replaced : List (Option Placed)) : Type 0 where
   pub code : Verified
   pub ok : Ok code
   pub out : Out
-  pub comes : ComesTo code ok out m cell back replaced
+  pub comes : ComesTo code ok out m cell slots lent back replaced
 
 -- whatever they came home to is out no more
-abbrev pub ComesHome : Machine → (cell : ℕ) → List Placed → List (Option Placed) → Machine → Type 0
-ComesHome m cell back replaced m' =
-    (v : Verified) (ok : Ok v) (o : Out) → ComesTo v ok o m cell back replaced → Remains v ok m'
+abbrev pub ComesHome : Machine → (cell slots : ℕ) → (lent : List ℕ) → List Placed → List (Option Placed) → Machine
+    → Type 0
+ComesHome m cell slots lent back replaced m' =
+    (v : Verified) (ok : Ok v) (o : Out) → ComesTo v ok o m cell slots lent back replaced → Remains v ok m'

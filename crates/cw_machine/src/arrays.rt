@@ -1,6 +1,6 @@
 //! What instructions on arrays do.
 
-ghost use Rattle.std.specs.Prelude.{◌≡◌, ◌+◌, ◌<◌, ◌^◌, ℤ, length, Some, IfOk, OnOk};
+ghost use Rattle.std.specs.Prelude.{◌≡◌, ◌+◌, ◌<◌, ◌^◌, ℤ, length, Some, slice_get, IfOk, OnOk};
 ghost use Rattle.cw_verify.specs.declared.op.Op.TheVariants as op;
 ghost use Rattle.cw_machine.specs.Arrays as arrays;
 ghost use Rattle.cw_machine.specs.Shows.{HasRenewed, HasReviewed, StaysBut, IsAt, Does};
@@ -75,10 +75,11 @@ impl Machine {
         self.blocks[block].get(k)
     }
 
-    // A value, into a place of a block.
+    // A value, into a place of a block that is all its own.
     #[inline(always)]
     fn set_at(&mut self, block: usize, k: usize, x: i64)
-        requires { (y : ℤ) × arrays.found self.old.blocks.items block k ≡ Some y }
+        requires there { (y : ℤ) × arrays.found self.old.blocks.items block k ≡ Some y }
+        requires own { slice_get (arrays.block self.old.blocks.items block).rights k ≡ Some 0 }
         ensures blocks { self.new.blocks.items ≡ arrays.put self.old.blocks.items block k x }
         ensures views { self.new.views.items ≡ self.old.views.items }
         ensures rest { StaysBut self.old self.new }

@@ -3,12 +3,15 @@
 ghost use Rattle.std.specs.Prelude.{◌≡◌, ◌≢◌, ℕ, ◌+◌, ◌<◌, ◌≤◌, length, Some, slice_get, MatchBool};
 ghost use Rattle.std.specs.Option.{option_flatten};
 ghost use Rattle.cw_slices.specs.Placed.{IsOwn};
+ghost use Rattle.cw_code.specs.Fits.{slots_lent};
 ghost use Rattle.cw_jobs.specs.Jobs as jobs;
 ghost use Rattle.cw_machine.specs.Shows.{Stays, StaysBut};
 ghost use Rattle.cw_machine.specs.Rests.{AreBare};
 ghost use Rattle.cw_machine.specs.Gives.{IsTaken, IsExchanged, AreMade, MayTakeNew, HasNew, HasCell, HasFilled, MayHome, LaysHomes, MayMake, LaysMade, MayGive, Gives};
 
+use crate::hands::is_shared;
 use crate::machine::{Machine, View};
+use cw_code::code::Loan;
 use cw_jobs::call::Rest;
 use cw_slices::{Block, Slice};
 use std::mem;
@@ -80,18 +83,26 @@ impl Machine {
         }
     }
 
-    // Each array comes home; `replaced` has the new ones now.
-    fn lay_homes(&mut self, slices: &mut Vec<Slice>, replaced: &mut Vec<Option<Slice>>)
-        requires { ∥ MayHome self.old slices.old.items replaced.old.items ∥₁ }
-        ensures shows { LaysHomes self.old slices.old.items replaced.old.items self.new }
+    // Each array comes home, the newest share of a place first; `replaced` has the new ones now.
+    fn lay_homes(
+        &mut self,
+        slices: &mut Vec<Slice>,
+        replaced: &mut Vec<Option<Slice>>,
+        slots: usize,
+        lent: &[Loan],
+    )
+        requires { ∥ MayHome self.old slots (slots_lent lent.now) slices.old.items replaced.old.items ∥₁ }
+        ensures shows { LaysHomes self.old slots (slots_lent lent.now) slices.old.items replaced.old.items self.new }
         ensures rest { StaysBut self.old self.new }
         ensures made { AreMade slices.old.items replaced.old.items replaced.new.items }
         ensures bare { AreBare slices.new.items }
         ensures as_many { length slices.new.items ≡ length slices.old.items }
     {
-        for a in 0..slices.len() {
+        let count = slices.len();
+        for k in 0..count {
+            let a = count - 1 - k;
             let home = take_home(slices, replaced, a);
-            self.lay_at(self.first_array, a, home);
+            self.lay_at(self.first_array, a, is_shared(a, slots, lent), home);
         }
     }
 
@@ -136,22 +147,23 @@ impl Machine {
     /// Gives back a rest of the call that runs, which ran elsewhere up to its join: its arrays come home to where they
     /// lay, with the numbers that they have now; where a new array was made in a slot, the slot's own is in `replaced`;
     /// its values are those of the call, but for the slot `target` of the call that was spawned, whose result lies
-    /// there; and the machine goes on at its place. The rest keeps slices without numbers. It takes no memory and
-    /// cannot fail.
+    /// there; and the machine goes on at its place. The call has so many array slots, and `lent` is what the spawned call
+    /// was lent. The rest keeps slices without numbers. It takes no memory and cannot fail.
     pub fn give_rest(
         &mut self,
         back: &mut Rest,
         replaced: &mut Vec<Option<Slice>>,
+        slots: usize,
+        lent: &[Loan],
         target: Option<u32>,
     )
-        requires { ∥ MayGive self.old back.old replaced.old.items target ∥₁ }
-        ensures shows { Gives self.old back.old replaced.old.items target self.new }
+        requires { ∥ MayGive self.old back.old replaced.old.items slots (slots_lent lent.now) target ∥₁ }
+        ensures shows { Gives self.old back.old replaced.old.items slots (slots_lent lent.now) target self.new }
         ensures bare { AreBare back.new.slices.items }
         ensures as_many { length back.new.slices.items ≡ length back.old.slices.items }
     {
-        let count = back.slices.len();
-        self.lay_homes(&mut back.slices, replaced);
-        self.lay_made(replaced, count);
+        self.lay_homes(&mut back.slices, replaced, slots, lent);
+        self.lay_made(replaced, slots);
         self.lay_cells(&back.cells, target);
         self.place = back.place;
     }

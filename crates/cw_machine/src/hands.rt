@@ -2,17 +2,30 @@
 
 ghost use Rattle.std.specs.Prelude.{◌≡◌, ◌+◌, ◌-◌, ◌<◌, ◌≤◌, ◌^◌, length, reverse, slice_range, IfOk, OnOk, OnErr};
 ghost use Rattle.cw_machine.specs.Shows.{StaysBut};
+ghost use Rattle.cw_code.specs.Fits.{slots_lent};
+ghost use Rattle.cw_machine.specs.Arrays as arrays;
 ghost use Rattle.cw_machine.specs.Hands as hands;
-ghost use Rattle.cw_machine.specs.Hands.{stays_here, IsLast, MayLend, HasLentOut, MayHand, MayHandArrays, HandsArrays, HandsOut, HasMoreBare, HasGrown};
+ghost use Rattle.cw_machine.specs.Hands.{stays_here, IsLast, MayLend, HasLentOut, MayShare, HasShared, MayHandOne, HasHanded, MayHand, MayHandArrays, HandsArrays, HandsOut, HasMoreBare, HasGrown};
 
 use crate::machine::{Frame, Machine};
+use cw_code::code::Loan;
 use cw_jobs::call::Rest;
 use cw_slices::Slice;
+use cw_verify::verified::Verified;
 use std::alloc::AllocError;
+
+/// The call that a rest was handed out of.
+#[derive(Clone, Copy, Debug)]
+pub struct Lender {
+    /// The cell of its first array slot.
+    pub first: usize,
+    /// How many array slots it has: so many of the rest's slices are of these.
+    pub slots: usize,
+}
 
 // Whether a slot is among some.
 fn is_among(a: usize, slots: &[u32]) -> bool
-    ensures { result ≡ hands.is_among a slots.now }
+    ensures { result ≡ arrays.is_among a slots.now }
 {
     for slot in slots {
         if *slot as usize == a {
@@ -20,6 +33,32 @@ fn is_among(a: usize, slots: &[u32]) -> bool
         }
     }
     false
+}
+
+// Whether one of these loans is of the array in a slot.
+fn is_lent(a: usize, lent: &[Loan]) -> bool
+    ensures { result ≡ arrays.is_among a (slots_lent lent.now) }
+{
+    for loan in lent {
+        match *loan {
+            Loan::Array(b) => {
+                if b as usize == a {
+                    return true;
+                }
+            }
+            Loan::Reader(_) => {}
+        }
+    }
+    false
+}
+
+// Whether a slice of a rest is a share: of an array that its call reads, which come behind so many slots, or of one that
+// the spawned call was lent.
+#[inline(always)]
+pub(crate) fn is_shared(a: usize, slots: usize, lent: &[Loan]) -> bool
+    ensures { result ≡ arrays.shares_slice slots (slots_lent lent.now) a }
+{
+    a >= slots || is_lent(a, lent)
 }
 
 // Slices without numbers, so that there are so many at least.
@@ -122,43 +161,84 @@ impl Machine {
         self.blocks[v.block].lend(v.from, v.len)
     }
 
-    // The arrays of the call that waits nearest, whose first cell is this one, each into the slice of its slot.
+    // The array of a cell is shared, where it has elements.
+    #[inline(always)]
+    fn share_out(&mut self, cell: usize) -> Slice
+        requires { MayShare self.old cell }
+        ensures { HasShared self.old cell result self.new }
+    {
+        let v = self.views[cell];
+        if v.len == 0 {
+            let alloc = *self.blocks.allocator();
+            return Slice::empty(alloc);
+        }
+        self.blocks[v.block].share(v.from, v.len)
+    }
+
+    // The slice with this number of the call at a first cell: a share, or the array, where it doesn't stay here.
+    #[inline(always)]
+    fn hand_one(&mut self, first: usize, a: usize, shared: bool, passed: &[u32]) -> Slice
+        requires { MayHandOne self.old first a shared passed.now }
+        ensures { HasHanded self.old first a shared passed.now result self.new }
+    {
+        if shared {
+            return self.share_out(first + a);
+        }
+        let stays = self.stays(first, a, passed);
+        self.lend_out(first + a, stays)
+    }
+
+    // The arrays of the call that waits nearest, whose first cell is this one, each into the slice of its slot, and
+    // those that it reads into the slices behind these.
     #[inline(never)]
-    fn hand_each(&mut self, first: usize, passed: &[u32], slices: &mut Vec<Slice>)
-        requires { ∥ MayHandArrays self.old first passed.now (length slices.old.items) ∥₁ }
-        ensures out { HandsArrays self.old first passed.now self.new slices.new.items }
+    fn hand_each(&mut self, lender: Lender, passed: &[u32], lent: &[Loan], slices: &mut Vec<Slice>)
+        requires { ∥ MayHandArrays self.old lender.first passed.now lent.now lender.slots (length slices.old.items) ∥₁ }
+        ensures out { HandsArrays self.old lender.first passed.now lent.now lender.slots self.new slices.new.items }
         ensures as_many { length slices.new.items ≡ length slices.old.items }
     {
         for a in 0..slices.len() {
-            let stays = self.stays(first, a, passed);
-            slices[a] = self.lend_out(first + a, stays);
+            let shared = is_shared(a, lender.slots, lent);
+            slices[a] = self.hand_one(lender.first, a, shared, passed);
         }
     }
 
     // The same, where there are any: of a call without arrays nothing is called.
     #[inline(always)]
-    fn hand_arrays(&mut self, first: usize, passed: &[u32], slices: &mut Vec<Slice>)
-        requires { ∥ MayHandArrays self.old first passed.now (length slices.old.items) ∥₁ }
-        ensures out { HandsArrays self.old first passed.now self.new slices.new.items }
+    fn hand_arrays(
+        &mut self,
+        lender: Lender,
+        passed: &[u32],
+        lent: &[Loan],
+        slices: &mut Vec<Slice>,
+    )
+        requires { ∥ MayHandArrays self.old lender.first passed.now lent.now lender.slots (length slices.old.items) ∥₁ }
+        ensures out { HandsArrays self.old lender.first passed.now lent.now lender.slots self.new slices.new.items }
         ensures as_many { length slices.new.items ≡ length slices.old.items }
     {
         if slices.is_empty() {
             return;
         }
-        self.hand_each(first, passed, slices);
+        self.hand_each(lender, passed, lent, slices);
     }
 
     /// The rest of the block that has just spawned a call: the slots and arrays of the call that waits nearest, into
-    /// a rest whose vectors are used again, whatever it held. `passed` are the array slots that the spawn took. The
-    /// machine goes on as it was while the arrays are out; `take_back` brings them home. The value is the cell of the
-    /// first array slot of that call.
+    /// a rest whose vectors are used again, whatever it held. `passed` are the array slots that the spawn took, and
+    /// `lent` is what the spawned call only reads: of that, and of what the waiting call reads, the rest has shares. The
+    /// machine goes on as it was while the arrays are out; `take_back` brings them home. The value is the call that was
+    /// handed out.
     ///
     /// The error is want of memory. Then the machine is as it was, and so is the rest, but that it may have more
     /// slices without numbers.
     #[inline(always)]
-    pub fn hand_out(&mut self, passed: &[u32], rest: &mut Rest) -> Result<usize, AllocError>
-        requires { ∥ MayHand self.old passed.now ∥₁ }
-        ensures out { IfOk result (λ first. HandsOut self.old passed.now first self.new rest.new) }
+    pub fn hand_out(
+        &mut self,
+        code: &Verified,
+        passed: &[u32],
+        lent: &[Loan],
+        rest: &mut Rest,
+    ) -> Result<Lender, AllocError>
+        requires { ∥ MayHand code.now self.old passed.now lent.now ∥₁ }
+        ensures out { IfOk result (λ l. HandsOut code.now self.old passed.now lent.now l.first l.slots self.new rest.new) }
         ensures rest { OnOk result (StaysBut self.old self.new) }
         ensures same { OnErr result (self.new ≡ self.old) }
         ensures left { OnErr result (HasGrown rest.old rest.new) }
@@ -169,7 +249,11 @@ impl Machine {
         rest.place = f.place;
         rest.depth = f.depth;
         self.copy_cells(f.first, self.first, &mut rest.cells);
-        self.hand_arrays(f.first_array, passed, &mut rest.slices);
-        Ok(f.first_array)
+        let lender = Lender {
+            first: f.first_array,
+            slots: count - code.readers_at(f.place),
+        };
+        self.hand_arrays(lender, passed, lent, &mut rest.slices);
+        Ok(lender)
     }
 }

@@ -1,34 +1,42 @@
 //! Arrays that are out come home into a machine that stopped, one call after another, the newest first.
 
 ghost use Rattle.std.specs.Prelude.{◌≡◌, length};
+ghost use Rattle.cw_code.specs.Fits.{slots_lent};
 ghost use Rattle.cw_machine.specs.Rests.{AreBare};
 ghost use Rattle.cw_machine.specs.Shows.{StaysBut};
 ghost use Rattle.cw_machine.specs.Unwinding.{ComesHome, MayComeHome};
 
 use crate::gives::take_home;
+use crate::hands::{Lender, is_shared};
 use crate::machine::Machine;
+use cw_code::code::Loan;
 use cw_slices::Slice;
 
 impl Machine {
-    /// Takes home the arrays of the newest call that is out, whose first array slot is the cell `first`, into a machine
-    /// that stopped, whatever it did before: a rest of the call came back unrun, or with what became of it. Where a new
-    /// array was made in a slot, the slot's own is in `replaced`, and the new one stays there. The slices are left
-    /// without numbers. It takes no memory and cannot fail.
+    /// Takes home the arrays of the newest call that is out, `lender`, into a machine that stopped, whatever it did
+    /// before: a rest of the call came back unrun, or with what became of it. `lent` is what the spawned call was lent.
+    /// Where a new array was made in a slot, the slot's own is in `replaced`, and the new one stays there. The slices are
+    /// left without numbers. It takes no memory and cannot fail.
     pub fn come_home(
         &mut self,
-        first: usize,
+        lender: Lender,
+        lent: &[Loan],
         slices: &mut Vec<Slice>,
         replaced: &mut Vec<Option<Slice>>,
     )
-        requires { ∥ MayComeHome self.old first slices.old.items replaced.old.items ∥₁ }
-        ensures remains { ComesHome self.old first slices.old.items replaced.old.items self.new }
+        requires { ∥ MayComeHome self.old lender.first lender.slots (slots_lent lent.now) slices.old.items
+            replaced.old.items ∥₁ }
+        ensures remains { ComesHome self.old lender.first lender.slots (slots_lent lent.now) slices.old.items
+            replaced.old.items self.new }
         ensures rest { StaysBut self.old self.new }
         ensures bare { AreBare slices.new.items }
         ensures as_many { length slices.new.items ≡ length slices.old.items }
     {
-        for a in 0..slices.len() {
+        let count = slices.len();
+        for k in 0..count {
+            let a = count - 1 - k;
             let home = take_home(slices, replaced, a);
-            self.lay_at(first, a, home);
+            self.lay_at(lender.first, a, is_shared(a, lender.slots, lent), home);
         }
     }
 }

@@ -1,18 +1,14 @@
--- A part of the right to read is made, and told by its words. Assumes `Logic`.
-use Rattle.cw_slices.proofs.Steps.{◌≡◌, ℕ, ◌^◌, ◌<◌, arith, Ptr, block_ptr, null_ptr, both, List, [], ◌∷◌, refl, ◌∙◌, ◌++◌, w64, Val, vint, vstruct, Logic, ‵, ◌$◌, fjoin, fpack, feq_i, flt_i, Valss, ptr_val, nothing, bare}
+-- A part of the right to some cells is made, and told by its words. Assumes `Logic`.
+use Rattle.cw_slices.proofs.Steps.{◌≡◌, ◌^◌, List, [], ◌∷◌, refl, ◌∙◌, ◌++◌, w64, Val, vint, vstruct, Logic, ‵, ◌$◌, fjoin, fpack, feq_i, flt_i, Valss, ptr_val, nothing}
 use seplogic.Ra.Ura.{Ura}
 use types.Kit.{Goal, Step, step, Item}
-use mir.Val.{of_list, has_ty, WT}
-use lib.Dec.{T}
-use denote.Param.{layout}
-use denote.Struct.Tuple.{Tuple}
+use mir.Val.{of_list}
 use denote.Laws.{Is}
 use denote.Struct.Struct.{within}
 use denote.Struct.Owning.{shape}
 use Rattle.core.proofs.slots.Opens.{words_val}
-use Rattle.cw_slices.specs.Held.{cells_owned, due_owned}
+use Rattle.cw_slices.specs.Held.{held_owned}
 use Rattle.cw_slices.specs.contracts.cells.Cells as Cells
-use Rattle.cw_slices.specs.contracts.cells.Due as Due
 use Rattle.cw_slices.specs.contracts.kept.Kept as Kept
 use Rattle.cw_slices.specs.Memory.{kept_owned}
 
@@ -23,27 +19,14 @@ pub kept_told : (x : (Kept.the_row).Denot) (vs : List Val) → Is Kept.the_row x
 kept_told x vs so = so.0.1.0 ∙ (λ i. vstruct (of_list (so.0.1.1.0 i ++ (so.0.1.1.1.0.0 i ++ []))) ∷ [])
 
 module _ {M : Type 1} {𝓤 : Ura M} {𝓛 : Logic 𝓤} {K : Type 0} {Γ : List (Item 𝓤)} {G : Goal 𝓤 𝓛.H} where
-  pub kept_made : K → (x : (Kept.the_row).Denot) → Step K 𝓛 (‵ ((Kept.the_row).own_val x (words_val x.ptr x.len ∷ [])) ∷ Γ) G (‵ (kept_owned x.ptr x.cells) ∷ Γ) G
+  pub kept_made : K → (x : (Kept.the_row).Denot) → Step K 𝓛 (‵ ((Kept.the_row).own_val x (words_val x.ptr x.len ∷ [])) ∷ Γ) G (‵ (kept_owned x.ptr x.cells x.rights) ∷ Γ) G
   kept_made t x = step (λ s.
       nothing t $ flt_i t x.len (2 ^ 64) x.small $ feq_i t (List Val) (vint w64 x.len ∷ []) (vint w64 x.len ∷ []) refl $ fjoin t $ fjoin t $
       feq_i t (List Val) (ptr_val x.ptr ∷ []) (ptr_val x.ptr ∷ []) refl $ fjoin t $ feq_i t (List Val) (words_val x.ptr x.len ∷ []) (words_val x.ptr x.len ∷ []) refl $ fjoin t $
       fpack t (Valss (shape Kept.the_type).fields) (within (shape Kept.the_type) (x.ptr, (x.len, tt)) (words_val x.ptr x.len ∷ [])) (ptr_val x.ptr ∷ [], (vint w64 x.len ∷ [], tt)) $ fjoin t $ s)
 
-  pub cells_made : K → (x : (Cells.the_row).Denot) → Step K 𝓛 (‵ ((Cells.the_row).own_val x (words_val x.ptr x.len ∷ [])) ∷ Γ) G (‵ (cells_owned x.frozen x.ptr x.len x.items x.filled x.halved) ∷ Γ) G
+  pub cells_made : K → (x : (Cells.the_row).Denot) → Step K 𝓛 (‵ ((Cells.the_row).own_val x (words_val x.ptr x.len ∷ [])) ∷ Γ) G (‵ (held_owned x.halved x.ptr x.len x.items x.filled) ∷ Γ) G
   cells_made t x = step (λ s.
       nothing t $ flt_i t x.len (2 ^ 64) x.small $ feq_i t (List Val) (vint w64 x.len ∷ []) (vint w64 x.len ∷ []) refl $ fjoin t $ fjoin t $
       feq_i t (List Val) (ptr_val x.ptr ∷ []) (ptr_val x.ptr ∷ []) refl $ fjoin t $ feq_i t (List Val) (words_val x.ptr x.len ∷ []) (words_val x.ptr x.len ∷ []) refl $ fjoin t $
       fpack t (Valss (shape Cells.the_type).fields) (within (shape Cells.the_type) (x.ptr, (x.len, tt)) (words_val x.ptr x.len ∷ [])) (ptr_val x.ptr ∷ [], (vint w64 x.len ∷ [], tt)) $ fjoin t $ s)
-
-  pub due_made : K → (x : (Due.the_row).Denot) → Step K 𝓛 (‵ ((Due.the_row).own_val x (bare ∷ [])) ∷ Γ) G (‵ (due_owned x.at x.items x.filled x.freeze) ∷ Γ) G
-  due_made t x = step (λ s.
-      nothing t $ feq_i t (List Val) (bare ∷ []) (bare ∷ []) refl $ fjoin t $ fpack t (Valss []) (within (shape Due.the_type) tt (bare ∷ [])) tt $ fjoin t $ s)
-
--- pairs of values that the machine stores
-pub lent_good : (p : Ptr) (n : ℕ) → n < 2 ^ 64 → T (has_ty (layout (Tuple (Cells.the_row ∷ Due.the_row ∷ []))) (both (words_val p n) bare)) × WT (both (words_val p n) bare)
-lent_good (block_ptr b o) n small = (tt, ((tt, (record { fits = small }, tt)), (tt, tt)))
-lent_good null_ptr n small = (tt, ((record { fits = omega arith }, (record { fits = small }, tt)), (tt, tt)))
-
-pub two_good : (p : Ptr) (n : ℕ) → n < 2 ^ 64 → T (has_ty (layout (Tuple (Cells.the_row ∷ Cells.the_row ∷ []))) (both (words_val p n) (words_val p n))) × WT (both (words_val p n) (words_val p n))
-two_good (block_ptr b o) n small = (tt, ((tt, (record { fits = small }, tt)), ((tt, (record { fits = small }, tt)), tt)))
-two_good null_ptr n small = (tt, ((record { fits = omega arith }, (record { fits = small }, tt)), ((record { fits = omega arith }, (record { fits = small }, tt)), tt)))

@@ -1,21 +1,21 @@
--- Cells are lent to all who hold a part of a token. Assumes `Logic`.
-use Rattle.std.proofs.Common.{◌≡◌, ℕ, ◌*◌, ◌^◌, ℤ, pos, Bool, true, false, List, [], ◌∷◌, length, Option, Some, None, sym, subst}
+-- Cells are lent to all who hold a `&` to a part of the right to them. Assumes `Logic`.
+use Rattle.std.proofs.Common.{◌≡◌, ℕ, ◌*◌, ◌^◌, ℤ, pos, Bool, true, false, List, [], ◌∷◌, length, Option, Some, None, sym, ◌∙◌, subst, arith}
+use Prim.Native.Nat.{zero, suc}
 use seplogic.Ra.Ura.{Ura}
-use base.Logic.{ent, sep, wand, apply∗}
-use base.Fml.{Lft, Incl, Share, Fml, ftrue, fsep, flt, flft, fbor}
+use base.Logic.{sep, emp, id⊢}
+use base.Fml.{Lft, Incl, Incl-trans, Share, ftrue, flt, fbor}
 use types.Logic.{Logic, sem, lfts}
-use types.Kit.{‵, raw, ◌⊛◌, later, await, ◌$◌, ◌∵◌, !, qed, move, drop, use1, use2, split, fsplit, updating, now, done}
-use types.Tokens.{bor_fracture}
-use contract.BorrowLft.{meet_⊑_left, meet_⊑_right}
+use types.Kit.{‵, raw, ◌⊛◌, later, await, ◌$◌, !, qed, use0, use2, split, fjoin, updating, now, done}
 use denote.Builtin.{i64}
-use denote.RawPtr.{Ptr, block_ptr, null_ptr, in_block, ◌+ₚ◌}
-use denote.Sharing.{ShrLaws, said, one, beside, held}
-use denote.SharingLaws.{contraction, nothing_shr_laws, said_shr_laws, beside_shr_laws}
-use denote.Moves.{moves_from}
-use denote.Shares.{Shares-less}
-use denote.Struct.Lending.{Lends, Lends-false, Lends-lies, Lends-said, Lends-nothing, Lends-both, lent_at_shr_laws}
-use Rattle.core.specs.Mem.Slots.Ownership.{bytes_of, slot, slots, owned, slot_lent, slots_lent, lent}
-use Rattle.cw_slices.specs.Memory.{cells_in, kept_owned}
+use denote.Memory.{part_at, shared_of}
+use denote.RawPtr.{Ptr, block_ptr, null_ptr, in_block, lies_at, ◌+ₚ◌}
+use denote.Sharing.{ShrLaws, said}
+use denote.SharingLaws.{nothing_shr_laws, said_shr_laws, beside_shr_laws}
+use denote.Struct.Laws.{i64-copy}
+use denote.Struct.Lending.{Lends, Lends-false, Lends-said, Lends-nothing, Lends-both, lent_at, lent_at_shr_laws}
+use Rattle.core.specs.Mem.Slots.Ownership.{bytes_of, slot, slots, slot_lent, slots_lent, lent}
+use Rattle.cw_slices.specs.Held.{halves, part_of_slot, part_of_slots, held, held_owned}
+use Rattle.cw_slices.specs.Memory.{cell_owned, cells_in, kept_owned}
 use Rattle.cw_slices.specs.Blocks.{numbers, marks}
 use Rattle.cw_slices.proofs.Runs.{number_laws}
 
@@ -35,8 +35,15 @@ module _ {M : Type 1} {𝓤 : Ura M} (𝓛 : Logic 𝓤) where
   open 𝓛 use {H, A}
 
   module _ (l : Lft) (within : Incl l i64.lives) where
+    -- a number of which a part is owned
+    Lends-lies : (q : Share) (p : Ptr) (x : ℤ) → Lends 𝓛 (lies_at i64 q p x) (lent_at i64 p x) l
+    Lends-lies q (block_ptr b o) x κ ts inc sp = qed 𝓛 (‵ (fbor κ (part_at i64 q x b o)) ∷ raw (lfts 𝓛 ts) ∷ []) {P = H.⇛ (sep 𝓤 (sem 𝓛 (lent_at i64 (block_ptr b o) x κ)) (lfts 𝓛 ts))} (
+        updating ! $ use2 𝓛 (later (‵ (shared_of i64 x b o κ) ⊛ raw (lfts 𝓛 ts))) ((i64-copy.copied M 𝓤 𝓛).shares q i64.lives x κ ts b o (Incl-trans inc within) sp) $ await ! tt $ split ! $
+        use0 𝓛 (‵ ftrue) (id⊢ 𝓤 (emp 𝓤)) $ fjoin ! $ now ! $ done !)
+    Lends-lies q null_ptr x κ ts inc sp = Lends-false 𝓛 (lent_at i64 null_ptr x) l κ ts inc sp
+
     Lends-slot : (f : Bool) (p : Ptr) (x : ℤ) → Lends 𝓛 (slot i64 f p x) (slot_lent i64 f p x) l
-    Lends-slot true p x = Lends-lies 𝓛 i64 l p x (Shares-less 𝓛 i64 i64.lives l within (number_laws.shares 𝓛) x)
+    Lends-slot true p x = Lends-lies (halves 0) p x
     Lends-slot false p x = Lends-nothing 𝓛 (slot i64 false p x) l
 
     Lends-slots : (p : Ptr) (xs : List ℤ) (fs : List Bool) → Lends 𝓛 (slots i64 p xs fs) (slots_lent i64 p xs fs) l
@@ -45,50 +52,41 @@ module _ {M : Type 1} {𝓤 : Ura M} (𝓛 : Logic 𝓤) where
     Lends-slots p (x ∷ xs) (f ∷ fs) =
         Lends-both 𝓛 (slot i64 f p x) (slots i64 (p +ₚ bytes_of i64) xs fs) (slot_lent i64 f p x) (slots_lent i64 (p +ₚ bytes_of i64) xs fs) l (Lends-slot f p x) (Lends-slots (p +ₚ bytes_of i64) xs fs)
 
-    Lends-row : (p : Ptr) (xs : List ℤ) (fs : List Bool) → Lends 𝓛 (in_block p (slots i64 p xs fs)) (slots_lent i64 p xs fs) l
-    Lends-row (block_ptr b o) xs fs = Lends-slots (block_ptr b o) xs fs
-    Lends-row null_ptr xs fs = Lends-false 𝓛 (slots_lent i64 null_ptr xs fs) l
+    Lends-part : (q : Share) (f : Bool) (p : Ptr) (x : ℤ) → Lends 𝓛 (part_of_slot q f p x) (slot_lent i64 f p x) l
+    Lends-part q true p x = Lends-lies q p x
+    Lends-part q false p x = Lends-nothing 𝓛 ftrue l
 
-    pub Lends-owned : (p : Ptr) (n : ℕ) (xs : List ℤ) (fs : List Bool) → Lends 𝓛 (owned i64 p n xs fs) (lent i64 p n xs fs) l
-    Lends-owned p n xs fs = let small = flt (n * bytes_of i64) (2 ^ 63) in
-        Lends-both 𝓛 small (in_block p (slots i64 p xs fs)) (said small) (slots_lent i64 p xs fs) l (Lends-said 𝓛 small tt l) (Lends-row p xs fs)
+    Lends-parts : (q : Share) (p : Ptr) (xs : List ℤ) (fs : List Bool) → Lends 𝓛 (part_of_slots q p xs fs) (slots_lent i64 p xs fs) l
+    Lends-parts q p [] fs = Lends-nothing 𝓛 ftrue l
+    Lends-parts q p (x ∷ xs) [] = Lends-nothing 𝓛 ftrue l
+    Lends-parts q p (x ∷ xs) (f ∷ fs) =
+        Lends-both 𝓛 (part_of_slot q f p x) (part_of_slots q (p +ₚ bytes_of i64) xs fs) (slot_lent i64 f p x) (slots_lent i64 (p +ₚ bytes_of i64) xs fs) l (Lends-part q f p x) (Lends-parts q (p +ₚ bytes_of i64) xs fs)
 
-  -- cells are lent for as long as there is a token
-  pub lends_to_all : (a : ℕ) (q : Share) (p : Ptr) (n : ℕ) (xs : List ℤ) (fs : List Bool)
-      → ent 𝓤 (sep 𝓤 (A.bor (a ∷ []) (owned i64 p n xs fs)) (A.lft (a ∷ []) q)) (H.⇛ (sep 𝓤 (sem 𝓛 (lent i64 p n xs fs (a ∷ []))) (A.lft (a ∷ []) q)))
-  lends_to_all a q p n xs fs = Lends-owned (a ∷ []) (meet_⊑_right (a ∷ []) []) p n xs fs (a ∷ []) ((a ∷ [], q) ∷ []) (λ x m. m) (λ x m. m)
+    Lends-run : (d : ℕ) (p : Ptr) (xs : List ℤ) (fs : List Bool) → Lends 𝓛 (held d p xs fs) (slots_lent i64 p xs fs) l
+    Lends-run zero p xs fs = Lends-slots p xs fs
+    Lends-run (suc d) p xs fs = Lends-parts (halves (suc d)) p xs fs
 
-  -- a part of a token, shared out
-  Lends-token : (a : ℕ) (q : Share) (l : Lft) → Lends 𝓛 (flft (a ∷ []) q) (one (λ r. flft (a ∷ []) r)) l
-  Lends-token a q l κ ts inc sp = qed 𝓛 (‵ (fbor κ (flft (a ∷ []) q)) ∷ raw (lfts 𝓛 ts) ∷ []) ∵ updating ! $ bor_fracture ! tt (λ r. flft (a ∷ []) r) q $ now ! $ done !
+    Lends-row : (d : ℕ) (p : Ptr) (xs : List ℤ) (fs : List Bool) → Lends 𝓛 (in_block p (held d p xs fs)) (slots_lent i64 p xs fs) l
+    Lends-row d (block_ptr b o) xs fs = Lends-run d (block_ptr b o) xs fs
+    Lends-row d null_ptr xs fs = Lends-false 𝓛 (slots_lent i64 null_ptr xs fs) l
 
-  -- what is the same for all, at its own lifetime
-  Lends-held : (t : Lft → Fml) (L : ShrLaws t) (μ l : Lft) → Lends 𝓛 (t μ) (held μ t) l
-  Lends-held t L μ l κ ts inc sp = qed 𝓛 (‵ (fbor κ (t μ)) ∷ raw (lfts 𝓛 ts) ∷ []) {P = H.⇛ (sep 𝓤 (sem 𝓛 (t μ)) (lfts 𝓛 ts))} (
-      updating ! $ use2 𝓛 (later (‵ (t μ) ⊛ raw (wand 𝓤 (sem 𝓛 (t μ)) (H.⇛ (sep 𝓤 (A.bor κ (t μ)) (lfts 𝓛 ts)))))) (𝓛.more.bor_acc_by κ ts (t μ) sp) $ await ! tt $ split ! $
-      use1 𝓛 (‵ (t μ) ⊛ ‵ (t μ)) (contraction 𝓛 t L μ) $ split ! $ move ! (0 ∷ 2 ∷ []) $
-      use2 𝓛 (later (‵ (fbor κ (t μ)) ⊛ raw (lfts 𝓛 ts))) (apply∗ 𝓤 (sem 𝓛 (t μ)) (H.⇛ (sep 𝓤 (A.bor κ (t μ)) (lfts 𝓛 ts)))) $ await ! tt $ split ! $ drop ! $ move ! (1 ∷ 0 ∷ []) $ now ! $ done !)
+    pub Lends-held : (d : ℕ) (p : Ptr) (n : ℕ) (xs : List ℤ) (fs : List Bool) → Lends 𝓛 (held_owned d p n xs fs) (lent i64 p n xs fs) l
+    Lends-held d p n xs fs = let small = flt (n * bytes_of i64) (2 ^ 63) in
+        Lends-both 𝓛 small (in_block p (held d p xs fs)) (said small) (slots_lent i64 p xs fs) l (Lends-said 𝓛 small tt l) (Lends-row d p xs fs)
 
-  -- what a `&` to a part holds is what a `&` to the cells holds
-  pub Lends-part : (t : Lft → Fml) (L : ShrLaws t) (a : ℕ) (q : Share) (l : Lft) → Lends 𝓛 (fsep (flft (a ∷ []) q) (t (a ∷ []))) t l
-  Lends-part t L a q l κ ts inc sp = qed 𝓛 (‵ (fbor κ (fsep (flft (a ∷ []) q) (t (a ∷ [])))) ∷ raw (lfts 𝓛 ts) ∷ []) {P = H.⇛ (sep 𝓤 (sem 𝓛 (t κ)) (lfts 𝓛 ts))} (
-      updating ! $ use2 𝓛 (later (‵ (beside (one (λ r. flft (a ∷ []) r)) (held (a ∷ []) t) κ) ⊛ raw (lfts 𝓛 ts)))
-      (Lends-both 𝓛 (flft (a ∷ []) q) (t (a ∷ [])) (one (λ r. flft (a ∷ []) r)) (held (a ∷ []) t) l (Lends-token a q l) (Lends-held t L (a ∷ []) l) κ ts inc sp) $ await ! tt $ split ! $ fsplit ! $
-      use2 𝓛 (‵ (t κ)) (moves_from 𝓛 t L κ (a ∷ []) (a ∷ []) (meet_⊑_left (a ∷ []) κ)) $ now ! $ done !)
-
-  module _ (l : Lft) (within : Incl l i64.lives) where
     -- the cells that are in are lent
-    Lends-in : (p : Ptr) (cs : List (Option ℤ)) → Lends 𝓛 (cells_in p cs) (slots_lent i64 p (numbers cs) (marks cs)) l
-    Lends-in p [] = Lends-nothing 𝓛 ftrue l
-    Lends-in p (Some x ∷ cs) =
-        Lends-both 𝓛 (slot i64 true p x) (cells_in (p +ₚ bytes_of i64) cs) (slot_lent i64 true p x) (slots_lent i64 (p +ₚ bytes_of i64) (numbers cs) (marks cs)) l (Lends-slot l within true p x) (Lends-in (p +ₚ bytes_of i64) cs)
-    Lends-in p (None ∷ cs) =
-        Lends-both 𝓛 ftrue (cells_in (p +ₚ bytes_of i64) cs) (slot_lent i64 false p (pos 0)) (slots_lent i64 (p +ₚ bytes_of i64) (numbers cs) (marks cs)) l (Lends-nothing 𝓛 ftrue l) (Lends-in (p +ₚ bytes_of i64) cs)
+    Lends-in : (p : Ptr) (cs : List (Option ℤ)) (ds : List ℕ) → length ds ≡ length cs → Lends 𝓛 (cells_in p cs ds) (slots_lent i64 p (numbers cs) (marks cs)) l
+    Lends-in p [] ds e = Lends-nothing 𝓛 ftrue l
+    Lends-in p (c ∷ cs) [] e = let e' : 0 ≡ suc (length cs) = e in absurd (omega (arith, e'))
+    Lends-in p (Some x ∷ cs) (d ∷ ds) e = let e' : suc (length ds) ≡ suc (length cs) = e in
+        Lends-both 𝓛 (cell_owned p (Some x) d) (cells_in (p +ₚ bytes_of i64) cs ds) (slot_lent i64 true p x) (slots_lent i64 (p +ₚ bytes_of i64) (numbers cs) (marks cs)) l (Lends-lies (halves d) p x) (Lends-in (p +ₚ bytes_of i64) cs ds (omega (arith, e')))
+    Lends-in p (None ∷ cs) (d ∷ ds) e = let e' : suc (length ds) ≡ suc (length cs) = e in
+        Lends-both 𝓛 ftrue (cells_in (p +ₚ bytes_of i64) cs ds) (slot_lent i64 false p (pos 0)) (slots_lent i64 (p +ₚ bytes_of i64) (numbers cs) (marks cs)) l (Lends-nothing 𝓛 ftrue l) (Lends-in (p +ₚ bytes_of i64) cs ds (omega (arith, e')))
 
-    Lends-here : (p : Ptr) (cs : List (Option ℤ)) → Lends 𝓛 (in_block p (cells_in p cs)) (slots_lent i64 p (numbers cs) (marks cs)) l
-    Lends-here (block_ptr b o) cs = Lends-in (block_ptr b o) cs
-    Lends-here null_ptr cs = Lends-false 𝓛 (slots_lent i64 null_ptr (numbers cs) (marks cs)) l
+    Lends-here : (p : Ptr) (cs : List (Option ℤ)) (ds : List ℕ) → length ds ≡ length cs → Lends 𝓛 (in_block p (cells_in p cs ds)) (slots_lent i64 p (numbers cs) (marks cs)) l
+    Lends-here (block_ptr b o) cs ds e = Lends-in (block_ptr b o) cs ds e
+    Lends-here null_ptr cs ds e = Lends-false 𝓛 (slots_lent i64 null_ptr (numbers cs) (marks cs)) l
 
-    pub Lends-kept : (p : Ptr) (n : ℕ) (cs : List (Option ℤ)) → n ≡ length cs → Lends 𝓛 (kept_owned p cs) (lent i64 p n (numbers cs) (marks cs)) l
-    Lends-kept p n cs e = let small = flt (length cs * bytes_of i64) (2 ^ 63) in subst (λ (k : ℕ). Lends 𝓛 (kept_owned p cs) (lent i64 p k (numbers cs) (marks cs)) l) (sym e)
-        (Lends-both 𝓛 small (in_block p (cells_in p cs)) (said small) (slots_lent i64 p (numbers cs) (marks cs)) l (Lends-said 𝓛 small tt l) (Lends-here p cs))
+    pub Lends-kept : (p : Ptr) (n : ℕ) (cs : List (Option ℤ)) (ds : List ℕ) → (n ≡ length cs) × (n ≡ length ds) → Lends 𝓛 (kept_owned p cs ds) (lent i64 p n (numbers cs) (marks cs)) l
+    Lends-kept p n cs ds e = let small = flt (length cs * bytes_of i64) (2 ^ 63) in subst (λ (k : ℕ). Lends 𝓛 (kept_owned p cs ds) (lent i64 p k (numbers cs) (marks cs)) l) (sym e.0)
+        (Lends-both 𝓛 small (in_block p (cells_in p cs ds)) (said small) (slots_lent i64 p (numbers cs) (marks cs)) l (Lends-said 𝓛 small tt l) (Lends-here p cs ds (sym e.1 ∙ e.0)))

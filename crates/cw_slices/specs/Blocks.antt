@@ -1,23 +1,25 @@
 -- A block as contracts see it: which of its numbers are in, and where they lie.
-use Rattle.std.specs.Prelude.{◌≡◌, ℕ, suc, ◌+◌, ◌^◌, ◌<◌, ℤ, pos, Bool, true, false, List, [], ◌∷◌, ◌++◌, length}
-use Rattle.std.specs.Prelude.{take, drop, map, replicate, Option, Some, None, slice_get, refl}
+use Rattle.std.specs.Prelude.{◌≡◌, ℕ, suc, ◌+◌, ◌-◌, ◌^◌, ◌<◌, ◌≤◌, ◌⊎◌, ℤ, pos, Bool, true, false, List, [], ◌∷◌}
+use Rattle.std.specs.Prelude.{◌++◌, length, take, drop, map, replicate, Option, Some, None, slice_get, refl}
 use Rattle.std.specs.Coded.{Coded, code_by, coded×, coded_list, coded_option, coded_ℕ, coded_ℤ}
 use denote.RawPtr.{Ptr, coded_ptr}
 use Rattle.cw_slices.specs.Placed.{Spot}
 
--- a block: each of its numbers that is in, nothing where one is lent out, and where it lies. It is never frozen: `spot`
--- has 0 as `frozen` and as `halved`
+-- a block: each of its numbers that is in, nothing where one is lent out; how often the right to each place was halved,
+-- so that a share of it is out for each time that is more than `halved` of `spot`; and where it lies
 pub record Lodged : Type 0 where
   pub cells : List (Option ℤ)
+  pub rights : List ℕ
   pub spot : Spot
 
 abbrev pub lodged_code : Coded Lodged
 lodged_code =
-    code_by (List (Option ℤ) × (Ptr × (ℕ × (ℕ × ℕ))))
-    (coded× (coded_list (coded_option coded_ℤ)) (coded× coded_ptr (coded× coded_ℕ (coded× coded_ℕ coded_ℕ))))
-    (λ s. (s.cells, (s.spot.ptr, (s.spot.frees, (s.spot.frozen, s.spot.halved)))))
+    code_by (List (Option ℤ) × (List ℕ × (Ptr × (ℕ × ℕ))))
+    (coded× (coded_list (coded_option coded_ℤ))
+    (coded× (coded_list coded_ℕ) (coded× coded_ptr (coded× coded_ℕ coded_ℕ))))
+    (λ s. (s.cells, (s.rights, (s.spot.ptr, (s.spot.frees, s.spot.halved)))))
     (λ r. record
-    { cells = r.0; spot = record { ptr = r.1.0; frees = r.1.1.0; frozen = r.1.1.1.0; halved = r.1.1.1.1 } })
+    { cells = r.0; rights = r.1.0; spot = record { ptr = r.1.1.0; frees = r.1.1.1.0; halved = r.1.1.1.1 } })
     (λ _. refl)
 
 -- cells that are all in
@@ -28,9 +30,9 @@ ins xs = map (λ x. Some x) xs
 abbrev pub outs : ℕ → List (Option ℤ)
 outs n = replicate n None
 
--- cells, with others in the place of as many from a place on
-abbrev pub patched : (from : ℕ) → List (Option ℤ) → List (Option ℤ) → List (Option ℤ)
-patched from new cells = take from cells ++ (new ++ drop (from + length new) cells)
+-- a list, with others in the place of as many from a place on
+abbrev pub patched : {X : Type 0} → (from : ℕ) → List X → List X → List X
+patched from new old = take from old ++ (new ++ drop (from + length new) old)
 
 -- a number is in at a place
 abbrev pub IsIn : List (Option ℤ) → (place : ℕ) → Type 0
@@ -52,15 +54,63 @@ AreOut cells from count = (k : ℕ) → k < count → slice_get cells (from + k)
 abbrev pub IsParted : List (Option ℤ) → (from : ℕ) → List ℤ → List (Option ℤ) → Type 0
 IsParted cells from xs rest = Have cells from xs × (rest ≡ patched from (outs (length xs)) cells)
 
+-- the right to so many places, from one on, was halved so often
+abbrev pub AreHalved : (rights : List ℕ) → (from count : ℕ) → (halved : ℕ) → Type 0
+AreHalved rights from count d = (k : ℕ) → k < count → slice_get rights (from + k) ≡ Some d
+
+-- equally often
+abbrev pub AreAlike : (rights : List ℕ) → (from count : ℕ) → Type 0
+AreAlike rights from count = (d : ℕ) × AreHalved rights from count d
+
+-- the right to so many places is halved, so that it was so often, and leaves these
+abbrev pub IsShared : (rights : List ℕ) → (from count halved : ℕ) → (left : List ℕ) → Type 0
+IsShared rights from count d' left =
+    (d : ℕ) × (d' ≡ suc d) × AreHalved rights from count d × (left ≡ patched from (replicate count (suc d)) rights)
+
+-- two halves of the right to so many places are one again
+abbrev pub AreMerged : (rights : List ℕ) → (from count halved : ℕ) → (left : List ℕ) → Type 0
+AreMerged rights from count d left = left ≡ patched from (replicate count (d - 1)) rights
+
+-- no share of a block is out
+abbrev pub IsWhole : Lodged → Type 0
+IsWhole b = b.rights ≡ replicate (length b.cells) b.spot.halved
+
 -- how many cells are out
 abbrev pub missing : List (Option ℤ) → ℕ
 missing [] = 0
 missing (Some x ∷ cells) = missing cells
 missing (None ∷ cells) = suc (missing cells)
 
--- cells are not too many, and so many of them are out
-abbrev pub Counts : List (Option ℤ) → (out : ℕ) → Type 0
-Counts cells n = (length cells < 2 ^ 60) × (n ≡ missing cells)
+-- how often rights were halved in all, more than so often each
+abbrev pub excess : (least : ℕ) → (rights : List ℕ) → ℕ
+excess e [] = 0
+excess e (d ∷ rights) = (d - e) + excess e rights
+
+abbrev pub AtLeast : (least : ℕ) → (rights : List ℕ) → Type 0
+AtLeast e rights = (k d : ℕ) → slice_get rights k ≡ Some d → e ≤ d
+
+-- so many cells are shared, each counted once for each share; or, of more than any memory has room for, a number that
+-- stays
+abbrev pub IsCount : (shared count : ℕ) → Type 0
+IsCount e n = ((n ≡ e) × (n ≤ 2 ^ 62 + 2 ^ 60)) ⊎ ((2 ^ 63 ≤ n) × (n ≤ 2 ^ 63 + 2 ^ 62 + 2 ^ 60))
+
+-- cells are not too many, each has its right, and so many of them are out or shared
+pub record Counts (cells : List (Option ℤ)) (rights : List ℕ) (base out : ℕ) : Type 0 where
+  pub few : length cells < 2 ^ 60
+  pub as_many : length rights ≡ length cells
+  pub least : AtLeast base rights
+  pub shared : ℕ
+  pub is : out ≡ missing cells + shared
+  pub counted : IsCount (excess base rights) shared
+
+-- a count of what is out and shared, with so many cells shared once more, or once less
+abbrev pub CountsMore : (out more out' : ℕ) → Type 0
+CountsMore out n out' =
+    (m e c : ℕ) → m < 2 ^ 60 → out ≡ m + c → IsCount e c → (c' : ℕ) × (out' ≡ m + c') × IsCount (e + n) c'
+
+abbrev pub CountsLess : (out less out' : ℕ) → Type 0
+CountsLess out n out' =
+    (m e c : ℕ) → m < 2 ^ 60 → out ≡ m + c → IsCount (e + n) c → (c' : ℕ) × (out' ≡ m + c') × IsCount e c'
 
 -- the number of each cell, and 0 for one that is out
 abbrev pub numbers : List (Option ℤ) → List ℤ

@@ -1,29 +1,32 @@
--- What cells own that are owned, or that may be read for a time: then a part of the token of a lifetime for which the
--- cells
--- are lent, and what a `&` to them holds at it. Who is owed them has the lender's right.
-use Rattle.std.specs.Prelude.{ℕ, zero, suc, ℤ, Bool, List, [], ◌∷◌}
+-- What a part of the right to some cells owns: of the whole right all of each cell, of a part that much of it.
+use Rattle.std.specs.Prelude.{ℕ, zero, suc, ◌*◌, ◌^◌, ℤ, Bool, true, false, List, [], ◌∷◌}
 use base.Fraction.{full_share}
 use base.Share.{left}
-use base.Fml.{Share, Fml, fsep, flft, flent}
+use base.Fml.{Share, Fml, ftrue, fsep, flt}
 use denote.Builtin.{i64}
-use denote.RawPtr.{Ptr}
-use Rattle.core.specs.Mem.Slots.Ownership.{owned, lent}
-use Rattle.cw_slices.specs.Memory.{span_owned}
+use denote.RawPtr.{Ptr, lies_at, in_block, ◌+ₚ◌}
+use Rattle.core.specs.Mem.Slots.Ownership.{bytes_of, slots}
 
 -- the whole, halved so many times
 abbrev pub halves : ℕ → Share
 halves zero = full_share
 halves (suc d) = left (halves d)
 
--- a reader's part
-abbrev pub hold_owned : Ptr → ℕ → List ℤ → List Bool → ℕ → ℕ → Fml
-hold_owned p n xs fs a d = fsep (flft (a ∷ []) (halves d)) (lent i64 p n xs fs (a ∷ []))
+-- a share of a cell that is filled, and nothing of one that is not
+abbrev pub part_of_slot : Share → Bool → Ptr → ℤ → Fml
+part_of_slot q true p x = lies_at i64 q p x
+part_of_slot q false p x = ftrue
 
--- cells that are owned, at 0, or else a part of the right to read them
-abbrev pub cells_owned : ℕ → Ptr → ℕ → List ℤ → List Bool → ℕ → Fml
-cells_owned zero p n xs fs d = owned i64 p n xs fs
-cells_owned (suc a) p n xs fs d = hold_owned p n xs fs a d
+-- a share of each cell of a run from p on
+abbrev pub part_of_slots : Share → Ptr → List ℤ → List Bool → Fml
+part_of_slots q p [] fs = ftrue
+part_of_slots q p (x ∷ xs) [] = ftrue
+part_of_slots q p (x ∷ xs) (f ∷ fs) = fsep (part_of_slot q f p x) (part_of_slots q (p +ₚ bytes_of i64) xs fs)
 
--- the right to have the cells back once all parts are one again
-abbrev pub due_owned : Ptr → List ℤ → List Bool → ℕ → Fml
-due_owned p xs fs a = flent (a ∷ []) (span_owned p xs fs)
+-- the cells of a run from p on, or of the right to them a part that was halved so often
+abbrev pub held : (halved : ℕ) → Ptr → List ℤ → List Bool → Fml
+held zero p xs fs = slots i64 p xs fs
+held (suc d) p xs fs = part_of_slots (halves (suc d)) p xs fs
+
+abbrev pub held_owned : (halved : ℕ) → Ptr → (len : ℕ) → List ℤ → List Bool → Fml
+held_owned d p n xs fs = fsep (flt (n * bytes_of i64) (2 ^ 63)) (in_block p (held d p xs fs))

@@ -11,3 +11,7 @@ IsRun p len s = (s.at ≡ p) × (len ≡ length s.items) × (s.filled ≡ replic
 -- a title is the right to free a block of so many cells at a place; of 0 cells there is no such right
 abbrev pub MayFree : {A : Type 0} → (cells : ℕ) → Ptr → A → Title A → Type 0
 MayFree n p alloc t = (n < 2 ^ 60) × (t.frees ≡ n) × (0 < n → (t.heap ≡ alloc) × (t.at ≡ p))
+
+-- who frees a block has the whole right to it
+abbrev pub FreesOwn : (frees halved : ℕ) → Type 0
+FreesOwn n d = 0 < n → d ≡ 0

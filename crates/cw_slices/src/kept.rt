@@ -1,5 +1,6 @@
-// A row of cells of which some are in and the others lent out. Which ones are in is ghost state.
-ghost use Rattle.std.specs.Prelude.{◌≡◌, ◌+◌, ◌*◌, ◌^◌, ◌<◌, ◌≤◌, ℤ, List, length, Option, Some, slice_set};
+// A row of cells of which some are in and the others lent out, and of some of which shares are out. Which ones is ghost
+// state.
+ghost use Rattle.std.specs.Prelude.{◌≡◌, ℕ, ◌+◌, ◌-◌, ◌*◌, ◌^◌, ◌<◌, ◌≤◌, ℤ, List, length, replicate, Option, Some, slice_get, slice_set};
 ghost use Rattle.std.specs.Coded.{coded_option, coded_ℤ};
 ghost use base.Stored.{coded_list};
 ghost use Rattle.core.specs.Mem.Slots.{slots_items, slots_filled, slots_len};
@@ -8,25 +9,27 @@ ghost use denote.Builtin.{i64};
 ghost use Rattle.core.specs.Mem.Slots.Ownership.{lent};
 ghost use Rattle.cw_slices.specs.Memory.{kept_owned};
 ghost use Rattle.cw_slices.specs.Loose.{IsRun};
-ghost use Rattle.cw_slices.specs.Blocks.{ins, patched, numbers, marks, IsIn, AreIn, IsParted};
+ghost use Rattle.cw_slices.specs.Blocks.{ins, patched, numbers, marks, Have, IsIn, AreIn, IsParted, AreHalved, AreAlike, IsShared, AreMerged};
 
 use crate::memory::Span;
 use core::slots::Slots;
 use std::marker::Model;
 
-// A row of cells, of which those that are in are owned. To let it go is to leave the cells where
-// they are.
+// A row of cells, of which those that are in are owned, or a part of the right to each. To let it go is to leave the cells
+// where they are.
 #[derive(Drop)]
 pub(crate) struct Kept {
     ptr: *mut i64,
     len: usize,
     ghost cells: { List (Option ℤ) } by { coded_list (coded_option coded_ℤ) },
-    ghost ok: { len ≡ length cells },
+    ghost rights: { List ℕ },
+    ghost base: { ℕ },
+    ghost ok: { (len ≡ length cells) × (len ≡ length rights) },
     ghost small: { len < 2 ^ 64 },
 }
 
 impl Model for Kept {
-    ghost also_owns = { λ k. kept_owned k.ptr k.cells };
+    ghost also_owns = { λ k. kept_owned k.ptr k.cells k.rights };
 
     ghost also_shares = { λ k _ κ. lent i64 k.ptr k.len (numbers k.cells) (marks k.cells) κ };
 }
@@ -35,20 +38,24 @@ impl Model for Kept {
 unsafe impl Send for Kept {}
 
 impl Kept {
-    // A span, all of it in.
+    // A span, all of it in, with no share of it out.
     pub(crate) fn keep(ptr: *mut i64, len: usize, span: Span) -> Kept
         requires { IsRun ptr len span }
-        ensures { (result.ptr ≡ ptr) × (result.len ≡ len) × (result.cells ≡ ins span.items) }
+        ensures words { (result.ptr ≡ ptr) × (result.len ≡ len) × (result.base ≡ span.halved) }
+        ensures cells { result.cells ≡ ins span.items }
+        ensures rights { result.rights ≡ replicate len span.halved }
     {
         let Span {} = span;
         Kept { ptr, len }
     }
 
-    // The span of a row that is all in.
+    // The span of a row that is all in, with an equal right to each place.
     pub(crate) fn unkeep(self) -> (*mut i64, Span)
-        requires { (xs : List ℤ) × (self.cells ≡ ins xs) }
+        requires there { (xs : List ℤ) × (self.cells ≡ ins xs) }
+        requires alike { self.rights ≡ replicate (length self.cells) self.base }
         ensures run { (result.0 ≡ self.ptr) × IsRun result.0 self.len result.1 }
         ensures numbers { ins result.1.items ≡ self.cells }
+        ensures halved { result.1.halved ≡ self.base }
     {
         let Kept { ptr, len: _ } = self;
         (ptr, Span {})
@@ -59,8 +66,11 @@ impl Kept {
     pub(crate) fn part(&mut self, from: usize, count: usize) -> (*mut i64, Span)
         requires within { from + count ≤ length self.old.cells }
         requires there { AreIn self.old.cells from count }
-        ensures run { (result.0 ≡ self.old.ptr +ₚ (from * 8)) × IsRun result.0 count result.1 }
-        ensures words { (self.new.ptr ≡ self.old.ptr) × (self.new.len ≡ self.old.len) }
+        requires alike { AreHalved self.old.rights from count self.old.base }
+        ensures run { (result.0 ≡ self.old.ptr +ₚ (from * 8)) × IsRun result.0 count result.1
+            × (result.1.halved ≡ self.old.base) }
+        ensures words { (self.new.ptr ≡ self.old.ptr) × (self.new.len ≡ self.old.len)
+            × (self.new.base ≡ self.old.base) × (self.new.rights ≡ self.old.rights) }
         ensures cells { IsParted self.old.cells from result.1.items self.new.cells }
     {
         unsafe { (self.ptr.add(from), Span {}) }
@@ -70,17 +80,51 @@ impl Kept {
     pub(crate) fn meet(&mut self, from: usize, span: Span)
         requires within { from + length span.items ≤ length self.old.cells }
         requires run { IsRun (self.old.ptr +ₚ (from * 8)) (length span.items) span }
-        ensures words { (self.new.ptr ≡ self.old.ptr) × (self.new.len ≡ self.old.len) }
+        requires alike { AreHalved self.old.rights from (length span.items) span.halved }
+        ensures words { (self.new.ptr ≡ self.old.ptr) × (self.new.len ≡ self.old.len)
+            × (self.new.base ≡ self.old.base) × (self.new.rights ≡ self.old.rights) }
         ensures cells { self.new.cells ≡ patched from (ins span.items) self.old.cells }
     {
         let Span {} = span;
     }
 
-    // Another number in a place that is in.
+    // Half of the right to so many cells from a place on.
+    #[inline(always)]
+    pub(crate) fn halve(&mut self, from: usize, count: usize) -> (*mut i64, Span)
+        requires within { from + count ≤ length self.old.cells }
+        requires there { AreIn self.old.cells from count }
+        requires alike { AreAlike self.old.rights from count }
+        ensures run { (result.0 ≡ self.old.ptr +ₚ (from * 8)) × IsRun result.0 count result.1
+            × Have self.old.cells from result.1.items }
+        ensures words { (self.new.ptr ≡ self.old.ptr) × (self.new.len ≡ self.old.len)
+            × (self.new.base ≡ self.old.base) × (self.new.cells ≡ self.old.cells) }
+        ensures rights { IsShared self.old.rights from count result.1.halved self.new.rights }
+    {
+        unsafe { (self.ptr.add(from), Span {}) }
+    }
+
+    // The other half of that right back.
+    pub(crate) fn heal(&mut self, from: usize, span: Span)
+        requires within { from + length span.items ≤ length self.old.cells }
+        requires run { IsRun (self.old.ptr +ₚ (from * 8)) (length span.items) span }
+        requires same { Have self.old.cells from span.items }
+        requires halved { 0 < span.halved }
+        requires alike { AreHalved self.old.rights from (length span.items) span.halved }
+        ensures words { (self.new.ptr ≡ self.old.ptr) × (self.new.len ≡ self.old.len)
+            × (self.new.base ≡ self.old.base) × (self.new.cells ≡ self.old.cells) }
+        ensures rights { AreMerged self.old.rights from (length span.items)
+            span.halved self.new.rights }
+    {
+        let Span {} = span;
+    }
+
+    // Another number in a place that is in, of which no share is out.
     #[inline(always)]
     pub(crate) fn put(&mut self, place: usize, number: i64)
-        requires { IsIn self.old.cells place }
-        ensures words { (self.new.ptr ≡ self.old.ptr) × (self.new.len ≡ self.old.len) }
+        requires there { IsIn self.old.cells place }
+        requires own { slice_get self.old.rights place ≡ Some 0 }
+        ensures words { (self.new.ptr ≡ self.old.ptr) × (self.new.len ≡ self.old.len)
+            × (self.new.base ≡ self.old.base) × (self.new.rights ≡ self.old.rights) }
         ensures cells { self.new.cells ≡ slice_set self.old.cells place (Some number) }
     {
         unsafe { self.ptr.add(place).write(number) }

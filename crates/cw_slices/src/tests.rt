@@ -1,4 +1,4 @@
-ghost use Rattle.std.specs.Prelude.{◌≡◌, ◌<◌, length, pos, Some, slice_set};
+ghost use Rattle.std.specs.Prelude.{◌≡◌, ◌<◌, length, pos, Some, slice_get, slice_set};
 ghost use Rattle.cw_slices.specs.Placed.{IsOwn};
 ghost use Rattle.cw_slices.specs.Blocks.{IsIn};
 
@@ -78,53 +78,62 @@ fn both_ends(part: Slice) -> (Slice, i64)
     (part, sum)
 }
 
-// A part is shared on, read twice, and comes back.
-#[tactic(auto, using(crate::specs::lemmas::Halves::again))]
+// A share is shared on, read, and comes back.
 fn shared_on(part: Slice) -> (Slice, i64)
-    requires { 0 < part.spot.frozen }
-    ensures { result.0 ≡ part }
+    ensures items { result.0.items ≡ part.items }
+    ensures spot { result.0.spot ≡ part.spot }
 {
-    let (first, second) = part.share();
-    let (first, one) = both_ends(first);
-    let (second, two) = both_ends(second);
-    (Slice::merge(first, second), one / 2 + two / 2)
+    let mut block = Block::of(part);
+    let n = block.len();
+    let share = block.share(0, n);
+    let (share, sum) = both_ends(share);
+    block.merge(0, share);
+    (block.whole(), sum)
 }
 
-// Two threads read one slice, one of them shares it on, and then its owner writes it.
+fn read_first(block: Block) -> (Block, i64)
+    requires { IsIn block.cells 0 }
+    ensures { result.0 ≡ block }
+{
+    let first = block.get(0);
+    (block, first)
+}
+
+// Two threads read one block, one of them through a share, which it shares on; and then its owner writes it.
 #[test]
-#[tactic(auto, using(crate::specs::lemmas::Sent::slice_send, crate::specs::lemmas::Halves::again))]
+#[tactic(auto, using(crate::specs::lemmas::Sent::slice_send, crate::specs::lemmas::Sent::block_send))]
 fn two_threads_read(rt: HostRuntime) -> Result<(), Fail> {
-    let mut whole = Slice::zeros(rt.alloc(), 4)?;
-    whole.set(0, 6);
-    whole.set(3, 8);
-    let (frozen, owed) = whole.freeze();
-    assert!(rt; frozen.is_frozen());
-    let (mine, yours) = frozen.share();
-    let ((mine, here), (yours, there)) = thread::join(
+    let mut slice = Slice::zeros(rt.alloc(), 4)?;
+    slice.set(0, 6);
+    slice.set(3, 8);
+    let mut block = Block::of(slice);
+    let yours = block.share(0, 4);
+    let ((block, here), (yours, there)) = thread::join(
         &rt,
+        || -> (Block, i64)
+            requires { IsIn block.cells 0 }
+            ensures { result.0 ≡ block }
+        { read_first(block) },
         || -> (Slice, i64)
-            ensures { result.0 ≡ mine }
-        { both_ends(mine) },
-        || -> (Slice, i64)
-            requires { 0 < yours.spot.frozen }
-            ensures { result.0 ≡ yours }
+            ensures items { result.0.items ≡ yours.items }
+            ensures spot { result.0.spot ≡ yours.spot }
         { shared_on(yours) },
     );
-    let mut whole = Slice::merge(mine, yours).thaw(owed);
-    let n = whole.len();
-    whole.set(1, here);
-    assert_eq!(rt; here, 7);
-    assert_eq!(rt; there, 6);
-    assert_eq!(rt; n, 4);
-    assert_eq!(rt; whole.get(1), 7);
-    assert_eq!(rt; whole.get(3), 8);
-    assert!(rt; !whole.is_frozen());
+    let mut block = block;
+    block.merge(0, yours);
+    block.set(1, here);
+    assert_eq!(rt; here, 6);
+    assert_eq!(rt; there, 7);
+    assert_eq!(rt; block.get(1), 6);
+    assert_eq!(rt; block.get(3), 8);
     Ok(())
 }
 
 fn write_last(mut block: Block, number: i64) -> Block
-    requires { IsIn block.cells 3 }
+    requires there { IsIn block.cells 3 }
+    requires own { slice_get block.rights 3 ≡ Some 0 }
     ensures cells { result.cells ≡ slice_set block.cells 3 (Some number) }
+    ensures rights { result.rights ≡ block.rights }
     ensures spot { result.spot ≡ block.spot }
 {
     block.set(3, number);
@@ -147,7 +156,9 @@ fn a_part_is_lent(rt: HostRuntime) -> Result<(), Fail> {
         { write_first(part, 7) },
         || -> Block
             requires there { IsIn block.cells 3 }
+            requires own { slice_get block.rights 3 ≡ Some 0 }
             ensures cells { result.cells ≡ slice_set block.cells 3 (Some (pos 9)) }
+            ensures rights { result.rights ≡ block.rights }
             ensures spot { result.spot ≡ block.spot }
         { write_last(block, 9) },
     );
@@ -179,6 +190,20 @@ fn parts_are_lent_at_the_ends(rt: HostRuntime) -> Result<(), Fail> {
     assert_eq!(rt; block.len(), 0);
     assert_eq!(rt; whole.len(), 3);
     assert_eq!(rt; whole.get(0), 4);
+    Ok(())
+}
+
+// The memory stays where it is, so that the share can be read still.
+#[test]
+fn dropped_with_a_share_out(rt: HostRuntime) -> Result<(), Fail> {
+    let mut slice = Slice::zeros(rt.alloc(), 2)?;
+    slice.set(1, 5);
+    let mut block = Block::of(slice);
+    let share = block.share(1, 1);
+    let again = block.share(1, 1);
+    drop(block);
+    assert_eq!(rt; share.get(0), 5);
+    assert_eq!(rt; again.get(0), 5);
     Ok(())
 }
 

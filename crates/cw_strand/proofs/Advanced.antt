@@ -34,8 +34,6 @@ came_within self limit other to n h = record {
     later = c.later;
     outs = c.outs;
     lends = c.lends;
-    jobs_out = c.jobs_out;
-    are = c.are;
     is_of = c.is_of;
     at = stops_as _ _ _ limit other to _ _ _ _ n c.at;
   });

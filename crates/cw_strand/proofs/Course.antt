@@ -1,5 +1,5 @@
 -- The steps of a strand of the definitions, one by one and by stretches.
-use Rattle.std.proofs.Common.{◌≡◌, ℕ, ◌+◌, ◌≤◌, ◌<◌, ℤ, Bool, true, false, nat_lt, if◌then◌else◌, Option, List, [], ◌∷◌, refl, sym, ap, ◌∙◌, subst, arith}
+use Rattle.std.proofs.Common.{◌≡◌, ℕ, ◌+◌, ◌≤◌, ◌<◌, ℤ, Bool, true, false, nat_lt, if◌then◌else◌, Option, List, [], ◌∷◌, refl, ap, ◌∙◌, subst, arith}
 use Rattle.std.proofs.lemmas.Bool.Decides.{nat_tests}
 use Rattle.cw_model.specs.declared.trap.Trap.{Trap}
 use Rattle.cw_model.specs.Outcome.{Trace}
@@ -7,16 +7,12 @@ use Rattle.cw_code.specs.Code.{Code}
 use Rattle.cw_code.specs.Run.{Slots, Around, State, Transition, On, Ends, Stops, step}
 use Rattle.cw_strands.specs.Jobs.{Extent, ToJoin, WholeCall, joins, is_first, has_come, standing, Job, Effect, Ended, Joined, TrapIn, OverLimit, Memory, JobMeaning}
 use Rattle.std.specs.Prelude.{◌&&◌, slice_get}
-use Rattle.cw_strands.specs.Strands.{Strand, Going, Waits, Halted, outs_of, Turn, Goes, HandsOut, ComesBack, turn, goes_on, rest_of, spawn_job}
+use Rattle.cw_strands.specs.Strands.{Strand, Going, Halted, outs_of, Turn, Goes, HandsOut, ComesBack, turn, goes_on}
 use Rattle.cw_strands.specs.Promises.{IsStrandOf}
 use Rattle.cw_strands.specs.Steps.{CallsKeep, AdvanceKeeps, advance, finished, turned, went_on, out_of_memory}
 use Rattle.cw_strands.specs.Steps as steps
-use Rattle.cw_jobs.specs.declared.call.Parts.{Parts}
-use Rattle.cw_machine.specs.Keeping.{keeps_between}
 use Rattle.cw_machine.specs.Stretches.{goes_by, Stretch, Here, Further}
-use Rattle.cw_strand.specs.declared.strand.Lent.{Lent}
-use Rattle.cw_strand.specs.Levels.{Level, levels_of, handed_if, handed_levels}
-use Rattle.cw_strand.specs.Holds.{older, IsOutAt, AreOut}
+use Rattle.cw_strand.specs.Levels.{levels_of}
 use Rattle.cw_strand.proofs.Levels.{LevelsAfter, levels_move}
 
 not_over : (limit n : ℕ) → n ≤ limit → nat_lt limit n ≡ false
@@ -81,59 +77,29 @@ module _ (code : Code) (keep : CallsKeep code) (job : Job) where
   pub halted : (e : Effect) (outs : List Job) → IsStrandOf code job (Halted e outs) → JobMeaning code job e
   halted e outs h = keep.advancing job (Halted e []) h
 
-  -- a stretch in which nothing stops the run: of what it hands out the machine keeps the rests
-  module _ (p : Parts) (top : job.limit ≡ p.limit) (lent : List Lent) where
-    pub record Carries (s : State) (count : ℕ) : Type 0 where
-      pub out : List Job
-      pub are : AreOut p (levels_of s) lent out
-      pub is_of : IsStrandOf code job (Going s count out)
+  -- a stretch in which nothing stops the run
+  goes_of : (t : Turn) → goes_by true t ≡ true → t ≡ Goes
+  goes_of Goes e = refl
+  goes_of (HandsOut target taken) e = cc
+  goes_of ComesBack e = cc
 
-    -- a job at a level whose rest is kept
-    back_to : (l : Level) (levels : List Level) (out : List Job) → l.kept ≡ true → AreOut p (l ∷ levels) lent out → (first : Job) × (others : List Job) × (out ≡ first ∷ others) × AreOut p levels lent others
-    back_to l levels [] e h = absurd h
-    back_to l levels (first ∷ out) e h = (first, out, refl, subst (λ b. AreOut p levels (older b lent) out) e h.1)
+  pub stretched : (x : Extent) → x ≡ job.extent → (count later : ℕ) (s s1 : State) (outs : List Job) → Stretch x code true count s later s1 → job.before + later ≤ job.limit → IsStrandOf code job (Going s count outs) → IsStrandOf code job (Going s1 later outs)
+  stretched x same count _ s _ outs (Here _ _) le h = h
+  stretched x same count _ s _ outs (Further _ later _ s1 s2 before p) le h =
+      let t = goes_of (turn code s1) p.goes in
+      ran s1 s2 later outs Goes t (subst (λ y. has_come y code s1 ≡ false) same p.before) p.steps le
+      (stretched x same count later s s1 outs before (omega (arith, le)) h)
 
-    carried : (s1 s2 : State) (later : ℕ) (t : Turn) → turn code s1 ≡ t → goes_by true (keeps_between s1 s2) t ≡ true → LevelsAfter t s1 s2 → has_come job.extent code s1 ≡ false → step code s1 ≡ On s2 → job.before + (later + 1) ≤ job.limit → Carries s1 later → Carries s2 (later + 1)
-    carried s1 s2 later Goes same kept h come e le c = record {
-      out = c.out;
-      are = subst (λ l. AreOut p l lent c.out) (sym h) c.are;
-      is_of = ran s1 s2 later c.out Goes same come e le c.is_of;
-    }
-    carried s1 s2 later (HandsOut target taken) same kept h come e le c =
-        let n = job.before + (later + 1) in
-        let first = spawn_job s1 target taken job.limit n in
-        let l : Level = record { waiting = h.waiting; around = s1.around; kept = keeps_between s1 s2 } in
-        let is : first ≡ rest_of h.waiting p.limit n = h.rest job.limit n ∙ ap (λ k. rest_of h.waiting k n) top in
-        record {
-          out = first ∷ c.out;
-          are = subst (λ z. AreOut p z lent (first ∷ c.out)) (sym h.levels) (subst (λ b. IsOutAt p l b lent first × AreOut p (levels_of s1) (older b lent) c.out) (sym kept) ((n, is), c.are));
-          is_of = ran s1 s2 later c.out (HandsOut target taken) same come e le c.is_of;
-        }
-    carried s1 s2 later ComesBack same kept h come e le c =
-        let back = back_to h.level (levels_of s2) c.out (h.kept ∙ kept) (subst (λ l. AreOut p l lent c.out) h.levels c.are) in
-        let waits = ran s1 s2 later c.out ComesBack same come e le c.is_of in
-        record {
-          out = back.1;
-          are = back.3;
-          is_of = keep.taking_back job (Waits s2 (later + 1) (back.0 ∷ back.1)) (subst (λ l. IsStrandOf code job (Waits s2 (later + 1) l)) back.2 waits);
-        }
-
-    pub stretched : (x : Extent) → x ≡ job.extent → (count later : ℕ) (s s1 : State) → Stretch x code true count s later s1 → job.before + later ≤ job.limit → Carries s count → Carries s1 later
-    stretched x same count _ s _ (Here _ _) le h = h
-    stretched x same count _ s _ (Further _ later _ s1 s2 before q) le h =
-        carried s1 s2 later (turn code s1) refl q.goes (levels_move code s1 s2 q.steps) (subst (λ y. has_come y code s1 ≡ false) same q.before) q.steps le
-        (stretched x same count later s s1 before (omega (arith, le)) h)
-
--- the spawned calls round it whose rests are out stay, and the instructions only add
+-- the spawned calls round it stay, and the instructions only add
 module _ (code : Code) (x : Extent) where
-  pub levels_stay : (count later : ℕ) (s s1 : State) → Stretch x code true count s later s1 → handed_levels (levels_of s1) ≡ handed_levels (levels_of s)
+  pub levels_stay : (count later : ℕ) (s s1 : State) → Stretch x code true count s later s1 → levels_of s1.around ≡ levels_of s.around
   levels_stay count _ s _ (Here _ _) = refl
   levels_stay count _ s _ (Further _ later _ s1 s2 before p) = cases (turn code s1) p.goes (levels_move code s1 s2 p.steps) ∙ levels_stay count later s s1 before
     where
-      cases : (t : Turn) → goes_by true (keeps_between s1 s2) t ≡ true → LevelsAfter t s1 s2 → handed_levels (levels_of s2) ≡ handed_levels (levels_of s1)
-      cases Goes kept h = ap handed_levels h
-      cases (HandsOut target taken) kept h = ap handed_levels h.levels ∙ ap (λ b. handed_if b (record { waiting = h.waiting; around = s1.around; kept = keeps_between s1 s2 }) (handed_levels (levels_of s1))) kept
-      cases ComesBack kept h = sym (ap handed_levels h.levels ∙ ap (λ b. handed_if b h.level (handed_levels (levels_of s2))) (h.kept ∙ kept))
+      cases : (t : Turn) → goes_by true t ≡ true → LevelsAfter t s1 s2 → levels_of s2.around ≡ levels_of s1.around
+      cases Goes e h = h
+      cases (HandsOut target taken) e h = cc
+      cases ComesBack e h = cc
 
 -- at the join nothing stands round it
 first_is : (around : List Around) (b : Bool) → is_first around && b ≡ true → around ≡ []

@@ -1,11 +1,13 @@
 -- The rest of the block that has spawned a call is handed out.
-use Rattle.std.proofs.Common.{◌≡◌, ℕ, suc, ◌≤◌, false, List, [], ◌∷◌, length, refl, sym, ap, ◌∙◌, subst, inl, inr, arith}
+use Rattle.std.proofs.Common.{◌≡◌, ℕ, suc, ◌+◌, ◌≤◌, List, [], ◌∷◌, length, refl, sym, ap, ◌∙◌, subst, inl, inr, arith}
 use Rattle.std.specs.Prelude.{map, reverse}
 use Rattle.std.proofs.Math.Logic.{∥∥₁_elim, ∥∥₁_map}
 use Rattle.cw_model.specs.declared.burden.Burden.{Burden}
 use Rattle.cw_model.specs.declared.limits.TheConstants.{MOST_BURDEN}
+use Rattle.cw_code.specs.declared.code.Loan.{Loan}
 use Rattle.cw_code.specs.Code.{Code, code_view}
-use Rattle.cw_code.specs.Run.{Readers, Taken, Whole, slot_taken, Waiting, Around, Caller, State, passed_by}
+use Rattle.cw_code.specs.Fits.{slots_lent}
+use Rattle.cw_code.specs.Run.{Taken, Whole, slot_taken, Waiting, Around, Caller, State, passed_by}
 use Rattle.cw_strands.specs.Jobs as jobs
 use Rattle.cw_strands.specs.Jobs.{has_come}
 use Rattle.cw_strands.specs.Over.{beneath, under}
@@ -16,36 +18,26 @@ use Rattle.cw_jobs.specs.declared.call.Parts.{Parts}
 use Rattle.cw_jobs.specs.Jobs.{IsJob, IsSound}
 use Rattle.cw_machine.specs.declared.run.Spawn.{Spawn}
 use Rattle.cw_machine.specs.declared.run.Stop.TheVariants as stop
-use Rattle.cw_machine.specs.Arrays.{Out, IsFit, AllAbove}
+use Rattle.cw_machine.specs.Arrays.{Out, IsFit, AllAbove, lent_before}
 use Rattle.cw_machine.specs.Rests.{lending}
 use Rattle.cw_machine.specs.Unwinding.{LieBelow, IsLevel, OutsLieApart}
-use Rattle.cw_machine.specs.Calls.{listed}
+use Rattle.cw_machine.specs.declared.hands.Lender.{Lender}
+use Rattle.cw_machine.specs.Calls.{listed, loans_of}
 use Rattle.cw_machine.specs.Hands.{out_of, Hands, MayHand, HandedOut}
-use Rattle.cw_machine.specs.Keeping.{keeps_with, keeps_between}
 use Rattle.cw_machine.specs.Stretches.{newest_spawn}
 use Rattle.cw_strand.specs.declared.strand.Lent.{Lent}
 use Rattle.cw_strand.specs.declared.strand.Strand.{Strand}
-use Rattle.cw_strand.specs.Levels.{Level, levels_of, handed_levels, waiting_over}
+use Rattle.cw_strand.specs.Levels.{Level, levels_of, waiting_over}
 use Rattle.cw_strand.specs.Holds.{its_parts, its_code, ok_with, KeepsJob}
 use Rattle.cw_strand.specs.Moves.{CameTo, HasCome, HasCut}
 use Rattle.cw_strand.proofs.Levels.{HasSpawned, LevelsAfter, levels_move, round_many}
 use Rattle.cw_strand.proofs.Onward.{lends_above, levels_under, newest_round}
 use Rattle.cw_strand.proofs.RunsOn.{sound_of}
 
--- a rest that is not kept is of a call that reads nothing, and so is the call that it spawned
-none_read : (readers readers' : Readers) → keeps_with readers readers' ≡ false → (readers ≡ []) × (readers' ≡ [])
-none_read [] [] e = (refl, refl)
-none_read [] (xs ∷ readers') e = cc
-none_read (xs ∷ readers) readers' e = cc
-
 -- what waits over what stands round a run is the same call
 over_is : (b : State) (w : Waiting) (around : List Around) → beneath b (Caller w ∷ around) ≡ Caller (waiting_over b w around) ∷ beneath b around
 over_is b w [] = refl
 over_is b w (a ∷ around) = refl
-
-over_readers : (b : State) (w : Waiting) (around : List Around) → (waiting_over b w around).readers ≡ w.readers
-over_readers b w [] = refl
-over_readers b w (a ∷ around) = refl
 
 over_kind : (b : State) (w : Waiting) (around : List Around) → (waiting_over b w around).kind ≡ w.kind
 over_kind b w [] = refl
@@ -59,9 +51,17 @@ over_taken : (b : State) (w : Waiting) (around : List Around) → (waiting_over 
 over_taken b w [] = refl
 over_taken b w (a ∷ around) = refl
 
+pub over_arrays : (b : State) (w : Waiting) (around : List Around) → (waiting_over b w around).arrays ≡ w.arrays
+over_arrays b w [] = refl
+over_arrays b w (a ∷ around) = refl
+
 pub over_slots : (b : State) (w : Waiting) (around : List Around) → (waiting_over b w around).slots ≡ w.slots
 over_slots b w [] = refl
 over_slots b w (a ∷ around) = refl
+
+over_place : (b : State) (w : Waiting) (around : List Around) → (waiting_over b w around).place ≡ w.place
+over_place b w [] = refl
+over_place b w (a ∷ around) = refl
 
 over_rest : (b : State) (w : Waiting) (around : List Around) (limit before : ℕ) → rest_of (waiting_over b w around) limit before ≡ rest_of w limit before
 over_rest b w [] limit before = refl
@@ -103,7 +103,7 @@ module _ (keep : (code : Code) → CallsKeep code) (self : Strand) (limit : ℕ)
   w = spawned.waiting
 
   abbrev level : Level
-  level = record { waiting = w; around = c.state.around; kept = keeps_between c.state next }
+  level = record { waiting = w; around = c.state.around }
 
   abbrev above_it : List Around
   above_it = beneath base c.state.around
@@ -113,27 +113,33 @@ module _ (keep : (code : Code) → CallsKeep code) (self : Strand) (limit : ℕ)
 
   above : AllAbove c.outs (length above_it)
   above k o e =
-      let lt = lends_above v is p base (handed_levels (levels_of c.state)) c.outs lent (newest_spawn c.state.readers c.state.around) (levels_under c.state.readers c.state.around) c.lends k o e in
+      let lt = lends_above v is p base (levels_of c.state.around) c.outs lent (newest_spawn c.state.around) (levels_under c.state.around) c.lends k o e in
       let many = round_many base c.state.around in
-      let low = newest_round c.state.readers c.state.around in
+      let low = newest_round c.state.around in
       omega (arith, lt, many, low)
 
+  abbrev loans : List Loan
+  loans = loans_of v spawn.lent
+
+  place_is : (waiting_over base w c.state.around).place ≡ c.state.place + 1
+  place_is = over_place base w c.state.around ∙ sym (ap (λ (q : jobs.Job). q.place) (spawned.rest 0 0))
+
   -- the machine may hand it out
-  pub hands_it : Hands v (ok_with c.ground c.outs) self.run.machine (under base next) (waiting_over base w c.state.around) above_it (listed v spawn.passed)
+  pub hands_it : Hands v (ok_with c.ground c.outs) self.run.machine (under base next) (waiting_over base w c.state.around) above_it (listed v spawn.passed) loans
   hands_it = record {
     shows = c.at.1.shows.shows;
     is = round_is;
     spawned = over_kind base w c.state.around ∙ spawned.spawned;
     none = over_operands base w c.state.around ∙ spawned.none;
     taken = ap (map slot_taken) (over_taken base w c.state.around ∙ spawned.taken_is) ∙ taken_all (passed_by code spawn.passed);
+    loans = ap (lent_before code) place_is ∙ c.at.1.lent;
+    kept = c.at.1.kept (waiting_over base w c.state.around) above_it round_is;
     above = above;
-    waits_apart = over_readers base w c.state.around ∙ spawned.readers_are ∙ (none_read c.state.readers next.readers c.at.1.apart).0;
-    runs_apart = (none_read c.state.readers next.readers c.at.1.apart).1;
+    frozen = c.at.1.may.frozen;
   }
 
-  pub may_hand : MayHand self.run.machine (listed v spawn.passed)
+  pub may_hand : MayHand v self.run.machine (listed v spawn.passed) loans
   may_hand = record {
-    code = v;
     ok = ok_with c.ground c.outs;
     state = under base next;
     waiting = waiting_over base w c.state.around;
@@ -141,12 +147,12 @@ module _ (keep : (code : Code) → CallsKeep code) (self : Strand) (limit : ℕ)
     hands = hands_it;
   }
 
-  module _ (apart : OutsLieApart) (new : Strand) (q : Parts) (first : ℕ) (cut : HasCut self new spawn q first) where
-    pub handed : HandedOut v (ok_with c.ground c.outs) self.run.machine (under base next) (waiting_over base w c.state.around) above_it (listed v spawn.passed) first new.run.machine q.rest
-    handed = cut.out v (ok_with c.ground c.outs) (under base next) (waiting_over base w c.state.around) above_it hands_it
+  module _ (apart : OutsLieApart) (new : Strand) (q : Parts) (l : Lender) (cut : HasCut self new spawn q l) where
+    pub handed : HandedOut v (ok_with c.ground c.outs) self.run.machine (under base next) (waiting_over base w c.state.around) above_it (listed v spawn.passed) loans l.first l.slots new.run.machine q.rest
+    handed = cut.out (ok_with c.ground c.outs) (under base next) (waiting_over base w c.state.around) above_it hands_it
 
     abbrev out : Out
-    out = out_of (length above_it) first self.run.machine.first_array q.rest.slices.items
+    out = out_of (length above_it) l.first self.run.machine.first_array (length (waiting_over base w c.state.around).arrays) (slots_lent loans) q.rest.slices.items
 
     -- what was handed out is the job of the rest
     pub rest_job : IsJob v is q (rest_of w p.limit q.before)
@@ -154,7 +160,7 @@ module _ (keep : (code : Code) → CallsKeep code) (self : Strand) (limit : ℕ)
         (subst (λ x. IsJob v is q x) (over_rest base w c.state.around q.limit q.before) (handed.job q refl cut.joins))
 
     -- what is out of the older calls lies below it
-    pub below : LieBelow c.outs first
+    pub below : LieBelow c.outs l.first
     below k o e =
         apart v (lending (ok_with c.ground c.outs) out) new.run.machine (under base next) 0 (suc k) out o handed.shows refl e (above k o e)
         (inr (is_level (under base next).around (waiting_over base w c.state.around) above_it round_is))
@@ -179,8 +185,8 @@ module _ (keep : (code : Code) → CallsKeep code) (self : Strand) (limit : ℕ)
           }
 
 -- for whichever of the definitions its job is
-pub may_hand_out : ((code : Code) → CallsKeep code) → (self : Strand) (limit : ℕ) (spawn : Spawn) → HasCome self limit (stop.Spawned spawn) → ∥ MayHand self.run.machine (listed (its_code self) spawn.passed) ∥₁
+pub may_hand_out : ((code : Code) → CallsKeep code) → (self : Strand) (limit : ℕ) (spawn : Spawn) → HasCome self limit (stop.Spawned spawn) → ∥ MayHand (its_code self) self.run.machine (listed (its_code self) spawn.passed) (loans_of (its_code self) spawn.lent) ∥₁
 may_hand_out keep self limit spawn h = ∥∥₁_elim (sound_of self) (hlevel) (λ s. ∥∥₁_map (h.comes s.ok s.job s.is) (λ c. may_hand keep self limit spawn s.ok s.job c))
 
-pub cut_sound : ((code : Code) → CallsKeep code) → OutsLieApart → (self new : Strand) (limit : ℕ) (spawn : Spawn) (q : Parts) (first : ℕ) → HasCome self limit (stop.Spawned spawn) → HasCut self new spawn q first → ∥ IsSound q ∥₁
-cut_sound keep apart self new limit spawn q first h cut = ∥∥₁_elim (sound_of self) (hlevel) (λ s. ∥∥₁_map (h.comes s.ok s.job s.is) (λ c. sound keep self limit spawn s.ok s.job c apart new q first cut h.keeps))
+pub cut_sound : ((code : Code) → CallsKeep code) → OutsLieApart → (self new : Strand) (limit : ℕ) (spawn : Spawn) (q : Parts) (l : Lender) → HasCome self limit (stop.Spawned spawn) → HasCut self new spawn q l → ∥ IsSound q ∥₁
+cut_sound keep apart self new limit spawn q l h cut = ∥∥₁_elim (sound_of self) (hlevel) (λ s. ∥∥₁_map (h.comes s.ok s.job s.is) (λ c. sound keep self limit spawn s.ok s.job c apart new q l cut h.keeps))

@@ -1,10 +1,11 @@
 -- What a strand makes of its job means it.
 use Rattle.std.proofs.Common.{◌≡◌, ℕ, ◌≤◌, List, [], ◌∷◌, length, refl, sym, ap, ◌∙◌, subst}
-use Rattle.std.specs.Prelude.{map, reverse}
-use Rattle.std.specs.Coded.{le_prop}
+use Rattle.std.specs.Prelude.{map, reverse, replicate}
+use Rattle.std.specs.Coded.{Coded-set, coded_list, coded_ℕ, le_prop}
 use Rattle.std.proofs.Math.Logic.{∥∥₁_elim, ∥∥₁_map}
 use mathlib.Core.HLevel.{⊥_prop}
 use Rattle.cw_model.specs.declared.trap.Trap.{Trap}
+use Rattle.cw_slices.specs.Blocks.{Lodged, IsWhole as IsUnshared}
 use Rattle.cw_code.specs.Code.{Code, code_view}
 use Rattle.cw_code.specs.Run.{State}
 use Rattle.cw_strands.specs.Jobs as jobs
@@ -25,7 +26,7 @@ use Rattle.cw_machine.specs.declared.machine.Machine.{Machine}
 use Rattle.cw_machine.specs.Arrays.{Out, IsFit, block}
 use Rattle.cw_machine.specs.Shows.{Remains}
 use Rattle.cw_machine.specs.Unwinding.{RestsAreKept}
-use Rattle.cw_machine.specs.JobRuns.{AllIn, KeepsGiven, MayGiveUp, GivesUp}
+use Rattle.cw_machine.specs.JobRuns.{IsAllHere, KeepsGiven, MayGiveUp, GivesUp}
 use Rattle.cw_strand.specs.declared.strand.Lent.{Lent}
 use Rattle.cw_strand.specs.declared.strand.Mode.TheVariants as mode
 use Rattle.cw_strand.specs.declared.strand.Strand.{Strand}
@@ -110,20 +111,24 @@ module _ (m m' : Machine) (same : m'.blocks.items ≡ m.blocks.items) where
   pub may_with : (n : ℕ) → MayGiveUp m n → MayGiveUp m' n
   may_with n h = record {
     there = subst (λ l. n ≤ length l) (sym same) h.there;
-    all_in = λ a lt. subst (λ l. AllIn (block l a).cells) (sym same) (h.all_in a lt);
+    all_here = λ a lt. subst (λ l. IsAllHere (block l a)) (sym same) (h.all_here a lt);
   }
 
   pub gives_with : (n : ℕ) (back : List Placed) → GivesUp m' n back → GivesUp m n back
   gives_with n back h = λ given e k. h given e (record {
     there = subst (λ l. length given ≤ length l) (sym same) k.there;
-    all_in = λ a lt. subst (λ l. AllIn (block l a).cells) (sym same) (k.all_in a lt);
+    all_here = λ a lt. subst (λ l. IsAllHere (block l a)) (sym same) (k.all_here a lt);
     spot = λ a lt. ap (λ l. (block l a).spot) same ∙ k.spot a lt;
     len = λ a lt. ap (λ l. length (block l a).cells) same ∙ k.len a lt;
+    same = λ a lt some. ap (λ l. (block l a).cells) same ∙ k.same a lt some;
   })
+
+unshared_prop : (b : Lodged) → IsProp (IsUnshared b)
+unshared_prop b = λ p q. Coded-set (coded_list coded_ℕ) b.rights (replicate (length b.cells) b.spot.halved) p q
 
 -- as a proposition
 may_up : (m : Machine) (n : ℕ) → ∥ MayGiveUp m n ∥₁ → MayGiveUp m n
-may_up m n h = record { there = ∥∥₁_elim h le_prop (λ x. x.there); all_in = λ a lt k e. ∥∥₁_elim h ⊥_prop (λ x. x.all_in a lt k e) }
+may_up m n h = record { there = ∥∥₁_elim h le_prop (λ x. x.there); all_here = λ a lt. (λ k e. ∥∥₁_elim h ⊥_prop (λ x. (x.all_here a lt).0 k e), ∥∥₁_elim h (unshared_prop (block m.blocks.items a)) (λ x. (x.all_here a lt).1)) }
 
 module _ (keep : (code : Code) → CallsKeep code) (kept : RestsAreKept) (self : Strand) (running : IsRunning self) (none : outs self ≡ []) where
   abbrev n : ℕ

@@ -37,21 +37,20 @@ use Rattle.cw_machine.specs.declared.machine.Machine.{Machine}
 use Rattle.cw_machine.specs.declared.run.Run.{Run}
 use Rattle.cw_machine.specs.Arrays.{Out, IsFit}
 use Rattle.cw_machine.specs.Shows.{Remains, Shows}
-use Rattle.cw_machine.specs.Unwinding.{ShownRemain, MayComeHome, ComesHome}
+use Rattle.cw_machine.specs.Unwinding.{ShownRemain}
 use Rattle.cw_machine.specs.Gives.{MayGive, went_on}
 use Rattle.cw_machine.specs.lemmas.Joins.{waits_under, went_under}
 use Rattle.cw_strand.specs.declared.strand.Lent.{Lent}
 use Rattle.cw_strand.specs.declared.strand.Mode.{Mode}
 use Rattle.cw_strand.specs.declared.strand.Mode.TheVariants as mode
 use Rattle.cw_strand.specs.declared.strand.Strand.{Strand}
-use Rattle.cw_strand.specs.Levels.{levels_of, handed_levels}
-use Rattle.cw_strand.specs.Holds.{its_parts, its_code, lent_parts, Ground, setting_of, ok_with, Lends, Stands, HeldIn, Holds, IsRunning, IsWaiting, HasStopped, stops, is_lost}
-use Rattle.cw_strand.specs.Moves.{MayPopHome, HasPoppedHome, HasLost}
+use Rattle.cw_strand.specs.Levels.{levels_of}
+use Rattle.cw_strand.specs.Holds.{its_parts, its_code, lent_parts, Ground, setting_of, ok_with, Lends, rests_at, Stands, HeldIn, Holds, IsRunning, IsWaiting, HasStopped, stops, is_lost}
+use Rattle.cw_strand.specs.Moves.{MayPopHome, MayReach, HasPoppedHome, HasLost}
 use Rattle.cw_strand.specs.Giving.{passes_limit, IsOfRest, GivesBack, HasTaken, HasJoined}
 use Rattle.cw_strand.proofs.Course.{wants}
 use Rattle.cw_strand.proofs.RunsOn.{sound_of, IsHeldBack, waiting_of}
 use Rattle.cw_strand.proofs.Same.{spare_as, Newest}
-use Rattle.cw_strand.proofs.Onward.{waited_lends}
 use Rattle.cw_strand.proofs.TakenBack.{Split, split}
 use Rattle.cw_strand.proofs.Homes.{rest_slices, newly, may_home, stands_on, stands_in, goes_so, stops_on, came_home}
 use Rattle.cw_strand.proofs.Given.{out, rests, out_is, waits, giving}
@@ -101,7 +100,7 @@ module _ (self : Strand) (job : Job) (others : List Job) (newest : Newest self j
           let jo = rest_of n.level.waiting p.limit q.before in
           ∥∥₁_map (meant_in is jo n.is_lent.job) (λ m. homes_in v is q jo e back replaced gives m)
 
-      may_come : ((is : IsFit (its_code self)) (j : jobs.Job) (d : Holds self is j) → Stands self is j d.ground) → ∥ MayComeHome self.run.machine newest.lent.first back replaced ∥₁
+      may_come : ((is : IsFit (its_code self)) (j : jobs.Job) (d : Holds self is j) → Stands self is j d.ground) → ∥ MayReach self.run.machine v newest.lent.home back replaced ∥₁
       may_come stands = ∥∥₁_elim (sound_of self) (hlevel) (λ s. ∥∥₁_elim (running.holds s.ok s.job s.is) (hlevel) (λ d.
           let h = stands s.ok s.job d in
           ∥∥₁_map (homes_at s.ok s.job d.ground h) (λ k. may_home self job others newest s.ok s.job d.ground h back replaced k)))
@@ -112,6 +111,7 @@ module _ (self : Strand) (job : Job) (others : List Job) (newest : Newest self j
         newest = newest.lent;
         older = newest.rest;
         are = newest.are;
+        code = running.keeps.code;
         home = λ known. may_come (λ is j d. stands_in self job others newest is j d.ground self.mode d.strand stopped known d.held);
       }
 
@@ -122,9 +122,9 @@ module _ (self : Strand) (job : Job) (others : List Job) (newest : Newest self j
       module _ (waiting : IsWaiting self) (remain : ShownRemain) where
         pub stands_waits : (is : IsFit (its_code self)) (j : jobs.Job) (g : Ground (its_code self) is (its_parts self) j) → IsHeldBack self is j g → Stands self is j g
         stands_waits is j g h = record {
-          levels = h.waited.level ∷ handed_levels (levels_of h.state);
+          levels = h.waited.level ∷ levels_of h.state.around;
           outs = h.waited.runs.outs;
-          lends = waited_lends self is j g h.state h.count h.out h.waited;
+          lends = h.waited.runs.lends;
           remains = remain v (ok_with g h.waited.runs.outs) self.run.machine (under g.base h.state) h.waited.runs.shows.shows;
         }
 
@@ -133,6 +133,7 @@ module _ (self : Strand) (job : Job) (others : List Job) (newest : Newest self j
           newest = newest.lent;
           older = newest.rest;
           are = newest.are;
+          code = running.keeps.code;
           home = λ known. may_come (λ is j d. stands_waits is j d.ground (waiting_of self is j waiting d));
         }
 

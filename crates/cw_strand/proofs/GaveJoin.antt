@@ -9,7 +9,7 @@ use Rattle.cw_model.specs.declared.limits.TheConstants.{MOST_LIMIT}
 use Rattle.cw_model.specs.Outcome.{Trace, quiet}
 use Rattle.cw_slices.specs.Placed.{Placed}
 use Rattle.cw_code.specs.Code.{Code, code_view}
-use Rattle.cw_code.specs.Fits.{Fits}
+use Rattle.cw_code.specs.Fits.{Fits, slots_lent}
 use Rattle.cw_code.specs.Run.{State}
 use Rattle.cw_code.specs.Good.{FitSettles}
 use Rattle.cw_code.specs.Staying.{SeatsLie}
@@ -37,24 +37,25 @@ use Rattle.cw_jobs.specs.Means.{HasShown, Tells, Counts, MeansIt, IsMeaningOf}
 use Rattle.cw_machine.specs.declared.machine.Machine.{Machine}
 use Rattle.cw_machine.specs.declared.run.Run.{Run}
 use Rattle.cw_machine.specs.Arrays.{Out, IsFit}
+use Rattle.cw_machine.specs.Calls.{loans_of}
 use Rattle.cw_machine.specs.Shows.{Remains, Shows}
-use Rattle.cw_machine.specs.Unwinding.{ShownRemain, MayComeHome, ComesHome}
-use Rattle.cw_machine.specs.Gives.{IsGiving, MayGive, went_on}
+use Rattle.cw_machine.specs.Unwinding.{ShownRemain}
+use Rattle.cw_machine.specs.Gives.{IsGiving, went_on}
 use Rattle.cw_machine.specs.lemmas.Joins.{waits_under, went_under}
 use Rattle.cw_strand.specs.declared.strand.Lent.{Lent}
 use Rattle.cw_strand.specs.declared.strand.Mode.{Mode}
 use Rattle.cw_strand.specs.declared.strand.Mode.TheVariants as mode
 use Rattle.cw_strand.specs.declared.strand.Strand.{Strand}
-use Rattle.cw_strand.specs.Levels.{levels_in, levels_of, handed_levels}
-use Rattle.cw_strand.specs.Holds.{its_parts, its_code, lent_parts, Ground, setting_of, ok_with, Lends, AreOut, Stands, HeldIn, Holds, IsRunning, IsWaiting, HasStopped, is_lost}
+use Rattle.cw_strand.specs.Levels.{levels_of}
+use Rattle.cw_strand.specs.Holds.{its_parts, its_code, lent_parts, Ground, setting_of, ok_with, Lends, rests_at, Stands, HeldIn, Holds, IsRunning, IsWaiting, HasStopped, is_lost}
 use Rattle.cw_strand.specs.Moves.{MayPopHome, HasPoppedHome, HasLost}
-use Rattle.cw_strand.specs.Giving.{passes_limit, IsOfRest, GivesBack, HasTaken, HasJoined}
+use Rattle.cw_strand.specs.Giving.{passes_limit, IsOfRest, GivesBack, HasTaken, HasJoined, MayJoin}
 use Rattle.cw_strand.proofs.Course.{wants}
 use Rattle.cw_strand.proofs.RunsOn.{sound_of, IsHeldBack, waiting_of}
 use Rattle.cw_strand.proofs.Same.{Newest}
-use Rattle.cw_strand.proofs.TakenBack.{Split, split, rests_out}
+use Rattle.cw_strand.proofs.TakenBack.{Split, split}
 use Rattle.cw_strand.proofs.Homes.{rest_slices, newly, may_home, stands_on, stands_in, goes_so, stops_on}
-use Rattle.cw_strand.proofs.Given.{out, rests, out_is, waits, giving}
+use Rattle.cw_strand.proofs.Given.{out, rests, out_is, waits, frozen, reads, giving}
 use Rattle.cw_strand.proofs.Effects.{CostsAs, IsOver, meant, homes_in, cost_in, over_in, never_ends, gave_over, gave_limit, gave_within}
 use Rattle.cw_strand.proofs.Taken.{shows_joined, lines_shown}
 use Rattle.cw_strand.proofs.Gave.{keeps_within, meant_in}
@@ -122,30 +123,26 @@ module _ (self : Strand) (job : Job) (others : List Job) (newest : Newest self j
     abbrev jo : jobs.Job
     jo = out self job others newest is j g h
 
-    abbrev sp : Split v is p g.base h.waited.level (handed_levels (levels_of h.state)) h.waited.runs.outs newest.lent newest.rest
+    abbrev sp : Split v is p g.base h.waited.level (levels_of h.state.around) h.waited.runs.outs newest.lent newest.rest
     sp = split self job others newest is j g h
 
     came : Came v is q jo back replaced shown
     came = came_of v is q jo e back replaced shown told m
 
-    gives_it : IsGiving v (ok_with g sp.others) sp.out self.run.machine (under g.base h.state) came.frame (waits_under g.base h.state) back replaced newest.lent.target
+    gives_it : IsGiving v (ok_with g sp.others) sp.out self.run.machine (under g.base h.state) came.frame (waits_under g.base h.state) back replaced newest.lent.home.lender.slots (slots_lent (loans_of v newest.lent.home.lent)) newest.lent.home.target
     gives_it = giving self job others newest is j g h stay seats settles came.frame came.trace came.cost came.means back replaced came.holds came.empty came.homes came.fixed
 
-    may : MayGive self.run.machine back replaced newest.lent.target
+    may : MayJoin self.run.machine v back replaced newest.lent.home
     may = record { code = v; ok = ok_with g sp.others; out = sp.out; state = under g.base h.state; frame = came.frame; waits = waits_under g.base h.state; gives = gives_it }
 
     -- the strand goes on at the join
-    module _ (keep : (code : Code) → CallsKeep code) (meters : CallsKeepMeters) (r : Run) (joined : HasJoined self.run self.count back replaced newest.lent.target shown r)
+    module _ (keep : (code : Code) → CallsKeep code) (meters : CallsKeepMeters) (r : Run) (joined : HasJoined self.run v self.count back replaced newest.lent.home shown r)
         (le : p.before + (self.count + shown.cost) ≤ p.limit) (new : Strand) (left : reverse new.lent.items ≡ newest.rest) (run_is : new.run ≡ r) (count_is : new.count ≡ self.count + shown.cost) (going : new.mode ≡ mode.Going) where
       abbrev rs : List jobs.Job
       rs = rests self job others newest is j g h
 
       abbrev now : State
       now = resumed h.state came.frame came.trace
-
-      -- neither it nor the rest reads an array
-      reads : came.frame.readers ≡ h.state.readers
-      reads = came.holds.reads_none ∙ sym (out_is self job others newest is j g h).holds.reads_none
 
       costs : came.cost ≡ shown.cost
       costs = sym came.shown_is.cost
@@ -163,7 +160,7 @@ module _ (self : Strand) (job : Job) (others : List Job) (newest : Newest self j
 
       shows_now : Shows v (ok_with g sp.others) r.machine (under g.base now)
       shows_now =
-          let given = subst (Shows v (ok_with g sp.others) joined.given) (went_under g.base h.state came.frame reads) (joined.gives v (ok_with g sp.others) sp.out (under g.base h.state) came.frame (waits_under g.base h.state) gives_it) in
+          let given = subst (Shows v (ok_with g sp.others) joined.given) (went_under g.base h.state came.frame (reads self job others newest is j g h stay seats settles came.frame came.trace came.cost came.means back replaced came.holds came.empty came.homes came.fixed)) (joined.gives v (ok_with g sp.others) sp.out (under g.base h.state) came.frame (waits_under g.base h.state) gives_it) in
           let taken = subst (λ l. HasTaken joined.given l shown.totals.items r.machine) came.shown_is.lines joined.takes in
           shows_joined v (ok_with g sp.others) joined.given r.machine shown.totals.items g.base h.state came.frame came.trace taken given came.shown_is.totals
 
@@ -190,21 +187,22 @@ module _ (self : Strand) (job : Job) (others : List Job) (newest : Newest self j
         held = subst (λ a. HeldIn (record self { run = new.run; lent = new.lent; count = new.count; spares = new.spares; mode = new.mode }) is j g a (Going now (h.count + came.cost) rs)) (sym going) (record {
           counts = total;
           outs = sp.others;
-          lends = subst (λ r. Lends v is p g.base (handed_levels (levels_in r h.state.around)) sp.others (reverse new.lent.items)) (sym reads) (subst (Lends v is p g.base (handed_levels (levels_of h.state)) sp.others) (sym left) sp.rest);
-          are = subst (λ r. AreOut p (levels_in r h.state.around) (reverse new.lent.items) rs) (sym reads) (subst (λ z. AreOut p (levels_of h.state) z rs) (sym left) (rests_out self job others newest is j g h).still);
+          lends = subst (Lends v is p g.base (levels_of h.state.around) sp.others) (sym left) sp.rest;
+          are = ap (rests_at p (levels_of h.state.around)) (sym left);
           shows = record {
             shows = subst (λ (x : Run). Shows v (ok_with g sp.others) x.machine (under g.base now)) (sym run_is) shows_now;
             tells = subst (λ (x : Run). TellsAll code p.burden (origin_of p) (Going now new.count []) x.meter) (sym run_is) (subst (λ k. TellsAll code p.burden (origin_of p) (Going now k []) r.meter) total tells_now);
           };
+          frozen = frozen self job others newest is j g h stay seats settles came.frame came.trace came.cost came.means;
         });
       }
 
-  pub may_join : ∥ MayGive self.run.machine back replaced newest.lent.target ∥₁
+  pub may_join : ∥ MayJoin self.run.machine v back replaced newest.lent.home ∥₁
   may_join = ∥∥₁_elim (sound_of self) (hlevel) (λ s. ∥∥₁_elim (running.holds s.ok s.job s.is) (hlevel) (λ d.
       let h = waiting_of self s.ok s.job waiting d in
       ∥∥₁_map (meant_in self job others newest running e means s.ok (out self job others newest s.ok s.job d.ground h) (out_is self job others newest s.ok s.job d.ground h)) (λ m. may s.ok s.job d.ground h m)))
 
-  pub join_runs : ((code : Code) → CallsKeep code) → CallsKeepMeters → (r : Run) → HasJoined self.run self.count back replaced newest.lent.target shown r → passes_limit self shown.cost ≡ false
+  pub join_runs : ((code : Code) → CallsKeep code) → CallsKeepMeters → (r : Run) → HasJoined self.run v self.count back replaced newest.lent.home shown r → passes_limit self shown.cost ≡ false
       → (new : Strand) → reverse new.lent.items ≡ newest.rest → new.run ≡ r → new.count ≡ self.count + shown.cost → new.mode ≡ mode.Going → new.of ≡ self.of → new.parts ≡ self.parts → new.spares ≡ self.spares → IsRunning new
   join_runs keep meters r joined passes new left run_is count_is going of parts spares =
       let k = keeps_within ((p.limit - p.before) - self.count) shown.cost passes in

@@ -36,7 +36,7 @@ use Rattle.cw_machine.specs.declared.machine.Machine.{Machine}
 use Rattle.cw_machine.specs.declared.run.Run.{Run}
 use Rattle.cw_machine.specs.Arrays.{Out, IsFit}
 use Rattle.cw_machine.specs.Shows.{Remains, Shows}
-use Rattle.cw_machine.specs.Unwinding.{ShownRemain, MayComeHome, ComesHome}
+use Rattle.cw_machine.specs.Unwinding.{ShownRemain}
 use Rattle.cw_machine.specs.Gives.{MayGive, went_on}
 use Rattle.cw_machine.specs.lemmas.Joins.{waits_under, went_under}
 use Rattle.cw_strand.specs.declared.strand.Lent.{Lent}
@@ -44,8 +44,8 @@ use Rattle.cw_strand.specs.declared.strand.Mode.{Mode}
 use Rattle.cw_strand.specs.declared.strand.Mode.TheVariants as mode
 use Rattle.cw_strand.specs.declared.strand.Strand.{Strand}
 use Rattle.cw_strand.specs.Levels.{levels_of}
-use Rattle.cw_strand.specs.Holds.{its_parts, its_code, lent_parts, Ground, setting_of, ok_with, Lends, Stands, HeldIn, Holds, IsRunning, IsWaiting, HasStopped, is_lost}
-use Rattle.cw_strand.specs.Moves.{MayPopHome, HasPoppedHome, HasLost}
+use Rattle.cw_strand.specs.Holds.{its_parts, its_code, lent_parts, Ground, setting_of, ok_with, Lends, rests_at, Stands, HeldIn, Holds, IsRunning, IsWaiting, HasStopped, is_lost}
+use Rattle.cw_strand.specs.Moves.{MayPopHome, Reaches, HasPoppedHome, HasLost}
 use Rattle.cw_strand.specs.Giving.{passes_limit, IsOfRest, GivesBack, HasTaken, HasJoined}
 use Rattle.cw_strand.proofs.Course.{wants}
 use Rattle.cw_strand.proofs.RunsOn.{sound_of, IsHeldBack, waiting_of}
@@ -94,7 +94,7 @@ module _ (self : Strand) (job : Job) (others : List Job) (newest : Newest self j
   pub may_trapped : MayPopHome mid back []
   may_trapped =
       let m = may_waits self job others newest running e means back [] (trap_back e trap line lines cost back told) waiting remain in
-      subst (λ z. MayPopHome z back []) (sym mid_is) (record { newest = m.newest; older = m.older; are = m.are; home = λ k. ∥∥₁_map (m.home k) (λ x. record { code = x.code; ok = x.ok; out = x.out; comes = record { remains = x.comes.remains; first = x.comes.first; below = x.comes.below; homes = x.comes.homes } }) })
+      subst (λ z. MayPopHome z back []) (sym mid_is) (record { newest = m.newest; older = m.older; are = m.are; code = m.code; home = λ k. ∥∥₁_map (m.home k) (λ x. record { code = x.code; ok = x.ok; out = x.out; comes = record { remains = x.comes.remains; first = x.comes.first; slots_are = x.comes.slots_are; lent_are = x.comes.lent_are; below = x.comes.below; homes = x.comes.homes } }) })
 
   module _ (keep : (code : Code) → CallsKeep code) (new popped : Strand) (home : HasPoppedHome mid back [] popped) (passes : passes_limit self cost ≡ false)
       (new_is : new ≡ record popped { count = self.count + cost; mode = mode.Trapped trap line }) where
@@ -113,11 +113,11 @@ module _ (self : Strand) (job : Job) (others : List Job) (newest : Newest self j
         let w = running.keeps.within in
         omega (arith, k, w)
 
-    comes_home : ComesHome self.run.machine newest.lent.first back [] new.run.machine
+    comes_home : Reaches self.run.machine (its_code self) newest.lent.home back [] new.run.machine
     comes_home = λ u ok o c.
         let known : is_lost mid.mode ≡ false = subst (λ m. is_lost m ≡ false) (sym (ap (λ (z : Strand). z.mode) mid_is ∙ waiting)) refl in
-        let h = subst (λ (m : Machine). ComesHome m newest.lent.first back [] popped.run.machine) (ap (λ (z : Strand). z.run.machine) mid_is) (home.home newest.lent newest.rest (ap (λ (z : Strand). reverse z.lent.items) mid_is ∙ newest.are) known) in
-        subst (λ (r : Run). Remains u ok r.machine) (sym n_run) (h u ok o (record { remains = c.remains; first = c.first; below = c.below; homes = c.homes }))
+        let h = subst (λ (z : Strand). Reaches z.run.machine (its_code z) newest.lent.home back [] popped.run.machine) mid_is (home.home newest.lent newest.rest (ap (λ (z : Strand). reverse z.lent.items) mid_is ∙ newest.are) known) in
+        subst (λ (r : Run). Remains u ok r.machine) (sym n_run) (h u ok o (record { remains = c.remains; first = c.first; slots_are = c.slots_are; lent_are = c.lent_are; below = c.below; homes = c.homes }))
 
     pub trap_runs : IsRunning new
     trap_runs = goes_so self job others newest running new left (subst (λ n. (its_parts self).before + n ≤ (its_parts self).limit) (sym (ap (λ (z : Strand). z.count) new_is)) le)

@@ -5,7 +5,7 @@ use Rattle.cw_model.specs.Outcome.{Trace, quiet}
 use Rattle.cw_slices.specs.Placed.{Placed}
 use Rattle.cw_code.specs.declared.code.Func.{Func}
 use Rattle.cw_code.specs.Code.{Code, code_view}
-use Rattle.cw_code.specs.Fits.{Fits, Shape}
+use Rattle.cw_code.specs.Fits.{Fits, Shape, slots_lent}
 use Rattle.cw_code.specs.Run.{Slots, Results, Waiting, Around, Caller, Block, State, is_full}
 use Rattle.cw_code.specs.Good.{IsNotAmong, slots_in, ints_round, all_of, Seat, Good, GoodState, FitSettles}
 use Rattle.cw_code.specs.Staying.{SeatsLie, IsInside, outermost}
@@ -24,18 +24,21 @@ use Rattle.cw_jobs.specs.Calls.{cell, placed, HasArrays, HoldsFrame}
 use Rattle.cw_jobs.specs.Jobs.{AreBlocks, IsJob, KeepsHomes, KeepsEmpty, KeepsFixed, IsOwnIn}
 use Rattle.cw_machine.specs.declared.machine.Machine.{Machine}
 use Rattle.cw_machine.specs.Arrays.{Out, IsFit, Ok}
-use Rattle.cw_machine.specs.Shows.{Comes, Shows}
+use Rattle.cw_machine.specs.Calls.{loans_of}
+use Rattle.cw_machine.specs.Shows.{Comes, Shows, SharesFrozen}
 use Rattle.cw_machine.specs.Rests.{lending}
 use Rattle.cw_machine.specs.Gives.{went_on, ComesBut, RoundComesBut, AreTogether, KeepsSlots, IsGiving}
 use Rattle.cw_machine.specs.Hands.{ComesRound}
 use Rattle.cw_machine.specs.lemmas.Joins.{waits_under, went_under, comes_back, comes_back_round}
 use Rattle.cw_strand.specs.declared.strand.Lent.{Lent}
 use Rattle.cw_strand.specs.declared.strand.Strand.{Strand}
-use Rattle.cw_strand.specs.Levels.{Level, levels_of, handed_levels, ResultWaits, IsBackAt, waiting_over}
-use Rattle.cw_strand.specs.Holds.{its_parts, its_code, lent_parts, Ground, ok_with, IsLent, Lends}
+use Rattle.cw_strand.specs.Levels.{Level, levels_of, ResultWaits, IsBackAt, waiting_over}
+use Rattle.cw_strand.specs.Holds.{its_parts, its_code, lent_parts, Ground, ok_with, IsLent, Lends, rests_at}
+use Rattle.cw_strand.proofs.Levels.{round_many}
+use Rattle.cw_strand.proofs.RestReads.{frozen_arrives, same_readers}
 use Rattle.cw_strand.proofs.RunsOn.{IsHeldBack}
 use Rattle.cw_strand.proofs.Same.{Newest}
-use Rattle.cw_strand.proofs.TakenBack.{Split, split, rests_out, lends_it}
+use Rattle.cw_strand.proofs.TakenBack.{Split, split, lends_it}
 
 -- the run of a rest that came to its join came there
 pub record ComesThere (code : Code) (job : jobs.Job) (frame : Standing) (t : Trace) : Type 0 where
@@ -100,6 +103,9 @@ out_alone s f shape none g =
     let k = subst (λ ops. Good f shape (record s { operands = ops })) none g in
     record { as_many = k.as_many; ints = k.ints; arrays = k.arrays; readers = k.readers; cuts = k.cuts }
 
+same_func : (code : Code) (k l : ℕ) (f g : Func) → slice_get code.funcs k ≡ Some f → slice_get code.funcs l ≡ Some g → k ≡ l → f ≡ g
+same_func code k l f g e e' same = let q : Some f ≡ Some g = sym e ∙ ap (slice_get code.funcs) same ∙ e' in cc
+
 -- the rest that is out begins well over the state in which its block goes on
 out_starts : (code : Code) (fits : Fits code) (s : State) (limit before : ℕ) → s.operands ≡ [] → GoodState code fits s → GoodState code fits (under s (job_start (rest_at s limit before)))
 out_starts code fits s limit before none g = record { seat = g.seat; call = out_alone s g.seat.func g.seat.shape none g.call; others = g.others }
@@ -124,7 +130,7 @@ module _ (self : Strand) (job : Job) (others : List Job) (newest : Newest self j
   abbrev l : Level
   l = h.waited.level
 
-  abbrev sp : Split v is p g.base l (handed_levels (levels_of s)) h.waited.runs.outs newest.lent newest.rest
+  abbrev sp : Split v is p g.base l (levels_of s.around) h.waited.runs.outs newest.lent newest.rest
   sp = split self job others newest is j g h
 
   -- it is the rest of the block that the strand goes on with
@@ -132,7 +138,7 @@ module _ (self : Strand) (job : Job) (others : List Job) (newest : Newest self j
   out = rest_at s p.limit q.before
 
   abbrev pub rests : List jobs.Job
-  rests = (rests_out self job others newest is j g h).rests
+  rests = rests_at p (levels_of s.around) newest.rest
 
   rest_is : rest_of l.waiting p.limit q.before ≡ out
   rest_is =
@@ -149,7 +155,7 @@ module _ (self : Strand) (job : Job) (others : List Job) (newest : Newest self j
   pub waits : IsStrandOf code j (Waits s h.count (out ∷ rests))
   waits =
       subst (λ x. IsStrandOf code j (Waits s h.count (x ∷ rests))) rest_is
-      (subst (λ o. IsStrandOf code j (Waits s h.count o)) (rests_out self job others newest is j g h).are h.is_of)
+      (subst (λ o. IsStrandOf code j (Waits s h.count o)) (h.waited.runs.are ∙ ap (rests_at p (l ∷ levels_of s.around)) newest.are) h.is_of)
 
   pub none : s.operands ≡ []
   none = waits.2.0.none
@@ -179,7 +185,29 @@ module _ (self : Strand) (job : Job) (others : List Job) (newest : Newest self j
         (stay code is.fits out b seat.index seat.func frame t cost refl out_is.good seat.is_func start means) in
         lies.one frame.place seat.index seat.func seat' seat.is_func at
 
+    -- it reads as many arrays as the call does
+    reads_as_many : length frame.readers ≡ length s.readers
+    reads_as_many =
+        let a = came in
+        let same = same_func code a.seat.index shown.good.seat.index a.seat.func shown.good.seat.func a.seat.is_func shown.good.seat.is_func (together shown.good.seat a.seat) in
+        sym a.good.readers ∙ ap (λ (x : Func). x.readers) same ∙ shown.good.call.readers
+
+    -- and what the run was given as shares is only read at the join, too
+    pub frozen : SharesFrozen v (ok_with g sp.others) (under g.base (resumed s frame t))
+    frozen a lt some =
+        frozen_arrives code is.fits is.steps settles is.frozen (under g.base s) (length g.base.around) a (placed p.rest.slices.items a).items deep there.budget (job_start out) frame t there.left (record {
+          good = out_starts code is.fits (under g.base s) p.limit q.before none shown.good;
+          frozen = h.waited.runs.frozen a lt some;
+          here = (shown.arrays.5.has a lt some).0;
+        }) there.there
+      where
+        deep : length g.base.around ≤ length (under g.base s).around
+        deep = let many = round_many g.base s.around in omega (arith, many)
+
     module _ (back : Rest) (replaced : List (Option Placed)) (holds : HoldsFrame back frame) (empty : KeepsEmpty out q.rest back replaced) (homes : KeepsHomes q.rest.slices.items back.slices.items replaced) (fixed : KeepsFixed v is out.place replaced) where
+      pub reads : frame.readers ≡ s.readers
+      reads = same_readers q.rest.slices.items back.slices.items replaced homes s.readers frame.readers reads_as_many out_is.holds.reads holds.reads
+
       abbrev full_apart : (a : ℕ) → is_full (slice_get s.slots a) ≡ true → IsNotAmong a (slots_in (under g.base s).results ++ all_of (ints_round (beneath g.base s.around)))
       full_apart a full = shown.good.call.ints.apart a full
 
@@ -215,18 +243,22 @@ module _ (self : Strand) (job : Job) (others : List Job) (newest : Newest self j
           let same : k ≡ a = cc in
           (subst (λ r. IsNotAmong a (slots_in r)) w.1 n).0 (sym same)
 
-      pub giving : IsGiving v (ok_with g sp.others) sp.out self.run.machine (under g.base s) frame (waits_under g.base s) back replaced newest.lent.target
+      pub giving : IsGiving v (ok_with g sp.others) sp.out self.run.machine (under g.base s) frame (waits_under g.base s) back replaced newest.lent.home.lender.slots (slots_lent (loans_of v newest.lent.home.lent)) newest.lent.home.target
       giving =
           let it = lends_it self job others newest is j g h in
           let same = sp.is_lent.slices in
-          let w : ResultWaits newest.lent.target s.results l.waiting.results = subst (λ o. ResultWaits o s.results l.waiting.results) (sym sp.is_lent.target) h.waited.back.results in
+          let w : ResultWaits newest.lent.home.target s.results l.waiting.results = subst (λ o. ResultWaits o s.results l.waiting.results) (sym sp.is_lent.target) h.waited.back.results in
           record {
+            slots_are = sp.is_lent.slots;
+            lent_are = sp.is_lent.lent;
+            readers = reads;
             shows = it.shows;
             above = it.above;
             level = it.level;
             had = subst (λ x. HasArrays x s.arrays) (sym same) out_is.holds.has;
+            wide = sp.is_lent.wide ∙ ap length (sym h.waited.back.arrays);
             together = together;
-            good = good (holds.reads_none ∙ sym out_is.holds.reads_none);
+            good = good reads;
             holds = holds;
             homes = subst (λ x. KeepsHomes x back.slices.items replaced) (sym same) homes;
             fixed = fixed;
@@ -234,10 +266,10 @@ module _ (self : Strand) (job : Job) (others : List Job) (newest : Newest self j
               own = λ a e. empty.own a e;
               items = λ a e. empty.slices a e ∙ ap (λ x. (placed x a).items) (sym same);
             };
-            comes = comes_at newest.lent.target s.results w (λ a full. not_first a (slots_in (under g.base s).results) (all_of (ints_round (beneath g.base s.around))) (full_apart a full));
-            round = comes_back_round newest.lent.target s.slots q.rest.cells.items back.cells.items (λ a e. empty.cells a e) (beneath g.base s.around)
+            comes = comes_at newest.lent.home.target s.results w (λ a full. not_first a (slots_in (under g.base s).results) (all_of (ints_round (beneath g.base s.around))) (full_apart a full));
+            round = comes_back_round newest.lent.home.target s.slots q.rest.cells.items back.cells.items (λ a e. empty.cells a e) (beneath g.base s.around)
                 (λ a full. not_second a (slots_in (under g.base s).results) (all_of (ints_round (beneath g.base s.around))) (full_apart a full)) comes0.1;
-            awaits = waits_newest newest.lent.target w;
+            awaits = waits_newest newest.lent.home.target w;
           }
         where
           waits_newest : (target : Option ℕ) → ResultWaits target s.results l.waiting.results → (a : ℕ) → target ≡ Some a → IsNotAmong a (slots_in (waits_under g.base s).newest) → ⊥

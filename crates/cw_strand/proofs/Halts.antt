@@ -20,8 +20,8 @@ use Rattle.cw_strand.specs.declared.strand.Lent.{Lent}
 use Rattle.cw_strand.specs.declared.strand.Mode.{Mode}
 use Rattle.cw_strand.specs.declared.strand.Mode.TheVariants as mode
 use Rattle.cw_strand.specs.declared.strand.Strand.{Strand}
-use Rattle.cw_strand.specs.Levels.{levels_of, handed_levels}
-use Rattle.cw_strand.specs.Holds.{its_parts, its_code, IsRest, ok_with, Lends, AreOut, Holds, KeepsJob, IsRunning}
+use Rattle.cw_strand.specs.Levels.{levels_of}
+use Rattle.cw_strand.specs.Holds.{its_parts, its_code, IsRest, ok_with, Lends, rests_at, Holds, KeepsJob, IsRunning}
 use Rattle.cw_strand.specs.Moves.{CameTo, HasCome, HasSpared}
 use Rattle.cw_strand.proofs.Levels.{HasReturned, LevelsAfter, levels_move}
 use Rattle.cw_strand.proofs.Same.{same_strand}
@@ -65,14 +65,14 @@ module _ (keep : (code : Code) → CallsKeep code) (self : Strand) (limit : ℕ)
     trapped : (trap : Trap) (line : ℕ) → CameTo self limit (stop.Trapped trap line) is j → Holds (record self { mode = mode.Trapped trap line }) is j
     trapped trap line c =
         let at = c.at.1 in
-        let out = c.jobs_out in
+        let out = rests_at p (levels_of c.state.around) lent in
         record {
           ground = c.ground;
           strand = Halted (jobs.TrapIn trap line at.lines (c.later + 1)) out;
           is_of = fell code (keep code) j c.state c.later out trap line at.lines (not_come (stop.Trapped trap line) c at.before) at.steps (one_more (stop.Trapped trap line) c c.at.0) c.is_of;
           held = (
             ap (λ l. jobs.TrapIn trap line l (c.later + 1)) (sym at.shown) ∙ ap (jobs.TrapIn trap line self.run.machine.lines.items) (sym c.at.0),
-            record { levels = handed_levels (levels_of c.state); outs = c.outs; lends = c.lends; remains = at.remains },
+            record { levels = levels_of c.state.around; outs = c.outs; lends = c.lends; remains = at.remains },
           );
         }
 
@@ -83,20 +83,20 @@ module _ (keep : (code : Code) → CallsKeep code) (self : Strand) (limit : ℕ)
         let full = c.at.1 in
         let l = c.ground.job.limit in
         let b = c.ground.job.before in
-        let out = c.jobs_out in
+        let out = rests_at p (levels_of c.state.around) lent in
         record {
           ground = c.ground;
           strand = Halted jobs.OverLimit out;
           is_of = passed code (keep code) j c.state c.later out (not_come stop.Over c at.before) (omega (arith, e, full, end, l, b)) c.is_of;
           held = (
             refl,
-            record { levels = handed_levels (levels_of c.state); outs = c.outs; lends = c.lends; remains = remain v (ok_with c.ground c.outs) self.run.machine (under c.ground.base c.state) at.shows.shows },
+            record { levels = levels_of c.state.around; outs = c.outs; lends = c.lends; remains = remain v (ok_with c.ground c.outs) self.run.machine (under c.ground.base c.state) at.shows.shows },
           );
         }
 
     lost : (to : Stop) → CameTo self limit to is j → Holds (record self { mode = mode.Memory }) is j
     lost to c =
-        let out = c.jobs_out in
+        let out = rests_at p (levels_of c.state.around) lent in
         record {
           ground = c.ground;
           strand = Halted jobs.Memory out;
@@ -107,7 +107,7 @@ module _ (keep : (code : Code) → CallsKeep code) (self : Strand) (limit : ℕ)
     pub came_back : CameTo self limit stop.CameBack is j → Holds (record self { mode = mode.Waiting }) is j
     came_back c =
         let at = c.at.1 in
-        let out = c.jobs_out in
+        let out = rests_at p (levels_of c.state.around) lent in
         let r : HasReturned c.state at.next = subst (λ t. LevelsAfter t c.state at.next) at.turns (levels_move code c.state at.next at.steps) in
         record {
           ground = c.ground;
@@ -115,14 +115,14 @@ module _ (keep : (code : Code) → CallsKeep code) (self : Strand) (limit : ℕ)
           is_of = ran code (keep code) j c.state at.next c.later out ComesBack at.turns (not_come stop.CameBack c at.before) at.steps (one_more stop.CameBack c c.at.0) c.is_of;
           held = record {
             level = r.level;
-            apart = r.kept ∙ at.apart;
             back = r.back;
             runs = record {
               counts = sym c.at.0;
               outs = c.outs;
-              lends = subst (λ l. Lends v is p c.ground.base l c.outs lent) (ap handed_levels r.levels) c.lends;
-              are = subst (λ l. AreOut p l lent c.jobs_out) r.levels c.are;
+              lends = subst (λ l. Lends v is p c.ground.base l c.outs lent) r.levels c.lends;
+              are = ap (λ l. rests_at p l lent) r.levels;
               shows = at.shows;
+              frozen = at.frozen;
             };
           };
         }
@@ -193,8 +193,8 @@ spared_runs keep old new limit to h same = subst IsRunning
       rests = subst (λ l. (k : ℕ) (x : Lent) → slice_get (reverse l) k ≡ Some x → IsRest (its_code old) x) (sym same.lent) h.rests;
       holds = λ is j job. ∥∥₁_map (h.comes is j job) (λ c. record {
         ground = c.ground;
-        strand = Halted jobs.Memory c.jobs_out;
-        is_of = wants (code_view (its_code old).code) (keep (code_view (its_code old).code)) j (Going c.state c.later c.jobs_out) c.is_of;
+        strand = Halted jobs.Memory (rests_at (its_parts old) (levels_of c.state.around) (reverse old.lent.items));
+        is_of = wants (code_view (its_code old).code) (keep (code_view (its_code old).code)) j (Going c.state c.later (rests_at (its_parts old) (levels_of c.state.around) (reverse old.lent.items))) c.is_of;
         held = refl;
       });
     })

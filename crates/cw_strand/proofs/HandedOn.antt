@@ -3,6 +3,7 @@ use Rattle.std.proofs.Common.{◌≡◌, ℕ, zero, suc, ◌+◌, false, Some, L
 use Rattle.std.specs.Prelude.{map, reverse, slice_get}
 use Rattle.std.proofs.Math.Logic.{∥∥₁_map}
 use Rattle.cw_code.specs.Code.{Code, code_view}
+use Rattle.cw_code.specs.Fits.{slots_lent}
 use Rattle.cw_code.specs.Run.{Whole, passed_by}
 use Rattle.cw_metered.specs.Strands.{TellsAll}
 use Rattle.cw_strands.specs.Jobs as jobs
@@ -14,30 +15,31 @@ use Rattle.cw_strands.specs.Steps.{CallsKeep}
 use Rattle.cw_verify.specs.declared.verified.Verified.{Verified}
 use Rattle.cw_jobs.specs.declared.call.Parts.{Parts}
 use Rattle.cw_jobs.specs.Jobs.{origin_of, code_of}
+use Rattle.cw_machine.specs.declared.hands.Lender.{Lender}
 use Rattle.cw_machine.specs.declared.run.Spawn.{Spawn}
 use Rattle.cw_machine.specs.declared.run.Stop.TheVariants as stop
 use Rattle.cw_machine.specs.Arrays.{Out, IsFit}
 use Rattle.cw_machine.specs.Shows.{Comes}
-use Rattle.cw_machine.specs.Keeping.{keeps_between}
 use Rattle.cw_machine.specs.Unwinding.{OutsLieApart}
+use Rattle.cw_machine.specs.Calls.{loans_of}
 use Rattle.cw_machine.specs.Hands.{ComesRound, out_of}
 use Rattle.cw_strand.specs.declared.strand.Lent.{Lent}
 use Rattle.cw_strand.specs.declared.strand.Mode.TheVariants as mode
 use Rattle.cw_strand.specs.declared.strand.Strand.{Strand}
-use Rattle.cw_strand.specs.Levels.{Level, levels_of, handed_if, handed_levels, waiting_over}
-use Rattle.cw_strand.specs.Holds.{IsRest, its_parts, its_code, outs, lent_parts, IsLent, Lends, older, IsOutAt, AreOut, HeldIn, Holds, KeepsJob, AreSpare, IsRunning}
+use Rattle.cw_strand.specs.Levels.{levels_of, waiting_over}
+use Rattle.cw_strand.specs.Holds.{IsRest, its_parts, its_code, outs, lent_parts, IsLent, Lends, rests_at, HeldIn, Holds, KeepsJob, AreSpare, IsRunning}
 use Rattle.cw_strand.specs.Moves.{CameTo, HasCome, HasCut}
 use Rattle.cw_strand.proofs.Levels.{HasSpawned}
 use Rattle.cw_strand.proofs.Course.{ran}
 use Rattle.cw_jobs.specs.declared.job.Job.{Job}
 use Rattle.cw_strand.proofs.Same.{spare_as, last_first}
-use Rattle.cw_strand.proofs.Cutting.{over_slots, spawned, handed, rest_job, below}
+use Rattle.cw_strand.proofs.Cutting.{over_slots, over_arrays, spawned, handed, rest_job, below}
 
 some_same : {A : Type 0} (x y : A) → Some x ≡ Some y → x ≡ y
 some_same x y e = cc
 
 -- the strand once its job is among those that are out
-module _ (keep : (code : Code) → CallsKeep code) (apart : OutsLieApart) (old mid : Strand) (limit : ℕ) (spawn : Spawn) (x : Lent) (cut : HasCut old mid spawn (lent_parts x) x.first) (target : x.target ≡ spawn.target) (after : List Lent) (are : after ≡ x ∷ reverse old.lent.items) where
+module _ (keep : (code : Code) → CallsKeep code) (apart : OutsLieApart) (old mid : Strand) (limit : ℕ) (spawn : Spawn) (x : Lent) (cut : HasCut old mid spawn (lent_parts x) x.home.lender) (loaned : x.home.lent ≡ spawn.lent) (target : x.home.target ≡ spawn.target) (after : List Lent) (are : after ≡ x ∷ reverse old.lent.items) where
   module _ (is : IsFit (its_code old)) (j : jobs.Job) (job : KeepsJob old) (c : CameTo old limit (stop.Spawned spawn) is j) where
     abbrev v : Verified
     v = its_code old
@@ -49,20 +51,20 @@ module _ (keep : (code : Code) → CallsKeep code) (apart : OutsLieApart) (old m
     s = spawned keep old limit spawn is j c
 
     abbrev o : Out
-    o = out_of (length (beneath c.ground.base c.state.around)) x.first old.run.machine.first_array (lent_parts x).rest.slices.items
+    o = out_of (length (beneath c.ground.base c.state.around)) x.home.lender.first old.run.machine.first_array (length (waiting_over c.ground.base s.waiting c.state.around).arrays) (slots_lent (loans_of v spawn.lent)) (lent_parts x).rest.slices.items
 
-    abbrev level : Level
-    level = record { waiting = s.waiting; around = c.state.around; kept = keeps_between c.state c.at.1.next }
-
-    out_is : IsLent v is p c.ground.base level o x
+    out_is : IsLent v is p c.ground.base (record { waiting = s.waiting; around = c.state.around }) o x
     out_is =
-        let h = handed keep old limit spawn is j c apart mid (lent_parts x) x.first cut in
+        let h = handed keep old limit spawn is j c apart mid (lent_parts x) x.home.lender cut in
         let wide = over_slots c.ground.base s.waiting c.state.around in
         record {
           level = refl;
           first = refl;
+          slots = sym h.slots_are;
+          wide = ap length (over_arrays c.ground.base s.waiting c.state.around);
+          lent = ap (λ l. slots_lent (loans_of v l)) (sym loaned);
           slices = refl;
-          job = rest_job keep old limit spawn is j c apart mid (lent_parts x) x.first cut;
+          job = rest_job keep old limit spawn is j c apart mid (lent_parts x) x.home.lender cut;
           code = cut.code;
           joins = cut.joins;
           burden = cut.burden;
@@ -74,27 +76,23 @@ module _ (keep : (code : Code) → CallsKeep code) (apart : OutsLieApart) (old m
           );
         }
 
-    lent_lends : Lends v is p c.ground.base (handed_levels (levels_of c.at.1.next)) (o ∷ c.outs) after
+    lent_lends : Lends v is p c.ground.base (levels_of c.at.1.next.around) (o ∷ c.outs) after
     lent_lends =
-        let newest : handed_levels (levels_of c.at.1.next) ≡ level ∷ handed_levels (levels_of c.state) = ap handed_levels s.levels ∙ ap (λ b. handed_if b level (handed_levels (levels_of c.state))) c.at.1.apart in
-        subst (λ l. Lends v is p c.ground.base l (o ∷ c.outs) after) (sym newest)
-        (subst (λ l. Lends v is p c.ground.base (level ∷ handed_levels (levels_of c.state)) (o ∷ c.outs) l) (sym are)
-        (out_is, below keep old limit spawn is j c apart mid (lent_parts x) x.first cut, c.lends))
+        subst (λ l. Lends v is p c.ground.base l (o ∷ c.outs) after) (sym s.levels)
+        (subst (λ l. Lends v is p c.ground.base (record { waiting = s.waiting; around = c.state.around } ∷ levels_of c.state.around) (o ∷ c.outs) l) (sym are)
+        (out_is, below keep old limit spawn is j c apart mid (lent_parts x) x.home.lender cut, c.lends))
 
-    abbrev handed_job : jobs.Job
-    handed_job = spawn_job c.state spawn.target (map (λ a. Whole a) (passed_by (code_view v.code) spawn.passed)) j.limit (j.before + (c.later + 1))
+    abbrev rests : List jobs.Job
+    rests = rests_at p (levels_of c.state.around) (reverse old.lent.items)
 
-    rests_are : AreOut p (levels_of c.at.1.next) after (handed_job ∷ c.jobs_out)
+    rests_are : spawn_job c.state spawn.target (map (λ a. Whole a) (passed_by (code_view v.code) spawn.passed)) j.limit (j.before + (c.later + 1)) ∷ rests ≡ rests_at p (levels_of c.at.1.next.around) after
     rests_are =
         let b = c.ground.job.before in
         let e = c.at.0 in
         let q = cut.before in
         let n : j.before + (c.later + 1) ≡ (lent_parts x).before = omega (arith, b, e, q) in
-        let is_rest : handed_job ≡ rest_of s.waiting p.limit (lent_parts x).before = s.rest j.limit (j.before + (c.later + 1)) ∙ ap (λ l. rest_of s.waiting l (j.before + (c.later + 1))) c.ground.job.limit ∙ ap (λ k. rest_of s.waiting p.limit k) n in
-        let lent = reverse old.lent.items in
-        subst (λ z. AreOut p z after (handed_job ∷ c.jobs_out)) (sym s.levels)
-        (subst (λ z. AreOut p (level ∷ levels_of c.state) z (handed_job ∷ c.jobs_out)) (sym are)
-        (subst (λ k. IsOutAt p level k (x ∷ lent) handed_job × AreOut p (levels_of c.state) (older k (x ∷ lent)) c.jobs_out) (sym c.at.1.apart) (is_rest, c.are)))
+        ap (λ z. z ∷ rests) (s.rest j.limit (j.before + (c.later + 1)) ∙ ap (λ l. rest_of s.waiting l (j.before + (c.later + 1))) c.ground.job.limit ∙ ap (λ k. rest_of s.waiting p.limit k) n)
+        ∙ sym (ap (λ l. rests_at p l after) s.levels ∙ ap (rests_at p (record { waiting = s.waiting; around = c.state.around } ∷ levels_of c.state.around)) are)
 
     -- the strand as it goes on, over the one that it was
     abbrev pub on_with : (lent : Strand) → Strand
@@ -102,27 +100,29 @@ module _ (keep : (code : Code) → CallsKeep code) (apart : OutsLieApart) (old m
 
     pub lent_holds : (lent : Strand) → reverse lent.lent.items ≡ after → old.mode ≡ mode.Going → Holds (on_with lent) is j
     lent_holds lent same going =
-        let h = handed keep old limit spawn is j c apart mid (lent_parts x) x.first cut in
+        let h = handed keep old limit spawn is j c apart mid (lent_parts x) x.home.lender cut in
         let w = job.within in
         let jl = c.ground.job.limit in
         let jb = c.ground.job.before in
         let e0 = c.at.0 in
         let next = c.at.1.next in
-        let is_of = ran (code_view v.code) (keep (code_view v.code)) j c.state next c.later c.jobs_out (HandsOut spawn.target (map (λ a. Whole a) (passed_by (code_view v.code) spawn.passed))) c.at.1.turns
+        let out = rests_at p (levels_of next.around) after in
+        let is_of = ran (code_view v.code) (keep (code_view v.code)) j c.state next c.later rests (HandsOut spawn.target (map (λ a. Whole a) (passed_by (code_view v.code) spawn.passed))) c.at.1.turns
         (subst (λ y. has_come y (code_view v.code) c.state ≡ false) (sym c.ground.job.extent) c.at.1.before) c.at.1.steps (omega (arith, e0, w, jl, jb)) c.is_of in
         record {
           ground = c.ground;
-          strand = Going next (c.later + 1) (handed_job ∷ c.jobs_out);
-          is_of = is_of;
-          held = subst (λ m. HeldIn (on_with lent) is j c.ground m (Going next (c.later + 1) (handed_job ∷ c.jobs_out))) (sym going) (record {
+          strand = Going next (c.later + 1) out;
+          is_of = subst (λ l. IsStrandOf (code_view v.code) j (Going next (c.later + 1) l)) rests_are is_of;
+          held = subst (λ m. HeldIn (on_with lent) is j c.ground m (Going next (c.later + 1) out)) (sym going) (record {
             counts = sym e0;
             outs = o ∷ c.outs;
-            lends = subst (Lends v is p c.ground.base (handed_levels (levels_of next)) (o ∷ c.outs)) (sym same) lent_lends;
-            are = subst (λ z. AreOut p (levels_of next) z (handed_job ∷ c.jobs_out)) (sym same) rests_are;
+            lends = subst (Lends v is p c.ground.base (levels_of next.around) (o ∷ c.outs)) (sym same) lent_lends;
+            are = ap (rests_at p (levels_of next.around)) (sym same);
             shows = record {
               shows = h.shows;
               tells = subst (TellsAll (code_view v.code) p.burden (origin_of p) (Going next old.count [])) (sym cut.meter) c.at.1.shows.tells;
             };
+            frozen = c.at.1.may.frozen;
           });
         }
 
@@ -165,14 +165,14 @@ module _ (keep : (code : Code) → CallsKeep code) (apart : OutsLieApart) (old m
         ∙ ap (λ z. record old { of = new.of; parts = new.parts; run = new.run; count = new.count; lent = new.lent; spares = new.spares; mode = z }) (sym m)) goes_on
 
 -- the strand that the job was handed out of
-pub lent_step : ((code : Code) → CallsKeep code) → OutsLieApart → (old mid new : Strand) (limit : ℕ) (spawn : Spawn) (job : Job) (first : ℕ) (x : Lent) → HasCome old limit (stop.Spawned spawn) → HasCut old mid spawn job.parts.value first
-    → x.job.value ≡ job → x.first ≡ first → x.target ≡ spawn.target → new.of ≡ mid.of → new.parts ≡ mid.parts → new.run ≡ mid.run → new.count ≡ mid.count → new.spares ≡ mid.spares → new.mode ≡ mid.mode → new.lent.items ≡ mid.lent.items ++ x ∷ []
+pub lent_step : ((code : Code) → CallsKeep code) → OutsLieApart → (old mid new : Strand) (limit : ℕ) (spawn : Spawn) (job : Job) (l : Lender) (x : Lent) → HasCome old limit (stop.Spawned spawn) → HasCut old mid spawn job.parts.value l
+    → x.job.value ≡ job → x.home.lender ≡ l → x.home.lent ≡ spawn.lent → x.home.target ≡ spawn.target → new.of ≡ mid.of → new.parts ≡ mid.parts → new.run ≡ mid.run → new.count ≡ mid.count → new.spares ≡ mid.spares → new.mode ≡ mid.mode → new.lent.items ≡ mid.lent.items ++ x ∷ []
     → IsRunning new × (outs new ≡ job ∷ outs old)
-lent_step keep apart old mid new limit spawn job first x h cut same at target of parts run count spares mode lent =
-    let cut' : HasCut old mid spawn (lent_parts x) x.first = subst (λ (b : Job). HasCut old mid spawn b.parts.value x.first) (sym same) (subst (λ k. HasCut old mid spawn job.parts.value k) (sym at) cut) in
+lent_step keep apart old mid new limit spawn job l x h cut same at loaned target of parts run count spares mode lent =
+    let cut' : HasCut old mid spawn (lent_parts x) x.home.lender = subst (λ (b : Job). HasCut old mid spawn b.parts.value x.home.lender) (sym same) (subst (λ k. HasCut old mid spawn job.parts.value k) (sym at) cut) in
     let are : reverse new.lent.items ≡ x ∷ reverse old.lent.items = ap reverse lent ∙ last_first mid.lent.items x ∙ ap (λ l. x ∷ reverse l) cut.lent in
     let bare : AreSpare (record old { run = mid.run; lent = new.lent; spares = new.spares }) =
     spare_as mid (record old { run = mid.run; lent = new.lent; spares = new.spares }) spares (sym cut.of) cut.spares in (
-      goes_as keep apart old mid limit spawn x cut' target (x ∷ reverse old.lent.items) refl new are bare h new (of ∙ cut.of) (parts ∙ cut.parts) run (count ∙ cut.count) refl refl (mode ∙ cut.mode),
+      goes_as keep apart old mid limit spawn x cut' loaned target (x ∷ reverse old.lent.items) refl new are bare h new (of ∙ cut.of) (parts ∙ cut.parts) run (count ∙ cut.count) refl refl (mode ∙ cut.mode),
       ap (map (λ l. l.job.value)) are ∙ ap (λ z. z ∷ outs old) same,
     )

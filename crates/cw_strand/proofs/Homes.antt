@@ -2,6 +2,7 @@
 use Rattle.std.proofs.Common.{◌≡◌, ℕ, suc, ◌+◌, ◌≤◌, true, false, Option, Some, List, [], ◌∷◌, length, refl, sym, ap, ◌∙◌, subst}
 use Rattle.std.specs.Prelude.{reverse, slice_get}
 use Rattle.std.proofs.Math.Logic.{∥∥₁_elim, ∥∥₁_map}
+use Rattle.cw_code.specs.Fits.{slots_lent}
 use Rattle.cw_code.specs.Run.{State}
 use Rattle.cw_slices.specs.Placed.{Placed}
 use Rattle.cw_strands.specs.Jobs as jobs
@@ -13,16 +14,17 @@ use Rattle.cw_jobs.specs.declared.job.Job.{Job}
 use Rattle.cw_jobs.specs.Jobs.{IsJob, KeepsHomes}
 use Rattle.cw_machine.specs.declared.machine.Machine.{Machine}
 use Rattle.cw_machine.specs.declared.run.Run.{Run}
+use Rattle.cw_machine.specs.Calls.{loans_of}
 use Rattle.cw_machine.specs.Arrays.{Out, IsFit}
 use Rattle.cw_machine.specs.Shows.{Remains}
-use Rattle.cw_machine.specs.Unwinding.{LieBelow, ComesTo, MayComeHome, ComesHome}
+use Rattle.cw_machine.specs.Unwinding.{LieBelow, ComesTo}
 use Rattle.cw_strand.specs.declared.strand.Lent.{Lent}
 use Rattle.cw_strand.specs.declared.strand.Mode.{Mode}
 use Rattle.cw_strand.specs.declared.strand.Mode.TheVariants as mode
 use Rattle.cw_strand.specs.declared.strand.Strand.{Strand}
 use Rattle.cw_strand.specs.Levels.{Level}
 use Rattle.cw_strand.specs.Holds.{its_parts, its_code, lent_parts, Ground, ok_with, IsLent, Lends, Stands, HeldIn, Holds, AreSpare, KeepsJob, IsRunning, stops, is_lost, HasStopped}
-use Rattle.cw_strand.specs.Moves.{HasPoppedHome, HasSpared}
+use Rattle.cw_strand.specs.Moves.{HasPoppedHome, HasSpared, MayReach, Reaches}
 use Rattle.cw_strand.proofs.RunsOn.{sound_of}
 use Rattle.cw_strand.proofs.Same.{same_strand, spare_as, Newest}
 
@@ -45,7 +47,10 @@ newly_of v is p base (l ∷ levels) (o ∷ outs) x lent h = record { level = l; 
 
 -- slices that nobody changed lie where they lay
 same_homes : (slices back : List Placed) → back ≡ slices → KeepsHomes slices back []
-same_homes slices back e = subst (λ b. KeepsHomes slices b []) (sym e) (refl, λ a. (refl, refl))
+same_homes slices back e = subst (λ b. KeepsHomes slices b []) (sym e) (refl, λ a. (refl, refl, λ some. refl), λ a own q. absurd (none_there a (Some own) q), λ a some p q. absurd (none_there a (Some p) q))
+  where
+    none_there : {A : Type 0} (a : ℕ) (x : A) → slice_get {X = A} [] a ≡ Some x → ⊥
+    none_there a x q = cc
 
 -- the newest job came home, whatever boxes are kept
 pub record CameHome (old : Strand) (back : List Placed) (replaced : List (Option Placed)) (new : Strand) : Type 0 where
@@ -55,7 +60,7 @@ pub record CameHome (old : Strand) (back : List Placed) (replaced : List (Option
   pub mode : new.mode ≡ old.mode
   pub lines : new.run.machine.lines.items ≡ old.run.machine.lines.items
   pub left : (x : Lent) (xs : List Lent) → reverse old.lent.items ≡ x ∷ xs → reverse new.lent.items ≡ xs
-  pub home : (x : Lent) (xs : List Lent) → reverse old.lent.items ≡ x ∷ xs → is_lost old.mode ≡ false → ComesHome old.run.machine x.first back replaced new.run.machine
+  pub home : (x : Lent) (xs : List Lent) → reverse old.lent.items ≡ x ∷ xs → is_lost old.mode ≡ false → Reaches old.run.machine (its_code old) x.home back replaced new.run.machine
 
 module _ (self : Strand) (job : Job) (others : List Job) (newest : Newest self job others) where
   abbrev v : Verified
@@ -72,19 +77,21 @@ module _ (self : Strand) (job : Job) (others : List Job) (newest : Newest self j
     newly = newly_of v is p g.base h.levels h.outs newest.lent newest.rest (subst (Lends v is p g.base h.levels h.outs) newest.are h.lends)
 
     module _ (back : List Placed) (replaced : List (Option Placed)) (homes : KeepsHomes rest_slices back replaced) where
-      comes : ComesTo v (ok_with g newly.others) newly.out self.run.machine newest.lent.first back replaced
+      comes : ComesTo v (ok_with g newly.others) newly.out self.run.machine newest.lent.home.lender.first newest.lent.home.lender.slots (slots_lent (loans_of v newest.lent.home.lent)) back replaced
       comes = record {
         remains = subst (λ o. Remains v (ok_with g o) self.run.machine) newly.are h.remains;
         first = newly.is_lent.first;
+        slots_are = newly.is_lent.slots;
+        lent_are = newly.is_lent.lent;
         below = subst (LieBelow newly.others) newly.is_lent.first newly.below;
         homes = subst (λ s. KeepsHomes s back replaced) (sym newly.is_lent.slices) homes;
       }
 
-      pub may_home : MayComeHome self.run.machine newest.lent.first back replaced
+      pub may_home : MayReach self.run.machine v newest.lent.home back replaced
       may_home = record { code = v; ok = ok_with g newly.others; out = newly.out; comes = comes }
 
       -- and then the strand stands on with what is left
-      pub stands_on : (new : Strand) (m : Machine) → reverse new.lent.items ≡ newest.rest → ComesHome self.run.machine newest.lent.first back replaced m
+      pub stands_on : (new : Strand) (m : Machine) → reverse new.lent.items ≡ newest.rest → Reaches self.run.machine v newest.lent.home back replaced m
           → Stands (record self { run = record new.run { machine = m }; lent = new.lent; count = new.count; spares = new.spares; mode = new.mode }) is j g
       stands_on new m left home = record {
         levels = newly.others_levels;
@@ -147,7 +154,7 @@ module _ (self : Strand) (job : Job) (others : List Job) (newest : Newest self j
     goes_so of parts spares = goes_spared of parts (spare_as self new spares of running.spares)
 
   -- nobody ran it
-  pub may_skip : IsRunning self → HasStopped self → (back : List Placed) → back ≡ rest_slices → is_lost self.mode ≡ false → ∥ MayComeHome self.run.machine newest.lent.first back [] ∥₁
+  pub may_skip : IsRunning self → HasStopped self → (back : List Placed) → back ≡ rest_slices → is_lost self.mode ≡ false → ∥ MayReach self.run.machine v newest.lent.home back [] ∥₁
   may_skip running stopped back e known = ∥∥₁_elim (sound_of self) (hlevel) (λ s. ∥∥₁_map (running.holds s.ok s.job s.is) (λ d.
       may_home s.ok s.job d.ground (stands_in s.ok s.job d.ground self.mode d.strand stopped known d.held) back [] (same_homes rest_slices back e)))
 
@@ -196,5 +203,5 @@ skips self job others newest running stopped back e popped new home spared =
       mode = spared.mode ∙ home.mode;
       lines = ap (λ (r : Run). r.machine.lines.items) spared.run ∙ home.lines;
       left = λ x xs are. ap reverse spared.lent ∙ home.left x xs are;
-      home = λ x xs are known. subst (λ (r : Run). ComesHome self.run.machine x.first back [] r.machine) (sym spared.run) (home.home x xs are known);
+      home = λ x xs are known. subst (λ (r : Run). Reaches self.run.machine (its_code self) x.home back [] r.machine) (sym spared.run) (home.home x xs are known);
     }) spared.spares (λ is j g h. ∣ same_homes (rest_slices self job others newest) back e ∣₁)

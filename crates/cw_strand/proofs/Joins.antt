@@ -6,7 +6,7 @@ use mathlib.Core.HLevel.{⊥_prop}
 use Rattle.cw_model.specs.Outcome.{Trace}
 use Rattle.cw_code.specs.declared.code.Func.{Func}
 use Rattle.cw_code.specs.Code.{Code, code_view}
-use Rattle.cw_code.specs.Run.{Readers, Around, Caller, Block, State}
+use Rattle.cw_code.specs.Run.{Around, Caller, Block, State}
 use Rattle.cw_code.specs.Fits.{Fits}
 use Rattle.cw_code.specs.Staying.{SeatsLie, IsInside, outermost}
 use Rattle.cw_meter.specs.Meters.{Meters}
@@ -37,8 +37,8 @@ use Rattle.cw_machine.specs.Shows.{Shows}
 use Rattle.cw_machine.specs.JobRuns.{ok_of, job_ok, IsBase, HasCome as HasComeTo, CanEnd, EndsJob}
 use Rattle.cw_strand.specs.declared.strand.Lent.{Lent}
 use Rattle.cw_strand.specs.declared.strand.Strand.{Strand}
-use Rattle.cw_strand.specs.Levels.{Level, levels_in, levels_of, handed_levels}
-use Rattle.cw_strand.specs.Holds.{its_job, its_parts, its_code, outs, ok_with, Lends, AreOut}
+use Rattle.cw_strand.specs.Levels.{levels_of}
+use Rattle.cw_strand.specs.Holds.{its_job, its_parts, its_code, outs, ok_with, Lends, rests_at}
 use Rattle.cw_strand.specs.Moves.{CameTo, HasCome, IsShown}
 use Rattle.cw_strand.proofs.Levels.{ends_alone}
 use Rattle.cw_strand.proofs.Course.{ended, arrived, come_alone, come_joins}
@@ -53,24 +53,15 @@ shown_as code r cost count x t is e lines totals = record {
 }
 
 -- with nothing round its state a strand has nothing out
-module _ (self : Strand) (v : Verified) (is : IsFit v) (p : Parts) (base : State) (levels : List Level) (out : List Out) (lends : Lends v is p base (handed_levels levels) out (reverse self.lent.items)) (alone : levels ≡ []) where
+module _ (self : Strand) (v : Verified) (is : IsFit v) (p : Parts) (base : State) (around : List Around) (out : List Out) (lends : Lends v is p base (levels_of around) out (reverse self.lent.items)) (alone : around ≡ []) where
   bare : Lends v is p base [] out (reverse self.lent.items)
-  bare = subst (λ a. Lends v is p base (handed_levels a) out (reverse self.lent.items)) alone lends
+  bare = subst (λ a. Lends v is p base (levels_of a) out (reverse self.lent.items)) alone lends
 
   pub none_lent : (h : Lent) (more : List Lent) → reverse self.lent.items ≡ h ∷ more → ⊥
   none_lent h more e = no_levels v is p base out (reverse self.lent.items) bare h more e
 
   pub lent_nil : reverse self.lent.items ≡ []
   lent_nil = is_nil (reverse self.lent.items) none_lent
-
--- and the definitions have nothing out
-none_out : (p : Parts) (levels : List Level) (lent : List Lent) (out : List jobs.Job) → levels ≡ [] → AreOut p levels lent out → out ≡ []
-none_out p levels lent [] e h = refl
-none_out p levels lent (job ∷ out) e h = absurd (subst (λ l. AreOut p l lent (job ∷ out)) e h)
-
-no_readers : (readers : Readers) → length readers ≡ 0 → readers ≡ []
-no_readers [] e = refl
-no_readers (xs ∷ readers) e = absurd (omega (arith, e))
 
 module _ (keep : (code : Code) → CallsKeep code) (self : Strand) (limit : ℕ) where
   abbrev v : Verified
@@ -90,7 +81,7 @@ module _ (keep : (code : Code) → CallsKeep code) (self : Strand) (limit : ℕ)
     pub gave_none : outs self ≡ []
     gave_none = ap (map (λ l. l.job.value)) (is_nil lent (λ l more e. ∥∥₁_elim (sound_of self) ⊥_prop (λ s. ∥∥₁_elim (h.comes s.ok s.job s.is) ⊥_prop (λ c.
         let at = c.at.1 in
-        none_lent self v s.ok p c.ground.base (levels_of c.state) c.outs c.lends (ap (levels_in c.state.readers) (ends_alone code c.state x at.arrays at.trace at.steps)) l more e))))
+        none_lent self v s.ok p c.ground.base c.state.around c.outs c.lends (ends_alone code c.state x at.arrays at.trace at.steps) l more e))))
 
     abbrev pub TellsEnd : Effect → Type 0
     TellsEnd (effect.Ended value shown) = (value ≡ x) × IsShown self.run self.count shown
@@ -108,8 +99,8 @@ module _ (keep : (code : Code) → CallsKeep code) (self : Strand) (limit : ℕ)
         let jl = c.ground.job.limit in
         let jb = c.ground.job.before in
         let e0 = c.at.0 in
-        let same : levels_of c.state ≡ [] = ap (levels_in c.state.readers) alone in
-        let is_of : IsStrandOf code j (Going c.state c.later []) = subst (λ l. IsStrandOf code j (Going c.state c.later l)) (none_out p (levels_of c.state) lent c.jobs_out same c.are) c.is_of in
+        let same : levels_of c.state.around ≡ [] = ap levels_of alone in
+        let is_of : IsStrandOf code j (Going c.state c.later []) = subst (λ l. IsStrandOf code j (Going c.state c.later (rests_at p l lent))) same c.is_of in
         record {
           effect = jobs.Ended x at.arrays at.trace (c.later + 1);
           means = ended code (keep code) j c.state c.later x at.arrays at.trace (subst (λ y. has_come y code c.state ≡ false) (sym c.ground.job.extent) at.before) at.steps (omega (arith, e0, w, jl, jb)) is_of;
@@ -153,11 +144,8 @@ module _ (keep : (code : Code) → CallsKeep code) (self : Strand) (limit : ℕ)
     pub alone : s.around ≡ []
     alone = come_alone code (extent_of p.extent) s come
 
-    levels_nil : levels_of s ≡ []
-    levels_nil = ap (levels_in s.readers) alone
-
     is_of : IsStrandOf code j (Going s c.later [])
-    is_of = subst (λ l. IsStrandOf code j (Going s c.later l)) (none_out p (levels_of s) lent c.jobs_out levels_nil c.are) c.is_of
+    is_of = subst (λ l. IsStrandOf code j (Going s c.later (rests_at p l lent))) (ap levels_of alone) c.is_of
 
     j_come : has_come j.extent code s ≡ true
     j_come = subst (λ y. has_come y code s ≡ true) (sym c.ground.job.extent) come
@@ -169,11 +157,11 @@ module _ (keep : (code : Code) → CallsKeep code) (self : Strand) (limit : ℕ)
     base = (c.ground.joins joins).0
 
     out_nil : c.outs ≡ []
-    out_nil = no_lent v is p c.ground.base (handed_levels (levels_of s)) c.outs (subst (Lends v is p c.ground.base (handed_levels (levels_of s)) c.outs) (lent_nil self v is p c.ground.base (levels_of s) c.outs c.lends levels_nil) c.lends)
+    out_nil = no_lent v is p c.ground.base (levels_of s.around) c.outs (subst (Lends v is p c.ground.base (levels_of s.around) c.outs) (lent_nil self v is p c.ground.base s.around c.outs c.lends alone) c.lends)
 
     shows_job : Shows v (job_ok v is j p.rest c.ground.base base) self.run.machine (under c.ground.base s)
     shows_job =
-        subst (λ n. Shows v (ok_of v is n p.rest.slices.items (length c.ground.base.around)) self.run.machine (under c.ground.base s)) (c.ground.joins joins).1
+        subst (λ n. Shows v (ok_of v is n (length j.arrays) p.rest.slices.items (length c.ground.base.around)) self.run.machine (under c.ground.base s)) (c.ground.joins joins).1
         (subst (λ o. Shows v (ok_with c.ground o) self.run.machine (under c.ground.base s)) out_nil c.at.1.shows.shows)
 
     -- its call is that of the job
@@ -191,15 +179,15 @@ module _ (keep : (code : Code) → CallsKeep code) (self : Strand) (limit : ℕ)
     same_arrays : length s.arrays ≡ length j.arrays
     same_arrays = sym shows_job.good.call.arrays.as_wide ∙ ap (λ (x : Func). x.arrays) one_func ∙ base.good.call.arrays.as_wide
 
-    reads_none : s.readers ≡ []
-    reads_none = no_readers s.readers (sym shows_job.good.call.readers ∙ ap (λ (x : Func). x.readers) one_func ∙ base.good.call.readers ∙ ap length c.ground.job.holds.reads_none)
+    same_readers : length s.readers ≡ length j.readers
+    same_readers = sym shows_job.good.call.readers ∙ ap (λ (x : Func). x.readers) one_func ∙ base.good.call.readers
 
     pub has_come_to : HasComeTo v is j p.rest self.run.machine s
     has_come_to = record {
       holds = record { base = c.ground.base; is_base = base; shows = shows_job };
       none = alone;
       arrays = same_arrays;
-      reads_none = reads_none;
+      readers = same_readers;
     }
 
   module _ (stay : RestsStayInside) (seats : (code : Code) (fits : Fits code) → SeatsLie code fits) (h : HasCome self limit stop.Joined) where
@@ -216,7 +204,7 @@ module _ (keep : (code : Code) → CallsKeep code) (self : Strand) (limit : ℕ)
 
     pub join_none : outs self ≡ []
     join_none = ap (map (λ l. l.job.value)) (is_nil lent (λ l more e. ∥∥₁_elim (sound_of self) ⊥_prop (λ s. ∥∥₁_elim (h.comes s.ok s.job s.is) ⊥_prop (λ c.
-        none_lent self v s.ok p c.ground.base (levels_of c.state) c.outs c.lends (ap (levels_in c.state.readers) (alone stay seats s.ok s.job c)) l more e))))
+        none_lent self v s.ok p c.ground.base c.state.around c.outs c.lends (alone stay seats s.ok s.job c) l more e))))
 
     module _ (meters : CallsKeepMeters) where
       -- an effect has the frame and the arrays that the machine ended with

@@ -1,17 +1,16 @@
 -- What stands round a state after an instruction: which spawned calls, and what the one that comes back goes on with.
-use Rattle.std.proofs.Common.{◌≡◌, ℕ, ◌+◌, ℤ, Bool, true, false, ◌||◌, if◌then◌else◌, Option, Some, None, List, [], ◌∷◌, ◌++◌, length, refl, sym, ap, ◌∙◌, subst, arith}
+use Rattle.std.proofs.Common.{◌≡◌, ℕ, ◌+◌, ℤ, Bool, true, false, if◌then◌else◌, Option, Some, None, List, [], ◌∷◌, ◌++◌, length, refl, sym, ap, ◌∙◌, subst, arith}
 use Rattle.std.specs.Prelude.{slice_get, slice_set}
 use Rattle.cw_model.specs.declared.syntax.CallKind.{CallKind}
 use Rattle.cw_model.specs.declared.syntax.CallKind.TheVariants.{Plain, Spawned}
 use Rattle.cw_model.specs.Outcome.{Trace}
 use Rattle.cw_code.specs.declared.code.Instr.{Instr}
 use Rattle.cw_code.specs.Code.{Code}
-use Rattle.cw_code.specs.Run.{Slots, Results, Readers, Taken, Waiting, Around, Caller, Block, State, Transition, On, Ends, Stops, Stuck, is_full, settled, synced, Entering, waiting_at, begun, given_back, going_on, result_of, returns_to, back, act, step}
+use Rattle.cw_code.specs.Run.{Slots, Results, Taken, Waiting, Around, Caller, Block, State, Transition, On, Ends, Stops, Stuck, is_full, settled, synced, Entering, waiting_at, begun, given_back, going_on, result_of, returns_to, back, act, step}
 use Rattle.cw_strands.specs.Strands.{rest_of, spawn_job, Turn, Goes, HandsOut, ComesBack, turn, turn_back, turn_in, turn_call, turn_of}
 use Rattle.cw_strands.specs.Over.{beneath}
 use Rattle.cw_strands.specs.lemmas.Acts.{acts_by}
-use Rattle.cw_machine.specs.Keeping.{reads_any, keeps_with, keeps_between}
-use Rattle.cw_strand.specs.Levels.{Level, level_if, level_at, levels_in, levels_of, ResultWaits, IsBackAt}
+use Rattle.cw_strand.specs.Levels.{Level, level_if, levels_of, ResultWaits, IsBackAt}
 
 -- a spawned call has begun, for this slot, and took these arrays
 pub record HasSpawned (s s' : State) (target : Option ℕ) (taken : List Taken) : Type 0 where
@@ -20,31 +19,20 @@ pub record HasSpawned (s s' : State) (target : Option ℕ) (taken : List Taken) 
   pub spawned : waiting.kind ≡ Spawned
   pub none : waiting.operands ≡ []
   pub target_is : waiting.target ≡ target
-  pub readers_are : waiting.readers ≡ s.readers
   pub taken_is : waiting.taken ≡ taken
-  pub levels : levels_of s' ≡ record { waiting = waiting; around = s.around; kept = keeps_between s s' } ∷ levels_of s
+  pub levels : levels_of s'.around ≡ record { waiting = waiting; around = s.around } ∷ levels_of s.around
   pub rest : (limit before : ℕ) → spawn_job s target taken limit before ≡ rest_of waiting limit before
 
 -- one has come back
 pub record HasReturned (s s' : State) : Type 0 where
   pub level : Level
   pub back : IsBackAt level s'
-  pub kept : level.kept ≡ keeps_between s s'
-  pub levels : levels_of s ≡ level ∷ levels_of s'
+  pub levels : levels_of s.around ≡ level ∷ levels_of s'.around
 
 abbrev pub LevelsAfter : Turn → State → State → Type 0
-LevelsAfter Goes s s' = levels_of s' ≡ levels_of s
+LevelsAfter Goes s s' = levels_of s'.around ≡ levels_of s.around
 LevelsAfter (HandsOut target taken) s s' = HasSpawned s s' target taken
 LevelsAfter ComesBack s s' = HasReturned s s'
-
-keeps_turned : (readers readers' : Readers) → keeps_with readers readers' ≡ keeps_with readers' readers
-keeps_turned readers readers' = order (reads_any readers) (reads_any readers')
-  where
-    order : (a b : Bool) → (a || b) ≡ (b || a)
-    order true true = refl
-    order true false = refl
-    order false true = refl
-    order false false = refl
 
 module _ (s : State) where
   abbrev Moved : Turn → Transition → Type 0
@@ -68,7 +56,6 @@ module _ (s : State) where
         spawned = refl;
         none = refl;
         target_is = refl;
-        readers_are = refl;
         taken_is = refl;
         levels = refl;
         rest = λ limit before. refl;
@@ -76,36 +63,29 @@ module _ (s : State) where
 
   module _ (w : Waiting) (around : List Around) (is : s.around ≡ Caller w ∷ around) where
     level : Level
-    level = level_at s.readers w around
-
-    plainly : (s' : State) → w.kind ≡ Plain → s'.around ≡ around → s'.readers ≡ w.readers → levels_of s' ≡ levels_of s
-    plainly s' plain same reads =
-        ap (levels_in s'.readers) same ∙ ap (λ r. levels_in r around) reads
-        ∙ sym (ap (levels_in s.readers) is ∙ ap (λ k. level_if k (level_at s.readers w around) (levels_in w.readers around)) plain)
+    level = record { waiting = w; around = around }
 
     -- the call that waits goes on with these results
-    returned : (s' : State) → w.kind ≡ Spawned → IsBackAt (level_at s.readers w around) s' → s'.around ≡ around → s'.readers ≡ w.readers → HasReturned s s'
-    returned s' spawned back same reads = record {
-      level = level_at s.readers w around;
+    returned : (s' : State) → w.kind ≡ Spawned → IsBackAt (record { waiting = w; around = around }) s' → s'.around ≡ around → HasReturned s s'
+    returned s' spawned back same = record {
+      level = record { waiting = w; around = around };
       back = back;
-      kept = keeps_turned w.readers s.readers ∙ ap (keeps_with s.readers) (sym reads);
-      levels = ap (levels_in s.readers) is ∙ ap (λ k. level_if k (level_at s.readers w around) (levels_in w.readers around)) spawned
-          ∙ ap (λ a. level_at s.readers w around ∷ levels_in w.readers a) (sym same) ∙ ap (λ r. level_at s.readers w around ∷ levels_in r s'.around) (sym reads);
+      levels = ap levels_of is ∙ ap (λ k. level_if k (record { waiting = w; around = around }) (levels_of around)) spawned ∙ ap (λ a. record { waiting = w; around = around } ∷ levels_of a) (sym same);
     }
 
     gives : (kind : CallKind) (target : Option ℕ) (v : Option ℤ) (xs : Results (List ℤ)) (t : Trace) → w.kind ≡ kind → w.target ≡ target → Moved (turn_back kind) (result_of kind target v xs (going_on w around t))
-    gives Plain None v xs t k e = plainly (record (going_on w around t) { arrays = settled xs w.arrays }) k refl refl
+    gives Plain None v xs t k e = sym (ap levels_of is ∙ ap (λ k. level_if k (record { waiting = w; around = around }) (levels_of around)) k)
     gives Plain (Some a) None xs t k e = tt
     gives Plain (Some a) (Some x) xs t k e =
         either Goes (is_full (slice_get w.slots a)) (On (record (going_on w around t) { arrays = settled xs w.arrays; slots = slice_set w.slots a (Some x) })) Stuck
-        (plainly (record (going_on w around t) { arrays = settled xs w.arrays; slots = slice_set w.slots a (Some x) }) k refl refl) tt
+        (sym (ap levels_of is ∙ ap (λ k. level_if k (record { waiting = w; around = around }) (levels_of around)) k)) tt
     gives Spawned None v xs t k e =
         returned (record (going_on w around t) { arrived = xs ++ w.arrived }) k
-        (record { place = refl; operands = refl; slots = refl; arrays = refl; readers = refl; depth = refl; around = refl; results = subst (λ o. ResultWaits o w.results w.results) (sym e) refl }) refl refl
+        (record { place = refl; operands = refl; slots = refl; arrays = refl; readers = refl; depth = refl; around = refl; results = subst (λ o. ResultWaits o w.results w.results) (sym e) refl }) refl
     gives Spawned (Some a) None xs t k e = tt
     gives Spawned (Some a) (Some x) xs t k e =
         returned (record (going_on w around t) { arrived = xs ++ w.arrived; results = (a, x) ∷ w.results }) k
-        (record { place = refl; operands = refl; slots = refl; arrays = refl; readers = refl; depth = refl; around = refl; results = subst (λ o. ResultWaits o ((a, x) ∷ w.results) w.results) (sym e) (x, refl) }) refl refl
+        (record { place = refl; operands = refl; slots = refl; arrays = refl; readers = refl; depth = refl; around = refl; results = subst (λ o. ResultWaits o ((a, x) ∷ w.results) w.results) (sym e) (x, refl) }) refl
 
   goes_back : (around : List Around) (v : Option ℤ) (arrays : Slots (List ℤ)) (t : Trace) → s.around ≡ around → Moved (turn_in around) (back around v arrays t)
   goes_back [] v arrays t e = e
@@ -127,7 +107,7 @@ module _ (s : State) where
     enters = enters;
     opens = λ operands arrays tag cut. refl;
     syncs = refl;
-    leaves = λ arrays o around e. sym (ap (levels_in s.readers) e);
+    leaves = λ arrays o around e. sym (ap levels_of e);
     returns = λ v. goes_back s.around v (settled s.arrived s.arrays) (synced s.trace) refl;
   }) o
 

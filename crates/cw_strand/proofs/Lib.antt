@@ -12,6 +12,7 @@ pub mod Joins
 pub mod Cutting
 pub mod HandedOn
 pub mod TakenBack
+pub mod RestReads
 pub mod Homes
 pub mod Given
 pub mod Effects

@@ -1,12 +1,13 @@
 -- A strand that goes on may run, and where its run comes to.
-use Rattle.std.proofs.Common.{◌≡◌, ℕ, zero, suc, ◌+◌, ◌-◌, ◌<◌, ◌≤◌, Bool, true, false, List, [], ◌∷◌, Some, length, refl, sym, ap, subst, arith}
+use Rattle.std.proofs.Common.{◌≡◌, ℕ, zero, suc, ◌+◌, ◌-◌, ◌<◌, ◌≤◌, true, List, [], ◌∷◌, Some, length, refl, sym, ap, ◌∙◌, subst, arith}
 use Rattle.std.specs.Prelude.{reverse}
 use Rattle.cw_model.specs.declared.syntax.CallKind.{CallKind}
 use Rattle.cw_model.specs.declared.syntax.CallKind.TheVariants.{Plain, Spawned}
 use Rattle.cw_code.specs.Code.{Code, code_view}
-use Rattle.cw_code.specs.Run.{Readers, Around, Caller, Block, State}
+use Rattle.cw_code.specs.Run.{Around, Caller, Block, State}
 use Rattle.cw_strands.specs.Jobs as jobs
-use Rattle.cw_strands.specs.Strands.{Going, rest_of}
+use Rattle.cw_strands.specs.Over.{under}
+use Rattle.cw_strands.specs.Strands.{Going}
 use Rattle.cw_strands.specs.Promises.{IsStrandOf}
 use Rattle.cw_strands.specs.Steps.{CallsKeep}
 use Rattle.cw_verify.specs.declared.verified.Verified.{Verified}
@@ -15,12 +16,12 @@ use Rattle.cw_machine.specs.declared.run.Run.{Run}
 use Rattle.cw_machine.specs.declared.run.Stop.{Stop}
 use Rattle.cw_machine.specs.declared.run.Stop.TheVariants as stop
 use Rattle.cw_machine.specs.Arrays.{Out, IsFit, AllAbove}
-use Rattle.cw_machine.specs.Keeping.{keeps_with}
+use Rattle.cw_machine.specs.Shows.{SharesFrozen}
 use Rattle.cw_machine.specs.Stretches.{up_to, newest_spawn, MayRun, IsUnderWay, StopsAt, GoesOn}
 use Rattle.cw_strand.specs.declared.strand.Lent.{Lent}
 use Rattle.cw_strand.specs.declared.strand.Strand.{Strand}
-use Rattle.cw_strand.specs.Levels.{Level, level_if, level_at, levels_in, levels_of, handed_if, handed_levels}
-use Rattle.cw_strand.specs.Holds.{its_parts, its_code, lent_parts, Ground, setting_of, ok_with, Lends, older, IsOutAt, AreOut, Runs, Waited}
+use Rattle.cw_strand.specs.Levels.{Level, level_if, levels_of}
+use Rattle.cw_strand.specs.Holds.{its_parts, its_code, Ground, setting_of, ok_with, Lends, rests_at, Runs}
 use Rattle.cw_strand.specs.Moves.{CameTo}
 use Rattle.cw_strand.proofs.Levels.{round_many}
 use Rattle.cw_strand.proofs.Course.{stretched, levels_stay}
@@ -34,28 +35,23 @@ under_more : (levels : List Level) (n m : ℕ) → n ≤ m → AllUnder levels n
 under_more [] n m le h = tt
 under_more (l ∷ levels) n m le h = (let a = h.0 in omega (arith, a, le), under_more levels n m le h.1)
 
-up_to_round : (kind : CallKind) (kept : Bool) (round below : ℕ) → below ≤ round → up_to kind kept round below ≤ suc round
-up_to_round Plain kept round below le = omega (arith, le)
-up_to_round Spawned true round below le = omega (arith, le)
-up_to_round Spawned false round below le = omega arith
+up_to_round : (kind : CallKind) (round below : ℕ) → below ≤ round → up_to kind round below ≤ suc round
+up_to_round Plain round below le = omega (arith, le)
+up_to_round Spawned round below le = omega arith
 
-pub newest_round : (readers : Readers) (around : List Around) → newest_spawn readers around ≤ length around
-newest_round readers [] = omega arith
-newest_round readers (Block o ∷ around) = let le = newest_round readers around in omega (arith, le)
-newest_round readers (Caller w ∷ around) = up_to_round w.kind (keeps_with w.readers readers) (length around) (newest_spawn w.readers around) (newest_round w.readers around)
+pub newest_round : (around : List Around) → newest_spawn around ≤ length around
+newest_round [] = omega arith
+newest_round (Block o ∷ around) = let le = newest_round around in omega (arith, le)
+newest_round (Caller w ∷ around) = up_to_round w.kind (length around) (newest_spawn around) (newest_round around)
 
-level_under : (kind : CallKind) (l : Level) (levels : List Level) (n : ℕ) → n ≤ length l.around → AllUnder (handed_levels levels) n → AllUnder (handed_levels (level_if kind l levels)) (up_to kind l.kept (length l.around) n)
+level_under : (kind : CallKind) (l : Level) (levels : List Level) (n : ℕ) → n ≤ length l.around → AllUnder levels n → AllUnder (level_if kind l levels) (up_to kind (length l.around) n)
 level_under Plain l levels n le h = h
-level_under Spawned l levels n le h = cases l.kept
-  where
-    cases : (b : Bool) → AllUnder (handed_if b l (handed_levels levels)) (up_to Spawned b (length l.around) n)
-    cases true = h
-    cases false = (omega arith, under_more (handed_levels levels) n (suc (length l.around)) (omega (arith, le)) h)
+level_under Spawned l levels n le h = (omega arith, under_more levels n (suc (length l.around)) (omega (arith, le)) h)
 
-pub levels_under : (readers : Readers) (around : List Around) → AllUnder (handed_levels (levels_in readers around)) (newest_spawn readers around)
-levels_under readers [] = tt
-levels_under readers (Block o ∷ around) = levels_under readers around
-levels_under readers (Caller w ∷ around) = level_under w.kind (level_at readers w around) (levels_in w.readers around) (newest_spawn w.readers around) (newest_round w.readers around) (levels_under w.readers around)
+pub levels_under : (around : List Around) → AllUnder (levels_of around) (newest_spawn around)
+levels_under [] = tt
+levels_under (Block o ∷ around) = levels_under around
+levels_under (Caller w ∷ around) = level_under w.kind (record { waiting = w; around = around }) (levels_of around) (newest_spawn around) (newest_round around) (levels_under around)
 
 same_level : (o o' : Out) → Some o ≡ Some o' → o.level ≡ o'.level
 same_level o o' e = let q : o ≡ o' = cc in ap (λ (z : Out). z.level) q
@@ -75,20 +71,22 @@ lends_above v is p base (l ∷ levels) (o ∷ outs) (x ∷ lent) n u h = all_abo
     (lends_above v is p base levels outs lent n u.1 h.2)
 
 module _ (self : Strand) (is : IsFit (its_code self)) (j : jobs.Job) (g : Ground (its_code self) is (its_parts self) j) where
-  pub may_run : (s : State) (outs : List Out) → Lends (its_code self) is (its_parts self) g.base (handed_levels (levels_of s)) outs (reverse self.lent.items) → MayRun (its_code self) (ok_with g outs) (setting_of g) s
-  may_run s outs lends = record {
+  pub may_run : (s : State) (outs : List Out) → Lends (its_code self) is (its_parts self) g.base (levels_of s.around) outs (reverse self.lent.items) → SharesFrozen (its_code self) (ok_with g outs) (under g.base s) → MayRun (its_code self) (ok_with g outs) (setting_of g) s
+  may_run s outs lends frozen = record {
     outer = omega arith;
-    above = lends_above (its_code self) is (its_parts self) g.base (handed_levels (levels_of s)) outs (reverse self.lent.items) (newest_spawn s.readers s.around) (levels_under s.readers s.around) lends;
+    frozen = frozen;
+    whole = λ e a lt. g.job.unshared (g.job.extent ∙ e) a;
+    above = lends_above (its_code self) is (its_parts self) g.base (levels_of s.around) outs (reverse self.lent.items) (newest_spawn s.around) (levels_under s.around) lends;
   }
 
-  pub under_way : (s : State) (count : ℕ) (out : List jobs.Job) → Runs self is j g (levels_of s) s count out → IsUnderWay (its_code self) true self.count self.run
+  pub under_way : (s : State) (count : ℕ) (out : List jobs.Job) → Runs self is j g (levels_of s.around) s count out → IsUnderWay (its_code self) true self.count self.run
   under_way s count out h = record {
     ok = ok_with g h.outs;
     setting = setting_of g;
     same = refl;
     state = s;
     shows = h.shows;
-    may = may_run s h.outs h.lends;
+    may = may_run s h.outs h.lends h.frozen;
   }
 
 done_later : (v : Verified) (ok : _) (k : _) (limit : ℕ) (to : Stop) (done : ℕ) (r : Run) (later : ℕ) (s : State) → StopsAt v ok k limit to done r later s → later ≤ done
@@ -105,46 +103,28 @@ module _ (keep : (code : Code) → CallsKeep code) (self : Strand) (is : IsFit (
   abbrev after : Strand
   after = record self { run = r; count = done }
 
-  pub came_to : (s : State) (count : ℕ) (out : List jobs.Job) → IsStrandOf (code_view (its_code self).code) j (Going s count out) → Runs self is j g (levels_of s) s count out
+  pub came_to : (s : State) (count : ℕ) (out : List jobs.Job) → IsStrandOf (code_view (its_code self).code) j (Going s count out) → Runs self is j g (levels_of s.around) s count out
       → GoesOn (its_code self) self.run self.count limit true to done r → done ≤ limit → limit ≤ (its_parts self).limit - (its_parts self).before → (its_parts self).before ≤ (its_parts self).limit → CameTo after limit to is j
   came_to s count out is_of h goes le within low =
       let code = code_view (its_code self).code in
       let p = its_parts self in
       let lent = reverse self.lent.items in
-      let came = goes (ok_with g h.outs) (setting_of g) s refl h.shows (may_run self is j g s h.outs h.lends) in
+      let came = goes (ok_with g h.outs) (setting_of g) s refl h.shows (may_run self is j g s h.outs h.lends h.frozen) in
       let s1 = came.1 in
       let later_done = done_later (its_code self) (ok_with g h.outs) (setting_of g) limit to done r came.0 s1 came.3 in
       let same = levels_stay code (setting_of g).extent self.count came.0 s s1 came.2 in
       let counts = h.counts in
       let jl = g.job.limit in
       let jb = g.job.before in
-      let carried = stretched code (keep code) j p jl lent (setting_of g).extent (sym g.job.extent) self.count came.0 s s1 came.2 (omega (arith, later_done, le, within, low, jl, jb))
-      (record { out = out; are = h.are; is_of = subst (λ n. IsStrandOf code j (Going s n out)) counts is_of }) in
+      let start : IsStrandOf code j (Going s self.count (rests_at p (levels_of s.around) lent)) = subst (λ o. IsStrandOf code j (Going s self.count o)) h.are (subst (λ n. IsStrandOf code j (Going s n out)) counts is_of) in
       record {
         ground = g;
         state = s1;
         later = came.0;
         outs = h.outs;
         lends = subst (λ l. Lends (its_code self) is p g.base l h.outs lent) (sym same) h.lends;
-        jobs_out = carried.out;
-        are = carried.are;
-        is_of = carried.is_of;
+        is_of =
+            subst (λ l. IsStrandOf code j (Going s1 came.0 (rests_at p l lent))) (sym same)
+            (stretched code (keep code) j (setting_of g).extent (sym g.job.extent) self.count came.0 s s1 (rests_at p (levels_of s.around) lent) came.2 (omega (arith, later_done, le, within, low, jl, jb)) start);
         at = came.3;
       }
-
--- of a strand that waits: the level of the newest job out, and those round it
-pub waited_lends : (self : Strand) (is : IsFit (its_code self)) (j : jobs.Job) (g : Ground (its_code self) is (its_parts self) j) (s : State) (count : ℕ) (out : List jobs.Job) (w : Waited self is j g s count out) →
-    Lends (its_code self) is (its_parts self) g.base (w.level ∷ handed_levels (levels_of s)) w.runs.outs (reverse self.lent.items)
-waited_lends self is j g s count out w = subst (λ b. Lends (its_code self) is (its_parts self) g.base (handed_if b w.level (handed_levels (levels_of s))) w.runs.outs (reverse self.lent.items)) w.apart w.runs.lends
-
--- what is out besides the newest, of the definitions
-pub record Others (p : Parts) (l : Level) (levels : List Level) (x : Lent) (lent : List Lent) (out : List jobs.Job) : Type 0 where
-  pub rests : List jobs.Job
-  pub are : out ≡ rest_of l.waiting p.limit (lent_parts x).before ∷ rests
-  pub still : AreOut p levels lent rests
-
-pub others_of : (p : Parts) (l : Level) (levels : List Level) (x : Lent) (lent : List Lent) (out : List jobs.Job) → l.kept ≡ false → AreOut p (l ∷ levels) (x ∷ lent) out → Others p l levels x lent out
-others_of p l levels x lent [] e h = absurd h
-others_of p l levels x lent (job ∷ out) e h =
-    let at : IsOutAt p l false (x ∷ lent) job × AreOut p levels (older false (x ∷ lent)) out = subst (λ b. IsOutAt p l b (x ∷ lent) job × AreOut p levels (older b (x ∷ lent)) out) e h in
-    record { rests = out; are = ap (λ z. z ∷ out) at.0; still = at.1 }

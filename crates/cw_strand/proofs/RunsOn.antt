@@ -20,10 +20,10 @@ use Rattle.cw_machine.specs.Stretches.{Stretch, Here, Further, StopsAt, IsUnderW
 use Rattle.cw_strand.specs.declared.strand.Lent.{Lent}
 use Rattle.cw_strand.specs.declared.strand.Mode.TheVariants as mode
 use Rattle.cw_strand.specs.declared.strand.Strand.{Strand}
-use Rattle.cw_strand.specs.Levels.{Level, levels_of, handed_levels}
-use Rattle.cw_strand.specs.Holds.{its_job, its_parts, its_code, outs, Ground, setting_of, ok_with, Lends, Runs, Waited, HeldIn, Holds, IsRunning, IsWaiting, IsAtSync}
+use Rattle.cw_strand.specs.Levels.{Level, levels_of}
+use Rattle.cw_strand.specs.Holds.{its_job, its_parts, its_code, outs, Ground, setting_of, ok_with, Lends, rests_at, Runs, Waited, HeldIn, Holds, IsRunning, IsWaiting, IsAtSync}
 use Rattle.cw_strand.specs.Moves.{HasCome, IsStill}
-use Rattle.cw_strand.proofs.Onward.{may_run, under_way, came_to, waited_lends}
+use Rattle.cw_strand.proofs.Onward.{may_run, under_way, came_to}
 use Rattle.cw_strand.proofs.Halts.{came_back}
 
 -- the job of a strand is one of the definitions, by code that fits
@@ -37,7 +37,7 @@ module _ (self : Strand) (is : IsFit (its_code self)) (j : jobs.Job) where
     pub count : ℕ
     pub out : List jobs.Job
     pub is_of : IsStrandOf (code_view (its_code self).code) j (Going state count out)
-    pub runs : Runs self is j g (levels_of state) state count out
+    pub runs : Runs self is j g (levels_of state.around) state count out
 
   going_held : (g : Ground (its_code self) is (its_parts self) j) (d : strands.Strand) → IsStrandOf (code_view (its_code self).code) j d → HeldIn self is j g mode.Going d → IsGoing g
   going_held g (Going s count out) is_of h = record { state = s; count = count; out = out; is_of = is_of; runs = h }
@@ -102,7 +102,7 @@ lends_some self v is p base l levels out h e = at out (reverse self.lent.items) 
     at (o ∷ out) (x ∷ lent) k q = cc
 
 waits_some : (self : Strand) (is : IsFit (its_code self)) (j : jobs.Job) (g : Ground (its_code self) is (its_parts self) j) (s : State) (count : ℕ) (out : List jobs.Job) → Waited self is j g s count out → outs self ≢ []
-waits_some self is j g s count out w = lends_some self (its_code self) is (its_parts self) g.base w.level (handed_levels (levels_of s)) w.runs.outs (waited_lends self is j g s count out w)
+waits_some self is j g s count out w = lends_some self (its_code self) is (its_parts self) g.base w.level (levels_of s.around) w.runs.outs w.runs.lends
 
 pub waiting_some : (self : Strand) → IsRunning self → IsWaiting self → outs self ≢ []
 waiting_some self h e none = ∥∥₁_elim (sound_of self) ⊥_prop (λ s. ∥∥₁_elim (h.holds s.ok s.job s.is) ⊥_prop (λ d.
@@ -148,7 +148,7 @@ decided stop.NoMemory h = ∥∥₁_elim h ⊥_prop (λ x. x)
 pub run_still : (self : Strand) (r : Run) (done limit : ℕ) (to : Stop) → IsRunning self → self.mode ≡ mode.Going → GoesOn (its_code self) self.run self.count limit true to done r → done ≤ limit → limit ≡ self.count → IsStill to
 run_still self r done limit to h e goes le same = decided to (∥∥₁_elim (sound_of self) (hlevel) (λ s. ∥∥₁_map (h.holds s.ok s.job s.is) (λ d.
     let at = going_of self s.ok s.job e d in
-    let came = goes (ok_with d.ground at.runs.outs) (setting_of d.ground) at.state refl at.runs.shows (may_run self s.ok s.job d.ground at.state at.runs.outs at.runs.lends) in
+    let came = goes (ok_with d.ground at.runs.outs) (setting_of d.ground) at.state refl at.runs.shows (may_run self s.ok s.job d.ground at.state at.runs.outs at.runs.lends at.runs.frozen) in
     let low = stretch_low (setting_of d.ground).extent (code_view (its_code self).code) self.count came.0 at.state came.1 came.2 in
     still_at (its_code self) (ok_with d.ground at.runs.outs) (setting_of d.ground) limit to done r came.0 came.1 came.3 (omega (arith, low, le, same)))))
 
@@ -160,14 +160,15 @@ over_goes self limit h = record {
   rests = h.rests;
   holds = λ is j job. ∥∥₁_map (h.comes is j job) (λ c. record {
     ground = c.ground;
-    strand = Going c.state c.later c.jobs_out;
+    strand = Going c.state c.later (rests_at (its_parts self) (levels_of c.state.around) (reverse self.lent.items));
     is_of = c.is_of;
-    held = subst (λ m. HeldIn self is j c.ground m (Going c.state c.later c.jobs_out)) (sym h.going) (record {
+    held = subst (λ m. HeldIn self is j c.ground m (Going c.state c.later (rests_at (its_parts self) (levels_of c.state.around) (reverse self.lent.items)))) (sym h.going) (record {
       counts = sym c.at.0;
       outs = c.outs;
       lends = c.lends;
-      are = c.are;
+      are = refl;
       shows = c.at.2.shows;
+      frozen = c.at.2.may.frozen;
     });
   });
 }

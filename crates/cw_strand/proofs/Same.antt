@@ -90,6 +90,13 @@ pops old new n m (Some y) x xs many e h are = popped old new (Some y) x xs e (λ
 pub lasts : {A : Type 0} (old new : List A) (r x : A) (xs : List A) → old ≡ new ++ r ∷ [] → reverse old ≡ x ∷ xs → reverse new ≡ xs
 lasts old new r x xs e are = (popped old new (Some r) x xs e (λ q. absurd (some_none r q)) are).left
 
+-- and it was the newest
+pub last_is : {A : Type 0} (old new : List A) (r x : A) (xs : List A) → old ≡ new ++ r ∷ [] → reverse old ≡ x ∷ xs → r ≡ x
+last_is old new r x xs e are = same (popped old new (Some r) x xs e (λ q. absurd (some_none r q)) are).result
+  where
+    same : Some r ≡ Some x → r ≡ x
+    same q = cc
+
 -- it may be called
 pub some_there : {A : Type 0} (l : List A) (x : A) (xs : List A) → reverse l ≡ x ∷ xs → 0 < length l
 some_there [] x xs q = absurd (some_long [] x xs refl q)

@@ -19,12 +19,12 @@ use Rattle.cw_jobs.specs.declared.job.Job.{Job}
 use Rattle.cw_jobs.specs.Jobs.{extent_of, origin_of, code_of, IsOutermost, IsJob, IsSound}
 use Rattle.cw_machine.specs.declared.machine.Machine.{Machine}
 use Rattle.cw_machine.specs.Arrays.{IsFit}
-use Rattle.cw_machine.specs.Shows.{Shows}
-use Rattle.cw_machine.specs.JobRuns.{ok_of, HoldsOf, IsEmptied}
+use Rattle.cw_machine.specs.Shows.{Shows, SharesFrozen}
+use Rattle.cw_machine.specs.JobRuns.{ok_of, HoldsOf, OnlyReads, IsEmptied}
 use Rattle.cw_machine.specs.Stretches.{nothing, StandsRound}
 use Rattle.cw_strand.specs.declared.strand.Mode.TheVariants as mode
 use Rattle.cw_strand.specs.declared.strand.Strand.{Strand}
-use Rattle.cw_strand.specs.Holds.{its_job, its_parts, its_code, Ground, ok_with, Lends, HeldIn, Holds}
+use Rattle.cw_strand.specs.Holds.{its_job, its_parts, its_code, Ground, ok_with, Lends, rests_at, HeldIn, Holds}
 use Rattle.cw_strand.specs.Moves.{Begins, BeginsRun}
 use Rattle.cw_strand.proofs.Flat.{under_flat}
 
@@ -35,9 +35,10 @@ nothing_flat = record { around = refl; results = refl; arrived = refl }
 pub record Grounded (v : Verified) (is : IsFit v) (p : Parts) (j : jobs.Job) (m : Machine) : Type 0 where
   pub ground : Ground v is p j
   pub shows : Shows v (ok_with ground []) m (under ground.base (job_start j))
+  pub frozen : SharesFrozen v (ok_with ground []) (under ground.base (job_start j))
 
-pub grounded : (v : Verified) (is : IsFit v) (p : Parts) (j : jobs.Job) (m : Machine) → IsJob v is p j → p.burden.charge ≤ MOST_BURDEN → HoldsOf v is j p.rest m (job_start j) → Grounded v is p j m
-grounded v is p j m job light h = at p.extent refl
+pub grounded : (v : Verified) (is : IsFit v) (p : Parts) (j : jobs.Job) (m : Machine) → IsJob v is p j → p.burden.charge ≤ MOST_BURDEN → (h : HoldsOf v is j p.rest m (job_start j)) → OnlyReads v is j p.rest m (job_start j) h → Grounded v is p j m
+grounded v is p j m job light h reads = at p.extent refl
   where
     at : (x : Extent) → p.extent ≡ x → Grounded v is p j m
     at extent.ToJoin e = record {
@@ -50,6 +51,7 @@ grounded v is p j m job light h = at p.extent refl
         joins = λ e'. (h.is_base, refl);
       };
       shows = h.shows;
+      frozen = reads;
     }
     at extent.WholeCall e =
         let out : IsOutermost h.base = h.is_base.outermost (job.extent ∙ ap extent_of e) in
@@ -63,9 +65,11 @@ grounded v is p j m job light h = at p.extent refl
             joins = λ e'. absurd (differ (sym e ∙ e'));
           };
           shows =
-              subst (λ s. Shows v (ok_of v is h.is_base.good.seat.func.array_params p.rest.slices.items 0) m s)
+              subst (λ s. Shows v (ok_of v is h.is_base.good.seat.func.array_params (length j.arrays) p.rest.slices.items 0) m s)
               (under_flat h.base out h.is_base.begins (job_start j) ∙ sym (under_flat nothing nothing_flat refl (job_start j)))
-              (subst (λ l. Shows v (ok_of v is h.is_base.good.seat.func.array_params p.rest.slices.items (length l)) m (under h.base (job_start j))) out.around h.shows);
+              (subst (λ l. Shows v (ok_of v is h.is_base.good.seat.func.array_params (length j.arrays) p.rest.slices.items (length l)) m (under h.base (job_start j))) out.around h.shows);
+          -- a whole call has no share
+          frozen = λ a lt some. absurd (let own = job.unshared (job.extent ∙ ap extent_of e) a in omega (arith, own, some));
         }
       where
         differ : extent.WholeCall ≡ extent.ToJoin → ⊥
@@ -78,10 +82,10 @@ module _ (self : Strand) (keep : (code : Code) → CallsKeep code) (meters : Cal
   abbrev p : Parts
   p = its_parts self
 
-  pub starts : p.burden.charge ≤ MOST_BURDEN → p.before ≤ p.limit → HoldsOf v is j p.rest self.run.machine (job_start j) → StartsFrom (origin_of p) p.burden self.run.meter
+  pub starts : p.burden.charge ≤ MOST_BURDEN → p.before ≤ p.limit → (h : HoldsOf v is j p.rest self.run.machine (job_start j)) → OnlyReads v is j p.rest self.run.machine (job_start j) h → StartsFrom (origin_of p) p.burden self.run.meter
       → self.lent.items ≡ [] → self.count ≡ 0 → self.mode ≡ mode.Going → Holds self is j
-  starts light low h meter none zero going =
-      let g = grounded v is p j self.run.machine job light h in
+  starts light low h reads meter none zero going =
+      let g = grounded v is p j self.run.machine job light h reads in
       record {
         ground = g.ground;
         strand = Going (job_start j) 0 [];
@@ -90,11 +94,12 @@ module _ (self : Strand) (keep : (code : Code) → CallsKeep code) (meters : Cal
           counts = sym zero;
           outs = [];
           lends = subst (λ l. Lends v is p g.ground.base [] [] l) (sym (ap reverse none)) tt;
-          are = tt;
+          are = subst (λ l. [] ≡ rests_at p [] l) (sym (ap reverse none)) refl;
           shows = record {
             shows = g.shows;
             tells = subst (λ n. TellsAll (code_view v.code) p.burden (origin_of p) (Going (job_start j) n []) self.run.meter) (sym zero) ((meters (code_view v.code) p.burden).starting (origin_of p) j self.run.meter meter);
           };
+          frozen = g.frozen;
         });
       }
 
@@ -122,7 +127,8 @@ begins keep meters job p' self of parts none bare zero going b = record {
     holds = λ is j isj.
         let light : (its_parts self).burden.charge ≤ MOST_BURDEN = ∥∥₁_elim sound le_prop (λ s. s.light) in
         let low : (its_parts self).before ≤ (its_parts self).limit = ∥∥₁_elim sound le_prop (λ s. s.within) in
-        ∣ starts self keep meters is j isj light low (begun.machine is (its_parts self) j refl isj) begun.meter none zero going ∣₁;
+        let b = begun.machine is (its_parts self) j refl isj in
+        ∣ starts self keep meters is j isj light low b.0 b.1 begun.meter none zero going ∣₁;
   };
 }
   where

@@ -3,6 +3,7 @@ use Rattle.std.proofs.Common.{◌≡◌, suc, Some, List, [], ◌∷◌, length,
 use Rattle.std.specs.Prelude.{reverse, slice_get}
 use Rattle.std.proofs.Math.Logic.{∥∥₁_elim, ∥∥₁_map}
 use Rattle.cw_code.specs.Code.{Code, code_view}
+use Rattle.cw_code.specs.Fits.{slots_lent}
 use Rattle.cw_code.specs.Run.{State}
 use Rattle.cw_strands.specs.Jobs as jobs
 use Rattle.cw_strands.specs.Over.{beneath, under}
@@ -14,6 +15,7 @@ use Rattle.cw_jobs.specs.declared.call.Parts.{Parts}
 use Rattle.cw_jobs.specs.declared.job.Job.{Job}
 use Rattle.cw_jobs.specs.Jobs.{code_of}
 use Rattle.cw_machine.specs.declared.machine.Machine.{Machine}
+use Rattle.cw_machine.specs.Calls.{loans_of}
 use Rattle.cw_machine.specs.Arrays.{Out, IsFit, AllAbove}
 use Rattle.cw_machine.specs.Shows.{Shows}
 use Rattle.cw_machine.specs.Rests.{IsLending, MayTake, TakesBack}
@@ -22,11 +24,11 @@ use Rattle.cw_machine.specs.Stretches.{newest_spawn}
 use Rattle.cw_strand.specs.declared.strand.Lent.{Lent}
 use Rattle.cw_strand.specs.declared.strand.Mode.TheVariants as mode
 use Rattle.cw_strand.specs.declared.strand.Strand.{Strand}
-use Rattle.cw_strand.specs.Levels.{Level, levels_of, handed_levels}
-use Rattle.cw_strand.specs.Holds.{its_parts, its_code, lent_parts, Ground, ok_with, IsLent, Lends, AreOut, Holds, AreSpare, IsRunning, IsWaiting}
+use Rattle.cw_strand.specs.Levels.{Level, levels_of}
+use Rattle.cw_strand.specs.Holds.{its_parts, its_code, lent_parts, Ground, ok_with, IsLent, Lends, rests_at, Holds, AreSpare, IsRunning, IsWaiting}
 use Rattle.cw_strand.specs.Moves.{HasSpared}
 use Rattle.cw_strand.proofs.Levels.{round_many}
-use Rattle.cw_strand.proofs.Onward.{lends_above, levels_under, newest_round, waited_lends, Others, others_of}
+use Rattle.cw_strand.proofs.Onward.{lends_above, levels_under, newest_round}
 use Rattle.cw_strand.proofs.RunsOn.{sound_of, IsHeldBack, waiting_of}
 use Rattle.cw_strand.proofs.Same.{same_strand, Newest}
 
@@ -57,41 +59,40 @@ module _ (self : Strand) (job : Job) (others : List Job) (newest : Newest self j
     abbrev l : Level
     l = h.waited.level
 
-    pub split : Split v is p g.base l (handed_levels (levels_of s)) h.waited.runs.outs newest.lent newest.rest
-    split = split_of v is p g.base l (handed_levels (levels_of s)) h.waited.runs.outs newest.lent newest.rest (subst (Lends v is p g.base (l ∷ handed_levels (levels_of s)) h.waited.runs.outs) newest.are (waited_lends self is j g s h.count h.out h.waited))
-
-    -- and of those of the definitions
-    pub rests_out : Others p l (levels_of s) newest.lent newest.rest h.out
-    rests_out = others_of p l (levels_of s) newest.lent newest.rest h.out h.waited.apart (subst (λ z. AreOut p (l ∷ levels_of s) z h.out) newest.are h.waited.runs.are)
+    pub split : Split v is p g.base l (levels_of s.around) h.waited.runs.outs newest.lent newest.rest
+    split = split_of v is p g.base l (levels_of s.around) h.waited.runs.outs newest.lent newest.rest (subst (Lends v is p g.base (l ∷ levels_of s.around) h.waited.runs.outs) newest.are h.waited.runs.lends)
 
     above : AllAbove split.others (length (under g.base s).around)
     above k o e =
-        let lt = lends_above v is p g.base (handed_levels (levels_of s)) split.others newest.rest (newest_spawn s.readers s.around) (levels_under s.readers s.around) split.rest k o e in
+        let lt = lends_above v is p g.base (levels_of s.around) split.others newest.rest (newest_spawn s.around) (levels_under s.around) split.rest k o e in
         let many = round_many g.base s.around in
-        let low = newest_round s.readers s.around in
+        let low = newest_round s.around in
         omega (arith, lt, many, low)
 
-    pub lends_it : IsLending v (ok_with g split.others) split.out self.run.machine (under g.base s) job.parts.value.rest.slices.items
+    pub lends_it : IsLending v (ok_with g split.others) split.out self.run.machine (under g.base s) newest.lent.home.lender.slots (slots_lent (loans_of v newest.lent.home.lent)) job.parts.value.rest.slices.items
     lends_it = record {
       shows = subst (λ o. Shows v (ok_with g o) self.run.machine (under g.base s)) split.are h.waited.runs.shows.shows;
       above = above;
       level = split.is_lent.level ∙ ap (λ a. length (beneath g.base a)) (sym h.waited.back.around);
+      slots_are = split.is_lent.slots;
+      lent_are = split.is_lent.lent;
       are = split.is_lent.slices ∙ ap (λ (b : Job). b.parts.value.rest.slices.items) newest.job_is;
     }
 
-    pub may : MayTake self.run.machine job.parts.value.rest.slices.items
+    pub may : MayTake self.run.machine newest.lent.home.lender.slots (slots_lent (loans_of (its_code self) newest.lent.home.lent)) job.parts.value.rest.slices.items
     may = record { code = v; ok = ok_with g split.others; out = split.out; state = under g.base s; lends = lends_it }
 
-    module _ (keep : (code : Code) → CallsKeep code) (m : Machine) (takes : TakesBack self.run.machine job.parts.value.rest.slices.items m) (new : Strand) (left : reverse new.lent.items ≡ newest.rest) where
+    module _ (keep : (code : Code) → CallsKeep code) (m : Machine) (takes : TakesBack self.run.machine newest.lent.home.lender.slots (slots_lent (loans_of (its_code self) newest.lent.home.lent)) job.parts.value.rest.slices.items m) (new : Strand) (left : reverse new.lent.items ≡ newest.rest) where
       abbrev goes_with : Strand
       goes_with = record self { run = record self.run { machine = m }; lent = new.lent; spares = new.spares; mode = mode.Going }
 
       abbrev rests : List jobs.Job
-      rests = rests_out.rests
+      rests = rests_at p (levels_of s.around) newest.rest
 
       pub taken : Holds goes_with is j
       taken =
-          let was = subst (λ o. IsStrandOf (code_view v.code) j (Waits s h.count o)) rests_out.are h.is_of in
+          let are : h.out ≡ rest_of l.waiting p.limit (lent_parts newest.lent).before ∷ rests = h.waited.runs.are ∙ ap (rests_at p (l ∷ levels_of s.around)) newest.are in
+          let was = subst (λ o. IsStrandOf (code_view v.code) j (Waits s h.count o)) are h.is_of in
           record {
             ground = g;
             strand = Going s h.count rests;
@@ -99,12 +100,13 @@ module _ (self : Strand) (job : Job) (others : List Job) (newest : Newest self j
             held = record {
               counts = h.waited.runs.counts;
               outs = split.others;
-              lends = subst (Lends v is p g.base (handed_levels (levels_of s)) split.others) (sym left) split.rest;
-              are = subst (λ z. AreOut p (levels_of s) z rests) (sym left) rests_out.still;
+              lends = subst (Lends v is p g.base (levels_of s.around) split.others) (sym left) split.rest;
+              are = ap (rests_at p (levels_of s.around)) (sym left);
               shows = record {
                 shows = takes v (ok_with g split.others) split.out (under g.base s) lends_it;
                 tells = h.waited.runs.shows.tells;
               };
+              frozen = h.waited.runs.frozen;
             };
           }
 
@@ -112,11 +114,11 @@ module _ (self : Strand) (job : Job) (others : List Job) (newest : Newest self j
   pub job_code : IsRunning self → code_of job.parts.value ≡ its_code self
   job_code running = subst (λ (b : Job). code_of b.parts.value ≡ its_code self) newest.job_is (running.rests 0 newest.lent (subst (λ l. slice_get l 0 ≡ Some newest.lent) (sym newest.are) refl)).code
 
-  pub may_take : IsRunning self → IsWaiting self → ∥ MayTake self.run.machine job.parts.value.rest.slices.items ∥₁
+  pub may_take : IsRunning self → IsWaiting self → ∥ MayTake self.run.machine newest.lent.home.lender.slots (slots_lent (loans_of (its_code self) newest.lent.home.lent)) job.parts.value.rest.slices.items ∥₁
   may_take running waits = ∥∥₁_elim (sound_of self) (hlevel) (λ s. ∥∥₁_map (running.holds s.ok s.job s.is) (λ d.
       may s.ok s.job d.ground (waiting_of self s.ok s.job waits d)))
 
-  module _ (keep : (code : Code) → CallsKeep code) (running : IsRunning self) (waits : IsWaiting self) (m : Machine) (takes : TakesBack self.run.machine job.parts.value.rest.slices.items m) (new : Strand) (left : reverse new.lent.items ≡ newest.rest) where
+  module _ (keep : (code : Code) → CallsKeep code) (running : IsRunning self) (waits : IsWaiting self) (m : Machine) (takes : TakesBack self.run.machine newest.lent.home.lender.slots (slots_lent (loans_of (its_code self) newest.lent.home.lent)) job.parts.value.rest.slices.items m) (new : Strand) (left : reverse new.lent.items ≡ newest.rest) where
     pub takes_back : AreSpare (record self { run = record self.run { machine = m }; lent = new.lent; spares = new.spares; mode = mode.Going }) → IsRunning (record self { run = record self.run { machine = m }; lent = new.lent; spares = new.spares; mode = mode.Going })
     takes_back bare = record {
       keeps = record {

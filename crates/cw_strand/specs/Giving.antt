@@ -11,9 +11,13 @@ use Rattle.cw_jobs.specs.declared.effect.Shown.{Shown}
 use Rattle.cw_jobs.specs.declared.job.Job.{Job}
 use Rattle.cw_jobs.specs.Means.{IsMeaningOf}
 use Rattle.cw_jobs.specs.Totals.{joined_total}
+use Rattle.cw_verify.specs.declared.verified.Verified.{Verified}
 use Rattle.cw_machine.specs.declared.machine.Machine.{Machine}
 use Rattle.cw_machine.specs.declared.run.Run.{Run}
-use Rattle.cw_machine.specs.Gives.{Gives}
+use Rattle.cw_machine.specs.Gives.{Gives, MayGive}
+use Rattle.cw_machine.specs.Calls.{loans_of}
+use Rattle.cw_code.specs.Fits.{slots_lent}
+use Rattle.cw_strand.specs.declared.strand.Home.{Home}
 use Rattle.cw_strand.specs.declared.strand.Lent.{Lent}
 use Rattle.cw_strand.specs.declared.strand.Strand.{Strand}
 use Rattle.cw_strand.specs.Holds.{its_parts, outs}
@@ -50,10 +54,10 @@ abbrev pub IsMemory : Effect → Type 0
 IsMemory (effect.Memory b) = Unit {0}
 IsMemory _ = ⊥
 
--- the slot that takes the result of the call beside a job that was out
-abbrev pub target_of : Option Lent → Option ℕ
-target_of (Some h) = h.target
-target_of None = None
+-- a rest may come back to a machine of such code, where it comes back to
+abbrev pub MayJoin : Machine → Verified → Rest → List (Option Placed) → Home → Type 0
+MayJoin m v frame replaced h =
+    MayGive m frame replaced h.lender.slots (slots_lent (loans_of v h.lent)) h.target
 
 -- each total has another one joined to it
 pub record AreJoined (old more new : List Total) : Type 0 where
@@ -76,9 +80,9 @@ pub record HasTaken (m : Machine) (lines : List ℤ) (totals : List Total) (m' :
 
 -- the rest of a block came back to a run: its machine goes on at the join, with what the rest has shown, and its meter
 -- with what that one counted
-pub record HasJoined (r : Run) (count : ℕ) (frame : Rest) (replaced : List (Option Placed)) (target : Option ℕ)
+pub record HasJoined (r : Run) (v : Verified) (count : ℕ) (frame : Rest) (replaced : List (Option Placed)) (h : Home)
     (shown : Shown) (r' : Run) : Type 0 where
   pub given : Machine
-  pub gives : Gives r.machine frame replaced target given
+  pub gives : Gives r.machine frame replaced h.lender.slots (slots_lent (loans_of v h.lent)) h.target given
   pub takes : HasTaken given shown.lines.items shown.totals.items r'.machine
   pub rests : Rests r.meter shown.meter r'.meter count shown.cost

@@ -6,11 +6,13 @@ use Rattle.cw_code.specs.Code.{code_view}
 use Rattle.cw_code.specs.Run.{State}
 use Rattle.cw_strands.specs.Jobs as jobs
 use Rattle.cw_strands.specs.Jobs.{ToJoin}
-use Rattle.cw_strands.specs.Over.{beneath}
+use Rattle.cw_strands.specs.Over.{beneath, under}
 use Rattle.cw_strands.specs.Strands as strands
 use Rattle.cw_strands.specs.Strands.{Going, Waits, Halted, rest_of}
 use Rattle.cw_strands.specs.Promises.{IsStrandOf}
 use Rattle.cw_metered.specs.Strands.{IsFrom, site_at}
+use Rattle.cw_code.specs.Fits.{slots_lent}
+use Rattle.cw_machine.specs.Calls.{loans_of}
 use Rattle.cw_verify.specs.declared.verified.Verified.{Verified}
 use Rattle.cw_jobs.specs.declared.call.Extent.{Extent}
 use Rattle.cw_jobs.specs.declared.call.Extent.TheVariants as extent
@@ -18,7 +20,7 @@ use Rattle.cw_jobs.specs.declared.call.Parts.{Parts}
 use Rattle.cw_jobs.specs.declared.job.Job.{Job}
 use Rattle.cw_jobs.specs.Jobs.{extent_of, begins_at, origin_of, code_of, IsJob}
 use Rattle.cw_machine.specs.Arrays.{Out, IsFit, Ok}
-use Rattle.cw_machine.specs.Shows.{Remains}
+use Rattle.cw_machine.specs.Shows.{Remains, SharesFrozen}
 use Rattle.cw_machine.specs.Hands.{ComesRound}
 use Rattle.cw_machine.specs.Shows.{Comes}
 use Rattle.cw_machine.specs.Rests.{with_outs}
@@ -29,7 +31,7 @@ use Rattle.cw_strand.specs.declared.strand.Lent.{Lent}
 use Rattle.cw_strand.specs.declared.strand.Mode.{Mode}
 use Rattle.cw_strand.specs.declared.strand.Mode.TheVariants as mode
 use Rattle.cw_strand.specs.declared.strand.Strand.{Strand}
-use Rattle.cw_strand.specs.Levels.{Level, levels_of, handed_levels, IsBackAt, waiting_over}
+use Rattle.cw_strand.specs.Levels.{Level, levels_of, IsBackAt, waiting_over}
 
 -- the job of a strand, and the jobs that it has out, the newest first
 abbrev pub its_job : Strand → Job
@@ -79,20 +81,24 @@ setting_of {v} {is} {p} {j} g = record {
 
 -- with these arrays out
 abbrev pub ok_with : {v : Verified} {is : IsFit v} {p : Parts} {j : jobs.Job} → Ground v is p j → List Out → Ok v
-ok_with {v} {is} {p} {j} g outs = with_outs (ok_of v is g.params p.rest.slices.items (length g.base.around)) outs
+ok_with {v} {is} {p} {j} g outs =
+    with_outs (ok_of v is g.params (length j.arrays) p.rest.slices.items (length g.base.around)) outs
 
 -- a job that is out is the rest of the block that waits at a level, with what is out of the machine for it
 pub record IsLent (v : Verified) (is : IsFit v) (p : Parts) (base : State) (l : Level) (o : Out) (h : Lent) : Type 0
   where
     pub level : o.level ≡ length (beneath base l.around)
-    pub first : o.first ≡ h.first
+    pub first : o.first ≡ h.home.lender.first
+    pub slots : o.slots ≡ h.home.lender.slots
+    pub wide : o.slots ≡ length l.waiting.arrays
+    pub lent : o.lent ≡ slots_lent (loans_of v h.home.lent)
     pub slices : o.slices ≡ (lent_parts h).rest.slices.items
     pub job : IsJob v is (lent_parts h) (rest_of l.waiting p.limit (lent_parts h).before)
     pub code : code_of (lent_parts h) ≡ v
     pub joins : (lent_parts h).extent ≡ extent.ToJoin
     pub burden : (lent_parts h).burden ≡ p.burden
     pub site : (lent_parts h).site ≡ site_at (origin_of p) l.around
-    pub target : h.target ≡ l.waiting.target
+    pub target : h.home.target ≡ l.waiting.target
     pub comes : Comes (lent_parts h).rest.cells.items 0 (length l.waiting.slots)
         (waiting_over base l.waiting l.around).results
         × ComesRound (lent_parts h).rest.cells.items 0 (length l.waiting.slots) (beneath base l.around)
@@ -104,44 +110,29 @@ Lends v is p base (l ∷ levels) (o ∷ outs) (h ∷ lent) =
     IsLent v is p base l o h × LieBelow outs o.first × Lends v is p base levels outs lent
 Lends v is p base _ _ _ = ⊥
 
--- what is out of the levels round one
-abbrev pub older : (kept : Bool) → List Lent → List Lent
-older true lent = lent
-older false [] = []
-older false (h ∷ lent) = lent
+-- the jobs of the definitions that are out
+abbrev pub rests_at : Parts → List Level → List Lent → List jobs.Job
+rests_at p (l ∷ levels) (h ∷ lent) = rest_of l.waiting p.limit (lent_parts h).before ∷ rests_at p levels lent
+rests_at p _ _ = []
 
--- a job of the definitions that is out is the rest of the block at a level: that of the newest job out, or one that the
--- machine keeps
-abbrev pub IsOutAt : Parts → Level → (kept : Bool) → List Lent → jobs.Job → Type 0
-IsOutAt p l true lent job = (before : ℕ) × (job ≡ rest_of l.waiting p.limit before)
-IsOutAt p l false [] job = ⊥
-IsOutAt p l false (h ∷ lent) job = job ≡ rest_of l.waiting p.limit (lent_parts h).before
-
--- and so is each
-abbrev pub AreOut : Parts → List Level → List Lent → List jobs.Job → Type 0
-AreOut p [] lent [] = Unit {0}
-AreOut p (l ∷ levels) lent (job ∷ jobs_out) =
-    IsOutAt p l l.kept lent job × AreOut p levels (older l.kept lent) jobs_out
-AreOut p _ lent _ = ⊥
-
--- the run of a strand shows a state after so many instructions, with a job out at each of these levels, but those that
--- the machine keeps
+-- the run of a strand shows a state after so many instructions, with a job out at each of these levels
 pub record Runs (self : Strand) (is : IsFit (its_code self)) (j : jobs.Job)
     (g : Ground (its_code self) is (its_parts self) j) (levels : List Level) (s : State) (count : ℕ)
     (jobs_out : List jobs.Job) : Type 0 where
   pub counts : count ≡ self.count
   pub outs : List Out
-  pub lends : Lends (its_code self) is (its_parts self) g.base (handed_levels levels) outs (reverse self.lent.items)
-  pub are : AreOut (its_parts self) levels (reverse self.lent.items) jobs_out
+  pub lends : Lends (its_code self) is (its_parts self) g.base levels outs (reverse self.lent.items)
+  pub are : jobs_out ≡ rests_at (its_parts self) levels (reverse self.lent.items)
   pub shows : ShowsRun (its_code self) (ok_with g outs) (setting_of g) self.count self.run s
+  -- its first call only reads what its job has as shares
+  pub frozen : SharesFrozen (its_code self) (ok_with g outs) (under g.base s)
 
 -- a spawned call has returned, and its rest is the newest job out
 pub record Waited (self : Strand) (is : IsFit (its_code self)) (j : jobs.Job)
     (g : Ground (its_code self) is (its_parts self) j) (s : State) (count : ℕ) (jobs_out : List jobs.Job) : Type 0 where
   pub level : Level
-  pub apart : level.kept ≡ false
   pub back : IsBackAt level s
-  pub runs : Runs self is j g (level ∷ levels_of s) s count jobs_out
+  pub runs : Runs self is j g (level ∷ levels_of s.around) s count jobs_out
 
 -- of a strand that stopped the arrays are known, and where each is to come home
 pub record Stands (self : Strand) (is : IsFit (its_code self)) (j : jobs.Job)
@@ -153,7 +144,7 @@ pub record Stands (self : Strand) (is : IsFit (its_code self)) (j : jobs.Job)
 
 abbrev pub HeldIn : (self : Strand) (is : IsFit (its_code self)) (j : jobs.Job)
     → Ground (its_code self) is (its_parts self) j → Mode → strands.Strand → Type 0
-HeldIn self is j g mode.Going (Going s count jobs_out) = Runs self is j g (levels_of s) s count jobs_out
+HeldIn self is j g mode.Going (Going s count jobs_out) = Runs self is j g (levels_of s.around) s count jobs_out
 HeldIn self is j g mode.Waiting (Waits s count jobs_out) = Waited self is j g s count jobs_out
 HeldIn self is j g (mode.Trapped c l) (Halted e jobs_out) =
     (e ≡ jobs.TrapIn c l self.run.machine.lines.items self.count) × Stands self is j g

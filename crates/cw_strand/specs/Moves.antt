@@ -19,7 +19,11 @@ use Rattle.cw_machine.specs.declared.run.Spawn.{Spawn}
 use Rattle.cw_machine.specs.declared.run.Stop.{Stop}
 use Rattle.cw_machine.specs.declared.run.Stop.TheVariants as stop
 use Rattle.cw_machine.specs.Arrays.{Out, IsFit}
-use Rattle.cw_machine.specs.Calls.{listed}
+use Rattle.cw_code.specs.Fits.{slots_lent}
+use Rattle.cw_machine.specs.declared.hands.Lender.{Lender}
+use Rattle.cw_machine.specs.declared.machine.Machine.{Machine}
+use Rattle.cw_verify.specs.declared.verified.Verified.{Verified}
+use Rattle.cw_machine.specs.Calls.{listed, loans_of}
 use Rattle.cw_machine.specs.Shows.{StaysBut}
 use Rattle.cw_machine.specs.Hands.{HandsOut}
 use Rattle.cw_machine.specs.JobRuns.{BeginsJob, IsEmptied}
@@ -31,13 +35,14 @@ use Rattle.cw_strand.specs.declared.strand.End.{End}
 use Rattle.cw_strand.specs.declared.strand.End.TheVariants as end
 use Rattle.cw_strand.specs.declared.strand.Event.{Event}
 use Rattle.cw_strand.specs.declared.strand.Event.TheVariants as event
+use Rattle.cw_strand.specs.declared.strand.Home.{Home}
 use Rattle.cw_strand.specs.declared.strand.Lent.{Lent}
 use Rattle.cw_strand.specs.declared.strand.Mode.TheVariants as mode
 use Rattle.cw_strand.specs.declared.strand.Step.{Step}
 use Rattle.cw_strand.specs.declared.strand.Step.TheVariants as step
 use Rattle.cw_strand.specs.declared.strand.Strand.{Strand}
-use Rattle.cw_strand.specs.Levels.{levels_of, handed_levels}
-use Rattle.cw_strand.specs.Holds.{its_job, its_parts, its_code, outs, Ground, setting_of, ok_with, Lends, AreOut}
+use Rattle.cw_strand.specs.Levels.{levels_of}
+use Rattle.cw_strand.specs.Holds.{its_job, its_parts, its_code, outs, Ground, setting_of, ok_with, Lends, rests_at}
 use Rattle.cw_strand.specs.Holds.{KeepsJob, AreSpare, AreRests, IsRunning, IsGoing, IsAtSync, HasStopped, is_lost}
 
 -- a run begins a job, whose arrays moved into it
@@ -72,11 +77,10 @@ pub record CameTo (self : Strand) (limit : ℕ) (stop : Stop) (is : IsFit (its_c
   pub state : State
   pub later : ℕ
   pub outs : List Out
-  pub lends : Lends (its_code self) is (its_parts self) ground.base (handed_levels (levels_of state)) outs
+  pub lends : Lends (its_code self) is (its_parts self) ground.base (levels_of state.around) outs
       (reverse self.lent.items)
-  pub jobs_out : List jobs.Job
-  pub are : AreOut (its_parts self) (levels_of state) (reverse self.lent.items) jobs_out
-  pub is_of : IsStrandOf (code_view (its_code self).code) j (Going state later jobs_out)
+  pub is_of : IsStrandOf (code_view (its_code self).code) j
+      (Going state later (rests_at (its_parts self) (levels_of state.around) (reverse self.lent.items)))
   pub at : StopsAt (its_code self) (ok_with ground outs) (setting_of ground) limit stop self.count self.run later state
 
 -- whichever of the definitions the job is
@@ -145,7 +149,7 @@ IsAddressed p of site count p' = p' ≡ record {
 
 -- the rest of the block that has spawned a call was cut out of a strand as these parts of a job, and all else is as it
 -- was
-pub record HasCut (old new : Strand) (spawn : Spawn) (p : Parts) (first : ℕ) : Type 0 where
+pub record HasCut (old new : Strand) (spawn : Spawn) (p : Parts) (l : Lender) : Type 0 where
   pub of : new.of ≡ old.of
   pub parts : new.parts ≡ old.parts
   pub meter : new.run.meter ≡ old.run.meter
@@ -153,7 +157,9 @@ pub record HasCut (old new : Strand) (spawn : Spawn) (p : Parts) (first : ℕ) :
   pub lent : new.lent.items ≡ old.lent.items
   pub mode : new.mode ≡ old.mode
   pub spares : AreSpare new
-  pub out : HandsOut old.run.machine (listed (its_code old) spawn.passed) first new.run.machine p.rest
+  pub out : HandsOut (its_code old) old.run.machine (listed (its_code old) spawn.passed)
+      (loans_of (its_code old) spawn.lent) l.first
+      l.slots new.run.machine p.rest
   pub stays : StaysBut old.run.machine new.run.machine
   pub code : code_of p ≡ its_code old
   pub joins : p.extent ≡ extent.ToJoin
@@ -162,10 +168,20 @@ pub record HasCut (old new : Strand) (spawn : Spawn) (p : Parts) (first : ℕ) :
   pub limit : p.limit ≡ (its_parts old).limit
   pub before : p.before ≡ (its_parts old).before + old.count
 
--- the cell of the first array slot of a job that was out
-abbrev pub first_of : Option Lent → ℕ
-first_of (Some h) = h.first
-first_of None = 0
+-- where a job that was out comes back to
+abbrev pub home_of : Option Lent → Home
+home_of (Some h) = h.home
+home_of None = record { lender = record { first = 0; slots = 0 }; lent = None; target = None }
+
+-- slices may come home to where a job comes back to, in a machine of such code
+abbrev pub MayReach : Machine → Verified → Home → List Placed → List (Option Placed) → Type 0
+MayReach m v h back replaced =
+    MayComeHome m h.lender.first h.lender.slots (slots_lent (loans_of v h.lent)) back replaced
+
+-- and they did
+abbrev pub Reaches : Machine → Verified → Home → List Placed → List (Option Placed) → Machine → Type 0
+Reaches m v h back replaced m' =
+    ComesHome m h.lender.first h.lender.slots (slots_lent (loans_of v h.lent)) back replaced m'
 
 -- a run that did nothing: it is at the join, or at its limit
 abbrev pub IsStill : Stop → Type 0
@@ -178,7 +194,8 @@ pub record MayPopHome (self : Strand) (back : List Placed) (replaced : List (Opt
   pub newest : Lent
   pub older : List Lent
   pub are : reverse self.lent.items ≡ newest ∷ older
-  pub home : is_lost self.mode ≡ false → ∥ MayComeHome self.run.machine newest.first back replaced ∥₁
+  pub code : code_of self.parts.value ≡ its_code self
+  pub home : is_lost self.mode ≡ false → ∥ MayReach self.run.machine (its_code self) newest.home back replaced ∥₁
 
 -- they did, and the job is out no more; all else is as it was, but for the blocks of the machine
 pub record HasPoppedHome (old : Strand) (back : List Placed) (replaced : List (Option Placed)) (new : Strand) : Type 0
@@ -191,7 +208,7 @@ pub record HasPoppedHome (old : Strand) (back : List Placed) (replaced : List (O
     pub lines : new.run.machine.lines.items ≡ old.run.machine.lines.items
     pub left : (x : Lent) (xs : List Lent) → reverse old.lent.items ≡ x ∷ xs → reverse new.lent.items ≡ xs
     pub home : (x : Lent) (xs : List Lent) → reverse old.lent.items ≡ x ∷ xs → is_lost old.mode ≡ false
-        → ComesHome old.run.machine x.first back replaced new.run.machine
+        → Reaches old.run.machine (its_code old) x.home back replaced new.run.machine
 
 -- the newest job is out no more, and memory was wanting
 pub record HasLost (old new : Strand) : Type 0 where

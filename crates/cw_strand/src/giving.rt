@@ -2,14 +2,15 @@
 
 ghost use Rattle.std.specs.Prelude.{◌≡◌, ◌<◌, false, length, MatchOption, OnOk};
 ghost use Rattle.cw_jobs.specs.declared.effect.Effect.TheVariants as effect;
-ghost use Rattle.cw_machine.specs.Gives.{MayGive};
 ghost use Rattle.cw_strand.specs.Holds.{HasStopped, IsAtSync, IsRunning, IsWaiting};
 ghost use Rattle.cw_strand.specs.Giving.{passes_limit, AreJoined, GivesBack, HasJoined, HasTaken, IsGiven, IsJoinedAt, IsMemory, IsOfRest, LeavesOthers};
 ghost use Rattle.cw_strand.specs.Giving as giving;
 ghost use Rattle.cw_strand.specs.Losing.{MayLack, MayLose};
 ghost use Rattle.cw_strand.specs.declared.strand.Mode.TheVariants as mode;
 
-use crate::strand::{Lent, Mode, Strand};
+use crate::lending::loans_named;
+use crate::stopping::home_of;
+use crate::strand::{Home, Mode, Strand};
 use cw_code::laws::{results_may_go_back, runs_stay_in_their_functions};
 use cw_jobs::call::Rest;
 use cw_jobs::effect::{Effect, Shown};
@@ -22,17 +23,8 @@ use cw_model::total::Total;
 use cw_model::trap::Trap;
 use cw_slices::Slice;
 use cw_strands::laws::{calls_on_a_strand_keep_its_job, rests_stay_in_their_functions};
+use cw_verify::verified::Verified;
 use std::alloc::{AllocError, Global};
-
-// The slot that takes the result of the call beside a job that was out.
-fn target_of(lent: Option<Lent>) -> Option<u32>
-    ensures { result ≡ giving.target_of lent }
-{
-    match lent {
-        Some(lent) => lent.target,
-        None => None,
-    }
-}
 
 // A total, with another one joined to it, where there is one.
 fn join_at(totals: &mut Vec<Total>, more: &[Total], k: usize)
@@ -66,14 +58,15 @@ fn take_shown(machine: &mut Machine, lines: &[i64], totals: &[Total]) -> Result<
 // is want of memory.
 fn join_rest(
     run: &mut Run,
+    code: &Verified,
     count: u64,
     frame: &mut Rest,
     replaced: &mut Vec<Option<Slice>>,
-    target: Option<u32>,
+    home: Home,
     shown: Shown,
 ) -> Result<(), AllocError>
-    requires { ∥ MayGive run.old.machine frame.old replaced.old.items target ∥₁ }
-    ensures { OnOk result (HasJoined run.old count frame.old replaced.old.items target shown run.new) }
+    requires { ∥ giving.MayJoin run.old.machine code.now frame.old replaced.old.items home ∥₁ }
+    ensures { OnOk result (HasJoined run.old code.now count frame.old replaced.old.items home shown run.new) }
 {
     let Shown {
         lines,
@@ -81,7 +74,9 @@ fn join_rest(
         meter,
         cost,
     } = shown;
-    run.machine.give_rest(frame, replaced, target);
+    let loans = loans_named(code, home.lent);
+    let machine = &mut run.machine;
+    machine.give_rest(frame, replaced, home.lender.slots, loans, home.target);
     take_shown(&mut run.machine, lines.as_slice(), totals.as_slice())?;
     run.meter.rest(count, meter, cost)?;
     Ok(())
@@ -146,13 +141,14 @@ impl Strand {
             return;
         }
         let count = self.count;
-        let target = target_of(self.lent.pop());
+        let home = home_of(self.lent.pop());
         match join_rest(
             &mut self.run,
+            &self.parts.code,
             count,
             &mut frame,
             &mut replaced,
-            target,
+            home,
             shown,
         ) {
             Ok(()) => {

@@ -4,14 +4,16 @@ ghost use Rattle.std.specs.Prelude.{◌≡◌, ◌+◌, ◌≤◌, ◌<◌, ◌-
 ghost use Rattle.std.specs.Vec.{vec_len, vec_capacity};
 ghost use Rattle.cw_jobs.specs.Jobs.{code_of};
 ghost use Rattle.cw_machine.specs.declared.run.Stop.TheVariants as stop;
-ghost use Rattle.cw_machine.specs.Calls.{listed};
+ghost use Rattle.cw_machine.specs.Calls.{listed, loans_of};
 ghost use Rattle.cw_strand.specs.Holds.{its_parts, its_code, AreSpare};
 ghost use Rattle.cw_strand.specs.Losing.{GoesOn};
 ghost use Rattle.cw_strand.specs.Moves.{HasCome, ComesTo, HasCut, HasSpared, IsAddressed};
 
-use crate::strand::{Event, Lent, Mode, Strand};
+use crate::strand::{Event, Home, Lent, Mode, Strand};
+use cw_code::code::Loan;
 use cw_jobs::call::{Extent, Parts, Rest};
 use cw_jobs::job::Job;
+use cw_machine::hands::Lender;
 use cw_machine::laws::machines_that_stop_remain;
 use cw_machine::run::Spawn;
 use cw_strands::laws::calls_on_a_strand_keep_its_job;
@@ -39,6 +41,24 @@ fn slots_named(code: &Verified, k: u32) -> &[u32]
         code.code.passed[at].as_slice()
     } else {
         &[]
+    }
+}
+
+// The loans of a list of the code, where there is one.
+#[inline(always)]
+pub(crate) fn loans_named(code: &Verified, list: Option<u32>) -> &[Loan]
+    ensures { result.now ≡ loans_of code.now list }
+{
+    match list {
+        None => &[],
+        Some(k) => {
+            let at = k as usize;
+            if at < code.code.lent.len() {
+                code.code.lent[at].as_slice()
+            } else {
+                &[]
+            }
+        }
     }
 }
 
@@ -93,10 +113,9 @@ impl Strand {
         Ok(parts)
     }
 
-    // The rest of the block that has just spawned a call, as a job's parts, with the cell of its call's first array
-    // slot.
+    // The rest of the block that has just spawned a call, as a job's parts, with the call that it is a rest of.
     #[inline(always)]
-    fn cut_out(&mut self, spawn: &Spawn, end: u64) -> Result<(Box<Parts>, usize), AllocError>
+    fn cut_out(&mut self, spawn: &Spawn, end: u64) -> Result<(Box<Parts>, Lender), AllocError>
         requires comes { HasCome self.old end (stop.Spawned spawn.now) }
         ensures cut { IfOk result (λ x. HasCut self.old self.new spawn.now x.0.value x.1) }
         ensures kept { OnErr result (HasSpared self.old self.new) }
@@ -106,9 +125,11 @@ impl Strand {
         let mut parts = self.shell()?;
         self.lent.reserve(1)?;
         let slots = slots_named(&self.parts.code, spawn.passed);
-        let first = self.run.machine.hand_out(slots, &mut parts.rest)?;
+        let loans = loans_named(&self.parts.code, spawn.lent);
+        let machine = &mut self.run.machine;
+        let lender = machine.hand_out(&self.parts.code, slots, loans, &mut parts.rest)?;
         address(&mut parts, &self.parts, spawn.site, self.count);
-        Ok((parts, first))
+        Ok((parts, lender))
     }
 
     // The rest of the block that has just spawned a call is handed out.
@@ -122,12 +143,15 @@ impl Strand {
         calls_on_a_strand_keep_its_job();
         machines_that_stop_remain();
         match self.cut_out(&spawn, end) {
-            Ok((parts, first)) => {
+            Ok((parts, lender)) => {
                 let job = Job { parts };
                 self.lent.push_reserved(Lent {
                     job: Snapshot::of(&job),
-                    first,
-                    target: spawn.target,
+                    home: Home {
+                        lender,
+                        lent: spawn.lent,
+                        target: spawn.target,
+                    },
                 });
                 Event::Spawned(job)
             }

@@ -2,44 +2,52 @@
 
 ghost use Rattle.std.specs.Prelude.{◌≡◌, ◌∷◌, true, false, List};
 ghost use Rattle.cw_jobs.specs.declared.job.Job as jobs;
-ghost use Rattle.cw_machine.specs.Unwinding.{ComesHome, MayComeHome};
 ghost use Rattle.cw_strand.specs.Holds as holds;
 ghost use Rattle.cw_strand.specs.Holds.{outs, HasStopped, IsAtSync, IsRunning, IsWaiting};
 ghost use Rattle.cw_strand.specs.Moves as moves;
 ghost use Rattle.cw_strand.specs.Moves.{HasLost, HasPoppedHome, MayPopHome};
 
-use crate::strand::{Lent, Mode, Strand};
+use crate::lending::loans_named;
+use crate::strand::{Home, Lent, Mode, Strand};
 use cw_jobs::job::Job;
+use cw_machine::hands::Lender;
 use cw_machine::machine::Machine;
 use cw_slices::Slice;
 use cw_strands::laws::calls_on_a_strand_keep_its_job;
+use cw_verify::verified::Verified;
 
-// The cell of the first array slot of a job that was out.
-fn first_of(lent: Option<Lent>) -> usize
-    ensures { result ≡ moves.first_of lent }
+// Where a job that was out comes back to.
+pub(crate) fn home_of(lent: Option<Lent>) -> Home
+    ensures { result ≡ moves.home_of lent }
 {
     match lent {
-        Some(lent) => lent.first,
-        None => 0,
+        Some(lent) => lent.home,
+        None => Home {
+            lender: Lender { first: 0, slots: 0 },
+            lent: None,
+            target: None,
+        },
     }
 }
 
 // Slices come home to a call of a machine, unless nothing is known of the machine any more.
 fn bring_home(
     machine: &mut Machine,
-    first: usize,
+    code: &Verified,
+    home: Home,
     slices: &mut Vec<Slice>,
     replaced: &mut Vec<Option<Slice>>,
     is_lost: bool,
 )
-    requires { is_lost ≡ false → ∥ MayComeHome machine.old first slices.old.items replaced.old.items ∥₁ }
-    ensures home { is_lost ≡ false → ComesHome machine.old first slices.old.items replaced.old.items machine.new }
+    requires { is_lost ≡ false → ∥ moves.MayReach machine.old code.now home slices.old.items replaced.old.items ∥₁ }
+    ensures home { is_lost ≡ false → moves.Reaches machine.old code.now home slices.old.items replaced.old.items
+        machine.new }
     ensures lines { machine.new.lines.items ≡ machine.old.lines.items }
 {
     if is_lost {
         return;
     }
-    machine.come_home(first, slices, replaced);
+    machine.come_home(home.lender, loans_named(code, home.lent), slices, replaced);
 }
 
 impl Strand {
@@ -72,8 +80,9 @@ impl Strand {
         ensures { HasPoppedHome self.old slices.old.items replaced.old.items self.new }
     {
         let is_lost = self.is_lost();
-        let first = first_of(self.lent.pop());
-        bring_home(&mut self.run.machine, first, slices, replaced, is_lost);
+        let home = home_of(self.lent.pop());
+        let machine = &mut self.run.machine;
+        bring_home(machine, &self.parts.code, home, slices, replaced, is_lost);
     }
 
     // The newest job is out no more, and memory was wanting, so that nothing is known of its arrays.

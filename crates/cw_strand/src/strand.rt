@@ -7,6 +7,7 @@
 use cw_jobs::call::Parts;
 use cw_jobs::effect::Effect;
 use cw_jobs::job::Job;
+use cw_machine::hands::Lender;
 use cw_machine::run::Run;
 use cw_model::trap::Trap;
 use std::snapshot::Snapshot;
@@ -26,15 +27,24 @@ pub enum Mode {
     Memory,
 }
 
+/// Where a job that is out comes back to.
+#[derive(Clone, Copy, Debug)]
+pub struct Home {
+    /// The call that it is a rest of.
+    pub(crate) lender: Lender,
+    /// The list of the code that names what the spawned call was lent, if it can be lent anything.
+    pub(crate) lent: Option<u32>,
+    /// The slot that takes the result of the call that was spawned, if one does.
+    pub(crate) target: Option<u32>,
+}
+
 /// A job that is out.
 #[derive(Drop)]
 pub struct Lent {
     /// The job, in the proof alone.
     pub(crate) job: Snapshot<Job>,
-    /// The cell of the first array slot of the call that it is a rest of.
-    pub(crate) first: usize,
-    /// The slot that takes the result of the call that was spawned, if one does.
-    pub(crate) target: Option<u32>,
+    /// Where it comes back to.
+    pub(crate) home: Home,
 }
 
 /// What a strand came to.

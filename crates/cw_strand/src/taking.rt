@@ -6,6 +6,7 @@ ghost use Rattle.cw_jobs.specs.Jobs.{code_of};
 ghost use Rattle.cw_strand.specs.Holds.{its_code, outs, AreSpare, IsGoing, IsRunning, IsWaiting};
 ghost use Rattle.cw_strand.specs.Moves.{HasSpared};
 
+use crate::lending::loans_named;
 use crate::strand::{Mode, Strand};
 use cw_jobs::call::Parts;
 use cw_jobs::job::Job;
@@ -46,8 +47,10 @@ impl Strand {
         calls_on_a_strand_keep_its_job();
         let Job { parts } = job;
         let mut parts = parts;
-        self.run.machine.take_back(&mut parts.rest);
-        let _ = self.lent.take_last();
+        let home = self.lent.take_last().home;
+        let loans = loans_named(&self.parts.code, home.lent);
+        let machine = &mut self.run.machine;
+        machine.take_back(&mut parts.rest, home.lender.slots, loans);
         self.mode = Mode::Going;
         self.spare(parts);
     }

@@ -1,4 +1,4 @@
-//! Which places lie in functions that read arrays.
+//! How many arrays are read at each place.
 
 ghost use Rattle.std.specs.Prelude.{◌≡◌, [], IfOk, OnOk};
 ghost use Rattle.cw_verify.specs.Reading as reading;
@@ -6,29 +6,30 @@ ghost use Rattle.cw_verify.specs.Reading as reading;
 use cw_code::code::Func;
 use std::alloc::{AllocError, Global};
 
-// The same for each place up to one.
-fn fill(marks: &mut Vec<bool>, to: usize, reads: bool) -> Result<(), AllocError>
-    ensures { OnOk result (marks.new.items ≡ reading.filled marks.old.items to reads) }
+// The same number for each place up to one.
+fn fill(counts: &mut Vec<usize>, to: usize, readers: usize) -> Result<(), AllocError>
+    ensures { OnOk result (counts.new.items ≡ reading.filled counts.old.items to readers) }
 {
-    let more = to.saturating_sub(marks.len());
+    let more = to.saturating_sub(counts.len());
     for _k in 0..more {
-        marks.push(reads)?;
+        counts.push(readers)?;
     }
     Ok(())
 }
 
-// For each place up to the end of the last of these functions, of which there are so many, whether its own reads arrays.
+// For each place up to the end of the last of these functions, of which there are so many, how many arrays its own
+// function reads.
 pub(crate) fn reading_of(
     alloc: Global,
     funcs: &[Func],
     places: usize,
-) -> Result<Vec<bool>, AllocError>
+) -> Result<Vec<usize>, AllocError>
     ensures { IfOk result (λ all. all.items ≡ reading.reading_in [] funcs.now) }
 {
     let mut all = Vec::with_capacity(alloc, places)?;
     for k in 0..funcs.len() {
         let f = funcs[k];
-        fill(&mut all, f.end, f.readers > 0)?;
+        fill(&mut all, f.end, f.readers)?;
     }
     Ok(all)
 }

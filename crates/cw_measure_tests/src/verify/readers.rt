@@ -312,8 +312,8 @@ fn blocks(rt: HostRuntime) -> Result<(), AllocError> {
 }
 
 // What reads this array that its call was lent, in a function with three array slots and two readers, after a main
-// that reads none: the array slot, and whether its place and that of main lie in a function that reads; or nothing.
-fn slot_of(alloc: Global, number: u32) -> Result<(u32, bool, bool), AllocError> {
+// that reads none: the array slot, and how many arrays the functions of its place and of main's read; or nothing.
+fn slot_of(alloc: Global, number: u32) -> Result<(u32, usize, usize), AllocError> {
     let mut code = no_code(alloc);
     let f = Func {
         arrays: 3,
@@ -324,19 +324,19 @@ fn slot_of(alloc: Global, number: u32) -> Result<(u32, bool, bool), AllocError> 
     place(&mut code, f, &[Instr::ReadLength(number), END])?;
     match verify(alloc, code) {
         Ok(code) => match code.ops.get(2) {
-            Some(Op::Length(_, slot)) => Ok((*slot, code.reads(2), code.reads(1))),
-            _ => Ok((0, false, false)),
+            Some(Op::Length(_, slot)) => Ok((*slot, code.readers_at(2), code.readers_at(1))),
+            _ => Ok((0, 0, 0)),
         },
-        Err(_) => Ok((0, false, false)),
+        Err(_) => Ok((0, 0, 0)),
     }
 }
 
 #[test]
 fn slots(rt: HostRuntime) -> Result<(), AllocError> {
     let alloc = rt.alloc();
-    assert!(rt; slot_of(alloc, 0)? == (4, true, false));
-    assert!(rt; slot_of(alloc, 1)? == (3, true, false));
-    assert!(rt; slot_of(alloc, 2)? == (0, false, false));
+    assert!(rt; slot_of(alloc, 0)? == (4, 2, 0));
+    assert!(rt; slot_of(alloc, 1)? == (3, 2, 0));
+    assert!(rt; slot_of(alloc, 2)? == (0, 0, 0));
     Ok(())
 }
 

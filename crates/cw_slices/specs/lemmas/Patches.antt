@@ -6,7 +6,7 @@ use Prim.Native.Nat.{zero, suc}
 use lib.ListN.{length-append, length-drop, length-replicate}
 use lib.Seq.{length-take-le}
 use Rattle.std.proofs.lemmas.Option.{none-some, same_Some, slice_get_within}
-use Rattle.cw_slices.specs.Blocks.{ins, outs, patched, IsIn, Have, AreIn, AreOut, numbers, marks}
+use Rattle.cw_slices.specs.Blocks.{ins, outs, patched, IsIn, Have, AreIn, numbers, marks}
 
 abbrev Cells : Type 0
 Cells = List (Option ℤ)
@@ -49,11 +49,11 @@ same_each {X = X} (x ∷ xs) (y ∷ ys) e at =
     let rest = same_each xs ys (omega (arith, e')) (λ k. at (suc k)) in
     ap₂ (λ (a : X) (l : List X). a ∷ l) (sym (same_Some y x (at 0 x refl))) rest
 
-module _ (from : ℕ) (new cells : Cells) (fits : from + length new ≤ length cells) where
-  abbrev last : Cells
+module _ {X : Type 0} (from : ℕ) (new cells : List X) (fits : from + length new ≤ length cells) where
+  abbrev last : List X
   last = drop (from + length new) cells
 
-  abbrev tail : Cells
+  abbrev tail : List X
   tail = new ++ last
 
   front : length (take from cells) ≡ from
@@ -152,18 +152,48 @@ middle (suc n) xs (c ∷ cells) at le =
     ap (λ (l : Cells). c ∷ l) (middle n xs cells less (omega (arith, le))
     ∙ ap (λ (j : ℕ). take n cells ++ (ins xs ++ drop j (c ∷ cells))) up)
 
--- cells are those before a place, the one there and those after
-pub at_place : (cells : Cells) (i : ℕ) (c : Option ℤ) → slice_get cells i ≡ Some c
+-- a list is what is before a place, what is there and what is after
+pub at_place : {X : Type 0} (cells : List X) (i : ℕ) (c : X) → slice_get cells i ≡ Some c
     → cells ≡ take i cells ++ (c ∷ drop (suc i) cells)
 at_place [] i c e = absurd (none-some c e)
-at_place (d ∷ cells) zero c e = ap (λ (a : Option ℤ). a ∷ cells) (same_Some d c e)
-at_place (d ∷ cells) (suc i) c e = ap (λ (l : Cells). d ∷ l) (at_place cells i c e)
+at_place {X = X} (d ∷ cells) zero c e = ap (λ (a : X). a ∷ cells) (same_Some d c e)
+at_place {X = X} (d ∷ cells) (suc i) c e = ap (λ (l : List X). d ∷ l) (at_place cells i c e)
 
-pub set_place : (cells : Cells) (i : ℕ) (c : Option ℤ) → i < length cells
+pub set_place : {X : Type 0} (cells : List X) (i : ℕ) (c : X) → i < length cells
     → slice_set cells i c ≡ take i cells ++ (c ∷ drop (suc i) cells)
 set_place [] i c lt = absurd (omega (arith, lt))
 set_place (d ∷ cells) zero c lt = refl
-set_place (d ∷ cells) (suc i) c lt = ap (λ (l : Cells). d ∷ l) (set_place cells i c (omega (arith, lt)))
+set_place {X = X} (d ∷ cells) (suc i) c lt = ap (λ (l : List X). d ∷ l) (set_place cells i c (omega (arith, lt)))
+
+alike_here : {X : Type 0} (n : ℕ) (v : X) (xs : List X) → ((k : ℕ) → k < n → slice_get xs k ≡ Some v)
+    → n ≤ length xs → xs ≡ replicate n v ++ drop n xs
+alike_here zero v xs at le = refl
+alike_here (suc n) v [] at le = absurd (omega (arith, le))
+alike_here {X = X} (suc n) v (x ∷ xs) at le =
+    ap₂ (λ (a : X) (l : List X). a ∷ l) (same_Some x v (at 0 (omega arith)))
+    (alike_here n v xs (λ k lt. at (suc k) (omega (arith, lt))) (omega (arith, le)))
+
+-- what is the same at so many places is what is before them, that so often, and what is after
+pub alike_middle : {X : Type 0} (from n : ℕ) (v : X) (xs : List X)
+    → ((k : ℕ) → k < n → slice_get xs (from + k) ≡ Some v) → from + n ≤ length xs
+    → xs ≡ take from xs ++ (replicate n v ++ drop (from + n) xs)
+alike_middle zero n v xs at le =
+    alike_here n v xs (λ k lt. same_place xs k (0 + k) (omega arith) ∙ at k lt) (omega (arith, le)) ∙
+    ap (λ (j : ℕ). replicate n v ++ drop j xs) (let z : n ≡ 0 + n = omega arith in z)
+alike_middle (suc f) n v [] at le = absurd (omega (arith, le))
+alike_middle {X = X} (suc f) n v (x ∷ xs) at le =
+    let less = λ (k : ℕ) (lt : k < n). same_place (x ∷ xs) (suc (f + k)) (suc f + k) (omega arith) ∙ at k lt in
+    let up : suc (f + n) ≡ suc f + n = omega arith in
+    ap (λ (l : List X). x ∷ l) (alike_middle f n v xs less (omega (arith, le))
+    ∙ ap (λ (j : ℕ). take f xs ++ (replicate n v ++ drop j (x ∷ xs))) up)
+
+pub length_replicated : {X : Type 0} (n : ℕ) (v : X) → length (replicate n v) ≡ n
+length_replicated n v = length-replicate n v
+
+pub get_replicated : {X : Type 0} (n : ℕ) (v : X) (k : ℕ) → k < n → slice_get (replicate n v) k ≡ Some v
+get_replicated zero v k lt = absurd (omega (arith, lt))
+get_replicated (suc n) v zero lt = refl
+get_replicated (suc n) v (suc k) lt = get_replicated n v k (omega (arith, lt))
 
 set_here : {X : Type 0} (xs : List X) (i : ℕ) (x : X) → i < length xs → slice_get (slice_set xs i x) i ≡ Some x
 set_here [] i x lt = absurd (omega (arith, lt))

@@ -1,22 +1,21 @@
--- A slice may go to another thread.
+-- A slice may go to another thread, and a share of one.
 use Rattle.std.proofs.Common.{ℕ, ℤ, Bool, true, false, List, [], ◌∷◌, Option, Some, None}
 use Prim.Native.Nat.{zero, suc}
 use mir.Syntax.{Ty}
-use base.Fml.{Fml}
+use base.Fml.{Share, Fml}
 use base.Shift.{Keyless}
 use denote.RattleType.{RattleType}
-use denote.RawPtr.{Ptr, block_ptr, null_ptr, in_block}
+use denote.RawPtr.{Ptr, block_ptr, null_ptr, lies_at, in_block}
 use denote.Builtin.{i64}
-use base.Fml.{Lft}
-use denote.Param.Send.{IsSend, IsSync, Frees, owning_send, sendable}
-use Rattle.std_alloc.proofs.SendSync.{lies, seen}
-use Rattle.core.specs.Mem.Slots.Ownership.{slot, slots, slot_lent, slots_lent}
+use denote.Param.Send.{IsSend, Frees, part_keyless, owning_send, sendable}
+use Rattle.std_alloc.proofs.SendSync.{lies}
+use Rattle.core.specs.Mem.Slots.Ownership.{slot, slots}
 use Rattle.std.specs.declared.alloc.Allocator.{Ghosts}
 use Rattle.cw_slices.specs.contracts.memory.Title as Title
 use Rattle.cw_slices.specs.contracts.slice.Slice as C
 use Rattle.cw_slices.specs.contracts.slice.Slice.TheInside as Inside
-use Rattle.cw_slices.specs.Placed.{Placed, placed_code, Owed as TheOwed, owed_code}
-use Rattle.cw_slices.specs.Held.{cells_owned}
+use Rattle.cw_slices.specs.Placed.{Placed, placed_code}
+use Rattle.cw_slices.specs.Held.{halves, part_of_slot, part_of_slots, held, held_owned}
 use denote.Param.Send.{view_send, recorded_send, struct_send}
 use denote.Struct.Declared as declared
 use Rattle.std_heap.specs.contracts.Global as G
@@ -28,9 +27,6 @@ use Rattle.cw_slices.specs.contracts.kept.Kept as Kept
 use Rattle.cw_slices.specs.contracts.block.Block as Block
 use Rattle.cw_slices.specs.contracts.block.Block.TheInside as BlockInside
 use Rattle.cw_slices.specs.contracts.cells.Cells as Hold
-use Rattle.cw_slices.specs.contracts.cells.Due as Due
-use Rattle.cw_slices.specs.contracts.slice.Owed as Owed
-use Rattle.cw_slices.specs.contracts.slice.Owed.TheInside as OwedInside
 
 number_send : IsSend i64
 number_send = search sendable
@@ -67,56 +63,45 @@ frees_anywhere = frees
 title_global : IsSend (Title.the_row G.the_row ghosts)
 title_global = title_send G.the_row ghosts global_send frees_anywhere
 
-number_sync : IsSync i64
-number_sync = search sendable
+part : (q : Share) (p : Ptr) (x : ℤ) → Keyless (lies_at i64 q p x)
+part q (block_ptr b o) x = part_keyless i64 number_send q x b o
+part q null_ptr x = tt
 
-place_lent : (f : Bool) (p : Ptr) (x : ℤ) (κ : Lft) → Keyless (slot_lent i64 f p x κ)
-place_lent true p x κ = seen i64 number_sync p x κ
-place_lent false p x κ = tt
+part_place : (q : Share) (f : Bool) (p : Ptr) (x : ℤ) → Keyless (part_of_slot q f p x)
+part_place q true p x = part q p x
+part_place q false p x = tt
 
-places_lent : (xs : List ℤ) (p : Ptr) (fs : List Bool) (κ : Lft) → Keyless (slots_lent i64 p xs fs κ)
-places_lent [] p fs κ = tt
-places_lent (x ∷ xs) p [] κ = tt
-places_lent (x ∷ xs) p (f ∷ fs) κ = (place_lent f p x κ, places_lent xs _ fs κ)
+part_places : (q : Share) (xs : List ℤ) (p : Ptr) (fs : List Bool) → Keyless (part_of_slots q p xs fs)
+part_places q [] p fs = tt
+part_places q (x ∷ xs) p [] = tt
+part_places q (x ∷ xs) p (f ∷ fs) = (part_place q f p x, part_places q xs _ fs)
 
-cells_keyless : (a : ℕ) (p : Ptr) (n : ℕ) (xs : List ℤ) (fs : List Bool) (d : ℕ) → Keyless (cells_owned a p n xs fs d)
-cells_keyless zero p n xs fs d = (tt, inside p (slots i64 p xs fs) (places xs p fs))
-cells_keyless (suc a) p n xs fs d = (tt, (tt, places_lent xs p fs (a ∷ [])))
+held_keyless : (d : ℕ) (p : Ptr) (xs : List ℤ) (fs : List Bool) → Keyless (held d p xs fs)
+held_keyless zero p xs fs = places xs p fs
+held_keyless (suc d) p xs fs = part_places (halves (suc d)) xs p fs
+
+cells_keyless : (d : ℕ) (p : Ptr) (n : ℕ) (xs : List ℤ) (fs : List Bool) → Keyless (held_owned d p n xs fs)
+cells_keyless d p n xs fs = (tt, inside p (held d p xs fs) (held_keyless d p xs fs))
 
 pub hold_send : IsSend Hold.the_row
 hold_send =
-    owning_send Hold.the_type (search sendable) (λ d. cells_keyless d.frozen d.ptr d.len d.items d.filled d.halved)
+    owning_send Hold.the_type (search sendable) (λ d. cells_keyless d.halved d.ptr d.len d.items d.filled)
     (λ k x w. tt)
 
-pub due_send : IsSend Due.the_row
-due_send =
-    owning_send Due.the_type (search sendable)
-    (λ d. (tt, inside d.at (slots i64 d.at d.items d.filled) (places d.items d.at d.filled))) (λ k x w. tt)
+cell_keyless : (p : Ptr) (c : Option ℤ) (d : ℕ) → Keyless (cell_owned p c d)
+cell_keyless p (Some x) d = part (halves d) p x
+cell_keyless p None d = tt
 
-cell_keyless : (p : Ptr) (c : Option ℤ) → Keyless (cell_owned p c)
-cell_keyless p (Some x) = lies i64 number_send p x
-cell_keyless p None = tt
-
-kept_keyless : (cs : List (Option ℤ)) (p : Ptr) → Keyless (cells_in p cs)
-kept_keyless [] p = tt
-kept_keyless (c ∷ cs) p = (cell_keyless p c, kept_keyless cs _)
+kept_keyless : (cs : List (Option ℤ)) (ds : List ℕ) (p : Ptr) → Keyless (cells_in p cs ds)
+kept_keyless [] ds p = tt
+kept_keyless (c ∷ cs) [] p = tt
+kept_keyless (c ∷ cs) (d ∷ ds) p = (cell_keyless p c d, kept_keyless cs ds _)
 
 pub kept_send : IsSend Kept.the_row
 kept_send =
     owning_send Kept.the_type (search sendable)
-    (λ d. (tt, inside d.ptr (cells_in d.ptr d.cells) (kept_keyless d.cells d.ptr)))
+    (λ d. (tt, inside d.ptr (cells_in d.ptr d.cells d.rights) (kept_keyless d.cells d.rights d.ptr)))
     (λ k x w. tt)
-
-owed_inside_send : IsSend (declared.row OwedInside.the_type)
-owed_inside_send =
-    recorded_send (OwedInside.the_field).row _ _ (OwedInside.the_type).to_one
-    (struct_send (declared.shape OwedInside.the_type)
-    (due_send, (search sendable, (title_global, (search sendable, tt)))))
-
--- so may the right to have a slice back
-pub owed_send : IsSend Owed.the_row
-owed_send =
-    view_send (declared.row OwedInside.the_type) TheOwed owed_code Owed.the_view Owed.the_invariant owed_inside_send
 
 inside_send : IsSend (declared.row Inside.the_type)
 inside_send =

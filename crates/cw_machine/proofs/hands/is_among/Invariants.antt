@@ -1,5 +1,5 @@
 use Rattle.std.proofs.Common.{◌≡◌, drop}
-use Rattle.cw_machine.specs.Hands.{is_among}
+use Rattle.cw_machine.specs.Arrays.{is_among}
 use Rattle.cw_machine.proofs.hands.is_among.Given as goal
 
 abbrev pub invariant-loop-slot : goal.invariant-loop-slot

@@ -1,6 +1,6 @@
 use Rattle.std.proofs.Common.{◌∷◌, [], ap, length, subst, sym, arith, length-append}
 use Rattle.cw_machine.specs.Hands.{HasMoreBare}
-use Rattle.cw_machine.proofs.Handing.{more_bare}
+use Rattle.cw_machine.proofs.Slices.{more_bare}
 use Rattle.cw_machine.proofs.hands.make_slices.Goals as goal
 
 pub loop-k-preserved : goal.loop-k-preserved

@@ -1,7 +1,7 @@
 use Rattle.std.proofs.Common.{◌≡◌, ℕ, ◌+◌, ◌^◌, ◌<◌, length}
 use Rattle.cw_jobs.specs.Calls.{placed}
 use Rattle.cw_machine.specs.Arrays.{view}
-use Rattle.cw_machine.specs.JobRuns.{home_in}
+use Rattle.cw_machine.specs.Arrays.{home_in}
 use Rattle.cw_machine.proofs.job.add_views.Given as goal
 
 abbrev pub invariant-loop-k : goal.invariant-loop-k

@@ -1,4 +1,4 @@
-use Rattle.std.proofs.Common.{◌≡◌, ◌+◌, ℤ, List, [], ◌∷◌, pos, length, slice_get, slice_set, refl, ap, ap₂, ◌∙◌, subst, sym, arith}
+use Rattle.std.proofs.Common.{◌≡◌, ◌+◌, ℤ, List, [], ◌∷◌, pos, length, replicate, slice_get, slice_set, refl, ap, ap₂, ◌∙◌, subst, sym, arith}
 use Prim.Native.Nat.{suc}
 use Rattle.cw_slices.specs.Blocks.{IsIn, ins, outs, patched}
 use Rattle.cw_slices.specs.lemmas.Patches.{are_in, in_ins}
@@ -35,4 +35,10 @@ take-whole-requires g c =
     let back = c.give_back.ensures.cells ∙ ap₂ (λ xs l. patched 2 (ins xs) l) last.1 lent in
     let back-2 = c.give_back-2.ensures.cells ∙ ap₂ (λ xs l. patched 3 (ins xs) l) end back in
     let back-3 = c.give_back-3.ensures.cells ∙ ap₂ (λ xs l. patched 0 (ins xs) l) none back-2 in
-    record { there = (first.0 ∷ pos 0 ∷ last.0 ∷ [], c.give_back-4.ensures.cells ∙ ap₂ (λ xs l. patched 0 (ins xs) l) first.1 back-3) }
+    let now = c.give_back-4.ensures.cells ∙ ap₂ (λ xs l. patched 0 (ins xs) l) first.1 back-3 in
+    let rights = c.give_back-4.ensures.rights ∙ c.give_back-3.ensures.rights ∙ c.give_back-2.ensures.rights ∙ c.give_back.ensures.rights ∙ c.lend-last.ensures.rights ∙ c.lend-end.ensures.rights ∙ c.lend-none.ensures.rights ∙ c.lend-first.ensures.rights in
+    let spot = c.give_back-4.ensures.spot ∙ c.give_back-3.ensures.spot ∙ c.give_back-2.ensures.spot ∙ c.give_back.ensures.spot ∙ c.lend-last.ensures.spot ∙ c.lend-end.ensures.spot ∙ c.lend-none.ensures.spot ∙ c.lend-first.ensures.spot in
+    record {
+      there = (first.0 ∷ pos 0 ∷ last.0 ∷ [], now);
+      whole = rights ∙ c.of-block.ensures.whole ∙ ap₂ (λ n d. replicate n d) (ap length (c.of-block.ensures.cells ∙ ap ins items) ∙ sym (ap length now)) (sym (ap (λ s. s.halved) spot));
+    }

@@ -1,11 +1,13 @@
-use Rattle.std.proofs.Common.{arith, ◌+◌, ◌<◌, length, sym, subst}
+use Rattle.std.proofs.Common.{arith, ◌+◌, ◌<◌, true, false, length, sym, ap, ◌∙◌, ◌≡◌, subst}
 use Rattle.cw_slices.specs.Blocks.{Lodged}
 use Rattle.cw_machine.specs.declared.machine.View.{View}
 use Rattle.cw_machine.specs.Arrays.{block}
 use Rattle.cw_machine.specs.JobRuns.{Copies}
 use Rattle.cw_machine.proofs.Blocks.{block_is}
+use Rattle.cw_machine.proofs.Decided.{equal}
 use Rattle.cw_machine.proofs.JobSlots.{view_is}
 use Rattle.cw_machine.proofs.machine.Machine.copy_of.Goals as goal
+use Rattle.cw_machine.proofs.machine.Machine.copy_of.Goals.{else-is_whole-via-then-is_whole+else-v-count, then-v-a, else-v-a, else-is_whole-via-else-is_whole, then-v-len, else-v-len}
 
 pub returns : goal.returns
 returns c =
@@ -16,5 +18,20 @@ returns c =
     let e = view_is m.views.items (c.args.count + c.args.a) w c.index-v.ensures (omega (arith, views, c.requires.slot)) in
     let there = see.there c.args.a c.requires.slot in
     let e' = block_is m.blocks.items w.block c.index-block.result.now c.index-block.ensures (subst (λ (z : View). z.block < length m.blocks.items) e there) in
-    subst (λ (z : View). Copies (block m.blocks.items z.block).cells z.from z.len c.in_ok-copy.copy) (sym e)
-    (subst (λ (b : Lodged). Copies b.cells w.from w.len c.in_ok-copy.copy) (sym e') c.in_ok-copy.ensures)
+    let copies = subst (λ (z : View). Copies (block m.blocks.items z.block).cells z.from z.len c.in_ok-copy.copy) (sym e)
+    (subst (λ (b : Lodged). Copies b.cells w.from w.len c.in_ok-copy.copy) (sym e') c.in_ok-copy.ensures) in (
+      copies,
+      λ own.
+          let same_block : w.block ≡ c.args.a = ap (λ (z : View). z.block) (sym e) ∙ own.lies in
+          let same_from : w.from ≡ 0 = ap (λ (z : View). z.from) (sym e) ∙ own.from in
+          let same_len : w.len ≡ c.len.result = ap (λ (z : View). z.len) (sym e) ∙ own.len ∙ ap (λ (z : View). length (block m.blocks.items z.block).cells) e ∙ ap (λ (b : Lodged). length b.cells) e' ∙ sym c.len.ensures.value in
+          elim c.else-is_whole.branch [
+            | else-is_whole-via-then-is_whole+else-v-count x ↦
+                elim x.if-v-a.branch [ then-v-a y ↦ never (sym (y.value-is ∙ equal w.block c.args.a same_block) ∙ x.if-v-count.false) | else-v-a y ↦ y.if-v-a.false same_block ]
+            | else-is_whole-via-else-is_whole x ↦
+                elim c.if-v-len.branch [ then-v-len y ↦ never (sym (y.is_whole-is ∙ equal w.from 0 same_from) ∙ x.if-is_whole.false) | else-v-len y ↦ y.if-v-len.false same_len ]
+          ],
+    )
+  where
+    never : true ≡ false → ⊥
+    never e = cc

@@ -18,7 +18,7 @@ pub get-requires : goal.get-requires
 get-requires c = ∥∥₁_elim c.requires le_prop (λ r. moves.cut_there c.args._code.now r.running.ok c.args.self.now r.running.state r.running.shows c.args.d c.args.line c.args.h.now r.is)
 
 pub returns-in-Err : goal.returns-in-Err
-returns-in-Err c = λ ok s is shows may.
+returns-in-Err c = λ ok s is shows may change.
     let same : to_z w64 (of_z w64 c.get.result) ≡ c.get.result = search (rules, to_z-of_z) in
     let comes = subst (λ (w : View). CutsAs (to_z w64 (of_z w64 c.get.result)) w.len (Fails c.in-Err.trap)) c.view-v.ensures c.in-Err.ensures in
     moves.cut_traps c.args._code.now ok c.args.self.now s shows c.args.d c.args.line c.args.h.now c.get.result c.in-Err.trap c.args.self.now is c.get.ensures (subst (λ (z : ℤ). CutsAs z (view c.args.self.now.views.items (c.args.self.now.first_array + c.args.h.now.array)).len (Fails c.in-Err.trap)) same comes) refl
@@ -64,7 +64,7 @@ overflow_add-self c =
     omega (arith, next, same, same')
 
 pub returns : goal.returns
-returns c = λ ok s is shows may.
+returns c = λ ok s is shows may change.
     let same : to_z w64 (of_z w64 c.get.result) ≡ c.get.result = search (rules, to_z-of_z) in
     let q = c.args.self.now.first_array in
     let rest = c.set_view.ensures.rest in
@@ -74,5 +74,5 @@ returns c = λ ok s is shows may.
     let comes = subst (λ (w : View). CutsAs (to_z w64 (of_z w64 c.get.result)) w.len (Value (pos c.in-Ok.k))) c.view-v.ensures c.in-Ok.ensures.1 in
     let e_views = c.set_view-2.ensures.views ∙ ap (λ f. slice_set c.set_view.new.self.views.items (q + c.args.h.now.right) (record { block = c.view-v.result.block; from = f; len = c.view-v.result.len - c.in-Ok.k })) c.beyond-from.ensures ∙ ap (λ l. slice_set l (q + c.args.h.now.right) (record { block = c.view-v.result.block; from = c.view-v.result.from + c.in-Ok.k; len = c.view-v.result.len - c.in-Ok.k })) c.set_view.ensures.views
     ∙ ap (λ (w : View). slice_set (slice_set c.args.self.now.views.items (q + c.args.h.now.left) (record { block = w.block; from = w.from; len = c.in-Ok.k })) (q + c.args.h.now.right) (record { block = w.block; from = w.from + c.in-Ok.k; len = w.len - c.in-Ok.k })) c.view-v.ensures in
-    moves.cut_follows c.args._code.now ok c.args.self.now s shows may c.args.d c.args.line c.args.h.now c.get.result c.in-Ok.k _ is c.get.ensures (omega (arith, le, len)) (subst (λ (z : ℤ). CutsAs z (view c.args.self.now.views.items (c.args.self.now.first_array + c.args.h.now.array)).len (Value (pos c.in-Ok.k))) same comes) e_views (rest'.cuts ∙ rest.cuts ∙ c.in-Ok-push.ensures.items)
+    moves.cut_follows c.args._code.now ok c.args.self.now s shows may change c.args.d c.args.line c.args.h.now c.get.result c.in-Ok.k _ is c.get.ensures (omega (arith, le, len)) (subst (λ (z : ℤ). CutsAs z (view c.args.self.now.views.items (c.args.self.now.first_array + c.args.h.now.array)).len (Value (pos c.in-Ok.k))) same comes) e_views (rest'.cuts ∙ rest.cuts ∙ c.in-Ok-push.ensures.items)
     (moves.kept c.args._code.now ok c.args.self.now s shows _ c.args.self.now.cells.items (c.args.self.now.place + 1) (rest'.cells ∙ rest.cells) (ap (λ p. p + 1) (rest'.place ∙ rest.place)) (record { first = rest'.first ∙ rest.first; frames = rest'.frames ∙ rest.frames; lines = rest'.lines ∙ rest.lines; views = refl; blocks = c.set_view-2.ensures.blocks ∙ c.set_view.ensures.blocks; first_array = rest'.first_array ∙ rest.first_array; depth = rest'.depth ∙ rest.depth; totals = rest'.totals ∙ rest.totals; cuts = refl }))

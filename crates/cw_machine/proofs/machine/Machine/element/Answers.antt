@@ -18,7 +18,7 @@ pub view-v-requires : goal.view-v-requires
 view-v-requires c = ∥∥₁_elim c.requires le_prop (λ r. moves.element_within c.args._code.now r.running.ok c.args.self.now r.running.state r.running.shows c.args.d c.args.a c.args.line r.is)
 
 pub returns-then-not-is_within : goal.returns-then-not-is_within
-returns-then-not-is_within c = λ ok s is shows may.
+returns-then-not-is_within c = λ ok s is shows may change.
     let same_i : to_z w64 (of_z w64 c.get-i.result) ≡ c.get-i.result = search (rules, to_z-of_z) in
     let len = ap (λ (w : View). w.len) c.view-v.ensures in
     let out : is_index c.get-i.result (view c.args.self.now.views.items (c.args.self.now.first_array + c.args.a)).len ≡ false = sym (ap (λ z. is_index z (view c.args.self.now.views.items (c.args.self.now.first_array + c.args.a)).len) same_i) ∙ sym (ap (λ l. is_index (to_z w64 (of_z w64 c.get-i.result)) l) len) ∙ sym c.is_within.ensures ∙ c.if-not-is_within.true in
@@ -52,7 +52,7 @@ pub put-requires-clause-next : goal.put-requires-clause-next
 put-requires-clause-next c = ∥∥₁_elim c.requires le_prop (λ r. moves.element_next c.args._code.now r.running.ok c.args.self.now r.running.state r.running.shows c.args.d c.args.a c.args.line r.is)
 
 pub returns : goal.returns
-returns c = λ ok s is shows may.
+returns c = λ ok s is shows may change.
     let same_i : to_z w64 (of_z w64 c.get-i.result) ≡ c.get-i.result = search (rules, to_z-of_z) in
     let len = ap (λ (w : View). w.len) c.view-v.ensures in
     let within : is_index c.get-i.result (view c.args.self.now.views.items (c.args.self.now.first_array + c.args.a)).len ≡ true = sym (ap (λ z. is_index z (view c.args.self.now.views.items (c.args.self.now.first_array + c.args.a)).len) same_i) ∙ sym (ap (λ l. is_index (to_z w64 (of_z w64 c.get-i.result)) l) len) ∙ sym c.is_within.ensures ∙ c.if-not-is_within.false in

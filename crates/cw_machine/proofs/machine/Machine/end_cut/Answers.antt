@@ -35,12 +35,12 @@ overflow_add-self c =
     omega (arith, next, same, same')
 
 pub returns : goal.returns
-returns c = λ ok s is shows may.
+returns c = λ ok s is shows may change.
     let q = c.args.self.now.first_array in
     let rest = c.set_view.ensures.rest in
     let rest' = c.set_view-2.ensures.rest in
     let e_views = c.set_view-2.ensures.views ∙ ap (λ l. slice_set l (q + c.args.h.now.right) (record { block = q + c.args.h.now.right; from = 0; len = 0 })) c.set_view.ensures.views in
-    moves.end_follows c.args._code.now ok c.args.self.now s shows c.args.h.now _ is may e_views
+    moves.end_follows c.args._code.now ok c.args.self.now s shows c.args.h.now _ is may change e_views
     (λ cells x e.
     let n = c.set_view-2.new.self.cuts.ok.0 in
     let m = ap length (rest'.cuts ∙ rest.cuts ∙ e) in

@@ -1,11 +1,20 @@
-use Rattle.std.proofs.Common.{ℕ, length, sym, subst, ◌∙◌}
-use Rattle.std.specs.Coded.{le_prop}
+use Rattle.std.proofs.Common.{◌≡◌, ℕ, length, sym, subst, ◌∙◌}
+use Rattle.std.specs.Prelude.{replicate}
+use Rattle.std.specs.Coded.{Coded-set, coded_list, coded_ℕ, le_prop}
 use Rattle.std.proofs.Math.Logic.{∥∥₁_elim}
 use mathlib.Core.HLevel.{⊥_prop}
+use Rattle.cw_slices.specs.Blocks.{Lodged, IsWhole as IsUnshared}
 use Rattle.cw_machine.specs.declared.machine.Machine.{Machine}
+use Rattle.cw_machine.specs.Arrays.{block}
 use Rattle.cw_machine.specs.JobRuns.{AreFrom, CanEnd, MaySee, SlotsEnd}
 use Rattle.cw_machine.proofs.JobEnds.{may_see, job_ends}
 use Rattle.cw_machine.proofs.machine.Machine.finish.Goals as goal
+
+unshared_prop : (b : Lodged) → IsProp (IsUnshared b)
+unshared_prop b = λ p q. Coded-set (coded_list coded_ℕ) b.rights (replicate (length b.cells) b.spot.halved) p q
+
+same_prop : (a b : ℕ) → IsProp (a ≡ b)
+same_prop a b = λ p q. Coded-set coded_ℕ a b p q
 
 seen : (m : Machine) (n : ℕ) → CanEnd m n → MaySee m n
 seen m n can = subst (λ k. MaySee m k) can.as_many (may_see can.code can.is can.job can.rest m can.state can.come)
@@ -14,9 +23,18 @@ sees : (m : Machine) (n : ℕ) → ∥ CanEnd m n ∥₁ → MaySee m n
 sees m n h = record {
   views = ∥∥₁_elim h le_prop (λ can. (seen m n can).views);
   blocks = ∥∥₁_elim h le_prop (λ can. (seen m n can).blocks);
-  all_in = λ b k e. ∥∥₁_elim h ⊥_prop (λ can. (seen m n can).all_in b k e);
+  all_here = λ b. (
+    (λ k e. ∥∥₁_elim h ⊥_prop (λ can. ((seen m n can).all_here b).0 k e)),
+    ∥∥₁_elim h (unshared_prop (block m.blocks.items b)) (λ can. ((seen m n can).all_here b).1),
+  );
   there = λ a lt. ∥∥₁_elim h le_prop (λ can. (seen m n can).there a lt);
   within = λ a lt some. ∥∥₁_elim h le_prop (λ can. (seen m n can).within a lt some);
+  shares = λ a lt some. record {
+    lies = ∥∥₁_elim h (same_prop _ _) (λ can. ((seen m n can).shares a lt some).lies);
+    from = ∥∥₁_elim h (same_prop _ _) (λ can. ((seen m n can).shares a lt some).from);
+    len = ∥∥₁_elim h (same_prop _ _) (λ can. ((seen m n can).shares a lt some).len);
+  };
+  made_own = λ a lt. ∥∥₁_elim h (same_prop _ _) (λ can. (seen m n can).made_own a lt);
 }
 
 pub copy_out-requires-clause-see : goal.copy_out-requires-clause-see

@@ -9,4 +9,4 @@ returns-then-is_empty-clause-out c =
     let v = c.args.slices.now in
     let slices = v.items in
     let none : length slices ≡ 0 = sym v.ok.0 ∙ eq_of v.len 0 (sym c.is_empty.ensures ∙ c.if-is_empty.true) in
-    hands_all m c.args.first c.args.passed.now (length slices) 0 m slices (omega (arith, none)) (hands_none m c.args.first c.args.passed.now slices)
+    hands_all m c.args.lender.first c.args.passed.now c.args.lent.now c.args.lender.slots (length slices) 0 m slices (omega (arith, none)) (hands_none m c.args.lender.first c.args.passed.now c.args.lent.now c.args.lender.slots slices)

@@ -25,7 +25,7 @@ pub put-requires-clause-next : goal.put-requires-clause-next
 put-requires-clause-next c = ∥∥₁_elim c.requires le_prop (λ r. moves.length_next c.args._code.now r.running.ok c.args.self.now r.running.state r.running.shows c.args.d c.args.a r.is)
 
 pub returns : goal.returns
-returns c = λ ok s is shows may.
+returns c = λ ok s is shows may change.
     let small = moves.length_small c.args._code.now ok c.args.self.now s shows c.args.d c.args.a is in
     let len = ap (λ (w : View). w.len) c.view-v.ensures in
     let lt : c.view-v.result.len < 2 ^ 63 = omega (arith, small, len) in

@@ -11,7 +11,7 @@ pub get-requires : goal.get-requires
 get-requires c = ∥∥₁_elim c.requires le_prop (λ r. moves.new_there c.args._code.now r.running.ok c.args.self.now r.running.state r.running.shows c.args.d c.args.a c.args.line r.is)
 
 pub returns-in-Err : goal.returns-in-Err
-returns-in-Err c = λ ok s is shows may.
+returns-in-Err c = λ ok s is shows may change.
     let same : to_z w64 (of_z w64 c.get.result) ≡ c.get.result = search (rules, to_z-of_z) in
     moves.new_traps c.args._code.now ok c.args.self.now s shows c.args.d c.args.a c.args.line c.get.result c.in-Err.trap c.args.self.now is c.get.ensures (sym (ap new_length same) ∙ c.in-Err.ensures.length) refl
 
@@ -37,7 +37,7 @@ overflow_add-self c =
     omega (arith, next, same, same')
 
 pub returns-in-Ok-renew : goal.returns-in-Ok-renew
-returns-in-Ok-renew c = λ ok s is shows may.
+returns-in-Ok-renew c = λ ok s is shows may change.
     let same : to_z w64 (of_z w64 c.get.result) ≡ c.get.result = search (rules, to_z-of_z) in
     let at = c.args.self.now.first_array + c.args.a in
     let renewed = c.in-Ok-renew.ensures in
@@ -45,5 +45,5 @@ returns-in-Ok-renew c = λ ok s is shows may.
     let rest' = c.set_view.ensures.rest in
     let e_views = c.set_view.ensures.views ∙ ap (λ l. slice_set l at (record { block = at; from = 0; len = c.in-Ok.len })) renewed.views in
     let e_blocks = c.set_view.ensures.blocks ∙ renewed.blocks in
-    moves.new_follows c.args._code.now ok c.args.self.now s shows may c.args.d c.args.a c.args.line c.get.result c.in-Ok.len renewed.zeros _ c.in-Ok.ensures.small renewed.are is c.get.ensures (sym (ap new_length same) ∙ c.in-Ok.ensures.length) e_views e_blocks
+    moves.new_follows c.args._code.now ok c.args.self.now s shows may change c.args.d c.args.a c.args.line c.get.result c.in-Ok.len renewed.zeros _ c.in-Ok.ensures.small renewed.are renewed.whole renewed.own is c.get.ensures (sym (ap new_length same) ∙ c.in-Ok.ensures.length) e_views e_blocks
     (moves.kept c.args._code.now ok c.args.self.now s shows _ c.args.self.now.cells.items (c.args.self.now.place + 1) (rest'.cells ∙ rest.cells) (ap (λ p. p + 1) (rest'.place ∙ rest.place)) (record { first = rest'.first ∙ rest.first; frames = rest'.frames ∙ rest.frames; lines = rest'.lines ∙ rest.lines; views = refl; blocks = refl; first_array = rest'.first_array ∙ rest.first_array; depth = rest'.depth ∙ rest.depth; totals = rest'.totals ∙ rest.totals; cuts = rest'.cuts ∙ rest.cuts }))

@@ -1,27 +1,22 @@
 use Rattle.std.proofs.Common.{◌≡◌, ◌+◌, ◌≤◌, length, sym, ap, ◌∙◌, arith}
-use Rattle.cw_slices.specs.Blocks.{outs, missing}
-use Rattle.cw_slices.specs.lemmas.Patches.{length_outs, length_patched}
-use Rattle.cw_slices.proofs.Missing.{missing_within, missing_lent}
+use Rattle.cw_slices.proofs.Missing.{lent_fits, counts_lent}
 use Rattle.cw_slices.proofs.block.Block.lend.Goals as goal
 
 pub overflow_add-self : goal.overflow_add-self
-overflow_add-self c = let few = missing_within c.self.inside.kept.cells in
-    record { fits = omega (arith, few, c.self.invariant.0.0, c.self.invariant.0.1, c.requires.within, ap (λ s. length s.cells) c.self.view_is) }
+overflow_add-self c =
+    let k = c.self.inside.kept in
+    record { fits = lent_fits k.base c.args.count c.self.inside.out k.cells k.rights c.self.invariant.0 (omega (arith, c.self.invariant.0.few, c.requires.within, ap (λ s. length s.cells) c.self.view_is)) }
 
 pub invariant_of-self : goal.invariant_of-self
 invariant_of-self c =
-    let cells = c.self.inside.kept.cells in let xs = c.part-ptr.result.1.items in
+    let k = c.self.inside.kept in let new = c.part-ptr.new.self in let xs = c.part-ptr.result.1.items in
     let many : c.args.count ≡ length xs = c.part-ptr.ensures.run.1.1 in
-    let fits : c.args.from + length xs ≤ length cells = omega (arith, many, c.requires.within, ap (λ s. length s.cells) c.self.view_is) in
-    let more = missing_lent cells c.args.from xs c.part-ptr.ensures.cells.0 fits in let now = ap missing c.part-ptr.ensures.cells.1 in
-    let same = length_patched c.args.from (outs (length xs)) cells (omega (arith, fits, length_outs (length xs))) in (
-      (
-        omega (arith, ap length c.part-ptr.ensures.cells.1, same, c.self.invariant.0.0),
-        omega (arith, more, now, many, c.self.invariant.0.1),
-      ),
+    let fits : c.args.from + length xs ≤ length k.cells = omega (arith, many, c.requires.within, ap (λ s. length s.cells) c.self.view_is) in (
+      counts_lent k.cells new.cells k.rights new.rights k.base new.base c.self.inside.out c.self.invariant.0 c.part-ptr.ensures.words.2 c.args.from c.args.count xs c.part-ptr.ensures.cells.1 c.part-ptr.ensures.words.3 many fits c.part-ptr.ensures.cells.0,
       (
         c.self.invariant.1.0,
         c.self.invariant.1.1,
         λ some. ((c.self.invariant.1.2 some).0, (c.self.invariant.1.2 some).1 ∙ sym c.part-ptr.ensures.words.0),
       ),
+      λ some. c.part-ptr.ensures.words.2 ∙ c.self.invariant.2 some,
     )

@@ -1,7 +1,7 @@
 -- `own` makes cells of a span.
-use Rattle.cw_slices.proofs.Steps.{◌≡◌, ◌^◌, ◌<◌, [], ◌∷◌, length, refl, sym, ◌∙◌, w64, proved, vint, fact, tables, ‵, raw, ◌⊛◌, ◌$◌, ◌∵◌, !, qed, done, move, keep, split, fsplit, fsplit3, fjoin, rewrite, agg, enter, no_more, and_then, returns, alloc_all, pass_all, free_all, look_at, get, sets, owns, plain, types_at, yes, i64, usize, RawPtr, ptr_val, rawptr_vals, rawptr_Tells, uint_vals, uint_Tells, nothing, heard, alive, says, suffices, Stays, walk_of, stay_dropped, Goes-dropped, ends_at, span_owned, bare}
+use Rattle.cw_slices.proofs.Steps.{◌≡◌, ◌^◌, ◌<◌, [], ◌∷◌, length, refl, sym, ◌∙◌, w64, proved, vint, fact, tables, ‵, raw, ◌⊛◌, ◌$◌, ◌∵◌, !, qed, done, move, keep, split, fsplit, fsplit3, fjoin, rewrite, agg, enter, no_more, and_then, returns, alloc_all, pass_all, free_all, look_at, get, sets, owns, plain, types_at, yes, usize, RawPtr, ptr_val, rawptr_vals, rawptr_Tells, uint_vals, uint_Tells, nothing, heard, alive, says, suffices, Stays, walk_of, stay_dropped, Goes-dropped, ends_at, span_owned, bare}
 use Rattle.core.proofs.slots.Opens.{words_val}
-use Rattle.core.specs.Mem.Slots.Ownership.{owned}
+use Rattle.cw_slices.specs.Held.{held_owned}
 use Rattle.cw_slices.proofs.Rows.{ptr_good, row_good}
 use Rattle.cw_slices.proofs.Holds.{cells_made}
 use Rattle.cw_slices.specs.contracts.memory.Span as Span
@@ -26,12 +26,12 @@ own_spec 𝓤 𝓛 𝓜 𝓡 wired =
     qed 𝓛 ((raw (alive 𝓛 f.ended.signature κs qs) ⊛ ‵ (owns (types_at f.ended.signature.params κs) a y.0.4)) ∷ raw (fact 𝓤 Asked) ∷ []) ∵
     move ! (1 ∷ []) $ heard ! Asked (λ asked. split ! $ move ! (1 ∷ []) $ fsplit3 ! $ move ! (2 ∷ []) $ fsplit ! $ fsplit ! $ keep ! (1 ∷ 5 ∷ []) $
     -- [the cells; the tokens]
-    rewrite ! 0 (λ r. ‵ (span_owned r s.items s.filled)) asked.0 refl $
+    rewrite ! 0 (λ r. ‵ (span_owned r s.items s.filled s.halved)) asked.0 refl $
     enter ! 𝓣.C 𝓣.Λ code.function (ptr_val p ∷ vint w64 n ∷ bare ∷ []) _ $ alloc_all ! (λ l. pass_all ! refl (ptr_good p, ((tt, record { fits = small }), ((tt, tt), tt))) $
-    rewrite ! 0 (λ k. ‵ (owned i64 p k s.items s.filled)) asked.1 refl $
-    let h : (Cells.the_row).Denot = record { ptr = p; len = n; items = s.items; filled = s.filled; frozen = 0; halved = 0; ok = (sym asked.1, sym asked.1 ∙ sym s.as_many); small = small } in
+    rewrite ! 0 (λ k. ‵ (held_owned s.halved p k s.items s.filled)) asked.1 refl $
+    let h : (Cells.the_row).Denot = record { ptr = p; len = n; items = s.items; filled = s.filled; halved = s.halved; ok = (sym asked.1, sym asked.1 ∙ sym s.as_many); small = small } in
     cells_made ! h $
     sets ! (agg ! (and_then ! (get ! refl) (and_then ! (get ! refl) (no_more !)))) refl (row_good p n small) $
     returns ! (look_at ! 0 refl) $ free_all ! refl $
-    suffices ! _ (ends_at 𝓛 f.ended stayed c y (words_val p n) h (tt, (tt, (tt, tt))) (tt, (tt, (tt, tt)))) $ says ! (refl, refl, refl, refl, refl, refl) $
+    suffices ! _ (ends_at 𝓛 f.ended stayed c y (words_val p n) h (tt, (tt, (tt, tt))) (tt, (tt, (tt, tt)))) $ says ! (refl, refl, refl, refl, refl) $
     nothing ! $ nothing ! $ fjoin ! $ nothing ! $ fjoin ! $ nothing ! $ fjoin ! $ move ! (2 ∷ 0 ∷ 1 ∷ []) $ done !)))

@@ -22,7 +22,7 @@ use Rattle.core.proofs.slots.Places.{besides, room_out, value_in}
 use Rattle.core.specs.Mem.Slots.Ownership.{slots}
 use Rattle.cw_slices.proofs.Holds.{cells_told, cells_made}
 use Rattle.cw_slices.proofs.Runs.{number}
-use Rattle.cw_slices.specs.Held.{cells_owned}
+use Rattle.cw_slices.specs.Held.{held_owned}
 use Rattle.cw_slices.specs.contracts.cells.Cells as Cells
 use Rattle.cw_slices.specs.contracts.cells.Cells.put as f
 use Rattle.cw_slices.proofs.cells.Cells.put.Statement.{statement}
@@ -41,7 +41,7 @@ put_spec 𝓤 𝓛 𝓜 𝓡 wired =
     let rb = a.0.ref_ptr.0 in let ro = a.0.ref_ptr.1 in let h = a.0.now in let i : ℕ = a.1.0 in let x = a.1.1.0 in
     let κ = κs.0 in let q = qs.0 in let small : i < 2 ^ 64 = are.1.0.1 in
     let v : Val = vint w64 (of_z w64 x) in let vs = v ∷ [] in let good = ((lawful number 𝓛).typed x vs are.1.1.0).0 in
-    let Asked = (h.frozen ≡ 0) × (i < h.len) in
+    let Asked = (h.halved ≡ 0) × (i < h.len) in
     let y : W.Ghost = ((κs, qs, bounds, a, (vptr rb ro ∷ [], (vint w64 i ∷ [], (vs, tt)))), gh) in
     qed 𝓛 (((‵ (flft κ q) ⊛ ‵ ftrue) ⊛ ‵ (owns (types_at f.ended.signature.params κs) a y.0.4)) ∷ raw (fact 𝓤 Asked) ∷ []) ∵
     move ! (1 ∷ []) $ heard ! Asked (λ asked. split ! $ split ! $ move ! (2 ∷ []) $ fsplit3 ! $ fsplit3 ! $ move ! (4 ∷ []) $ fsplit ! $ keep ! (3 ∷ 4 ∷ 6 ∷ 0 ∷ 7 ∷ []) $
@@ -49,7 +49,7 @@ put_spec 𝓤 𝓛 𝓜 𝓡 wired =
     let ix : i < length h.items = omega (arith, asked.1, h.ok.0) in let fx : i < length h.filled = omega (arith, asked.1, h.ok.1) in
     enter ! 𝓣.C 𝓣.Λ code.function (vptr rb ro ∷ vint w64 i ∷ v ∷ []) _ $ alloc_all ! (λ l. pass_all ! refl ((tt, tt), ((tt, record { fits = small }), (good, tt))) $
     opens ! tt Cells.the_row {h = h} rb ro (λ us. move ! (1 ∷ []) $ peeks ! Cells.the_row (Is Cells.the_row) (shows 𝓛 Cells.the_row) h us (λ so. fsplit ! $ drop ! $
-    rewrite ! 0 (λ k. ‵ (cells_owned k h.ptr h.len h.items h.filled h.halved)) asked.0 refl $ fsplit ! $ flt_l ! (λ fit.
+    rewrite ! 0 (λ k. ‵ (held_owned k h.ptr h.len h.items h.filled)) asked.0 refl $ fsplit ! $ flt_l ! (λ fit.
     in_a_block ! h.ptr (λ p. in_block p (slots i64 p h.items h.filled)) (id⊢ 𝓤 (never 𝓤)) (λ b o at.
     let words = words_val (block_ptr b o) h.len in
     rewrite ! 1 (λ (ws : List Val). ‵ (cell_at full_share (Cells.the_row).mir ws rb ro)) (cells_told h us so ∙ ap (λ p. words_val p h.len ∷ []) at) refl $
@@ -63,9 +63,9 @@ put_spec 𝓤 𝓛 𝓜 𝓡 wired =
     let xs = set h.items i x in let fs = set h.filled i true in
     move ! (0 ∷ 6 ∷ []) $ use3 𝓛 (‵ (slots i64 (block_ptr b o) xs fs)) (value_in number 𝓛 b o h.items h.filled i ix fx x v) $
     flt_i ! (h.len * 8) (2 ^ 63) fit $ fjoin ! $
-    let r : (Cells.the_row).Denot = record { ptr = block_ptr b o; len = h.len; items = xs; filled = fs; frozen = 0; halved = h.halved; ok = (h.ok.0 ∙ sym (length-set h.items i x), h.ok.1 ∙ sym (length-set h.filled i true)); small = h.small } in
+    let r : (Cells.the_row).Denot = record { ptr = block_ptr b o; len = h.len; items = xs; filled = fs; halved = 0; ok = (h.ok.0 ∙ sym (length-set h.items i x), h.ok.1 ∙ sym (length-set h.filled i true)); small = h.small } in
     cells_made ! r $ move ! (1 ∷ 0 ∷ []) $ closes ! tt Cells.the_row r (words ∷ []) rb ro $
     returns ! (look_at ! 0 refl) $ free_all ! refl $
-    suffices ! _ (ends_at 𝓛 f.ended stayed c y vunit tt (r, (tt, (tt, tt))) (tt, (tt, (tt, tt)))) $ says ! (sym at, refl, refl, refl, refl, refl) $
+    suffices ! _ (ends_at 𝓛 f.ended stayed c y vunit tt (r, (tt, (tt, tt))) (tt, (tt, (tt, tt)))) $ says ! (sym at, refl, refl, refl, refl) $
     feq_i ! (List Val) (vptr rb ro ∷ []) (vptr rb ro ∷ []) refl $ fjoin3 ! $ nothing ! $ nothing ! $ fjoin ! $ nothing ! $ fjoin ! $ move ! (1 ∷ 0 ∷ []) $ fjoin ! $
     move ! (1 ∷ 2 ∷ []) $ join ! $ feq_i ! (List Val) (vunit ∷ []) (vunit ∷ []) refl $ keep ! (1 ∷ 2 ∷ 0 ∷ []) $ done !)))))))

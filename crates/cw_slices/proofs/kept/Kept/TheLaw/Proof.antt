@@ -13,4 +13,4 @@ use Rattle.cw_slices.proofs.kept.Kept.TheLaw.Statement.{statement}
 pub shares : statement
 shares = of_Lends K.struct K.the_codes K.the_heap K.the_lent (λ d p. lent_laws d.ptr d.len (numbers d.cells) (marks d.cells))
     (copy_shared RawPtr-field RawPtr-copy, (copy_shared usize-field usize-copy, tt))
-    (λ M 𝓤 𝓛 d p. Lends-kept 𝓛 (K.the_row).lives (meet_⊑_right (K.the_row).lives []) d.ptr d.len d.cells d.ok)
+    (λ M 𝓤 𝓛 d p. Lends-kept 𝓛 (K.the_row).lives (meet_⊑_right (K.the_row).lives []) d.ptr d.len d.cells d.rights d.ok)

@@ -13,7 +13,7 @@ use Rattle.cw_slices.proofs.Holds.{kept_told, kept_made}
 use Rattle.cw_slices.proofs.Lots.{joined}
 use Rattle.cw_slices.specs.Memory.{kept_owned}
 use Rattle.cw_slices.specs.Loose.{IsRun}
-use Rattle.cw_slices.specs.Blocks.{ins, patched}
+use Rattle.cw_slices.specs.Blocks.{ins, patched, AreHalved}
 use Rattle.cw_slices.specs.lemmas.Patches.{length_ins, length_patched, marks_ins}
 use Rattle.cw_slices.specs.contracts.memory.Span as Span
 use Rattle.cw_slices.specs.contracts.kept.Kept as Kept
@@ -33,22 +33,22 @@ meet_spec 𝓤 𝓛 𝓜 𝓡 wired =
     (λ κs. (mut_vals, (uint_vals w64, ((λ _. bare ∷ []), tt)))) (λ κs. (mut_Tells (named 0) κs.0 Kept.the_row, (uint_Tells w64, ((λ x vs so. so.0.1.0), tt)))) (λ κs qs bounds a gh are.
     let rb = a.0.ref_ptr.0 in let ro = a.0.ref_ptr.1 in let h = a.0.now in let n : ℕ = a.1.0 in let s = a.1.1.0 in
     let κ = κs.0 in let q = qs.0 in
-    let Within = n + length s.items ≤ length h.cells in let There = IsRun (h.ptr +ₚ (n * 8)) (length s.items) s in
+    let Within = n + length s.items ≤ length h.cells in let There = IsRun (h.ptr +ₚ (n * 8)) (length s.items) s in let Alike = AreHalved h.rights n (length s.items) s.halved in
     let y : W.Ghost = ((κs, qs, bounds, a, (vptr rb ro ∷ [], (vint w64 n ∷ [], (bare ∷ [], tt)))), gh) in
-    qed 𝓛 (((‵ (flft κ q) ⊛ ‵ ftrue) ⊛ ‵ (owns (types_at f.ended.signature.params κs) a y.0.4)) ∷ (raw (fact 𝓤 Within) ⊛ raw (fact 𝓤 There)) ∷ []) ∵
-    move ! (1 ∷ []) $ split ! $ heard ! Within (λ within. heard ! There (λ there. split ! $ split ! $ move ! (2 ∷ []) $ fsplit3 ! $ fsplit3 ! $ move ! (4 ∷ []) $ fsplit ! $ fsplit ! $ keep ! (4 ∷ 5 ∷ 7 ∷ 1 ∷ 8 ∷ []) $
+    qed 𝓛 (((‵ (flft κ q) ⊛ ‵ ftrue) ⊛ ‵ (owns (types_at f.ended.signature.params κs) a y.0.4)) ∷ (raw (fact 𝓤 Within) ⊛ (raw (fact 𝓤 There) ⊛ raw (fact 𝓤 Alike))) ∷ []) ∵
+    move ! (1 ∷ []) $ split ! $ heard ! Within (λ within. split ! $ heard ! There (λ there. heard ! Alike (λ even. split ! $ split ! $ move ! (2 ∷ []) $ fsplit3 ! $ fsplit3 ! $ move ! (4 ∷ []) $ fsplit ! $ fsplit ! $ keep ! (4 ∷ 5 ∷ 7 ∷ 1 ∷ 8 ∷ []) $
     -- [what the borrow is seen at; the borrow; its token; the run; the other tokens]
-    rewrite ! 3 (λ p. ‵ (span_owned p s.items s.filled)) there.0 refl $ rewrite ! 3 (λ fs. ‵ (span_owned (h.ptr +ₚ (n * 8)) s.items fs)) (there.2 ∙ sym (marks_ins s.items)) refl $
+    rewrite ! 3 (λ p. ‵ (span_owned p s.items s.filled s.halved)) there.0 refl $ rewrite ! 3 (λ fs. ‵ (span_owned (h.ptr +ₚ (n * 8)) s.items fs s.halved)) (there.2 ∙ sym (marks_ins s.items)) refl $
     enter ! 𝓣.C 𝓣.Λ code.function (vptr rb ro ∷ vint w64 n ∷ bare ∷ []) _ $ alloc_all ! (λ l. pass_all ! refl ((tt, tt), ((tt, record { fits = are.1.0.1 }), ((tt, tt), tt))) $
     opens ! tt Kept.the_row {h = h} rb ro (λ us. move ! (1 ∷ []) $ peeks ! Kept.the_row (Is Kept.the_row) (shows 𝓛 Kept.the_row) h us (λ so. fsplit ! $ drop ! $
     let words = words_val h.ptr h.len in let cs = patched n (ins s.items) h.cells in
     rewrite ! 1 (λ (ws : List Val). ‵ (cell_at full_share (Kept.the_row).mir ws rb ro)) (kept_told h us so) refl $
     -- [the row; the two words; the open borrow, in three entries; the run; the other tokens]
-    move ! (0 ∷ 5 ∷ []) $ use2 𝓛 (‵ (kept_owned h.ptr cs)) (joined 𝓛 n s.items h.cells within h.ptr) $
-    let as_many : h.len ≡ length cs = h.ok ∙ sym (length_patched n (ins s.items) h.cells (omega (arith, within, length_ins s.items))) in
-    let r : (Kept.the_row).Denot = record { ptr = h.ptr; len = h.len; cells = cs; ok = as_many; small = h.small } in
+    move ! (0 ∷ 5 ∷ []) $ use2 𝓛 (‵ (kept_owned h.ptr cs h.rights)) (joined 𝓛 n s.items h.cells h.rights within (sym h.ok.1 ∙ h.ok.0) s.halved h.ptr even) $
+    let as_many : h.len ≡ length cs = h.ok.0 ∙ sym (length_patched n (ins s.items) h.cells (omega (arith, within, length_ins s.items))) in
+    let r : (Kept.the_row).Denot = record { ptr = h.ptr; len = h.len; cells = cs; rights = h.rights; base = h.base; ok = (as_many, h.ok.1); small = h.small } in
     kept_made ! r $ move ! (1 ∷ 0 ∷ []) $ closes ! tt Kept.the_row r (words ∷ []) rb ro $
     sets ! (of_opd ! (unit_lit !)) refl (tt, tt) $ returns ! (look_at ! 0 refl) $ free_all ! refl $
-    suffices ! _ (ends_at 𝓛 f.ended stayed c y vunit tt (r, (tt, (tt, tt))) (tt, (tt, (tt, tt)))) $ says_two ! ((refl, refl), refl) $
+    suffices ! _ (ends_at 𝓛 f.ended stayed c y vunit tt (r, (tt, (tt, tt))) (tt, (tt, (tt, tt)))) $ says_two ! ((refl, refl, refl, refl), refl) $
     feq_i ! (List Val) (vptr rb ro ∷ []) (vptr rb ro ∷ []) refl $ fjoin3 ! $ nothing ! $ nothing ! $ fjoin ! $ nothing ! $ fjoin ! $ move ! (1 ∷ 0 ∷ []) $ fjoin ! $
-    move ! (1 ∷ 2 ∷ []) $ join ! $ feq_i ! (List Val) (vunit ∷ []) (vunit ∷ []) refl $ keep ! (1 ∷ 2 ∷ 0 ∷ []) $ done !))))))
+    move ! (1 ∷ 2 ∷ []) $ join ! $ feq_i ! (List Val) (vunit ∷ []) (vunit ∷ []) refl $ keep ! (1 ∷ 2 ∷ 0 ∷ []) $ done !)))))))

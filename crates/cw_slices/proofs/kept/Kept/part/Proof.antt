@@ -15,7 +15,7 @@ use Rattle.core.proofs.slots.Opens.{words_val}
 use Rattle.cw_slices.proofs.Holds.{kept_told, kept_made}
 use Rattle.cw_slices.proofs.Lots.{parted}
 use Rattle.cw_slices.specs.Memory.{cells_in, kept_owned}
-use Rattle.cw_slices.specs.Blocks.{ins, outs, patched, marks, AreIn}
+use Rattle.cw_slices.specs.Blocks.{ins, outs, patched, marks, AreIn, AreHalved}
 use Rattle.cw_slices.specs.lemmas.Patches.{length_ins, length_marks, length_outs, length_patched, marks_ins}
 use Rattle.cw_slices.specs.contracts.memory.Span as Span
 use Rattle.cw_slices.specs.contracts.kept.Kept as Kept
@@ -36,34 +36,35 @@ part_spec 𝓤 𝓛 𝓜 𝓡 wired =
     (λ κs. (mut_vals, (uint_vals w64, (uint_vals w64, tt)))) (λ κs. (mut_Tells (named 0) κs.0 Kept.the_row, (uint_Tells w64, (uint_Tells w64, tt)))) (λ κs qs bounds a gh are.
     let rb = a.0.ref_ptr.0 in let ro = a.0.ref_ptr.1 in let h = a.0.now in let n : ℕ = a.1.0 in let k : ℕ = a.1.1.0 in
     let κ = κs.0 in let q = qs.0 in
-    let Within = n + k ≤ length h.cells in let There = AreIn h.cells n k in
+    let Within = n + k ≤ length h.cells in let There = AreIn h.cells n k in let Alike = AreHalved h.rights n k h.base in
     let y : W.Ghost = ((κs, qs, bounds, a, (vptr rb ro ∷ [], (vint w64 n ∷ [], (vint w64 k ∷ [], tt)))), gh) in
-    qed 𝓛 (((‵ (flft κ q) ⊛ ‵ ftrue) ⊛ ‵ (owns (types_at f.ended.signature.params κs) a y.0.4)) ∷ (raw (fact 𝓤 Within) ⊛ raw (fact 𝓤 There)) ∷ []) ∵
-    move ! (1 ∷ []) $ split ! $ heard ! Within (λ within. heard ! There (λ there. split ! $ split ! $ move ! (2 ∷ []) $ fsplit3 ! $ fsplit3 ! $ move ! (4 ∷ []) $ fsplit ! $ keep ! (3 ∷ 4 ∷ 6 ∷ 7 ∷ []) $
+    qed 𝓛 (((‵ (flft κ q) ⊛ ‵ ftrue) ⊛ ‵ (owns (types_at f.ended.signature.params κs) a y.0.4)) ∷ (raw (fact 𝓤 Within) ⊛ (raw (fact 𝓤 There) ⊛ raw (fact 𝓤 Alike))) ∷ []) ∵
+    move ! (1 ∷ []) $ split ! $ heard ! Within (λ within. split ! $ heard ! There (λ there. heard ! Alike (λ even. split ! $ split ! $ move ! (2 ∷ []) $ fsplit3 ! $ fsplit3 ! $ move ! (4 ∷ []) $ fsplit ! $ keep ! (3 ∷ 4 ∷ 6 ∷ 7 ∷ []) $
     -- [what the borrow is seen at; the borrow; its token; the other tokens]
     let xs = there.0 in let count : length xs ≡ k = there.1 in let fits : n + length xs ≤ length h.cells = omega (arith, within, count) in
     enter ! 𝓣.C 𝓣.Λ code.function (vptr rb ro ∷ vint w64 n ∷ vint w64 k ∷ []) _ $ alloc_all ! (λ l. pass_all ! refl ((tt, tt), ((tt, record { fits = are.1.0.1 }), ((tt, record { fits = are.1.1.0.1 }), tt))) $
     opens ! tt Kept.the_row {h = h} rb ro (λ us. move ! (1 ∷ []) $ peeks ! Kept.the_row (Is Kept.the_row) (shows 𝓛 Kept.the_row) h us (λ so. fsplit ! $ drop ! $ fsplit ! $ flt_l ! (λ small.
-    in_a_block ! h.ptr (λ p. in_block p (cells_in p h.cells)) (id⊢ 𝓤 (never 𝓤)) (λ b o at.
+    in_a_block ! h.ptr (λ p. in_block p (cells_in p h.cells h.rights)) (id⊢ 𝓤 (never 𝓤)) (λ b o at.
     let words = words_val (block_ptr b o) h.len in
     rewrite ! 1 (λ (ws : List Val). ‵ (cell_at full_share (Kept.the_row).mir ws rb ro)) (kept_told h us so ∙ ap (λ p. words_val p h.len ∷ []) at) refl $
     flt_i ! (length h.cells * 8) (2 ^ 63) small $ fjoin ! $
     let rest = patched n (outs (length xs)) h.cells in let offset : n * 8 < 2 ^ 64 = omega (arith, small, within) in
     let there_is : o + n * 8 ≡ n * 8 + o = omega arith in let place : Ptr = block_ptr b (n * 8 + o) in
-    use1 𝓛 (‵ (kept_owned (block_ptr b o) rest) ⊛ ‵ (span_owned (block_ptr b (o + n * 8)) xs (marks (ins xs)))) (parted 𝓛 n xs h.cells there.2 fits (block_ptr b o)) $ split ! $
-    rewrite ! 1 (λ m. ‵ (span_owned (block_ptr b m) xs (marks (ins xs)))) there_is refl $
+    use1 𝓛 (‵ (kept_owned (block_ptr b o) rest h.rights) ⊛ ‵ (span_owned (block_ptr b (o + n * 8)) xs (marks (ins xs)) h.base))
+    (parted 𝓛 n xs h.cells h.rights fits (sym h.ok.1 ∙ h.ok.0) h.base (block_ptr b o) there.2 (λ j lt. even j (omega (arith, lt, count)))) $ split ! $
+    rewrite ! 1 (λ m. ‵ (span_owned (block_ptr b m) xs (marks (ins xs)) h.base)) there_is refl $
     -- [the row; the run; the two words; the open borrow, in three entries; the other tokens]
     first ! $ blocks ! $ sets ! (of_opd ! (load ! (through ! refl (fld ! refl (stop !))) (look_in ! 2 (sub ! 0 refl (whole !))))) refl (tt, tt) $
     sets ! (bin ! (get ! refl) (lit ! tt) (record { fits = offset })) refl (tt, record { fits = offset }) $ sets ! (bin ! (get ! refl) (get ! refl) tt) refl (tt, tt) $
     sets ! (agg ! (no_more !)) refl (tt, tt) $ sets_last ! (agg ! (and_then ! (get ! refl) (and_then ! (get ! refl) (no_more !)))) refl (tt, (tt, (tt, tt))) $
     exec ! 𝓣.C 𝓣.Λ (env code.Mir.locals l) code.Mir.t-2 (at_ret _ (W.post y)) $ sets ! (of_opd ! (get ! refl)) refl (tt, (tt, (tt, tt))) $
-    let as_many : h.len ≡ length rest = h.ok ∙ sym (length_patched n (outs (length xs)) h.cells (omega (arith, fits, length_outs (length xs)))) in
-    let r : (Kept.the_row).Denot = record { ptr = block_ptr b o; len = h.len; cells = rest; ok = as_many; small = h.small } in
-    let s : (Span.the_row).Denot = record { at = place; items = xs; filled = marks (ins xs); as_many = length_marks (ins xs) ∙ length_ins xs } in
+    let as_many : h.len ≡ length rest = h.ok.0 ∙ sym (length_patched n (outs (length xs)) h.cells (omega (arith, fits, length_outs (length xs)))) in
+    let r : (Kept.the_row).Denot = record { ptr = block_ptr b o; len = h.len; cells = rest; rights = h.rights; base = h.base; ok = (as_many, h.ok.1); small = h.small } in
+    let s : (Span.the_row).Denot = record { at = place; items = xs; filled = marks (ins xs); halved = h.base; as_many = length_marks (ins xs) ∙ length_ins xs } in
     kept_made ! r $ move ! (2 ∷ 0 ∷ 3 ∷ 4 ∷ 5 ∷ []) $ closes ! tt Kept.the_row r (words ∷ []) rb ro $
     returns ! (look_at ! 0 refl) $ free_all ! refl $
     suffices ! _ (ends_at 𝓛 f.ended stayed c y (both (vptr b (n * 8 + o)) bare) (place, s) (r, (tt, (tt, tt))) (tt, (tt, (tt, tt)))) $
-    says_three ! ((ap (λ m. block_ptr b m) (sym there_is) ∙ ap (λ p. p +ₚ (n * 8)) (sym at), (refl, sym count, marks_ins xs ∙ ap (λ m. replicate m true) count)), (sym at, refl), (there.2, refl)) $
+    says_three ! ((ap (λ m. block_ptr b m) (sym there_is) ∙ ap (λ p. p +ₚ (n * 8)) (sym at), (refl, sym count, marks_ins xs ∙ ap (λ m. replicate m true) count), refl), (sym at, refl, refl, refl), (there.2, refl)) $
     feq_i ! (List Val) (vptr rb ro ∷ []) (vptr rb ro ∷ []) refl $ fjoin3 ! $ nothing ! $ nothing ! $ fjoin ! $ nothing ! $ fjoin ! $ move ! (1 ∷ 0 ∷ []) $ fjoin ! $
     move ! (1 ∷ 3 ∷ []) $ join ! $ move ! (2 ∷ []) $ span_made ! s $ feq_i ! (List Val) (vptr b (n * 8 + o) ∷ []) (vptr b (n * 8 + o) ∷ []) refl $ pair_made ! RawPtr Span.the_row place s (vptr b (n * 8 + o)) bare $
-    keep ! (1 ∷ 2 ∷ 0 ∷ []) $ done !))))))))
+    keep ! (1 ∷ 2 ∷ 0 ∷ []) $ done !)))))))))

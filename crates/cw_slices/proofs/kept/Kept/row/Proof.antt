@@ -22,7 +22,7 @@ row_spec 𝓤 𝓛 𝓜 𝓡 wired =
     (λ κs. (shr_vals, tt)) (λ κs. (shr_Tells (named 0) κs.0 Kept.the_row, tt)) (λ κs qs bounds a gh are.
     let b = a.0.ref_ptr.0 in let o = a.0.ref_ptr.1 in let h = a.0.now in
     let y : W.Ghost = ((κs, qs, bounds, a, (vptr b o ∷ [], tt)), gh) in
-    let r : Row.Denot = record { ptr = h.ptr; len = h.len; items = numbers h.cells; filled = marks h.cells; ok = (h.ok ∙ sym (length_numbers h.cells), h.ok ∙ sym (length_marks h.cells)); small = h.small } in
+    let r : Row.Denot = record { ptr = h.ptr; len = h.len; items = numbers h.cells; filled = marks h.cells; ok = (h.ok.0 ∙ sym (length_numbers h.cells), h.ok.0 ∙ sym (length_marks h.cells)); small = h.small } in
     qed 𝓛 ((raw (alive 𝓛 f.ended.signature κs qs) ⊛ ‵ (owns (types_at f.ended.signature.params κs) a y.0.4)) ∷ raw ((c κs a).requires gh) ∷ []) ∵
     keep ! (0 ∷ []) $ split ! $ move ! (1 ∷ []) $ fsplit ! $ fsplit ! $ drop ! $ keep ! (0 ∷ 2 ∷ []) $
     -- [what the `&` holds; the tokens]
@@ -32,6 +32,6 @@ row_spec 𝓤 𝓛 𝓜 𝓡 wired =
     sets_last ! (addr ! (through ! refl (stop !))) refl (tt, tt) $
     exec ! 𝓣.C 𝓣.Λ (env code.Mir.locals l) code.Mir.t-2 (at_ret _ (W.post y)) $ sets ! (of_opd ! (get ! refl)) refl (tt, tt) $
     returns ! (look_at ! 0 refl) $ free_all ! refl $
-    suffices ! _ (ends_at 𝓛 f.ended stayed c y (vptr b o) (record { ref_ptr = (b, o); now = r }) (tt, tt) (tt, tt)) $ says_three ! (h.ok, refl, refl) $
+    suffices ! _ (ends_at 𝓛 f.ended stayed c y (vptr b o) (record { ref_ptr = (b, o); now = r }) (tt, tt) (tt, tt)) $ says_three ! (h.ok.0, refl, refl) $
     feq_i ! (List Val) (vptr b o ∷ []) (vptr b o ∷ []) refl $ fjoin ! $
     nothing ! $ nothing ! $ fjoin ! $ move ! (2 ∷ 0 ∷ 1 ∷ []) $ done !))

@@ -5,14 +5,14 @@ use Rattle.cw_slices.proofs.slice.Slice.join.Goals as goal
 
 pub invariant_of-result : goal.invariant_of-result
 invariant_of-result c =
-    let here = ap (λ s. s.spot.frozen) c.left.view_is ∙ c.requires.own in
     let items = c.own.ensures.2 ∙ c.meet.ensures.1 ∙ ap₂ (λ xs ys. xs ++ ys) c.disown-ptr.ensures.2 c.disown-next.ensures.2 in
     let long = ap length items ∙ length-append c.left.inside.cells.items c.right.inside.cells.items in (
       c.own.ensures.3 ∙ c.meet.ensures.2 ∙ ap₂ (λ xs ys. xs ++ ys) (c.disown-ptr.ensures.3 ∙ c.left.invariant.0) (c.disown-next.ensures.3 ∙ c.right.invariant.0) ∙ join_same true _ _ ∙ ap (λ n. replicate n true) (sym long),
       omega (arith, long, c.requires.fits, ap (λ s. length s.items) c.left.view_is, ap (λ s. length s.items) c.right.view_is),
-      λ e. c.left.invariant.2 here,
-      λ e some. ((c.left.invariant.3 here some).0, (c.left.invariant.3 here some).1 ∙ sym (c.own.ensures.0 ∙ c.disown-ptr.ensures.0)),
-      λ e. c.own.ensures.5,
-      λ some. absurd (omega (arith, some, c.own.ensures.4)),
-      λ e. c.left.invariant.6 here,
+      (
+        c.left.invariant.2.0,
+        c.left.invariant.2.1,
+        λ some. ((c.left.invariant.2.2 some).0, (c.left.invariant.2.2 some).1 ∙ sym (c.own.ensures.0 ∙ c.disown-ptr.ensures.0)),
+      ),
+      λ some. c.own.ensures.4 ∙ c.meet.ensures.3,
     )

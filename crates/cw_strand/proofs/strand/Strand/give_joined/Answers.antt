@@ -1,9 +1,11 @@
 use Rattle.std.proofs.Common.{◌≡◌, ◌+◌, refl, sym, ap, ◌∙◌, subst}
 use Rattle.cw_jobs.specs.declared.effect.Effect.TheVariants as effect
-use Rattle.cw_machine.specs.Gives.{MayGive}
+use Rattle.cw_jobs.specs.Jobs.{code_of}
 use Rattle.cw_strand.specs.declared.strand.Mode.TheVariants as mode
 use Rattle.cw_strand.specs.declared.strand.Strand.{Strand}
-use Rattle.cw_strand.specs.Giving.{target_of, HasJoined}
+use Rattle.cw_strand.specs.Holds.{its_code}
+use Rattle.cw_strand.specs.Moves.{home_of}
+use Rattle.cw_strand.specs.Giving.{HasJoined, MayJoin}
 use Rattle.cw_strand.proofs.Same.{newest_of, others_left, pops}
 use Rattle.cw_strand.proofs.Gave.{lost_runs, may_waits, passes_runs, mode_back}
 use Rattle.cw_strand.proofs.GaveJoin.{may_join, join_runs}
@@ -35,9 +37,11 @@ join_rest-requires c =
     let given = c.requires.given in
     let newest = newest_of self given.out given.others given.are in
     let popped = pops self.lent.items c.pop.new.self.items self.lent.len c.pop.new.self.len c.pop.result newest.lent newest.rest self.lent.ok.0 c.pop.ensures.items c.pop.ensures.cases newest.are in
-    subst (λ t. ∥ MayGive self.run.machine c.args.frame c.args.replaced.items t ∥₁) (sym (c.target_of-target.ensures ∙ ap target_of popped.result))
+    let code : c.deref-2.result.now ≡ its_code self = c.deref-2.ensures ∙ ap (λ q. code_of q) c.deref.ensures ∙ c.requires.running.keeps.code in
+    subst (λ v. ∥ MayJoin self.run.machine v c.args.frame c.args.replaced.items c.home_of-home.result ∥₁) (sym code)
+    (subst (λ h. ∥ MayJoin self.run.machine (its_code self) c.args.frame c.args.replaced.items h ∥₁) (sym (c.home_of-home.ensures ∙ ap home_of popped.result))
     (may_join self given.out given.others newest c.requires.running c.requires.waiting c.rests_stay_in_their_functions.ensures c.runs_stay_in_their_functions.ensures.seats c.results_may_go_back.ensures
-    (effect.Joined c.args.frame c.args.replaced c.args.shown) given.means c.args.frame c.args.replaced.items c.args.shown (refl, refl, refl))
+    (effect.Joined c.args.frame c.args.replaced c.args.shown) given.means c.args.frame c.args.replaced.items c.args.shown (refl, refl, refl)))
 
 pub returns-in-Ok-clause-running : goal.returns-in-Ok-clause-running
 returns-in-Ok-clause-running c =
@@ -46,10 +50,12 @@ returns-in-Ok-clause-running c =
     let newest = newest_of self given.out given.others given.are in
     let popped = pops self.lent.items c.pop.new.self.items self.lent.len c.pop.new.self.len c.pop.result newest.lent newest.rest self.lent.ok.0 c.pop.ensures.items c.pop.ensures.cases newest.are in
     let r = c.join_rest.new.run in
+    let code : c.deref-2.result.now ≡ its_code self = c.deref-2.ensures ∙ ap (λ q. code_of q) c.deref.ensures ∙ c.requires.running.keeps.code in
     join_runs self given.out given.others newest c.requires.running c.requires.waiting c.rests_stay_in_their_functions.ensures c.runs_stay_in_their_functions.ensures.seats c.results_may_go_back.ensures
     (effect.Joined c.args.frame c.args.replaced c.args.shown) given.means c.args.frame c.args.replaced.items c.args.shown (refl, refl, refl)
     c.calls_on_a_strand_keep_its_job.ensures c.calls_keep_what_meters_tell.ensures r
-    (subst (λ t. HasJoined self.run self.count c.args.frame c.args.replaced.items t c.args.shown r) (c.target_of-target.ensures ∙ ap target_of popped.result) c.in-Ok.ensures)
+    (subst (λ h. HasJoined self.run (its_code self) self.count c.args.frame c.args.replaced.items h c.args.shown r) (c.home_of-home.ensures ∙ ap home_of popped.result)
+    (subst (λ v. HasJoined self.run v self.count c.args.frame c.args.replaced.items c.home_of-home.result c.args.shown r) code c.in-Ok.ensures))
     (sym c.passes.ensures ∙ c.if-passes.false)
     (record self { run = r; count = self.count + c.args.shown.cost; lent = c.pop.new.self; mode = mode.Going }) popped.left refl refl refl refl refl refl
 

@@ -20,6 +20,7 @@ pop_home-requires c =
       newest = newest.lent;
       older = newest.rest;
       are = newest.are;
+      code = c.requires.running.keeps.code;
       home = λ known. may_skip self c.args.job others newest c.requires.running c.requires.stopped back e known;
     })
 

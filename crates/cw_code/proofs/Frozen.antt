@@ -1,0 +1,528 @@
+-- What is frozen in the outermost call stays as it is.
+use Rattle.std.proofs.Common.{◌≡◌, ◌≢◌, ◌⊎◌, inl, inr, ⊎_elim, ℕ, zero, suc, ◌+◌, ◌-◌, ◌<◌, ◌≤◌, ℤ, ◌+ℤ◌, Bool, true, false, if◌then◌else◌, nat_lt, Option, Some, None, List, [], ◌∷◌, ◌++◌, length, refl, sym, ap, ◌∙◌, subst, arith}
+use Rattle.std.specs.Coded.{Coded, Coded-set, code_by, coded×, coded_option, coded_ℕ, coded_bool}
+use Rattle.std.specs.Prelude.{take, drop, map, slice_get, slice_set, is_none, ◌&&◌}
+use Rattle.std.proofs.lemmas.List.{length-map}
+use Rattle.cw_model.specs.declared.trap.Trap.TheVariants as trap
+use Rattle.cw_model.specs.declared.limits.TheConstants.{MOST_DEPTH}
+use Rattle.cw_model.specs.declared.syntax.CallKind.{CallKind}
+use Rattle.cw_model.specs.declared.syntax.CallKind.TheVariants.{Plain, Spawned}
+use Rattle.cw_model.specs.Syntax.{Name}
+use Rattle.cw_model.specs.Ints.{Result, Value, Fails, is_zero, natural}
+use Rattle.cw_model.specs.Expressions.{apply, element, in_bounds, written}
+use Rattle.cw_model.specs.Loops.{loop_turns}
+use Rattle.cw_model.specs.Meaning.{new_length, cut_place}
+use Rattle.cw_model.specs.Outcome.{Trace}
+use Rattle.cw_code.specs.declared.code.BlockKind.{BlockKind}
+use Rattle.cw_code.specs.declared.code.BlockKind.TheVariants.{Scope, Region}
+use Rattle.cw_code.specs.declared.code.Callee.{Callee}
+use Rattle.cw_code.specs.declared.code.Func.{Func}
+use Rattle.cw_code.specs.declared.code.Halves.{Halves}
+use Rattle.cw_code.specs.declared.code.Instr.{Instr}
+use Rattle.cw_code.specs.declared.code.Loan.{Loan}
+use Rattle.cw_code.specs.declared.code.Instr.TheVariants as instr
+use Rattle.cw_code.specs.Code.{Code, reducer_names}
+use Rattle.cw_code.specs.Run.{Slots, Results, Waiting, Around, Caller, Block, Opened, Taken, Whole, State, Transition, On, Ends, Stops, Stuck, on_top, on_two, on_slot, is_full, stored, settled, operated, set_array, apply_unary, adds, prints, put_in, slot_taken, Entering, arguments_of, may_begin, waiting_at, begun, begins, call_of, arrays_in, moved_out, reader, lent_in, on_arrays, enter, recur, parts_of, looped, on_range, start, given, and_result, restored, given_back, awaited, result_of, going_on, returns_to, back, opened, opened_region, opens, may_cut, cuts, resumes, closed, resumes_uncut, cut_ends, passed_by, lent_by, jumped, onto, act, step}
+use Rattle.cw_code.specs.Fits.{Row, Outer, Shape, frozen_rows, is_full_in, full_in_all, none_frozen, slots_cut, slots_uncut, changes_back, is_thawed, with_gone, with_passed, slots_lent, with_lent, none_empty, closed_shape, uncut_shape, leaves, nexts, Covers, CoversEach, Table, FlowsInto, FlowsIntoEach, Fits}
+use Rattle.cw_code.specs.Good.{IsNotAmong, slots_in, arrays_round, all_of, CutsAgree, Seat, AllResume, GoodState, Facts}
+use Rattle.cw_code.specs.Staying.{outermost}
+use Rattle.cw_code.specs.Frozen.{is_join, all_frozen, IsFrozenIn, IsFrozenAt, outermost_arrays, AreBlocks, JoinsInside, changed_by, FrozenStay, FrozenSpared}
+use Rattle.cw_code.specs.lemmas.Slots.{set_other}
+use Rattle.cw_code.proofs.Tests.{first_true, second_true}
+use Rattle.cw_code.proofs.Slots.{not_in_first}
+use Rattle.cw_code.proofs.Taken.{whole_slots}
+use Rattle.cw_code.proofs.Staying.{seats_lie}
+use Rattle.cw_code.proofs.Unstuck.{facts}
+
+-- a row that covers another has frozen what that has
+covers_true : (xs bs : Row) (a : ℕ) → Covers xs bs → is_full_in (slice_get bs a) ≡ false → is_full_in (slice_get xs a) ≡ false
+covers_true [] [] a c h = h
+covers_true [] (b ∷ bs) a c h = absurd c
+covers_true (x ∷ xs) [] a c h = absurd c
+covers_true (true ∷ xs) (b ∷ bs) zero c h = refl
+covers_true (false ∷ xs) (b ∷ bs) zero c h = absurd (never (sym h ∙ ap (λ x. is_full_in (Some x)) (c.0 refl)))
+  where
+    never : false ≡ true → ⊥
+    never e = cc
+covers_true (x ∷ xs) (b ∷ bs) (suc a) c h = covers_true xs bs a c.1 h
+
+as_many_rows : (there out : List Outer) → CoversEach there out → length (frozen_rows there) ≡ length (frozen_rows out)
+as_many_rows [] [] c = refl
+as_many_rows [] (o ∷ out) c = absurd c
+as_many_rows (o ∷ there) [] c = absurd c
+as_many_rows (o ∷ there) (o' ∷ out) c = ap suc (as_many_rows there out c.4)
+
+frozen_round : (depth : ℕ) (there out : List Outer) (a : ℕ) → CoversEach there out → IsFrozenIn depth (frozen_rows out) a → IsFrozenIn depth (frozen_rows there) a
+frozen_round depth [] [] a c h = h
+frozen_round depth [] (o ∷ out) a c h = absurd c
+frozen_round depth (o ∷ there) [] a c h = absurd c
+frozen_round depth (o ∷ there) (o' ∷ out) a c h = ⊎_elim
+    (λ t. inl (omega (arith, t.0, as_many_rows there out c.4), covers_true o.frozen o'.frozen a c.2 t.1))
+    (λ t. inr (frozen_round depth there out a c.4 t))
+    h
+
+-- what an instruction leaves frozen is so at the place that it goes on to
+frozen_on : (depth : ℕ) (table : Table) (p : ℕ) (out : Shape) (a : ℕ) (l : FlowsInto table p out) → IsFrozenIn depth (all_frozen out) a → IsFrozenIn depth (all_frozen l.there) a
+frozen_on depth table p out a l h = ⊎_elim
+    (λ t. inl (omega (arith, t.0, as_many_rows l.there.outer out.outer l.covers_outer), covers_true l.there.frozen out.frozen a l.covers_frozen t.1))
+    (λ t. inr (frozen_round depth l.there.outer out.outer a l.covers_outer t))
+    h
+
+-- it is not in a row beyond the depth
+further_out : (depth : ℕ) (row : Row) (rows : List Row) (a : ℕ) → depth < length rows → IsFrozenIn depth (row ∷ rows) a → IsFrozenIn depth rows a
+further_out depth row rows a lt h = ⊎_elim (λ t. absurd (omega (arith, lt, t.0))) (λ t. t) h
+
+-- a slot that is frozen is none of those of which no row has any as frozen
+not_thawed : (depth : ℕ) (rows : List Row) (a : ℕ) → IsFrozenIn depth rows a → full_in_all rows a ≡ true → ⊥
+not_thawed depth [] a h k = h
+not_thawed depth (row ∷ rows) a h k = ⊎_elim
+    (λ t. never (sym t.1 ∙ first_true (is_full_in (slice_get row a)) (full_in_all rows a) k))
+    (λ t. not_thawed depth rows a t (second_true (is_full_in (slice_get row a)) (full_in_all rows a) k))
+    h
+  where
+    never : false ≡ true → ⊥
+    never e = cc
+
+spared : (depth : ℕ) (rows : List Row) (a : ℕ) (slots : List ℕ) → IsFrozenIn depth rows a → none_frozen rows slots ≡ true → IsNotAmong a slots
+spared depth rows a [] h k = tt
+spared depth rows a (b ∷ slots) h k = (
+  λ e. not_thawed depth rows a h (subst (λ x. full_in_all rows x ≡ true) (sym e) (first_true (full_in_all rows b) (none_frozen rows slots) k)),
+  spared depth rows a slots h (second_true (full_in_all rows b) (none_frozen rows slots) k),
+)
+
+-- a spawned call freezes more, and thaws nothing
+set_frozen : (xs : Row) (a b : ℕ) → is_full_in (slice_get xs a) ≡ false → is_full_in (slice_get (slice_set xs b true) a) ≡ false
+set_frozen [] a b h = h
+set_frozen (x ∷ xs) zero zero h = refl
+set_frozen (x ∷ xs) zero (suc b) h = h
+set_frozen (x ∷ xs) (suc a) zero h = h
+set_frozen (x ∷ xs) (suc a) (suc b) h = set_frozen xs a b h
+
+gone_frozen : (slots : List ℕ) (row : Row) (a : ℕ) → is_full_in (slice_get row a) ≡ false → is_full_in (slice_get (with_gone slots row) a) ≡ false
+gone_frozen [] row a h = h
+gone_frozen (b ∷ slots) row a h = set_frozen (with_gone slots row) a b (gone_frozen slots row a h)
+
+lent_frozen : (kind : CallKind) (loans : List Loan) (row : Row) (a : ℕ) → is_full_in (slice_get row a) ≡ false → is_full_in (slice_get (with_lent kind loans row) a) ≡ false
+lent_frozen Plain loans row a h = h
+lent_frozen Spawned loans row a h = gone_frozen (slots_lent loans) row a h
+
+module _ {A : Type 0} where
+  -- what goes back, or is moved, leaves each other slot as it is
+  settled_other : (results : Results A) (slots : Slots A) (a : ℕ) → IsNotAmong a (slots_in results) → slice_get (settled results slots) a ≡ slice_get slots a
+  settled_other [] slots a n = refl
+  settled_other (r ∷ results) slots a n = settled_other results (slice_set slots r.0 (Some r.1)) a n.1 ∙ set_other slots r.0 a (Some r.1) n.0
+
+  moved_other : (passed : List ℕ) (slots : Slots A) (a : ℕ) → IsNotAmong a passed → slice_get (moved_out passed slots) a ≡ slice_get slots a
+  moved_other [] slots a n = refl
+  moved_other (b ∷ passed) slots a n = set_other (moved_out passed slots) b a None n.0 ∙ moved_other passed slots a n.1
+
+-- slices are taken out of no other slots
+parts_apart : (from : ℕ) (passed : List ℕ) (given : List (List ℤ)) (a : ℕ) → IsNotAmong a passed → IsNotAmong a (map slot_taken (parts_of from passed given))
+parts_apart from [] given a n = tt
+parts_apart from (b ∷ passed) [] a n = tt
+parts_apart from (b ∷ passed) (xs ∷ given) a n = (n.0, parts_apart from passed given a n.1)
+
+-- what comes back goes into the slots that were taken
+back_slots : (taken : List Taken) (arrays : Slots (List ℤ)) (results : Results (List ℤ)) → given_back taken arrays ≡ Some results → slots_in results ≡ map slot_taken taken
+back_slots [] arrays results e = let same : [] ≡ results = some_same [] results e in ap slots_in (sym same)
+  where
+    some_same : (x y : Results (List ℤ)) → Some x ≡ Some y → x ≡ y
+    some_same x y e = cc
+back_slots (x ∷ taken) [] results e = cc
+back_slots (x ∷ taken) (None ∷ arrays) results e = cc
+back_slots (x ∷ taken) (Some xs ∷ arrays) results e = cases (given_back taken arrays) (λ others f. back_slots taken arrays others f) e
+  where
+    cases : (o : Option (Results (List ℤ))) → ((others : Results (List ℤ)) → o ≡ Some others → slots_in others ≡ map slot_taken taken) → and_result x (Some xs) o ≡ Some results → slots_in results ≡ map slot_taken (x ∷ taken)
+    cases None rest k = cc
+    cases (Some others) rest k =
+        let same : ((slot_taken x, restored x xs) ∷ others) ≡ results = cc in
+        ap slots_in (sym same) ∙ ap (λ ks. slot_taken x ∷ ks) (rest others refl)
+
+func_code : Coded Func
+func_code = code_by (ℕ × (ℕ × (Bool × (ℕ × (ℕ × (ℕ × (ℕ × ℕ))))))) (coded× coded_ℕ (coded× coded_ℕ (coded× coded_bool (coded× coded_ℕ (coded× coded_ℕ (coded× coded_ℕ (coded× coded_ℕ coded_ℕ)))))))
+    (λ f. (f.start, (f.end, (f.gives_int, (f.params, (f.slots, (f.array_params, (f.arrays, f.readers))))))))
+    (λ t. record { start = t.0; end = t.1.0; gives_int = t.1.1.0; params = t.1.1.1.0; slots = t.1.1.1.1.0; array_params = t.1.1.1.1.1.0; arrays = t.1.1.1.1.1.1.0; readers = t.1.1.1.1.1.1.1 })
+    (λ _. refl)
+
+some_func : (x y : Func) → Some x ≡ Some y → x ≡ y
+some_func x y e = cc
+
+some_shape : (x y : Shape) → Some x ≡ Some y → x ≡ y
+some_shape x y e = cc
+
+-- the blocks that stand round a call that nothing waits for
+as_many_blocks : (outer : List Outer) (around : List Around) → CutsAgree outer around → AreBlocks around → length (frozen_rows outer) ≡ length around
+as_many_blocks [] [] c b = refl
+as_many_blocks [] (Caller w ∷ around) c b = absurd b
+as_many_blocks [] (Block o ∷ around) c b = absurd c
+as_many_blocks (o ∷ outer) [] c b = absurd c
+as_many_blocks (o ∷ outer) (Caller w ∷ around) c b = absurd b
+as_many_blocks (o ∷ outer) (Block o' ∷ around) c b = ap suc (as_many_blocks outer around c.1 b)
+
+module _ (code : Code) (fits : Fits code) where
+  -- a place has one shape
+  one_shape : (place : ℕ) (seat other : Seat code fits place) → seat.shape ≡ other.shape
+  one_shape place seat other =
+      let inside = (seats_lie code fits).inside place other in
+      let e = (seats_lie code fits).one place other.index other.func seat other.is_func inside in
+      shapes seat.index other.index seat.func other.func e seat.is_func other.is_func seat.shape other.shape seat.at other.at
+    where
+      shapes : (i k : ℕ) (f g : Func) → i ≡ k → (fi : slice_get code.funcs i ≡ Some f) (gk : slice_get code.funcs k ≡ Some g) (x y : Shape) → (fits.each i f fi).table place ≡ Some x → (fits.each k g gk).table place ≡ Some y → x ≡ y
+      shapes i k f g e fi gk x y tx ty =
+          let table = λ (i : ℕ) (f : Func) (p : slice_get code.funcs i ≡ Some f). (fits.each i f p).table place in
+          let same : f ≡ g = some_func f g (sym fi ∙ ap (slice_get code.funcs) e ∙ gk) in
+          let tables : table i f fi ≡ table k g gk =
+          subst (λ l. (q : slice_get code.funcs l ≡ Some g) → table i f fi ≡ table l g q) e
+          (subst (λ h. (q : slice_get code.funcs i ≡ Some h) → table i f fi ≡ table i h q) same
+          (λ q. ap (λ p. table i f p) (Coded-set (coded_option func_code) (slice_get code.funcs i) (Some f) fi q))) gk in
+          some_shape x y (sym tx ∙ tables ∙ ty)
+
+  module _ (depth a : ℕ) (xs : List ℤ) where
+    -- a call at a place has the slot as frozen, and full
+    abbrev Here : (place : ℕ) → Slots (List ℤ) → Type 0
+    Here place arrays = IsFrozenAt code fits place depth a × (slice_get arrays a ≡ Some (Some xs))
+
+    -- so has the outermost one
+    abbrev Still : (place : ℕ) → Slots (List ℤ) → List Around → Type 0
+    Still place arrays around =
+        IsFrozenAt code fits (outermost place around) depth a × (slice_get (outermost_arrays arrays around) a ≡ Some (Some xs))
+
+    abbrev Stays : Transition → Type 0
+    Stays (On s) = Still s.place s.arrays s.around
+    Stays (Ends v arrays t) = Unit {0}
+    Stays (Stops trap line lines) = Unit {0}
+    Stays Stuck = Unit {0}
+
+    -- what a call does concerns the outermost one where it is that
+    moves : (around : List Around) (p q : ℕ) (ys zs : Slots (List ℤ)) → (AreBlocks around → Here p ys → Here q zs) → Still p ys around → Still q zs around
+    moves [] p q ys zs k h = k tt h
+    moves (Caller w ∷ around) p q ys zs k h = h
+    moves (Block o ∷ around) p q ys zs k h = moves around p q ys zs k h
+
+    if_stays : (b : Bool) (x y : Transition) → Stays x → Stays y → Stays (if b then x else y)
+    if_stays true x y h h' = h
+    if_stays false x y h h' = h'
+
+    slot_stays : {A : Type 0} (o : Option (Option A)) (go : A → Transition) → ((x : A) → Stays (go x)) → Stays (on_slot o go)
+    slot_stays None go h = tt
+    slot_stays (Some None) go h = tt
+    slot_stays (Some (Some x)) go h = h x
+
+    top_stays : (s : State) (go : ℤ → List ℤ → Transition) → ((v : ℤ) (rest : List ℤ) → Stays (go v rest)) → Stays (on_top s go)
+    top_stays s go h = cases s.operands
+      where
+        cases : (ops : List ℤ) → Stays (on_top (record s { operands = ops }) go)
+        cases [] = tt
+        cases (v ∷ rest) = h v rest
+
+    two_stay : (s : State) (go : ℤ → ℤ → List ℤ → Transition) → ((v w : ℤ) (rest : List ℤ) → Stays (go v w rest)) → Stays (on_two s go)
+    two_stay s go h = cases s.operands
+      where
+        cases : (ops : List ℤ) → Stays (on_two (record s { operands = ops }) go)
+        cases [] = tt
+        cases (w ∷ []) = tt
+        cases (w ∷ v ∷ rest) = h v w rest
+
+    -- a call that waited goes on: what comes back goes into slots that are empty
+    module _ (w : Waiting) (around : List Around) (h : Still w.place w.arrays around) (apart : is_full (slice_get w.arrays a) ≡ true → IsNotAmong a (map slot_taken w.taken)) where
+      given_stays : (target : Option ℕ) (v : Option ℤ) (s : State) → Still s.place s.arrays s.around → Stays (given target v s)
+      given_stays None v s k = k
+      given_stays (Some t) None s k = tt
+      given_stays (Some t) (Some v) s k = if_stays (is_full (slice_get s.slots t)) (On (record s { slots = slice_set s.slots t (Some v) })) Stuck k tt
+
+      awaited_stays : (target : Option ℕ) (v : Option ℤ) (s : State) → Still s.place s.arrays s.around → Stays (awaited target v s)
+      awaited_stays None v s k = k
+      awaited_stays (Some t) None s k = tt
+      awaited_stays (Some t) (Some v) s k = k
+
+      come_back : (results : Results (List ℤ)) → slots_in results ≡ map slot_taken w.taken → Still w.place (settled results w.arrays) around
+      come_back results same = moves around w.place w.place w.arrays (settled results w.arrays)
+          (λ blocks t. (t.0, settled_other results w.arrays a (subst (λ ks. IsNotAmong a ks) (sym same) (apart (ap is_full t.1))) ∙ t.1))
+          h
+
+      result_stays : (kind : CallKind) (target : Option ℕ) (v : Option ℤ) (results : Results (List ℤ)) (t : Trace) → slots_in results ≡ map slot_taken w.taken → Stays (result_of kind target v results (going_on w around t))
+      result_stays Plain target v results t same = given_stays target v _ (come_back results same)
+      result_stays Spawned target v results t same = awaited_stays target v _ h
+
+      returns_stay : (v : Option ℤ) (arrays : Slots (List ℤ)) (t : Trace) → Stays (returns_to w around v (given_back w.taken arrays) t)
+      returns_stay v arrays t = cases (given_back w.taken arrays) refl
+        where
+          cases : (o : Option (Results (List ℤ))) → given_back w.taken arrays ≡ o → Stays (returns_to w around v o t)
+          cases None e = tt
+          cases (Some results) e = result_stays w.kind w.target v results _ (back_slots w.taken arrays results e)
+
+    back_stays : (callee : Func) (place : ℕ) (ys : Slots (List ℤ)) (around : List Around) (v : Option ℤ) (arrays : Slots (List ℤ)) (t : Trace) → AllResume code fits callee around → Still place ys around → Stays (back around v arrays t)
+    back_stays callee place ys [] v arrays t r h = tt
+    back_stays callee place ys (Caller w ∷ around) v arrays t r h = returns_stay w around h (r.0.apart a) v arrays t
+    back_stays callee place ys (Block o ∷ around) v arrays t r h = tt
+
+    module _ (s : State) (good : GoodState code fits s) where
+      abbrev shape : Shape
+      shape = good.seat.shape
+
+      abbrev table : Table
+      table = (fits.each good.seat.index good.seat.func good.seat.is_func).table
+
+      abbrev Frozen : Shape → Type 0
+      Frozen out = IsFrozenIn depth (all_frozen out) a
+
+      -- it is frozen in the shape of the state's place
+      in_shape : IsFrozenAt code fits s.place depth a → Frozen shape
+      in_shape t = subst Frozen (one_shape s.place t.0 good.seat) t.1
+
+      -- the call goes on at a place, with other arrays
+      goes : (around : List Around) (p : ℕ) (out : Shape) (zs : Slots (List ℤ)) → FlowsInto table p out
+          → (AreBlocks around → Frozen shape → Frozen out)
+          → (AreBlocks around → Frozen shape → slice_get s.arrays a ≡ Some (Some xs) → slice_get zs a ≡ Some (Some xs))
+          → Still s.place s.arrays around → Still p zs around
+      goes around p out zs l f k h = moves around s.place p s.arrays zs
+          (λ blocks t.
+          let fr = in_shape t.0 in
+          ((record { index = good.seat.index; func = good.seat.func; is_func = good.seat.is_func; shape = l.there; at = l.found }, frozen_on depth table p out a l (f blocks fr)), k blocks fr t.1))
+          h
+
+      -- what waited for the join goes back into slots that are empty
+      joined_has : slice_get s.arrays a ≡ Some (Some xs) → slice_get (settled s.arrived s.arrays) a ≡ Some (Some xs)
+      joined_has has =
+          settled_other s.arrived s.arrays a (not_in_first a (slots_in s.arrived) (all_of (arrays_round s.around)) (good.call.arrays.apart a (ap is_full has))) ∙ has
+
+      module _ (here : Still s.place s.arrays s.around) where
+        -- the same call goes on, with its arrays as they were and its rows
+        on : (p : ℕ) (out : Shape) → FlowsInto table p out → (Frozen shape → Frozen out) → Still p s.arrays s.around
+        on p out l f = goes s.around p out s.arrays l (λ blocks t. f t) (λ blocks t has. has) here
+
+        -- an array slot beside it was written
+        written_on : (p : ℕ) (out : Shape) (b : ℕ) (ys : List ℤ) → FlowsInto table p out → (Frozen shape → Frozen out) → (Frozen shape → IsNotAmong a (b ∷ [])) → Still p (slice_set s.arrays b (Some ys)) s.around
+        written_on p out b ys l f apart =
+            goes s.around p out (slice_set s.arrays b (Some ys)) l (λ blocks t. f t)
+            (λ blocks t has. set_other s.arrays b a (Some ys) (apart t).0 ∙ has) here
+
+        -- a call begins
+        module _ (out : Shape) (l : FlowsInto table (s.place + 1) out) (f : Frozen shape → Frozen out) (passed : List ℕ) (apart : Frozen shape → IsNotAmong a passed) where
+          begins_stays : (e : Entering) → (Frozen shape → IsNotAmong a (map slot_taken e.taken)) → Stays (begins s e)
+          begins_stays e none = if_stays (may_begin s e) (On (begun s e)) Stuck
+              (goes s.around (s.place + 1) out (moved_out (map slot_taken e.taken) s.arrays) l (λ blocks t. f t)
+              (λ blocks t has. moved_other (map slot_taken e.taken) s.arrays a (none t) ∙ has) here) tt
+
+          whole_apart : Frozen shape → IsNotAmong a (map slot_taken (map (λ a. Whole a) passed))
+          whole_apart t = subst (λ ks. IsNotAmong a ks) (sym (whole_slots passed)) (apart t)
+
+          arrays_stay : (o : Option (List (List ℤ))) (go : List (List ℤ) → Transition) → ((given : List (List ℤ)) → Stays (go given)) → Stays (on_arrays o go)
+          arrays_stay None go h = tt
+          arrays_stay (Some given) go h = h given
+
+          enter_stays : (kind : CallKind) (c : Callee) (loans : List Loan) (o : Option Func) → Stays (enter s kind c passed loans o)
+          enter_stays kind c loans None = tt
+          enter_stays kind c loans (Some g) =
+              if_stays (nat_lt MOST_DEPTH (s.depth + 1)) (Stops trap.TooDeep c.line s.trace.lines) _ tt
+              (arrays_stay (arrays_in passed s.arrays) _ (λ given.
+              arrays_stay (lent_in loans (moved_out passed s.arrays) s.readers) _ (λ lent. begins_stays (call_of s kind c passed g given lent) whole_apart)))
+
+          recur_stays : (kind : CallKind) (o : Option Func) → Stays (recur s kind passed o)
+          recur_stays kind None = tt
+          recur_stays kind (Some g) = arrays_stay (arrays_in passed s.arrays) _ (λ given. begins_stays (record {
+            kind = kind;
+            site = None;
+            target = None;
+            depth = s.depth;
+            func = g;
+            arguments = arguments_of g s.operands;
+            given = given;
+            taken = map (λ a. Whole a) passed;
+            lent = [];
+          }) whole_apart)
+
+          looped_stays : (line : ℕ) (g : Func) (given : List (List ℤ)) (low : ℤ) (captured : List ℤ) (r : Result) → Stays (looped s line passed g given low captured r)
+          looped_stays line g given low captured (Fails trap) = tt
+          looped_stays line g given low captured (Value n) =
+              begins_stays (record {
+                kind = Plain;
+                site = None;
+                target = None;
+                depth = s.depth;
+                func = g;
+                arguments = low ∷ (low +ℤ n) ∷ captured;
+                given = map (λ xs. take (natural n) (drop (natural low) xs)) given;
+                taken = parts_of (natural low) passed given;
+                lent = [];
+              }) (λ t. parts_apart (natural low) passed given a (apart t))
+
+          range_stays : (ops : List ℤ) (go : ℤ → ℤ → List ℤ → Transition) → ((low high : ℤ) (captured : List ℤ) → Stays (go low high captured)) → Stays (on_range ops go)
+          range_stays [] go h = tt
+          range_stays (low ∷ []) go h = tt
+          range_stays (low ∷ high ∷ captured) go h = h low high captured
+
+          start_stays : (line : ℕ) (o : Option Func) → Stays (start s line passed o)
+          start_stays line None = tt
+          start_stays line (Some g) =
+              arrays_stay (arrays_in passed s.arrays) _ (λ given.
+              range_stays (arguments_of g s.operands) _ (λ low high captured. looped_stays line g given low captured (loop_turns low high given)))
+
+        -- an instruction that changes no array
+        module _ (out : Shape) (l : FlowsInto table (s.place + 1) out) (f : Frozen shape → Frozen out) where
+          operated_stays : (line : ℕ) (rest : List ℤ) (r : Result) → Stays (operated s line rest r)
+          operated_stays line rest (Value v) = on (s.place + 1) out l f
+          operated_stays line rest (Fails trap) = tt
+
+          adds_stays : (o : Option Name) (v : ℤ) (rest : List ℤ) → Stays (adds s o v rest)
+          adds_stays None v rest = tt
+          adds_stays (Some name) v rest = on (s.place + 1) out l f
+
+          region_stays : (o : Option Name) → Stays (opened_region s o)
+          region_stays None = tt
+          region_stays (Some tag) = on (s.place + 1) out l f
+
+          opens_stays : (kind : BlockKind) → Stays (opens code s kind)
+          opens_stays Scope = on (s.place + 1) out l f
+          opens_stays (Region n) = region_stays (slice_get code.tags n)
+
+          set_stays : (b line : ℕ) (rest : List ℤ) (make : ℤ → List ℤ) (r : Result) → (Frozen shape → IsNotAmong a (b ∷ [])) → Stays (set_array s b line rest make r)
+          set_stays b line rest make (Value v) apart = written_on (s.place + 1) out b (make v) l f apart
+          set_stays b line rest make (Fails trap) apart = tt
+
+          cuts_stays : (h : Halves) (line : ℕ) (ys rest : List ℤ) (r : Result) → (Frozen shape → IsNotAmong a (slots_cut h)) → Stays (cuts s h line ys rest r)
+          cuts_stays h line ys rest (Fails trap) apart = tt
+          cuts_stays h line ys rest (Value v) apart =
+              let gone = slice_set s.arrays h.array None in
+              let left = slice_set gone h.left (Some (take (natural v) ys)) in
+              if_stays (may_cut h s.arrays) _ Stuck
+              (goes s.around (s.place + 1) out (slice_set left h.right (Some (drop (natural v) ys))) l (λ blocks t. f t)
+              (λ blocks t has.
+              let n = apart t in
+              set_other left h.right a (Some (drop (natural v) ys)) n.1.1.0 ∙ set_other gone h.left a (Some (take (natural v) ys)) n.1.0 ∙ set_other s.arrays h.array a None n.0 ∙ has) here) tt
+
+        -- a block inside the frozen ones ends
+        module _ (outer : List Outer) (is : shape.outer ≡ outer) where
+          round : Frozen shape → IsFrozenIn depth (shape.frozen ∷ frozen_rows outer) a
+          round t = subst (λ x. IsFrozenIn depth (shape.frozen ∷ frozen_rows x) a) is t
+
+          outside : depth < length (frozen_rows outer) → Frozen shape → IsFrozenIn depth (frozen_rows outer) a
+          outside lt t = further_out depth shape.frozen (frozen_rows outer) a lt (round t)
+
+        closed_stays : (outer : List Outer) → shape.outer ≡ outer → (around : List Around) → (AreBlocks around → depth < length (frozen_rows outer)) → CutsAgree outer around → FlowsInto table (s.place + 1) (closed_shape shape outer)
+            → Still s.place s.arrays around → Stays (closed (put_in s) around)
+        closed_stays outer is [] inside c l h = tt
+        closed_stays outer is (Caller w ∷ around) inside c l h = tt
+        closed_stays [] is (Block b ∷ around) inside c l h = absurd c
+        closed_stays (o ∷ outer) is (Block b ∷ around) inside c l h =
+            if_stays (is_none b.cut) (resumes (put_in s) b around) Stuck
+            (goes around (s.place + 1) (closed_shape shape (o ∷ outer)) (settled s.arrived s.arrays) l
+            (λ blocks t. outside (o ∷ outer) is (inside blocks) t)
+            (λ blocks t has. joined_has has) h) tt
+
+        uncut_stays : (outer : List Outer) → shape.outer ≡ outer → (around : List Around) → (AreBlocks around → depth < length (frozen_rows outer)) → CutsAgree outer around → none_frozen (frozen_rows outer) (changes_back outer) ≡ true → FlowsInto table (s.place + 1) (uncut_shape shape outer)
+            → Still s.place s.arrays around → Stays (cut_ends (put_in s) around)
+        uncut_stays outer is [] inside c th l h = tt
+        uncut_stays outer is (Caller w ∷ around) inside c th l h = tt
+        uncut_stays [] is (Block b ∷ around) inside c th l h = absurd c
+        uncut_stays (o ∷ outer) is (Block b ∷ around) inside c th l h = by_cut b.cut c.0
+          where
+            by_cut : (x : Option Halves) → o.cut ≡ x → Stays (resumes_uncut (put_in s) b around x)
+            by_cut None e = tt
+            by_cut (Some k) e =
+                slot_stays (slice_get (put_in s).arrays k.left) _ (λ left.
+                slot_stays (slice_get (put_in s).arrays k.right) _ (λ right.
+                let back = settled s.arrived s.arrays in
+                let one = slice_set back k.left (Some []) in
+                let two = slice_set one k.right (Some []) in
+                goes around (s.place + 1) (uncut_shape shape (o ∷ outer)) (slice_set two k.array (Some (left ++ right))) l
+                (λ blocks t. outside (o ∷ outer) is (inside blocks) t)
+                (λ blocks t has.
+                let n : IsNotAmong a (slots_cut k) = spared depth (frozen_rows (o ∷ outer)) a (slots_cut k) (outside (o ∷ outer) is (inside blocks) t)
+                (subst (λ y. none_frozen (frozen_rows (o ∷ outer)) (slots_uncut y) ≡ true) e th) in
+                set_other two k.array a (Some (left ++ right)) n.0 ∙ set_other one k.right a (Some []) n.1.1.0 ∙ set_other back k.left a (Some []) n.1.0 ∙ joined_has has) h))
+
+        -- no other row is beyond the depth
+        inside_all : depth < length s.around → AreBlocks s.around → depth < length (frozen_rows shape.outer)
+        inside_all lt blocks = omega (arith, lt, as_many_blocks shape.outer s.around good.call.cuts blocks)
+
+        -- what a call lends is frozen beside what is so
+        lends : (kind : CallKind) (loans : List Loan) → Frozen shape → IsFrozenIn depth (with_lent kind loans shape.frozen ∷ frozen_rows shape.outer) a
+        lends kind loans t = ⊎_elim (λ t. inl (t.0, lent_frozen kind loans shape.frozen a t.1)) (λ t. inr t) t
+
+        spares : (slots : List ℕ) → none_frozen (all_frozen shape) slots ≡ true → Frozen shape → IsNotAmong a slots
+        spares slots th t = spared depth (all_frozen shape) a slots t th
+
+        acts_stay : (i : Instr) → is_thawed code shape i ≡ true → (is_join i ≡ true → depth < length s.around) → FlowsIntoEach table (leaves code shape i) (nexts s.place i) → Stays (act code s (Some i))
+        acts_stay (instr.Push v) th j l = on _ _ l.0 (λ t. t)
+        acts_stay (instr.Load b) th j l = slot_stays (slice_get s.slots b) _ (λ v. on _ _ l.0 (λ t. t))
+        acts_stay (instr.Store b) th j l = top_stays s _ (λ v rest. if_stays (is_full (slice_get s.slots b)) _ Stuck (on _ _ l.0 (λ t. t)) tt)
+        acts_stay (instr.Unary operator line) th j l = top_stays s _ (λ v rest. operated_stays _ l.0 (λ t. t) line rest (apply_unary operator v))
+        acts_stay (instr.Binary operator line) th j l = two_stay s _ (λ v w rest. operated_stays _ l.0 (λ t. t) line rest (apply operator v w))
+        acts_stay (instr.Skip n) th j l = on _ _ l.0 (λ t. t)
+        acts_stay (instr.SkipIfZero n) th j l = top_stays s _ (λ v rest. either (is_zero v) rest)
+          where
+            either : (b : Bool) (rest : List ℤ) → Stays (jumped (record s { operands = rest }) (if b then s.place + 1 + n else s.place + 1))
+            either true rest = on _ _ l.1.0 (λ t. t)
+            either false rest = on _ _ l.0 (λ t. t)
+        acts_stay (instr.GoBack n) th j l = on _ _ l.0 (λ t. t)
+        acts_stay (instr.Call kind c) th j l = enter_stays _ l.0 (lends kind (lent_by code c.lent)) (passed_by code c.passed) (spares (passed_by code c.passed) th) kind c (lent_by code c.lent) (slice_get code.funcs c.function)
+        acts_stay (instr.Recur kind c) th j l = recur_stays _ l.0 (λ t. t) (passed_by code c.passed) (spares (passed_by code c.passed) th) kind (slice_get code.funcs c.function)
+        acts_stay (instr.Start c line) th j l = start_stays _ l.0 (λ t. t) (passed_by code c.passed) (spares (passed_by code c.passed) th) line (slice_get code.funcs c.function)
+        acts_stay (instr.NewArray b line) th j l =
+            slot_stays (slice_get s.arrays b) _ (λ old. top_stays s _ (λ v rest. set_stays _ l.0 (λ t. t) b line rest _ (new_length v) (spares (b ∷ []) th)))
+        acts_stay (instr.Length b) th j l = slot_stays (slice_get s.arrays b) _ (λ ys. on _ _ l.0 (λ t. t))
+        acts_stay (instr.Element b line) th j l =
+            slot_stays (slice_get s.arrays b) _ (λ ys. top_stays s _ (λ v rest. operated_stays _ l.0 (λ t. t) line rest (in_bounds (element ys v))))
+        acts_stay (instr.SetElement b line) th j l =
+            slot_stays (slice_get s.arrays b) _ (λ ys. two_stay s _ (λ i v rest. set_stays _ l.0 (λ t. t) b line rest _ (written ys i v) (spares (b ∷ []) th)))
+        acts_stay (instr.ReadLength r) th j l = slot_stays (reader s.readers r) _ (λ ys. on _ _ l.0 (λ t. t))
+        acts_stay (instr.ReadElement r line) th j l =
+            slot_stays (reader s.readers r) _ (λ ys. top_stays s _ (λ v rest. operated_stays _ l.0 (λ t. t) line rest (in_bounds (element ys v))))
+        acts_stay (instr.Cut h line) th j l =
+            slot_stays (slice_get s.arrays h.array) _ (λ ys. top_stays s _ (λ v rest. cuts_stays _ l.0 (λ t. inr t) h line ys rest (cut_place ys v) (spares (slots_cut h) th)))
+        acts_stay instr.EndCut th j l = uncut_stays shape.outer refl s.around (inside_all (j refl)) good.call.cuts th l.0 here
+        acts_stay instr.Sync th j l =
+            goes s.around (s.place + 1) _ (settled s.arrived s.arrays) l.0
+            (λ blocks t. inr (further_out depth shape.frozen (frozen_rows shape.outer) a (inside_all (j refl) blocks) t))
+            (λ blocks t has. joined_has has) here
+        acts_stay (instr.Open kind) th j l = opens_stays _ l.0 (λ t. inr t) kind
+        acts_stay instr.Close th j l = closed_stays shape.outer refl s.around (inside_all (j refl)) good.call.cuts l.0 here
+        acts_stay instr.Print th j l = top_stays s _ (λ v rest. on _ _ l.0 (λ t. t))
+        acts_stay (instr.Reduce n) th j l = top_stays s _ (λ v rest. adds_stays _ l.0 (λ t. t) (slice_get (reducer_names code.reducers) n) v rest)
+        acts_stay instr.ReturnValue th j l = top_stays (put_in s) _ (λ v rest. back_stays good.seat.func s.place s.arrays s.around (Some v) (put_in s).arrays _ good.others here)
+        acts_stay instr.Return th j l = back_stays good.seat.func s.place s.arrays s.around None (put_in s).arrays _ good.others here
+
+        step_stays : JoinsInside code depth s → Stays (step code s)
+        step_stays inside = let h = facts code fits s good in subst (λ o. Stays (act code s o)) (sym h.is) (acts_stay h.instr h.thawed (inside h.instr h.is) h.leads)
+
+      -- none of its own instructions changes it
+      its_own_spared : AreBlocks s.around → (h : Facts code fits s good) → JoinsInside code depth s → IsFrozenAt code fits s.place depth a → IsNotAmong a (changed_by code shape h.instr)
+      its_own_spared blocks h inside t = cases h.instr (inside h.instr h.is) h.thawed
+        where
+          cases : (i : Instr) → (is_join i ≡ true → depth < length s.around) → is_thawed code shape i ≡ true → IsNotAmong a (changed_by code shape i)
+          cases instr.EndCut j th =
+              spared depth (frozen_rows shape.outer) a (changes_back shape.outer)
+              (further_out depth shape.frozen (frozen_rows shape.outer) a (omega (arith, j refl, as_many_blocks shape.outer s.around good.call.cuts blocks)) (in_shape t)) th
+          cases (instr.Call kind c) j th = spared depth (all_frozen shape) a (passed_by code c.passed) (in_shape t) th
+          cases (instr.Recur kind c) j th = spared depth (all_frozen shape) a (passed_by code c.passed) (in_shape t) th
+          cases (instr.Start c line) j th = spared depth (all_frozen shape) a (passed_by code c.passed) (in_shape t) th
+          cases (instr.NewArray b line) j th = spared depth (all_frozen shape) a (b ∷ []) (in_shape t) th
+          cases (instr.SetElement b line) j th = spared depth (all_frozen shape) a (b ∷ []) (in_shape t) th
+          cases (instr.Cut c line) j th = spared depth (all_frozen shape) a (slots_cut c) (in_shape t) th
+          cases (instr.Push v) j th = tt
+          cases (instr.Load b) j th = tt
+          cases (instr.Store b) j th = tt
+          cases (instr.Unary operator line) j th = tt
+          cases (instr.Binary operator line) j th = tt
+          cases (instr.Skip n) j th = tt
+          cases (instr.SkipIfZero n) j th = tt
+          cases (instr.GoBack n) j th = tt
+          cases (instr.Length b) j th = tt
+          cases (instr.Element b line) j th = tt
+          cases (instr.ReadLength r) j th = tt
+          cases (instr.ReadElement r line) j th = tt
+          cases instr.Sync j th = tt
+          cases (instr.Open kind) j th = tt
+          cases instr.Close j th = tt
+          cases instr.Print j th = tt
+          cases (instr.Reduce n) j th = tt
+          cases instr.ReturnValue j th = tt
+          cases instr.Return j th = tt
+
+pub frozen_stay : (code : Code) (fits : Fits code) → FrozenStay code fits
+frozen_stay code fits s s' depth a xs good e inside frozen has =
+    subst (Stays code fits depth a xs) e (step_stays code fits depth a xs s good (frozen, has) inside)
+
+pub frozen_spared : (code : Code) (fits : Fits code) → FrozenSpared code fits
+frozen_spared code fits s depth a good h blocks inside frozen = its_own_spared code fits depth a [] s good blocks h inside frozen
