@@ -1,7 +1,7 @@
 //! Runs by crews, beside those of one worker.
 
 use crate::gates::{Hand, Holder, Stumbling, idle, serving};
-use crate::programs::{FIB, HALVES, STEPS, TRAPS, code_of};
+use crate::programs::{FIB, HALVES, READ, STEPS, TRAPS, code_of};
 use cw_machine::alone::{Ended, run_alone};
 use cw_model::burden::{Burden, Edges};
 use cw_model::total::Total;
@@ -30,7 +30,7 @@ struct Run<'a> {
 }
 
 // Runs that end, that trap and that pass their limit.
-const RUNS: [Run<'static>; 5] = [
+const RUNS: [Run<'static>; 6] = [
     Run {
         source: STEPS,
         arg: 40,
@@ -44,6 +44,11 @@ const RUNS: [Run<'static>; 5] = [
     Run {
         source: HALVES,
         arg: 60,
+        n: MOST,
+    },
+    Run {
+        source: READ,
+        arg: 40,
         n: MOST,
     },
     Run {
@@ -173,6 +178,15 @@ fn arrays_are_lent(rt: HostRuntime) -> Result<(), Fail> {
 }
 
 #[test]
+fn arrays_are_read_together(rt: HostRuntime) -> Result<(), Fail> {
+    let wanted = alone(rt.alloc(), READ, 40, MOST)?;
+    assert!(rt; all_answer(rt, rt.alloc(), READ, 40, MOST, &wanted)?);
+    // twice the sum of 0 to 39, and the last one
+    assert_eq!(rt; value_of(&wanted), Some(1599));
+    Ok(())
+}
+
+#[test]
 fn traps(rt: HostRuntime) -> Result<(), Fail> {
     let wanted = alone(rt.alloc(), TRAPS, 8, MOST)?;
     assert!(rt; all_answer(rt, rt.alloc(), TRAPS, 8, MOST, &wanted)?);
@@ -242,6 +256,21 @@ fn each_rest_is_run_by_the_other(rt: HostRuntime) -> Result<(), Fail> {
     assert_eq!(rt; value_of(&got), Some(144));
     assert_eq!(rt; told.used_up(), 0);
     assert_eq!(rt; told.all_offered(), 232);
+    Ok(())
+}
+
+// The same where each rest has a share of what the call beside it reads: 11 spawns in each of two sums, and that of main.
+#[test]
+fn each_rest_that_reads_is_run_by_the_other(rt: HostRuntime) -> Result<(), Fail> {
+    let alloc = rt.alloc();
+    let wanted = alone(alloc, READ, 12, MOST)?;
+    let gate = Arc::new(alloc, Holder::new(false))?;
+    let told = Arc::try_clone(&gate)?;
+    let got = together(rt, alloc, READ, 12, MOST, serving(alloc, rt, 1)?, gate)?;
+    assert!(rt; is_same(&got, &wanted));
+    assert_eq!(rt; value_of(&got), Some(143));
+    assert_eq!(rt; told.used_up(), 0);
+    assert_eq!(rt; told.all_offered(), 23);
     Ok(())
 }
 

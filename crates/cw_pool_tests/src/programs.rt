@@ -70,6 +70,34 @@ int main(int n) {
 }
 ";
 
+/// The numbers below n lie in an array, which is summed by halves in a spawned call and once more beside it, and then
+/// written again: all these calls, and the rests beside those that they spawn, read the whole array.
+pub const READ: &[u8] = b"
+int total(const int a[], int from, int to) {
+  if (to - from < 2) { return a[from]; }
+  int middle = (from + to) / 2;
+  int x = 0;
+  int y = 0;
+  x = cilk_spawn total(a, from, middle);
+  y = total(a, middle, to);
+  cilk_sync;
+  return x + y;
+}
+int main(int n) {
+  int a[n];
+  int i = 0;
+  while (i < n) { a[i] = i; i = i + 1; }
+  int x = 0;
+  int y = 0;
+  x = cilk_spawn total(a, 0, n);
+  y = total(a, 0, n);
+  y = y + a[n - 1];
+  cilk_sync;
+  a[0] = x;
+  return a[0] + y;
+}
+";
+
 /// As the Fibonacci numbers, but that each call prints, and the call of 5 divides by zero.
 pub const TRAPS: &[u8] = b"
 int fib(int n) {
