@@ -56,7 +56,7 @@ int main() { int a[5]; int x = 0; a[0] = 2; a[4] = 7; x = cilk_spawn sum(a, 0, 5
 SMALL = [("fib", FIB, ["7"]), ("chain", CHAIN, ["20"]), ("arrays", ARRAYS, []), ("loop", LOOP, []), ("trap", TRAP, ["0"]), ("lines", LINES, []), ("reads", READS, [])]
 
 # programs whose speed is asked, with their arguments, and what one worker's time by four workers' is to be at least
-SPEED = [("mergesort_parallel", ["400000"], 3.3), ("matrix_large", ["160"], 3.3), ("fib_cutoff", ["32"], 3.3), ("fib", ["29"], 1.8)]
+SPEED = [("mergesort_parallel", ["400000"], 3.3), ("matrix_large", ["160"], 3.3), ("factors", ["160"], 3.3), ("fib_cutoff", ["32"], 3.3), ("fib", ["29"], 1.8)]
 MATRIX = """// rows of a product, each by itself
 void row(int a[], int b[], int c[], int n) { int j = 0; int k = 0; int t = 0; while (j < n) { t = 0; k = 0; while (k < n) { t = t + a[k] * b[k * n + j]; k = k + 1; } c[j] = t; j = j + 1; } }
 void rows(int n, int seed, int c[]) { int a[n]; int b[n * n]; int i = 0; while (i < n) { a[i] = i + seed; i = i + 1; } i = 0; while (i < n * n) { b[i] = i - seed; i = i + 1; } row(a, b, c, n); }
@@ -187,8 +187,8 @@ def speed(program, rounds="9"):
     short = 0
     with tempfile.TemporaryDirectory() as folder:
         for name, arguments, wanted in SPEED:
-            path = EXAMPLES / f"{name}.cilk"
-            if not path.exists():
+            path = next((it for it in (EXAMPLES / f"{name}.cilk", HERE / "programs" / f"{name}.cilk") if it.exists()), None)
+            if not path:
                 path = pathlib.Path(folder) / f"{name}.cilk"
                 path.write_text(MATRIX)
             command = [program, "scale", str(path), *arguments, "--limit", "100000000000", "--workers"]
