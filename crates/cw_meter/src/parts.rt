@@ -7,10 +7,10 @@ pub enum PartKind {
     Call,
     /// A spawned call.
     SpawnedCall,
-    /// A scope, a cut, or a function of a loop that is called in place.
-    Quiet,
     /// Half of a loop, that is spawned.
     Half,
+    /// A scope, a cut, or a function of a loop that is called in place.
+    Quiet,
     /// A region of the tag of this number.
     Region(u32),
 }

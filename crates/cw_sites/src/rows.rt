@@ -130,12 +130,8 @@ impl Rows {
         ensures others { OthersStay self.old self.new site }
         ensures as_long { length self.new.by_site.items ≡ length self.old.by_site.items }
     {
-        let place = site as usize;
-        let kept = self.by_site[place];
-        self.by_site[place] = Kept {
-            row: worked(kept.row, count),
-            place: kept.place,
-        };
+        let kept = &mut self.by_site[site as usize];
+        worked(&mut kept.row, count);
         kept.place
     }
 
@@ -166,11 +162,8 @@ impl Rows {
         let Some(to) = at else {
             return;
         };
-        let place = site as usize;
-        self.by_site[place] = Kept {
-            row: self.by_site[place].row,
-            place: to,
-        };
+        let kept = &mut self.by_site[site as usize];
+        kept.place = to;
     }
 
     /// An invocation of a site begins, at this work and on a path of this weight.
@@ -194,13 +187,12 @@ impl Rows {
         ensures own { Becomes (tallies.entered count path) self.old self.new site }
         ensures others { OthersStay self.old self.new site }
     {
-        let place = site as usize;
-        let row = self.by_site[place].row;
-        if row.active == 0 {
-            self.put(place, entered_first(row, count, path));
+        let kept = &mut self.by_site[site as usize];
+        if kept.row.active == 0 {
+            entered_first(&mut kept.row, count, path);
             return;
         }
-        self.put(place, entered_again(row));
+        entered_again(&mut kept.row);
     }
 
     /// An invocation of a site ends.
@@ -224,13 +216,12 @@ impl Rows {
         ensures own { Becomes (tallies.left count path) self.old self.new site }
         ensures others { OthersStay self.old self.new site }
     {
-        let place = site as usize;
-        let row = self.by_site[place].row;
-        if row.active == 1 {
-            self.put(place, left_last(row, count, path));
+        let kept = &mut self.by_site[site as usize];
+        if kept.row.active == 1 {
+            left_last(&mut kept.row, count, path);
             return;
         }
-        self.put(place, left_inner(row));
+        left_inner(&mut kept.row);
     }
 
     /// Adds the sums of a piece that ran apart, of which no invocation is open. Where invocations of a site are open here,
@@ -285,58 +276,48 @@ impl Rows {
 
 /// The row after so many instructions of its site.
 #[inline(always)]
-pub fn worked(row: Row, count: u64) -> Row
-    ensures { IsWhereItFits (tallies.worked count row) result }
+pub fn worked(row: &mut Row, count: u64)
+    ensures { IsWhereItFits (tallies.worked count row.old) row.new }
 {
-    let mut row = row;
     row.own = row.own.wrapping_add(count);
-    row
 }
 
 /// The row after an invocation of its site began that lies in no other one, at this work and on a path of this weight.
 #[inline(always)]
-pub fn entered_first(row: Row, count: u64, path: u64) -> Row
-    ensures { IsWhereItFits (tallies.entered_at true count path row) result }
+pub fn entered_first(row: &mut Row, count: u64, path: u64)
+    ensures { IsWhereItFits (tallies.entered_at true count path row.old) row.new }
 {
-    let mut row = row;
     row.calls = row.calls.wrapping_add(1);
     row.active = row.active.wrapping_add(1);
     row.at_work = count;
     row.at_path = path;
-    row
 }
 
 /// The row after an invocation of its site began that lies in another one.
 #[inline(always)]
-pub fn entered_again(row: Row) -> Row
-    ensures { IsWhereItFits (tallies.entered_at false 0 0 row) result }
+pub fn entered_again(row: &mut Row)
+    ensures { IsWhereItFits (tallies.entered_at false 0 0 row.old) row.new }
 {
-    let mut row = row;
     row.calls = row.calls.wrapping_add(1);
     row.active = row.active.wrapping_add(1);
-    row
 }
 
 /// The row after an invocation of its site ended that lies in no other one, and is summed.
 #[inline(always)]
-pub fn left_last(row: Row, count: u64, path: u64) -> Row
-    ensures { IsWhereItFits (tallies.left_at true count path row) result }
+pub fn left_last(row: &mut Row, count: u64, path: u64)
+    ensures { IsWhereItFits (tallies.left_at true count path row.old) row.new }
 {
-    let mut row = row;
     row.work = row.work.wrapping_add(count.saturating_sub(row.at_work));
     row.span = row.span.wrapping_add(path.saturating_sub(row.at_path));
     row.active = row.active.saturating_sub(1);
-    row
 }
 
 /// The row after an invocation of its site ended that lies in another one.
 #[inline(always)]
-pub fn left_inner(row: Row) -> Row
-    ensures { result ≡ tallies.left_at false 0 0 row }
+pub fn left_inner(row: &mut Row)
+    ensures { row.new ≡ tallies.left_at false 0 0 row.old }
 {
-    let mut row = row;
     row.active = row.active.saturating_sub(1);
-    row
 }
 
 /// The row with the sums of a piece's row: work and span where no invocation is open.
