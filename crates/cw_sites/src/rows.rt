@@ -54,6 +54,54 @@ const NONE: Kept = Kept {
     place: 0,
 };
 
+impl Row {
+    // So many instructions of its site more.
+    #[inline(always)]
+    fn add_own(&mut self, count: u64)
+        ensures { IsWhereItFits (tallies.worked count self.old) self.new }
+    {
+        self.own = self.own.wrapping_add(count);
+    }
+
+    // An invocation of its site begins that lies in no other one, at this work and on a path of this weight.
+    #[inline(always)]
+    fn enter_first(&mut self, count: u64, path: u64)
+        ensures { IsWhereItFits (tallies.entered_at true count path self.old) self.new }
+    {
+        self.calls = self.calls.wrapping_add(1);
+        self.active = self.active.wrapping_add(1);
+        self.at_work = count;
+        self.at_path = path;
+    }
+
+    // An invocation of its site begins that lies in another one.
+    #[inline(always)]
+    fn enter_again(&mut self)
+        ensures { IsWhereItFits (tallies.entered_at false 0 0 self.old) self.new }
+    {
+        self.calls = self.calls.wrapping_add(1);
+        self.active = self.active.wrapping_add(1);
+    }
+
+    // An invocation of its site ends that lies in no other one, and is summed.
+    #[inline(always)]
+    fn leave_last(&mut self, count: u64, path: u64)
+        ensures { IsWhereItFits (tallies.left_at true count path self.old) self.new }
+    {
+        self.work = self.work.wrapping_add(count.saturating_sub(self.at_work));
+        self.span = self.span.wrapping_add(path.saturating_sub(self.at_path));
+        self.active = self.active.saturating_sub(1);
+    }
+
+    // An invocation of its site ends that lies in another one.
+    #[inline(always)]
+    fn leave_inner(&mut self)
+        ensures { self.new ≡ tallies.left_at false 0 0 self.old }
+    {
+        self.active = self.active.saturating_sub(1);
+    }
+}
+
 impl Rows {
     /// No rows. Takes no memory.
     pub fn new(alloc: Global) -> Rows
@@ -131,7 +179,7 @@ impl Rows {
         ensures as_long { length self.new.by_site.items ≡ length self.old.by_site.items }
     {
         let kept = &mut self.by_site[site as usize];
-        worked(&mut kept.row, count);
+        kept.row.add_own(count);
         kept.place
     }
 
@@ -189,10 +237,10 @@ impl Rows {
     {
         let kept = &mut self.by_site[site as usize];
         if kept.row.active == 0 {
-            entered_first(&mut kept.row, count, path);
+            kept.row.enter_first(count, path);
             return;
         }
-        entered_again(&mut kept.row);
+        kept.row.enter_again();
     }
 
     /// An invocation of a site ends.
@@ -218,10 +266,10 @@ impl Rows {
     {
         let kept = &mut self.by_site[site as usize];
         if kept.row.active == 1 {
-            left_last(&mut kept.row, count, path);
+            kept.row.leave_last(count, path);
             return;
         }
-        left_inner(&mut kept.row);
+        kept.row.leave_inner();
     }
 
     /// Adds the sums of a piece that ran apart, of which no invocation is open. Where invocations of a site are open here,
@@ -272,52 +320,6 @@ impl Rows {
             place: self.by_site[place].place,
         };
     }
-}
-
-/// The row after so many instructions of its site.
-#[inline(always)]
-pub fn worked(row: &mut Row, count: u64)
-    ensures { IsWhereItFits (tallies.worked count row.old) row.new }
-{
-    row.own = row.own.wrapping_add(count);
-}
-
-/// The row after an invocation of its site began that lies in no other one, at this work and on a path of this weight.
-#[inline(always)]
-pub fn entered_first(row: &mut Row, count: u64, path: u64)
-    ensures { IsWhereItFits (tallies.entered_at true count path row.old) row.new }
-{
-    row.calls = row.calls.wrapping_add(1);
-    row.active = row.active.wrapping_add(1);
-    row.at_work = count;
-    row.at_path = path;
-}
-
-/// The row after an invocation of its site began that lies in another one.
-#[inline(always)]
-pub fn entered_again(row: &mut Row)
-    ensures { IsWhereItFits (tallies.entered_at false 0 0 row.old) row.new }
-{
-    row.calls = row.calls.wrapping_add(1);
-    row.active = row.active.wrapping_add(1);
-}
-
-/// The row after an invocation of its site ended that lies in no other one, and is summed.
-#[inline(always)]
-pub fn left_last(row: &mut Row, count: u64, path: u64)
-    ensures { IsWhereItFits (tallies.left_at true count path row.old) row.new }
-{
-    row.work = row.work.wrapping_add(count.saturating_sub(row.at_work));
-    row.span = row.span.wrapping_add(path.saturating_sub(row.at_path));
-    row.active = row.active.saturating_sub(1);
-}
-
-/// The row after an invocation of its site ended that lies in another one.
-#[inline(always)]
-pub fn left_inner(row: &mut Row)
-    ensures { row.new ≡ tallies.left_at false 0 0 row.old }
-{
-    row.active = row.active.saturating_sub(1);
 }
 
 /// The row with the sums of a piece's row: work and span where no invocation is open.
