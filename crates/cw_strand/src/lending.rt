@@ -4,7 +4,7 @@ ghost use Rattle.std.specs.Prelude.{◌≡◌, ◌+◌, ◌≤◌, ◌<◌, ◌-
 ghost use Rattle.std.specs.Vec.{vec_len, vec_capacity};
 ghost use Rattle.cw_jobs.specs.Jobs.{code_of};
 ghost use Rattle.cw_machine.specs.declared.run.Stop.TheVariants as stop;
-ghost use Rattle.cw_machine.specs.Calls.{listed, loans_of};
+ghost use Rattle.cw_machine.specs.Calls.{loans_of};
 ghost use Rattle.cw_strand.specs.Holds.{its_parts, its_code, AreSpare};
 ghost use Rattle.cw_strand.specs.Losing.{GoesOn};
 ghost use Rattle.cw_strand.specs.Moves.{HasCome, ComesTo, HasCut, HasSpared, IsAddressed};
@@ -31,19 +31,6 @@ pub(crate) fn empty_rest(alloc: Global) -> Rest {
     }
 }
 
-// The array slots of a list of the code; where there is no list, there are none.
-#[inline(always)]
-fn slots_named(code: &Verified, k: u32) -> &[u32]
-    ensures { result.now ≡ listed code.now k }
-{
-    let at = k as usize;
-    if at < code.code.passed.len() {
-        code.code.passed[at].as_slice()
-    } else {
-        &[]
-    }
-}
-
 // The loans of a list of the code, where there is one.
 #[inline(always)]
 pub(crate) fn loans_named(code: &Verified, list: Option<u32>) -> &[Loan]
@@ -51,14 +38,7 @@ pub(crate) fn loans_named(code: &Verified, list: Option<u32>) -> &[Loan]
 {
     match list {
         None => &[],
-        Some(k) => {
-            let at = k as usize;
-            if at < code.code.lent.len() {
-                code.code.lent[at].as_slice()
-            } else {
-                &[]
-            }
-        }
+        Some(k) => code.loans_named(k),
     }
 }
 
@@ -124,7 +104,7 @@ impl Strand {
         calls_on_a_strand_keep_its_job();
         let mut parts = self.shell()?;
         self.lent.reserve(1)?;
-        let slots = slots_named(&self.parts.code, spawn.passed);
+        let slots = self.parts.code.slots_named(spawn.passed);
         let loans = loans_named(&self.parts.code, spawn.lent);
         let machine = &mut self.run.machine;
         let lender = machine.hand_out(&self.parts.code, slots, loans, &mut parts.rest)?;
