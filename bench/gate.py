@@ -7,6 +7,10 @@ The sample before `rt ci` takes under two minutes: the reports of examples/ agai
 against answers worked out by hand, the random programs of the walks of worlds, and some turned clauses. It wants python3 and the kit alone. Where one of them differs
 from what stands there, nothing else is run. The last line is that of `rt ci`, `N passed, M failed`, with one more failed
 where the program answers a random source otherwise than the other implementation.
+
+`rt ci` gets a lane for each processor, four at most, unless RT_JOBS says how many: of itself it begins a crate only where
+the memory that it reckons with is free, and reckons so much for the crate at the head of the longest chain that this one
+would wait for nearly all others. The four greatest checks of this repository take some 14 GB together.
 """
 import os
 import re
@@ -24,6 +28,7 @@ BEFORE = [
     ["bench/turned/turn.py", "--every", "100", "--jobs", "4"],
 ]
 AFTER = "bench/reference/fuzz.py"
+LANES = str(min(len(os.sched_getaffinity(0)), 4))
 SEEDS = ["1", "40", "consts"]
 
 
@@ -49,7 +54,8 @@ def program_passes():
 def run_ci():
     """Runs `rt ci` and shows what it writes but for its last line, which is given with its status."""
     held = ""
-    how = {"cwd": TOP, "env": dict(os.environ, PYTHONUNBUFFERED="1"), "text": True, "errors": "replace"}
+    env = {"RT_JOBS": LANES, **os.environ, "PYTHONUNBUFFERED": "1"}
+    how = {"cwd": TOP, "env": env, "text": True, "errors": "replace"}
     with subprocess.Popen(["rt", "ci"], stdout=subprocess.PIPE, **how) as ran:
         for line in ran.stdout:
             print(held, end="", flush=True)
