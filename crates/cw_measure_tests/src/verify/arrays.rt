@@ -492,22 +492,6 @@ fn loops(rt: HostRuntime) -> Result<(), AllocError> {
     Ok(())
 }
 
-/// These instructions, so many times.
-fn repeat(body: &mut Vec<Instr>, instrs: &[Instr], times: u32) -> Result<(), AllocError> {
-    for _time in 0..times {
-        body.extend_from_slice(instrs)?;
-    }
-    Ok(())
-}
-
-/// Scopes in one another, and in them prints.
-fn fill(body: &mut Vec<Instr>) -> Result<(), AllocError> {
-    repeat(body, &[Instr::Open(BlockKind::Scope)], 63)?;
-    repeat(body, &[Instr::Push(1), Instr::Print], 524224)?;
-    repeat(body, &[Instr::Close], 63)?;
-    repeat(body, &GIVES, 1)
-}
-
 /// A function of as many names as one may have.
 const WIDEST: Func = Func {
     slots: 128,
@@ -515,18 +499,26 @@ const WIDEST: Func = Func {
     ..GIVING
 };
 
-fn place_widest(code: &mut Code) -> Result<(), AllocError> {
-    fill(&mut code.instrs)?;
-    end_function(code, WIDEST, 0)
-}
-
 // As many instructions as a program may have, in as many scopes as a source can open, in a function of as many names
 // as it may declare: they fit, in time and memory that go with the instructions alone.
 #[test]
 fn many(rt: HostRuntime) -> Result<(), AllocError> {
-    let mut code = no_code(rt.alloc());
-    place_widest(&mut code)?;
-    assert_eq!(rt; code.instrs.len(), 1048576);
-    assert_eq!(rt; refusal_of(rt.alloc(), code)?, 0);
+    let alloc = rt.alloc();
+    let mut body = Vec::new(alloc);
+    for _scope in 0..63 {
+        body.push(Instr::Open(BlockKind::Scope))?;
+    }
+    for _print in 0..524224 {
+        body.push(Instr::Push(1))?;
+        body.push(Instr::Print)?;
+    }
+    for _scope in 0..63 {
+        body.push(Instr::Close)?;
+    }
+    body.extend_from_slice(&GIVES)?;
+    assert!(rt; body.len() == 1048576);
+    let mut code = no_code(alloc);
+    place(&mut code, WIDEST, &body)?;
+    assert!(rt; refusal_of(alloc, code)? == 0);
     Ok(())
 }
