@@ -2,18 +2,12 @@
 
 use cw_model::burden::{Burden, Edges};
 
-/// So much for each continuation edge.
-pub fn on_spawns(charge: u64) -> Burden {
-    Burden {
-        charge,
-        edges: Edges::Spawn,
-    }
+/// So much for each of these edges of a spawn.
+pub fn burden_of(edges: Edges, charge: u64) -> Burden {
+    Burden { charge, edges }
 }
 
-/// So much for each continuation edge and for each return edge.
-pub fn on_both(charge: u64) -> Burden {
-    Burden {
-        charge,
-        edges: Edges::Both,
-    }
+/// So much for each continuation edge.
+pub fn on_spawns(charge: u64) -> Burden {
+    burden_of(Edges::Spawn, charge)
 }

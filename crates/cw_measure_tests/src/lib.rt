@@ -9,6 +9,8 @@ mod measure;
 #[cfg(test)]
 mod meter;
 #[cfg(test)]
+mod monoid;
+#[cfg(test)]
 mod part;
 #[cfg(test)]
 mod reduce;

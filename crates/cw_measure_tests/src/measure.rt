@@ -1,153 +1,303 @@
 //! Work, span and burdened span of small runs, whole and joined from pieces, by hand.
 
-use crate::burdens::{on_both, on_spawns};
+use crate::burdens::burden_of;
+use Told::{Call, Child, Sync, Tick};
 use cw_measure::{BurdenedPath, Measure};
+use cw_model::burden::{Burden, Edges};
 use cw_model::monoid::Monoid;
-use std::alloc::AllocError;
-use std::test::Fail;
+use std::alloc::{AllocError, Global};
 
-// So many instructions.
+/// What a measure is told.
+#[derive(Clone, Copy)]
+enum Told {
+    /// So many instructions.
+    Tick(u64),
+    /// A spawned child of so many instructions.
+    Child(u64),
+    /// The run's part in series.
+    Call,
+    /// A join.
+    Sync,
+}
+
+/// A run in pieces, and what it comes to.
+struct Run {
+    name: &'static str,
+    /// A part in series, that its pieces call.
+    part: &'static [Told],
+    first: &'static [Told],
+    more: &'static [&'static [Told]],
+    work: u64,
+    span: u64,
+    /// Which edges are charged and how much, and the burdened span with that.
+    charged: &'static [(Edges, u64, u128)],
+}
+
+/// So many instructions.
 fn strand(n: u64) -> Measure {
     let mut measure = Measure::new();
     measure.tick(n);
     measure
 }
 
-// 3 instructions, a child of 5 beside 2, a join, 1 instruction: the child is the longer one, and with a burden of 4 on
-// the rest alone the rest is.
+fn tell(measure: &mut Measure, burden: Burden, part: &Measure, told: Told) {
+    match told {
+        Tick(n) => measure.tick(n),
+        Child(n) => measure.spawned(burden, &strand(n)),
+        Call => measure.called(part),
+        Sync => measure.sync(),
+    }
+}
+
+fn tell_all(measure: &mut Measure, burden: Burden, part: &Measure, all: &[Told]) {
+    for told in all {
+        tell(measure, burden, part, *told);
+    }
+}
+
+/// The first piece of a run.
+fn first_of(run: &Run, burden: Burden, part: &Measure) -> Measure {
+    let mut measure = Measure::new();
+    tell_all(&mut measure, burden, part, run.first);
+    measure
+}
+
+/// A later piece.
+fn piece_of(alloc: Global, burden: Burden, part: &Measure, told: &[Told]) -> Measure {
+    let mut measure = Measure::unit(alloc);
+    tell_all(&mut measure, burden, part, told);
+    measure
+}
+
+/// The pieces, joined from the first one on.
+fn joined_forward(
+    alloc: Global,
+    run: &Run,
+    burden: Burden,
+    part: &Measure,
+) -> Result<Measure, AllocError> {
+    let mut whole = first_of(run, burden, part);
+    for told in run.more {
+        whole = whole.join(piece_of(alloc, burden, part, *told))?;
+    }
+    Ok(whole)
+}
+
+/// The pieces, joined from the last one on.
+fn joined_backward(
+    alloc: Global,
+    run: &Run,
+    burden: Burden,
+    part: &Measure,
+) -> Result<Measure, AllocError> {
+    let mut rest = Measure::unit(alloc);
+    for told in run.more.iter().rev() {
+        rest = piece_of(alloc, burden, part, *told).join(rest)?;
+    }
+    first_of(run, burden, part).join(rest)
+}
+
+fn reads(measure: &Measure, run: &Run, burdened: u128) -> bool {
+    measure.work() == run.work && measure.span() == run.span && measure.burdened() == burdened
+}
+
+fn reads_forward(
+    alloc: Global,
+    run: &Run,
+    burden: Burden,
+    burdened: u128,
+) -> Result<bool, AllocError> {
+    let part = piece_of(alloc, burden, &Measure::new(), run.part);
+    let whole = joined_forward(alloc, run, burden, &part)?;
+    Ok(reads(&whole, run, burdened))
+}
+
+fn reads_backward(
+    alloc: Global,
+    run: &Run,
+    burden: Burden,
+    burdened: u128,
+) -> Result<bool, AllocError> {
+    let part = piece_of(alloc, burden, &Measure::new(), run.part);
+    let whole = joined_backward(alloc, run, burden, &part)?;
+    Ok(reads(&whole, run, burdened))
+}
+
+/// Whether a run reads so with this charge, in both groupings of its pieces.
+fn reads_so(alloc: Global, run: &Run, burden: Burden, burdened: u128) -> Result<bool, AllocError> {
+    let forward = reads_forward(alloc, run, burden, burdened)?;
+    let backward = reads_backward(alloc, run, burden, burdened)?;
+    Ok(forward && backward)
+}
+
+/// The first charge with which a run does not read so.
+fn wrong_charge(alloc: Global, run: &Run) -> Result<Option<Edges>, AllocError> {
+    for (edges, charge, burdened) in run.charged {
+        if !reads_so(alloc, run, burden_of(*edges, *charge), *burdened)? {
+            return Ok(Some(*edges));
+        }
+    }
+    Ok(None)
+}
+
+static RUNS: [Run; 7] = [
+    Run {
+        // 3 instructions, a child of 5 beside 2, a join, 1 instruction: the child is the longer one, and with a burden of
+        // 4 on the rest alone the rest is.
+        name: "a child beside a rest",
+        part: &[],
+        first: &[Tick(3), Child(5), Tick(2), Sync, Tick(1)],
+        more: &[],
+        work: 11,
+        span: 9,
+        charged: &[(Edges::Spawn, 4, 10), (Edges::Both, 4, 13)],
+    },
+    Run {
+        // The same, cut after the spawn and after the join, with an empty piece between.
+        name: "a child and its rest in pieces",
+        part: &[],
+        first: &[Tick(3), Child(5)],
+        more: &[&[], &[Tick(2), Sync], &[Tick(1)]],
+        work: 11,
+        span: 9,
+        charged: &[(Edges::Spawn, 4, 10), (Edges::Both, 4, 13)],
+    },
+    Run {
+        // The same, cut before the spawn, after it and after the join.
+        name: "a child in a piece of its own",
+        part: &[],
+        first: &[Tick(3)],
+        more: &[&[Child(5)], &[Tick(2), Sync], &[Tick(1)]],
+        work: 11,
+        span: 9,
+        charged: &[(Edges::Spawn, 4, 10), (Edges::Both, 4, 13)],
+    },
+    Run {
+        // Two children of 4 with 3 instructions between them, and a join at once: the second child's path takes the 3
+        // before it, and a burden of 2, or one for each of the two forks that it runs through.
+        name: "two children",
+        part: &[],
+        first: &[Tick(1), Child(4), Tick(3), Child(4), Sync],
+        more: &[],
+        work: 12,
+        span: 8,
+        charged: &[(Edges::Spawn, 2, 10), (Edges::Both, 2, 12)],
+    },
+    Run {
+        // A rest beside two children that join together is charged for both forks, whichever edges are charged.
+        name: "one rest beside two children",
+        part: &[],
+        first: &[Tick(1), Child(1), Tick(3), Child(1), Tick(5), Sync],
+        more: &[],
+        work: 11,
+        span: 9,
+        charged: &[(Edges::Spawn, 10, 29), (Edges::Both, 10, 29)],
+    },
+    Run {
+        // A part in series counts with all three of its readings.
+        name: "a part in series",
+        part: &[Tick(1), Child(7), Sync],
+        first: &[Tick(2), Call],
+        more: &[],
+        work: 10,
+        span: 10,
+        charged: &[(Edges::Spawn, 10, 13), (Edges::Both, 10, 20)],
+    },
+    Run {
+        // A reading above the greatest number of its type is that number; a burdened span has 128 bits.
+        name: "readings stop at the greatest number",
+        part: &[],
+        first: &[Tick(u64::MAX), Child(1), Tick(1), Sync],
+        more: &[],
+        work: u64::MAX,
+        span: u64::MAX,
+        charged: &[
+            (Edges::Spawn, u64::MAX, 36_893_488_147_419_103_231),
+            (Edges::Both, u64::MAX, 36_893_488_147_419_103_231),
+        ],
+    },
+];
+
 #[test]
-fn a_child_beside_a_rest(rt: HostRuntime) -> Result<(), Fail> {
-    for (burden, burdened) in [(on_spawns(4), 10), (on_both(4), 13)] {
-        let mut whole = strand(3);
-        whole.spawned(burden, &strand(5));
-        whole.tick(2);
-        whole.sync();
-        whole.tick(1);
-        assert_eq!(rt; whole.work(), 11);
-        assert_eq!(rt; whole.span(), 9);
-        assert_eq!(rt; whole.burdened(), burdened);
+fn runs(rt: HostRuntime) -> Result<(), AllocError> {
+    for run in &RUNS {
+        assert_eq!(rt; wrong_charge(rt.alloc(), run)?, None, "{}", run.name);
     }
     Ok(())
 }
 
-// Two children of 4 with 3 instructions between them, and a join at once: the second child's path takes the 3 before
-// it, and a burden of 2, or one for each of the two forks that it runs through.
-#[test]
-fn two_children(rt: HostRuntime) -> Result<(), Fail> {
-    for (burden, burdened) in [(on_spawns(2), 10), (on_both(2), 12)] {
-        let mut whole = strand(1);
-        whole.spawned(burden, &strand(4));
-        whole.tick(3);
-        whole.spawned(burden, &strand(4));
-        whole.sync();
-        assert_eq!(rt; whole.work(), 12);
-        assert_eq!(rt; whole.span(), 8);
-        assert_eq!(rt; whole.burdened(), burdened);
+/// What a burdened path is told, at a count of instructions.
+#[derive(Clone, Copy)]
+enum Step {
+    /// A spawned child begins, and whether it is its block's first one since the last join.
+    Spawn(u64, bool),
+    /// A spawned child ends.
+    EndChild(u64),
+    /// The block that runs joins.
+    Join(u64),
+    /// The instructions so far are noted.
+    Note(u64),
+}
+
+fn take(path: &mut BurdenedPath, burden: Burden, step: Step) -> Result<(), AllocError> {
+    match step {
+        Step::Spawn(count, first) => path.spawn(count, first)?,
+        Step::EndChild(count) => path.end_child(count, burden),
+        Step::Join(count) => path.join(count),
+        Step::Note(count) => path.note(count),
     }
     Ok(())
 }
 
-// A rest beside two children that join together is charged for both forks, whichever edges are charged.
-#[test]
-fn one_rest_beside_two_children(rt: HostRuntime) -> Result<(), Fail> {
-    for burden in [on_spawns(10), on_both(10)] {
-        let mut whole = strand(1);
-        whole.spawned(burden, &strand(1));
-        whole.tick(3);
-        whole.spawned(burden, &strand(1));
-        whole.tick(5);
-        whole.sync();
-        assert_eq!(rt; whole.work(), 11);
-        assert_eq!(rt; whole.span(), 9);
-        assert_eq!(rt; whole.burdened(), 29);
+fn take_all(path: &mut BurdenedPath, burden: Burden, all: &[Step]) -> Result<(), AllocError> {
+    for step in all {
+        take(path, burden, *step)?;
     }
     Ok(())
 }
 
-// The same run as one measure and as pieces, cut at each place, and with an empty piece on either side.
-#[test]
-fn pieces_join_to_the_whole(rt: HostRuntime) -> Result<(), AllocError> {
-    let alloc = rt.alloc();
-    for (burden, burdened) in [(on_spawns(4), 10), (on_both(4), 13)] {
-        let mut child = strand(3);
-        child.spawned(burden, &strand(5));
-        let mut rest = strand(2);
-        rest.sync();
-        let whole = child
-            .join(Measure::unit(alloc))?
-            .join(rest)?
-            .join(strand(1))?;
-        assert_eq!(rt; whole.work(), 11);
-        assert_eq!(rt; whole.span(), 9);
-        assert_eq!(rt; whole.burdened(), burdened);
-        let mut forked = Measure::unit(alloc);
-        forked.spawned(burden, &strand(5));
-        let mut rest = strand(2);
-        rest.sync();
-        let later = forked.join(rest.join(strand(1))?)?;
-        let whole = strand(3).join(later)?;
-        assert_eq!(rt; whole.work(), 11);
-        assert_eq!(rt; whole.span(), 9);
-        assert_eq!(rt; whole.burdened(), burdened);
+/// 2 instructions, and a child of 1 beside 2; then the same again; then a child in the rest of a child, and a child of
+/// 100, which is the longest, and is charged on its return edge alone.
+static STRETCHES: [&[Step]; 3] = [
+    &[Step::Spawn(2, true), Step::EndChild(3), Step::Join(5)],
+    &[
+        Step::Spawn(8, true),
+        Step::EndChild(9),
+        Step::Join(11),
+        Step::Note(14),
+    ],
+    &[
+        Step::Spawn(15, true),
+        Step::EndChild(115),
+        Step::Spawn(116, false),
+        Step::Spawn(120, true),
+        Step::EndChild(121),
+        Step::Join(122),
+        Step::EndChild(122),
+        Step::Join(123),
+    ],
+];
+
+/// The weights of the path after each stretch.
+fn weigh(path: &mut BurdenedPath, burden: Burden) -> Result<[u128; 3], AllocError> {
+    let mut weights = [0; 3];
+    for k in 0..3usize {
+        take_all(path, burden, STRETCHES[k])?;
+        weights[k] = path.weight();
     }
-    Ok(())
+    Ok(weights)
 }
 
-// A part in series counts with all three of its readings.
-#[test]
-fn a_part_in_series(rt: HostRuntime) -> Result<(), Fail> {
-    for (burden, burdened) in [(on_spawns(10), 13), (on_both(10), 20)] {
-        let mut part = strand(1);
-        part.spawned(burden, &strand(7));
-        part.sync();
-        let mut whole = strand(2);
-        whole.called(&part);
-        assert_eq!(rt; whole.work(), 10);
-        assert_eq!(rt; whole.span(), 10);
-        assert_eq!(rt; whole.burdened(), burdened);
-    }
-    Ok(())
+fn weights(alloc: Global, burden: Burden) -> Result<[u128; 3], AllocError> {
+    let mut path = BurdenedPath::new(alloc);
+    weigh(&mut path, burden)
 }
 
-// A reading above the greatest number of its type is that number; a burdened span has 128 bits.
-#[test]
-fn readings_stop_at_the_greatest_number(rt: HostRuntime) -> Result<(), Fail> {
-    for burden in [on_spawns(u64::MAX), on_both(u64::MAX)] {
-        let mut whole = strand(u64::MAX);
-        whole.spawned(burden, &strand(1));
-        whole.tick(1);
-        whole.sync();
-        assert_eq!(rt; whole.work(), u64::MAX);
-        assert_eq!(rt; whole.span(), u64::MAX);
-        assert_eq!(rt; whole.burdened(), 36_893_488_147_419_103_231);
-    }
-    Ok(())
-}
-
-// 2 instructions, a child of 1 beside 2, and so twice, with a burden of 10 for each spawn; a child in the rest. At last
-// a child of 100 is the longest, and is charged on its return edge alone.
+// With a burden of 10 for each spawn.
 #[test]
 fn a_burdened_path(rt: HostRuntime) -> Result<(), AllocError> {
-    for (burden, burdened) in [(on_spawns(10), 133), (on_both(10), 143)] {
-        let mut path = BurdenedPath::new(rt.alloc());
-        path.spawn(2, true)?;
-        path.end_child(3, burden);
-        path.join(5);
-        assert_eq!(rt; path.weight(), 14);
-        path.spawn(8, true)?;
-        path.end_child(9, burden);
-        path.join(11);
-        path.note(14);
-        assert_eq!(rt; path.weight(), 32);
-        path.spawn(15, true)?;
-        path.end_child(115, burden);
-        path.spawn(116, false)?;
-        path.spawn(120, true)?;
-        path.end_child(121, burden);
-        path.join(122);
-        path.end_child(122, burden);
-        path.join(123);
-        assert_eq!(rt; path.weight(), burdened);
+    for (edges, last) in [(Edges::Spawn, 133), (Edges::Both, 143)] {
+        assert_eq!(rt; weights(rt.alloc(), burden_of(edges, 10))?, [14, 32, last]);
     }
     Ok(())
 }

@@ -1,272 +1,473 @@
 //! All measures of small runs, told instruction by instruction, by hand.
 
-use crate::burdens::{on_both, on_spawns};
-use cw_meter::{Measures, Meter, Readings};
+use crate::burdens::burden_of;
+use Stage::{HandOut, InRest, On, TakeIn};
+use Told::{Begin, BeginRegion, Call, End, GiveBack, Spawn, SpawnHalf, Sync};
+use cw_meter::{Measures, Meter};
+use cw_model::burden::{Burden, Edges};
 use cw_regions::RegionRow;
 use cw_sites::table::SiteRow;
-use std::alloc::AllocError;
+use std::alloc::{AllocError, Global};
 
-fn site(calls: u64, own_work: u64, own_span: u64, work: u64, span: u64) -> SiteRow {
-    SiteRow {
-        calls,
-        own_work,
-        own_span,
-        work,
-        span,
+/// What a meter is told, after a count of instructions.
+#[derive(Clone, Copy)]
+enum Told {
+    /// A call in place of a site begins.
+    Call(u64, u32),
+    /// A spawned call of a site begins.
+    Spawn(u64, u32),
+    /// Half of a loop begins, spawned.
+    SpawnHalf(u64),
+    /// A scope or a loop's function begins.
+    Begin(u64),
+    /// A region of a tag begins.
+    BeginRegion(u64, u32),
+    /// A scope or a region joins and ends.
+    End(u64),
+    /// A call, or a loop's function, joins and ends.
+    GiveBack(u64),
+    /// The block that runs joins.
+    Sync(u64),
+}
+
+/// A stage of a run, of which rests may run apart, by meters that know their site and the burden alone.
+#[derive(Clone, Copy)]
+enum Stage {
+    /// The run's meter is told so.
+    On(&'static [Told]),
+    /// A rest is handed out in the invocation that runs.
+    HandOut,
+    /// The meter of the rest that was handed out last is told so.
+    InRest(&'static [Told]),
+    /// The run's meter takes that rest in, after a count of instructions, and the instructions of the rest.
+    TakeIn(u64, u64),
+}
+
+/// The meter of a run, and those of the rests that were handed out.
+#[derive(Drop)]
+struct Meters {
+    whole: Meter,
+    rests: Vec<Meter>,
+}
+
+fn tell(meter: &mut Meter, told: Told) -> Result<(), AllocError> {
+    match told {
+        Call(count, site) => meter.call(count, site),
+        Spawn(count, site) => meter.spawn(count, site),
+        SpawnHalf(count) => meter.spawn_half(count),
+        Begin(count) => meter.begin(count),
+        BeginRegion(count, tag) => meter.begin_region(count, tag),
+        End(count) => meter.end(count),
+        GiveBack(count) => meter.give_back(count),
+        Sync(count) => meter.sync(count),
     }
 }
 
-fn region(work: u64, span: u64, burdened: u128) -> RegionRow {
-    RegionRow {
-        work,
-        span,
-        burdened,
-    }
-}
-
-// The row of a site by its number, where it has one.
-fn site_of(all: &Measures, number: usize) -> Option<SiteRow> {
-    if number < all.sites.len() {
-        Some(all.sites[number])
-    } else {
-        None
-    }
-}
-
-// The row of a tag by its number, where it has one.
-fn region_of(all: &Measures, number: usize) -> Option<RegionRow> {
-    if number < all.regions.len() {
-        Some(all.regions[number])
-    } else {
-        None
-    }
-}
-
-fn readings(work: u64, span: u64, burdened: u128) -> Readings {
-    Readings {
-        work,
-        span,
-        burdened,
-    }
-}
-
-// Five instructions one after another, the last of them the return.
-#[test]
-fn a_serial_run(rt: HostRuntime) -> Result<(), AllocError> {
-    let mut meter = Meter::new(rt.alloc(), on_spawns(100))?;
-    meter.give_back(4)?;
-    let all = meter.finish(rt.alloc(), 5, 2, 0)?;
-    assert_eq!(rt; all.measure, readings(5, 5, 5));
-    assert_eq!(rt; site_of(&all, 0), Some(site(1, 5, 5, 5, 5)));
-    assert_eq!(rt; site_of(&all, 1), Some(site(0, 0, 0, 0, 0)));
-    assert_eq!(rt; all.sites.len(), 2);
-    assert_eq!(rt; all.regions.len(), 0);
-    Ok(())
-}
-
-// A child of 3 instructions beside a rest of 3, one before and three after: on a tie the child is on the path.
-#[test]
-fn a_child_as_long_as_the_rest(rt: HostRuntime) -> Result<(), AllocError> {
-    let mut meter = Meter::new(rt.alloc(), on_spawns(10))?;
-    meter.spawn(0, 1)?;
-    meter.give_back(3)?;
-    meter.sync(7)?;
-    meter.give_back(9)?;
-    let all = meter.finish(rt.alloc(), 10, 2, 0)?;
-    assert_eq!(rt; all.measure, readings(10, 7, 17));
-    assert_eq!(rt; site_of(&all, 0), Some(site(1, 7, 4, 10, 7)));
-    assert_eq!(rt; site_of(&all, 1), Some(site(1, 3, 3, 3, 3)));
-    Ok(())
-}
-
-// A call of site 1 spawns, at site 2, one that spawns at site 2 again; both call at site 3 beside it.
-#[test]
-fn a_nest_of_spawns(rt: HostRuntime) -> Result<(), AllocError> {
-    for (burden, burdened) in [(on_spawns(100), 110), (on_both(100), 210)] {
-        let mut meter = Meter::new(rt.alloc(), burden)?;
-        meter.call(0, 1)?;
-        meter.spawn(1, 2)?;
-        meter.spawn(2, 2)?;
-        meter.give_back(3)?;
-        meter.call(4, 3)?;
-        meter.give_back(5)?;
-        meter.sync(6)?;
-        meter.give_back(7)?;
-        meter.call(8, 3)?;
-        meter.give_back(9)?;
-        meter.sync(10)?;
-        meter.give_back(11)?;
-        meter.give_back(12)?;
-        let all = meter.finish(rt.alloc(), 13, 4, 0)?;
-        assert_eq!(rt; all.measure, readings(13, 10, burdened));
-        assert_eq!(rt; site_of(&all, 0), Some(site(1, 2, 2, 13, 10)));
-        assert_eq!(rt; site_of(&all, 1), Some(site(1, 4, 3, 11, 8)));
-        assert_eq!(rt; site_of(&all, 2), Some(site(2, 5, 4, 6, 5)));
-        assert_eq!(rt; site_of(&all, 3), Some(site(2, 2, 1, 2, 2)));
+fn tell_all(meter: &mut Meter, all: &[Told]) -> Result<(), AllocError> {
+    for told in all {
+        tell(meter, *told)?;
     }
     Ok(())
 }
 
-// The same, with the rest beside each spawned call run apart, by a meter that knows its site and the burden alone.
-#[test]
-fn rests_that_ran_apart(rt: HostRuntime) -> Result<(), AllocError> {
-    for (burden, burdened) in [(on_spawns(100), 110), (on_both(100), 210)] {
-        let mut meter = Meter::new(rt.alloc(), burden)?;
-        meter.call(0, 1)?;
-        let mut outer = Meter::apart(rt.alloc(), meter.site(), burden);
-        meter.spawn(1, 2)?;
-        let mut inner = Meter::apart(rt.alloc(), meter.site(), burden);
-        meter.spawn(2, 2)?;
-        meter.give_back(3)?;
-        inner.call(0, 3)?;
-        inner.give_back(1)?;
-        meter.rest(4, inner, 2)?;
-        meter.sync(6)?;
-        meter.give_back(7)?;
-        outer.call(0, 3)?;
-        outer.give_back(1)?;
-        meter.rest(8, outer, 2)?;
-        meter.sync(10)?;
-        meter.give_back(11)?;
-        meter.give_back(12)?;
-        let all = meter.finish(rt.alloc(), 13, 4, 0)?;
-        assert_eq!(rt; all.measure, readings(13, 10, burdened));
-        assert_eq!(rt; site_of(&all, 0), Some(site(1, 2, 2, 13, 10)));
-        assert_eq!(rt; site_of(&all, 1), Some(site(1, 4, 3, 11, 8)));
-        assert_eq!(rt; site_of(&all, 2), Some(site(2, 5, 4, 6, 5)));
-        assert_eq!(rt; site_of(&all, 3), Some(site(2, 2, 1, 2, 2)));
+fn hand_out(alloc: Global, meters: &mut Meters, burden: Burden) -> Result<(), AllocError> {
+    let rest = Meter::apart(alloc, meters.whole.site(), burden);
+    meters.rests.push(rest)?;
+    Ok(())
+}
+
+fn tell_rest(meters: &mut Meters, all: &[Told]) -> Result<(), AllocError> {
+    match meters.rests.last_mut() {
+        Some(rest) => tell_all(rest, all),
+        None => Ok(()),
+    }
+}
+
+fn take_in(meters: &mut Meters, count: u64, cost: u64) -> Result<(), AllocError> {
+    match meters.rests.pop() {
+        Some(rest) => meters.whole.rest(count, rest, cost),
+        None => Ok(()),
+    }
+}
+
+fn go_on(
+    alloc: Global,
+    meters: &mut Meters,
+    burden: Burden,
+    stage: Stage,
+) -> Result<(), AllocError> {
+    match stage {
+        On(told) => tell_all(&mut meters.whole, told),
+        HandOut => hand_out(alloc, meters, burden),
+        InRest(told) => tell_rest(meters, told),
+        TakeIn(count, cost) => take_in(meters, count, cost),
+    }
+}
+
+/// A run, and what is counted of it.
+struct Run {
+    name: &'static str,
+    stages: &'static [Stage],
+    work: u64,
+    span: u64,
+    /// Of each site: calls, own work, own span, work and span.
+    sites: &'static [[u64; 5]],
+    /// Of each tag: work, span and burdened span.
+    regions: &'static [(u64, u64, u128)],
+    /// Which edges are charged and how much, and the burdened span with that.
+    charged: &'static [(Edges, u64, u128)],
+}
+
+fn go_through(
+    alloc: Global,
+    meters: &mut Meters,
+    burden: Burden,
+    stages: &[Stage],
+) -> Result<(), AllocError> {
+    for stage in stages {
+        go_on(alloc, meters, burden, *stage)?;
     }
     Ok(())
 }
 
-// Site 1 spawns a call of 4 instructions; the rest of its block, of 8, calls site 1 again, and in it executes a region of
-// the tag that is open round all of it. Work and span of both are those of the outer ones, whoever ran the rest.
-#[test]
-fn a_rest_inside_its_own_site_and_tag(rt: HostRuntime) -> Result<(), AllocError> {
-    for apart in [false, true] {
-        let mut meter = Meter::new(rt.alloc(), on_spawns(10))?;
-        meter.begin_region(0, 0)?;
-        meter.call(1, 1)?;
-        let mut rest = Meter::apart(rt.alloc(), meter.site(), on_spawns(10));
-        meter.spawn(2, 2)?;
-        meter.give_back(6)?;
-        if apart {
-            rest.call(2, 1)?;
-            rest.begin_region(3, 0)?;
-            rest.end(6)?;
-            rest.give_back(7)?;
-            meter.rest(7, rest, 8)?;
-        } else {
-            meter.call(9, 1)?;
-            meter.begin_region(10, 0)?;
-            meter.end(13)?;
-            meter.give_back(14)?;
+fn meter_of(alloc: Global, stages: &[Stage], burden: Burden) -> Result<Meter, AllocError> {
+    let whole = Meter::new(alloc, burden)?;
+    let rests = Vec::new(alloc);
+    let mut meters = Meters { whole, rests };
+    go_through(alloc, &mut meters, burden, stages)?;
+    Ok(meters.whole)
+}
+
+fn is_row(row: &SiteRow, wanted: &[u64; 5]) -> bool {
+    [row.calls, row.own_work, row.own_span, row.work, row.span] == *wanted
+}
+
+fn is_region(row: &RegionRow, wanted: &(u64, u64, u128)) -> bool {
+    (row.work, row.span, row.burdened) == *wanted
+}
+
+fn are_rows(rows: &[SiteRow], wanted: &[[u64; 5]]) -> bool {
+    for (row, wanted) in rows.iter().zip(wanted) {
+        if !is_row(row, wanted) {
+            return false;
         }
-        meter.sync(15)?;
-        meter.give_back(16)?;
-        meter.end(17)?;
-        meter.give_back(18)?;
-        let all = meter.finish(rt.alloc(), 19, 3, 1)?;
-        assert_eq!(rt; all.measure, readings(19, 15, 25));
-        assert_eq!(rt; site_of(&all, 0), Some(site(1, 4, 4, 19, 15)));
-        assert_eq!(rt; site_of(&all, 1), Some(site(2, 11, 11, 15, 11)));
-        assert_eq!(rt; site_of(&all, 2), Some(site(1, 4, 0, 4, 4)));
-        assert_eq!(rt; region_of(&all, 0), Some(region(16, 12, 22)));
+    }
+    rows.len() == wanted.len()
+}
+
+fn are_regions(rows: &[RegionRow], wanted: &[(u64, u64, u128)]) -> bool {
+    for (row, wanted) in rows.iter().zip(wanted) {
+        if !is_region(row, wanted) {
+            return false;
+        }
+    }
+    rows.len() == wanted.len()
+}
+
+/// What is counted otherwise: the readings, the sites, or the regions.
+fn wrong_part(all: &Measures, run: &Run, burdened: u128) -> Option<&'static str> {
+    let measure = all.measure;
+    if (measure.work, measure.span, measure.burdened) != (run.work, run.span, burdened) {
+        Some("readings")
+    } else if !are_rows(&all.sites, run.sites) {
+        Some("sites")
+    } else if !are_regions(&all.regions, run.regions) {
+        Some("regions")
+    } else {
+        None
+    }
+}
+
+fn measures_of(alloc: Global, run: &Run, burden: Burden) -> Result<Measures, AllocError> {
+    let meter = meter_of(alloc, run.stages, burden)?;
+    meter.finish(alloc, run.work, run.sites.len(), run.regions.len())
+}
+
+/// What is counted otherwise with one charge.
+fn wrong_with(
+    alloc: Global,
+    run: &Run,
+    burden: Burden,
+    burdened: u128,
+) -> Result<Option<&'static str>, AllocError> {
+    let all = measures_of(alloc, run, burden)?;
+    Ok(wrong_part(&all, run, burdened))
+}
+
+/// The same with the first charge with which something is.
+fn wrong_of(alloc: Global, run: &Run) -> Result<Option<&'static str>, AllocError> {
+    for (edges, charge, burdened) in run.charged {
+        let wrong = wrong_with(alloc, run, burden_of(*edges, *charge), *burdened)?;
+        if wrong.is_some() {
+            return Ok(wrong);
+        }
+    }
+    Ok(None)
+}
+
+static WHOLE_RUNS: [Run; 3] = [
+    Run {
+        // Five instructions one after another, the last of them the return.
+        name: "a serial run",
+        stages: &[On(&[GiveBack(4)])],
+        work: 5,
+        span: 5,
+        sites: &[[1, 5, 5, 5, 5], [0, 0, 0, 0, 0]],
+        regions: &[],
+        charged: &[(Edges::Spawn, 100, 5)],
+    },
+    Run {
+        // A child of 3 instructions beside a rest of 3, one before and three after: on a tie the child is on the path.
+        name: "a child as long as the rest",
+        stages: &[On(&[Spawn(0, 1), GiveBack(3), Sync(7), GiveBack(9)])],
+        work: 10,
+        span: 7,
+        sites: &[[1, 7, 4, 10, 7], [1, 3, 3, 3, 3]],
+        regions: &[],
+        charged: &[(Edges::Spawn, 10, 17)],
+    },
+    Run {
+        // A loop's first function spawns a half of 4 instructions and calls one of 2 in place beside it.
+        name: "a loop by halves",
+        stages: &[On(&[
+            Begin(0),
+            SpawnHalf(1),
+            GiveBack(5),
+            Begin(6),
+            GiveBack(8),
+            GiveBack(9),
+            GiveBack(10),
+        ])],
+        work: 11,
+        span: 8,
+        sites: &[[1, 11, 8, 11, 8]],
+        regions: &[],
+        charged: &[(Edges::Spawn, 7, 14), (Edges::Both, 7, 15)],
+    },
+];
+
+static SCOPES: [Run; 2] = [
+    Run {
+        // A scope ends with a child of 5 instructions unjoined, beside which one more ran.
+        name: "a scope joins at its end",
+        stages: &[On(&[Begin(0), Spawn(1, 1), GiveBack(6), End(8), GiveBack(11)])],
+        work: 12,
+        span: 11,
+        sites: &[[1, 7, 6, 12, 11], [1, 5, 5, 5, 5]],
+        regions: &[],
+        charged: &[(Edges::Spawn, 100, 107), (Edges::Both, 100, 111)],
+    },
+    Run {
+        // A scope with a child of its own stands beside a child of the block round it, which joins later.
+        name: "a scope beside a child",
+        stages: &[On(&[
+            Spawn(0, 1),
+            GiveBack(1),
+            Begin(2),
+            Spawn(3, 2),
+            GiveBack(4),
+            End(5),
+            Sync(6),
+            GiveBack(7),
+        ])],
+        work: 8,
+        span: 7,
+        sites: &[[1, 6, 6, 8, 7], [1, 1, 0, 1, 1], [1, 1, 1, 1, 1]],
+        regions: &[],
+        charged: &[(Edges::Spawn, 10, 26), (Edges::Both, 10, 27)],
+    },
+];
+
+/// A region of tag 0 ends with a child of 4 instructions unjoined.
+const A_REGION: [Stage; 1] = [On(&[
+    BeginRegion(0, 0),
+    Spawn(1, 1),
+    GiveBack(5),
+    End(6),
+    GiveBack(7),
+])];
+
+/// In the region, and in all, 4 instructions are the run's own, and 4 the child's, which are on the path.
+const SITES_OF_A_REGION: [[u64; 5]; 2] = [[1, 4, 4, 8, 8], [1, 4, 4, 4, 4]];
+
+static REGIONS: [Run; 3] = [
+    Run {
+        // A region of tag 0 has 8 instructions inside, one of tag 1 in it 4, and in that lies one of tag 0 again. All 11
+        // are the run's own.
+        name: "regions inside one another",
+        stages: &[On(&[
+            BeginRegion(0, 0),
+            BeginRegion(3, 1),
+            BeginRegion(5, 0),
+            End(7),
+            End(8),
+            End(9),
+            GiveBack(10),
+        ])],
+        work: 11,
+        span: 11,
+        sites: &[[1, 11, 11, 11, 11]],
+        regions: &[(8, 8, 8), (4, 4, 4), (0, 0, 0)],
+        charged: &[(Edges::Spawn, 100, 11)],
+    },
+    Run {
+        name: "a region joins at its end, with spawns charged",
+        stages: &A_REGION,
+        work: 8,
+        span: 8,
+        sites: &SITES_OF_A_REGION,
+        regions: &[(5, 5, 51)],
+        charged: &[(Edges::Spawn, 50, 54)],
+    },
+    Run {
+        name: "a region joins at its end, with both edges charged",
+        stages: &A_REGION,
+        work: 8,
+        span: 8,
+        sites: &SITES_OF_A_REGION,
+        regions: &[(5, 5, 55)],
+        charged: &[(Edges::Both, 50, 58)],
+    },
+];
+
+static NESTS: [Run; 2] = [
+    Run {
+        // A call of site 1 spawns, at site 2, one that spawns at site 2 again; both call at site 3 beside it.
+        name: "a nest of spawns",
+        stages: &[On(&[
+            Call(0, 1),
+            Spawn(1, 2),
+            Spawn(2, 2),
+            GiveBack(3),
+            Call(4, 3),
+            GiveBack(5),
+            Sync(6),
+            GiveBack(7),
+            Call(8, 3),
+            GiveBack(9),
+            Sync(10),
+            GiveBack(11),
+            GiveBack(12),
+        ])],
+        work: 13,
+        span: 10,
+        sites: &[
+            [1, 2, 2, 13, 10],
+            [1, 4, 3, 11, 8],
+            [2, 5, 4, 6, 5],
+            [2, 2, 1, 2, 2],
+        ],
+        regions: &[],
+        charged: &[(Edges::Spawn, 100, 110), (Edges::Both, 100, 210)],
+    },
+    Run {
+        // The same, with the rest beside each spawned call run apart.
+        name: "rests that ran apart",
+        stages: &[
+            On(&[Call(0, 1)]),
+            HandOut,
+            On(&[Spawn(1, 2)]),
+            HandOut,
+            On(&[Spawn(2, 2), GiveBack(3)]),
+            InRest(&[Call(0, 3), GiveBack(1)]),
+            TakeIn(4, 2),
+            On(&[Sync(6), GiveBack(7)]),
+            InRest(&[Call(0, 3), GiveBack(1)]),
+            TakeIn(8, 2),
+            On(&[Sync(10), GiveBack(11), GiveBack(12)]),
+        ],
+        work: 13,
+        span: 10,
+        sites: &[
+            [1, 2, 2, 13, 10],
+            [1, 4, 3, 11, 8],
+            [2, 5, 4, 6, 5],
+            [2, 2, 1, 2, 2],
+        ],
+        regions: &[],
+        charged: &[(Edges::Spawn, 100, 110), (Edges::Both, 100, 210)],
+    },
+];
+
+/// Site 1 spawns a call of 4 instructions; the rest of its block, of 8, calls site 1 again, and in it executes a region of
+/// the tag that is open round all of it. Work and span of both are those of the outer ones, whoever ran the rest.
+static INSIDE_ITSELF: [Run; 2] = [
+    Run {
+        name: "a rest inside its own site and tag",
+        stages: &[On(&[
+            BeginRegion(0, 0),
+            Call(1, 1),
+            Spawn(2, 2),
+            GiveBack(6),
+            Call(9, 1),
+            BeginRegion(10, 0),
+            End(13),
+            GiveBack(14),
+            Sync(15),
+            GiveBack(16),
+            End(17),
+            GiveBack(18),
+        ])],
+        work: 19,
+        span: 15,
+        sites: &[[1, 4, 4, 19, 15], [2, 11, 11, 15, 11], [1, 4, 0, 4, 4]],
+        regions: &[(16, 12, 22)],
+        charged: &[(Edges::Spawn, 10, 25)],
+    },
+    Run {
+        name: "a rest inside its own site and tag that ran apart",
+        stages: &[
+            On(&[BeginRegion(0, 0), Call(1, 1)]),
+            HandOut,
+            On(&[Spawn(2, 2), GiveBack(6)]),
+            InRest(&[Call(2, 1), BeginRegion(3, 0), End(6), GiveBack(7)]),
+            TakeIn(7, 8),
+            On(&[Sync(15), GiveBack(16), End(17), GiveBack(18)]),
+        ],
+        work: 19,
+        span: 15,
+        sites: &[[1, 4, 4, 19, 15], [2, 11, 11, 15, 11], [1, 4, 0, 4, 4]],
+        regions: &[(16, 12, 22)],
+        charged: &[(Edges::Spawn, 10, 25)],
+    },
+];
+
+#[test]
+fn whole_runs(rt: HostRuntime) -> Result<(), AllocError> {
+    for run in &WHOLE_RUNS {
+        assert_eq!(rt; wrong_of(rt.alloc(), run)?, None, "{}", run.name);
     }
     Ok(())
 }
 
-// A scope ends with a child of 5 instructions unjoined, beside which one more ran.
 #[test]
-fn a_scope_joins_at_its_end(rt: HostRuntime) -> Result<(), AllocError> {
-    for (burden, burdened) in [(on_spawns(100), 107), (on_both(100), 111)] {
-        let mut meter = Meter::new(rt.alloc(), burden)?;
-        meter.begin(0)?;
-        meter.spawn(1, 1)?;
-        meter.give_back(6)?;
-        meter.end(8)?;
-        meter.give_back(11)?;
-        let all = meter.finish(rt.alloc(), 12, 2, 0)?;
-        assert_eq!(rt; all.measure, readings(12, 11, burdened));
-        assert_eq!(rt; site_of(&all, 0), Some(site(1, 7, 6, 12, 11)));
-        assert_eq!(rt; site_of(&all, 1), Some(site(1, 5, 5, 5, 5)));
+fn scopes(rt: HostRuntime) -> Result<(), AllocError> {
+    for run in &SCOPES {
+        assert_eq!(rt; wrong_of(rt.alloc(), run)?, None, "{}", run.name);
     }
     Ok(())
 }
 
-// A scope with a child of its own stands beside a child of the block round it, which joins later.
 #[test]
-fn a_scope_beside_a_child(rt: HostRuntime) -> Result<(), AllocError> {
-    for (burden, burdened) in [(on_spawns(10), 26), (on_both(10), 27)] {
-        let mut meter = Meter::new(rt.alloc(), burden)?;
-        meter.spawn(0, 1)?;
-        meter.give_back(1)?;
-        meter.begin(2)?;
-        meter.spawn(3, 2)?;
-        meter.give_back(4)?;
-        meter.end(5)?;
-        meter.sync(6)?;
-        meter.give_back(7)?;
-        let all = meter.finish(rt.alloc(), 8, 3, 0)?;
-        assert_eq!(rt; all.measure, readings(8, 7, burdened));
-        assert_eq!(rt; site_of(&all, 0), Some(site(1, 6, 6, 8, 7)));
-        assert_eq!(rt; site_of(&all, 1), Some(site(1, 1, 0, 1, 1)));
-        assert_eq!(rt; site_of(&all, 2), Some(site(1, 1, 1, 1, 1)));
+fn regions(rt: HostRuntime) -> Result<(), AllocError> {
+    for run in &REGIONS {
+        assert_eq!(rt; wrong_of(rt.alloc(), run)?, None, "{}", run.name);
     }
     Ok(())
 }
 
-// A region of tag 0 has 8 instructions inside, one of tag 1 in it 4, and in that lies one of tag 0 again.
 #[test]
-fn regions_inside_one_another(rt: HostRuntime) -> Result<(), AllocError> {
-    let mut meter = Meter::new(rt.alloc(), on_spawns(100))?;
-    meter.begin_region(0, 0)?;
-    meter.begin_region(3, 1)?;
-    meter.begin_region(5, 0)?;
-    meter.end(7)?;
-    meter.end(8)?;
-    meter.end(9)?;
-    meter.give_back(10)?;
-    let all = meter.finish(rt.alloc(), 11, 1, 3)?;
-    assert_eq!(rt; all.measure, readings(11, 11, 11));
-    assert_eq!(rt; region_of(&all, 0), Some(region(8, 8, 8)));
-    assert_eq!(rt; region_of(&all, 1), Some(region(4, 4, 4)));
-    assert_eq!(rt; region_of(&all, 2), Some(region(0, 0, 0)));
-    Ok(())
-}
-
-// A region ends with a child of 4 instructions unjoined.
-#[test]
-fn a_region_joins_at_its_end(rt: HostRuntime) -> Result<(), AllocError> {
-    for (burden, burdened, inside) in [(on_spawns(50), 54, 51), (on_both(50), 58, 55)] {
-        let mut meter = Meter::new(rt.alloc(), burden)?;
-        meter.begin_region(0, 0)?;
-        meter.spawn(1, 1)?;
-        meter.give_back(5)?;
-        meter.end(6)?;
-        meter.give_back(7)?;
-        let all = meter.finish(rt.alloc(), 8, 2, 1)?;
-        assert_eq!(rt; all.measure, readings(8, 8, burdened));
-        assert_eq!(rt; region_of(&all, 0), Some(region(5, 5, inside)));
+fn nests(rt: HostRuntime) -> Result<(), AllocError> {
+    for run in &NESTS {
+        assert_eq!(rt; wrong_of(rt.alloc(), run)?, None, "{}", run.name);
     }
     Ok(())
 }
 
-// A loop's first function spawns a half of 4 instructions and calls one of 2 in place beside it.
 #[test]
-fn a_loop_by_halves(rt: HostRuntime) -> Result<(), AllocError> {
-    for (burden, burdened) in [(on_spawns(7), 14), (on_both(7), 15)] {
-        let mut meter = Meter::new(rt.alloc(), burden)?;
-        meter.begin(0)?;
-        meter.spawn_half(1)?;
-        meter.give_back(5)?;
-        meter.begin(6)?;
-        meter.give_back(8)?;
-        meter.give_back(9)?;
-        meter.give_back(10)?;
-        let all = meter.finish(rt.alloc(), 11, 1, 0)?;
-        assert_eq!(rt; all.measure, readings(11, 8, burdened));
-        assert_eq!(rt; site_of(&all, 0), Some(site(1, 11, 8, 11, 8)));
+fn inside_itself(rt: HostRuntime) -> Result<(), AllocError> {
+    for run in &INSIDE_ITSELF {
+        assert_eq!(rt; wrong_of(rt.alloc(), run)?, None, "{}", run.name);
     }
     Ok(())
 }

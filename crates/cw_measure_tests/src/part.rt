@@ -1,7 +1,8 @@
 //! Small parts of a run: how joined parts come out and what they show, by hand.
 
-use crate::burdens::{on_both, on_spawns};
+use crate::burdens::burden_of;
 use cw_measure::Measure;
+use cw_model::burden::Edges;
 use cw_model::limits::MOST_LIMIT;
 use cw_model::monoid::Monoid;
 use cw_model::syntax::Reduction;
@@ -11,114 +12,413 @@ use cw_part::{Outcome, Part, Read};
 use cw_reduce::Views;
 use std::alloc::{AllocError, Global};
 
-// What is read of a piece of so much work that prints a line and tells reducer 0, which sums, and reducer 1, which keeps
-// the greatest.
-fn read(alloc: Global, work: u64, line: i64, told: i64) -> Result<Read, AllocError> {
+/// How a part is made a piece of the block that is joined.
+#[derive(Clone, Copy)]
+enum Kind {
+    /// It is one.
+    Piece,
+    /// It is a call.
+    Call,
+    /// It is a spawned child, with these edges charged, and so much for each.
+    Child(Edges, u64),
+    /// It is a piece that trapped in line 12.
+    Trapped,
+    /// It is a piece that memory was refused to.
+    Refused,
+}
+
+/// A part of so much work that prints a line and tells reducer 0, which sums, and reducer 1, which keeps the greatest.
+#[derive(Clone, Copy)]
+struct Small {
+    kind: Kind,
+    limit: u64,
+    work: u64,
+    line: i64,
+    told: i64,
+}
+
+fn show(views: &mut Views, part: &Small) -> Result<(), AllocError> {
+    views.print(part.line)?;
+    views.tell(0, Reduction::Sum, part.told)?;
+    views.tell(1, Reduction::Max, part.told)
+}
+
+fn read(alloc: Global, part: &Small) -> Result<Read, AllocError> {
     let mut views = Views::new(alloc);
-    views.print(line)?;
-    views.tell(0, Reduction::Sum, told)?;
-    views.tell(1, Reduction::Max, told)?;
+    show(&mut views, part)?;
     let mut measure = Measure::new();
-    measure.tick(work);
+    measure.tick(part.work);
     Ok(Read { views, measure })
 }
 
-fn ran(alloc: Global, limit: u64, work: u64, line: i64, told: i64) -> Result<Part, AllocError> {
-    let read = read(alloc, work, line, told)?;
-    Ok(Part::new(limit.min(MOST_LIMIT), Outcome::Completed(read)))
+fn outcome_of(alloc: Global, part: &Small) -> Result<Outcome, AllocError> {
+    match part.kind {
+        Kind::Refused => Ok(Outcome::Memory),
+        Kind::Trapped => Ok(Outcome::Trapped {
+            trap: Trap::Overflow,
+            line: 12,
+            read: read(alloc, part)?,
+        }),
+        _ => Ok(Outcome::Completed(read(alloc, part)?)),
+    }
 }
 
-// Lines in order, totals joined and work added, and the lesser limit.
+fn part_of(alloc: Global, part: &Small) -> Result<Part, AllocError> {
+    let outcome = outcome_of(alloc, part)?;
+    let whole = Part::new(part.limit.min(MOST_LIMIT), outcome);
+    match part.kind {
+        Kind::Call => Ok(whole.into_call()),
+        Kind::Child(edges, charge) => Ok(whole.into_child(burden_of(edges, charge))),
+        _ => Ok(whole),
+    }
+}
+
+fn joined(alloc: Global, parts: &[Small]) -> Result<Part, AllocError> {
+    let mut whole = Part::unit(alloc);
+    for part in parts {
+        whole = whole.join(part_of(alloc, part)?)?;
+    }
+    Ok(whole)
+}
+
+/// What parts show that ran to their end.
+struct Shown {
+    lines: &'static [i64],
+    /// What both reducers come to.
+    sum: i128,
+    greatest: i64,
+    work: u64,
+    span: u64,
+    burdened: u128,
+}
+
+/// How joined parts come out.
+enum Came {
+    /// They ran to their end.
+    Completed(Shown),
+    /// They trapped in line 12, after these lines.
+    Trapped(&'static [i64]),
+    Over,
+    Refused,
+}
+
+fn are_shown(views: &Views, shown: &Shown) -> bool {
+    views.lines() == shown.lines
+        && views.total(0, Reduction::Sum) == Total::Sum(shown.sum)
+        && views.total(1, Reduction::Max) == Total::Max(Some(shown.greatest))
+}
+
+fn is_counted(measure: &Measure, shown: &Shown) -> bool {
+    measure.work() == shown.work
+        && measure.span() == shown.span
+        && measure.burdened() == shown.burdened
+}
+
+fn came_so(outcome: &Outcome, came: &Came) -> bool {
+    match outcome {
+        Outcome::Completed(read) => match came {
+            Came::Completed(shown) => {
+                are_shown(&read.views, shown) && is_counted(&read.measure, shown)
+            }
+            _ => false,
+        },
+        Outcome::Trapped { line, read, .. } => match came {
+            Came::Trapped(lines) => *line == 12 && read.views.lines() == *lines,
+            _ => false,
+        },
+        Outcome::Over => matches!(came, Came::Over),
+        Outcome::Memory => matches!(came, Came::Refused),
+    }
+}
+
+/// Parts, the least of their limits, and how they come out joined.
+struct Row {
+    name: &'static str,
+    parts: &'static [Small],
+    limit: u64,
+    came: Came,
+}
+
+/// What comes out otherwise.
+fn wrong_in(part: Part, row: &Row) -> Option<&'static str> {
+    if part.limit() != row.limit {
+        return Some("limit");
+    }
+    if part.has_run() != matches!(row.came, Came::Completed(_)) {
+        return Some("end");
+    }
+    if part.outcome().is_memory() != matches!(row.came, Came::Refused) {
+        return Some("memory");
+    }
+    if came_so(&part.into_outcome(), &row.came) {
+        None
+    } else {
+        Some("outcome")
+    }
+}
+
+fn wrong_of(alloc: Global, row: &Row) -> Result<Option<&'static str>, AllocError> {
+    let part = joined(alloc, row.parts)?;
+    Ok(wrong_in(part, row))
+}
+
+/// Parts in series.
+static SERIES: [Row; 2] = [
+    Row {
+        // Lines in order, totals joined and work added, and the lesser limit.
+        name: "parts that ran",
+        parts: &[
+            Small {
+                kind: Kind::Piece,
+                limit: 100,
+                work: 3,
+                line: 1,
+                told: 5,
+            },
+            Small {
+                kind: Kind::Piece,
+                limit: 90,
+                work: 4,
+                line: 2,
+                told: -7,
+            },
+        ],
+        limit: 90,
+        came: Came::Completed(Shown {
+            lines: &[1, 2],
+            sum: -2,
+            greatest: 5,
+            work: 7,
+            span: 7,
+            burdened: 7,
+        }),
+    },
+    Row {
+        // A call of 5 instructions and then 4 more: span and span with burdens 9.
+        name: "a call and what follows",
+        parts: &[
+            Small {
+                kind: Kind::Call,
+                limit: 50,
+                work: 5,
+                line: 1,
+                told: 0,
+            },
+            Small {
+                kind: Kind::Piece,
+                limit: 50,
+                work: 4,
+                line: 2,
+                told: 0,
+            },
+        ],
+        limit: 50,
+        came: Came::Completed(Shown {
+            lines: &[1, 2],
+            sum: 0,
+            greatest: 0,
+            work: 9,
+            span: 9,
+            burdened: 9,
+        }),
+    },
+];
+
+/// A child and its rest.
+static CHILDREN: [Row; 2] = [
+    Row {
+        // A spawned child of 5 instructions beside a rest of 4, with a burden of 100 on the way past it: span 5.
+        name: "a child beside its rest, spawns charged",
+        parts: &[
+            Small {
+                kind: Kind::Child(Edges::Spawn, 100),
+                limit: 50,
+                work: 5,
+                line: 1,
+                told: 0,
+            },
+            Small {
+                kind: Kind::Piece,
+                limit: 50,
+                work: 4,
+                line: 2,
+                told: 0,
+            },
+        ],
+        limit: 50,
+        came: Came::Completed(Shown {
+            lines: &[1, 2],
+            sum: 0,
+            greatest: 0,
+            work: 9,
+            span: 5,
+            burdened: 104,
+        }),
+    },
+    Row {
+        // The same with the burden on both ways.
+        name: "a child beside its rest, both edges charged",
+        parts: &[
+            Small {
+                kind: Kind::Child(Edges::Both, 100),
+                limit: 50,
+                work: 5,
+                line: 1,
+                told: 0,
+            },
+            Small {
+                kind: Kind::Piece,
+                limit: 50,
+                work: 4,
+                line: 2,
+                told: 0,
+            },
+        ],
+        limit: 50,
+        came: Came::Completed(Shown {
+            lines: &[1, 2],
+            sum: 0,
+            greatest: 0,
+            work: 9,
+            span: 5,
+            burdened: 105,
+        }),
+    },
+];
+
+/// Parts that stop, or nearly.
+static STOPS: [Row; 4] = [
+    Row {
+        // What follows a trap is dropped.
+        name: "a trap and what follows",
+        parts: &[
+            Small {
+                kind: Kind::Trapped,
+                limit: 100,
+                work: 3,
+                line: 1,
+                told: 5,
+            },
+            Small {
+                kind: Kind::Piece,
+                limit: 100,
+                work: 4,
+                line: 2,
+                told: 6,
+            },
+        ],
+        limit: 100,
+        came: Came::Trapped(&[1]),
+    },
+    Row {
+        // Memory that was refused behind it is not.
+        name: "memory refused behind a trap",
+        parts: &[
+            Small {
+                kind: Kind::Trapped,
+                limit: 100,
+                work: 3,
+                line: 1,
+                told: 5,
+            },
+            Small {
+                kind: Kind::Piece,
+                limit: 100,
+                work: 4,
+                line: 2,
+                told: 6,
+            },
+            Small {
+                kind: Kind::Refused,
+                limit: 100,
+                work: 0,
+                line: 0,
+                told: 0,
+            },
+        ],
+        limit: 100,
+        came: Came::Refused,
+    },
+    Row {
+        // Work of just the limit is within it.
+        name: "work of just the limit",
+        parts: &[
+            Small {
+                kind: Kind::Piece,
+                limit: 7,
+                work: 3,
+                line: 1,
+                told: 0,
+            },
+            Small {
+                kind: Kind::Piece,
+                limit: 7,
+                work: 4,
+                line: 2,
+                told: 0,
+            },
+        ],
+        limit: 7,
+        came: Came::Completed(Shown {
+            lines: &[1, 2],
+            sum: 0,
+            greatest: 0,
+            work: 7,
+            span: 7,
+            burdened: 7,
+        }),
+    },
+    Row {
+        // One instruction more is over.
+        name: "one instruction more",
+        parts: &[
+            Small {
+                kind: Kind::Piece,
+                limit: 7,
+                work: 3,
+                line: 1,
+                told: 0,
+            },
+            Small {
+                kind: Kind::Piece,
+                limit: 7,
+                work: 4,
+                line: 2,
+                told: 0,
+            },
+            Small {
+                kind: Kind::Piece,
+                limit: 7,
+                work: 1,
+                line: 3,
+                told: 0,
+            },
+        ],
+        limit: 7,
+        came: Came::Over,
+    },
+];
+
 #[test]
-fn parts_that_ran(rt: HostRuntime) -> Result<(), AllocError> {
-    let alloc = rt.alloc();
-    let left = ran(alloc, 100, 3, 1, 5)?;
-    let right = ran(alloc, 90, 4, 2, -7)?;
-    let whole = Part::unit(alloc).join(left)?.join(right)?;
-    assert_eq!(rt; whole.limit(), 90);
-    match whole.into_outcome() {
-        Outcome::Completed(read) => {
-            assert_eq!(rt; read.views.lines(), [1, 2].as_slice());
-            assert_eq!(rt; read.views.total(0, Reduction::Sum), Total::Sum(-2));
-            assert_eq!(rt; read.views.total(1, Reduction::Max), Total::Max(Some(5)));
-            assert_eq!(rt; read.measure.work(), 7);
-        }
-        _ => assert!(rt; false),
+fn parts_in_series(rt: HostRuntime) -> Result<(), AllocError> {
+    for row in &SERIES {
+        assert_eq!(rt; wrong_of(rt.alloc(), row)?, None, "{}", row.name);
     }
     Ok(())
 }
 
-// What follows a trap is dropped, and memory that was refused behind it is not.
-#[test]
-fn a_trap_and_what_follows(rt: HostRuntime) -> Result<(), AllocError> {
-    let alloc = rt.alloc();
-    let trap = Outcome::Trapped {
-        trap: Trap::Overflow,
-        line: 12,
-        read: read(alloc, 3, 1, 5)?,
-    };
-    let left = Part::new(100, trap);
-    let whole = left.join(ran(alloc, 100, 4, 2, 6)?)?;
-    match whole.outcome() {
-        Outcome::Trapped { line, read, .. } => {
-            assert_eq!(rt; *line, 12);
-            assert_eq!(rt; read.views.lines(), [1].as_slice());
-        }
-        _ => assert!(rt; false),
-    }
-    let refused = whole.join(Part::new(100, Outcome::Memory))?;
-    assert!(rt; refused.outcome().is_memory());
-    Ok(())
-}
-
-// Work of just the limit is within it, and one instruction more is over.
-#[test]
-fn at_the_limit(rt: HostRuntime) -> Result<(), AllocError> {
-    let alloc = rt.alloc();
-    let just = ran(alloc, 7, 3, 1, 0)?.join(ran(alloc, 7, 4, 2, 0)?)?;
-    assert!(rt; just.has_run());
-    let more = just.join(ran(alloc, 7, 1, 3, 0)?)?;
-    match more.outcome() {
-        Outcome::Over => (),
-        _ => assert!(rt; false),
-    }
-    Ok(())
-}
-
-// A call of 5 instructions and then 4 more: span and span with burdens 9.
-#[test]
-fn a_call_and_what_follows(rt: HostRuntime) -> Result<(), AllocError> {
-    let alloc = rt.alloc();
-    let call = ran(alloc, 50, 5, 1, 0)?.into_call();
-    let whole = call.join(ran(alloc, 50, 4, 2, 0)?)?;
-    match whole.into_outcome() {
-        Outcome::Completed(read) => {
-            assert_eq!(rt; read.measure.work(), 9);
-            assert_eq!(rt; read.measure.span(), 9);
-            assert_eq!(rt; read.measure.burdened(), 9);
-        }
-        _ => assert!(rt; false),
-    }
-    Ok(())
-}
-
-// A spawned child of 5 instructions beside a rest of 4, with a burden of 100 on the way past it, or on both ways: span 5,
-// with burdens 104 or 105.
 #[test]
 fn a_child_beside_its_rest(rt: HostRuntime) -> Result<(), AllocError> {
-    let alloc = rt.alloc();
-    for (burden, burdened) in [(on_spawns(100), 104), (on_both(100), 105)] {
-        let child = ran(alloc, 50, 5, 1, 0)?.into_child(burden);
-        let rest = ran(alloc, 50, 4, 2, 0)?;
-        let whole = Part::unit(alloc).join(child)?.join(rest)?;
-        match whole.into_outcome() {
-            Outcome::Completed(read) => {
-                assert_eq!(rt; read.measure.work(), 9);
-                assert_eq!(rt; read.measure.span(), 5);
-                assert_eq!(rt; read.measure.burdened(), burdened);
-            }
-            _ => assert!(rt; false),
-        }
+    for row in &CHILDREN {
+        assert_eq!(rt; wrong_of(rt.alloc(), row)?, None, "{}", row.name);
+    }
+    Ok(())
+}
+
+#[test]
+fn parts_that_stop(rt: HostRuntime) -> Result<(), AllocError> {
+    for row in &STOPS {
+        assert_eq!(rt; wrong_of(rt.alloc(), row)?, None, "{}", row.name);
     }
     Ok(())
 }

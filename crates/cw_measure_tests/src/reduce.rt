@@ -4,91 +4,210 @@ use cw_model::monoid::Monoid;
 use cw_model::syntax::Reduction;
 use cw_model::total::Total;
 use cw_reduce::{Lines, Max, Sum, Views};
-use std::alloc::AllocError;
+use std::alloc::{AllocError, Global};
+
+fn add_all(sum: &mut Sum, numbers: &[i64]) {
+    for number in numbers {
+        sum.add(*number);
+    }
+}
+
+/// The sums of a piece, and of the piece and a later one.
+fn sums(alloc: Global, ours: &[i64], theirs: &[i64]) -> Result<(i128, i128), AllocError> {
+    let mut left = Sum::new();
+    add_all(&mut left, ours);
+    let first = left.value();
+    let mut right = Sum::unit(alloc);
+    add_all(&mut right, theirs);
+    Ok((first, left.join(right)?.value()))
+}
 
 // A sum goes past 64 bits and comes back below 0.
 #[test]
 fn a_sum_past_64_bits(rt: HostRuntime) -> Result<(), AllocError> {
-    let mut left = Sum::new();
-    left.add(9_223_372_036_854_775_807);
-    left.add(9_223_372_036_854_775_807);
-    assert_eq!(rt; left.value(), 18_446_744_073_709_551_614);
-    let mut right = Sum::unit(rt.alloc());
-    right.add(-9_223_372_036_854_775_808);
-    right.add(-9_223_372_036_854_775_808);
-    right.add(-5);
-    let whole = left.join(right)?;
-    assert_eq!(rt; whole.value(), -7);
+    let ours = [9_223_372_036_854_775_807, 9_223_372_036_854_775_807];
+    let theirs = [-9_223_372_036_854_775_808, -9_223_372_036_854_775_808, -5];
+    assert!(rt; sums(rt.alloc(), &ours, &theirs)? == (18_446_744_073_709_551_614, -7));
     Ok(())
 }
 
-// The greatest number of two pieces, of which either may have none; none is less than the least number.
+fn greatest_of(numbers: &[i64]) -> Max {
+    let mut greatest = Max::new();
+    for number in numbers {
+        greatest.raise(*number);
+    }
+    greatest
+}
+
+/// Two pieces, and the greatest number of either and of both.
+struct Greatest {
+    ours: &'static [i64],
+    theirs: &'static [i64],
+    of_ours: Option<i64>,
+    of_theirs: Option<i64>,
+    of_both: Option<i64>,
+}
+
+static GREATEST: [Greatest; 5] = [
+    Greatest {
+        ours: &[-9, -3],
+        theirs: &[-5, -7],
+        of_ours: Some(-3),
+        of_theirs: Some(-5),
+        of_both: Some(-3),
+    },
+    Greatest {
+        ours: &[4, 4],
+        theirs: &[-1, 9],
+        of_ours: Some(4),
+        of_theirs: Some(9),
+        of_both: Some(9),
+    },
+    Greatest {
+        ours: &[7, 7],
+        theirs: &[7, 7],
+        of_ours: Some(7),
+        of_theirs: Some(7),
+        of_both: Some(7),
+    },
+    // none is less than the least number
+    Greatest {
+        ours: &[i64::MIN, i64::MIN],
+        theirs: &[i64::MIN, i64::MIN],
+        of_ours: Some(i64::MIN),
+        of_theirs: Some(i64::MIN),
+        of_both: Some(i64::MIN),
+    },
+    Greatest {
+        ours: &[],
+        theirs: &[],
+        of_ours: None,
+        of_theirs: None,
+        of_both: None,
+    },
+];
+
+/// The greatest of the numbers of a piece and of an empty one after it.
+fn greatest_before_none(alloc: Global, numbers: &[i64]) -> Result<Option<i64>, AllocError> {
+    Ok(greatest_of(numbers).join(Max::unit(alloc))?.value())
+}
+
+/// The greatest of the numbers of a piece and of an empty one before it.
+fn greatest_after_none(alloc: Global, numbers: &[i64]) -> Result<Option<i64>, AllocError> {
+    Ok(Max::unit(alloc).join(greatest_of(numbers))?.value())
+}
+
+fn is_greatest(alloc: Global, row: &Greatest) -> Result<bool, AllocError> {
+    let both = greatest_of(row.ours).join(greatest_of(row.theirs))?;
+    let left = greatest_before_none(alloc, row.ours)?;
+    let right = greatest_after_none(alloc, row.theirs)?;
+    Ok(both.value() == row.of_both && left == row.of_ours && right == row.of_theirs)
+}
+
+// The greatest number of two pieces, of which either may have none.
 #[test]
 fn the_greatest_of_two_pieces(rt: HostRuntime) -> Result<(), AllocError> {
-    let cases: [([i64; 2], [i64; 2], i64); 4] = [
-        ([-9, -3], [-5, -7], -3),
-        ([4, 4], [-1, 9], 9),
-        ([7, 7], [7, 7], 7),
-        ([i64::MIN, i64::MIN], [i64::MIN, i64::MIN], i64::MIN),
-    ];
-    for (ours, theirs, greatest) in cases {
-        let left = greatest_of(&ours);
-        let right = greatest_of(&theirs);
-        assert_eq!(rt; left.join(right)?.value(), Some(greatest));
-        let left = greatest_of(&ours).join(Max::unit(rt.alloc()))?;
-        assert_eq!(rt; left.value(), Some(ours[0].max(ours[1])));
-        let right = Max::unit(rt.alloc()).join(greatest_of(&theirs))?;
-        assert_eq!(rt; right.value(), Some(theirs[0].max(theirs[1])));
+    for (k, row) in GREATEST.iter().enumerate() {
+        assert!(rt; is_greatest(rt.alloc(), row)?, "row {k}");
     }
-    assert_eq!(rt; Max::new().join(Max::unit(rt.alloc()))?.value(), None);
     Ok(())
 }
 
-fn greatest_of(numbers: &[i64; 2]) -> Max {
-    let mut greatest = Max::new();
-    greatest.raise(numbers[0]);
-    greatest.raise(numbers[1]);
-    greatest
+fn lines_of(alloc: Global, numbers: &[i64]) -> Result<Lines, AllocError> {
+    let mut lines = Lines::new(alloc);
+    for number in numbers {
+        lines.print(*number)?;
+    }
+    Ok(lines)
+}
+
+fn joined_lines(alloc: Global, ours: &[i64], theirs: &[i64]) -> Result<Lines, AllocError> {
+    let both = lines_of(alloc, ours)?.join(lines_of(alloc, theirs)?)?;
+    both.join(Lines::unit(alloc))
 }
 
 // The lines of the left piece stand first.
 #[test]
 fn lines_in_order(rt: HostRuntime) -> Result<(), AllocError> {
-    let alloc = rt.alloc();
-    let mut left = Lines::new(alloc);
-    left.print(1)?;
-    left.print(-2)?;
-    let mut right = Lines::new(alloc);
-    right.print(3)?;
-    let whole = left.join(right)?.join(Lines::unit(alloc))?;
+    let whole = joined_lines(rt.alloc(), &[1, -2], &[3])?;
     assert_eq!(rt; whole.values(), [1, -2, 3].as_slice());
     Ok(())
 }
 
-// Views with totals of different reducers, the fewer on either side; a reducer that was told nothing has 0, or none.
-#[test]
-fn views_of_two_pieces(rt: HostRuntime) -> Result<(), AllocError> {
-    let alloc = rt.alloc();
-    let mut left = Views::new(alloc);
-    left.tell(0, Reduction::Sum, 5)?;
-    left.tell(4, Reduction::Max, -8)?;
-    left.print(1)?;
-    let mut right = Views::new(alloc);
-    right.print(2)?;
-    right.tell(2, Reduction::Sum, -7)?;
-    right.tell(0, Reduction::Sum, 4)?;
-    right.tell(3, Reduction::Max, -2)?;
-    right.tell(3, Reduction::Max, -6)?;
+/// What views are told.
+#[derive(Clone, Copy)]
+enum Told {
+    /// A line is printed.
+    Print(i64),
+    /// A reducer that sums is told a value.
+    Add(u32, i64),
+    /// A reducer that keeps the greatest is told a value.
+    Raise(u32, i64),
+}
+
+fn tell(views: &mut Views, told: Told) -> Result<(), AllocError> {
+    match told {
+        Told::Print(line) => views.print(line),
+        Told::Add(reducer, value) => views.tell(reducer, Reduction::Sum, value),
+        Told::Raise(reducer, value) => views.tell(reducer, Reduction::Max, value),
+    }
+}
+
+fn tell_all(views: &mut Views, all: &[Told]) -> Result<(), AllocError> {
+    for told in all {
+        tell(views, *told)?;
+    }
+    Ok(())
+}
+
+static LEFT: [Told; 3] = [Told::Add(0, 5), Told::Raise(4, -8), Told::Print(1)];
+
+static RIGHT: [Told; 5] = [
+    Told::Print(2),
+    Told::Add(2, -7),
+    Told::Add(0, 4),
+    Told::Raise(3, -2),
+    Told::Raise(3, -6),
+];
+
+static LAST: [Told; 2] = [Told::Add(1, 3), Told::Raise(4, -7)];
+
+fn views_of(alloc: Global, all: &[Told]) -> Result<Views, AllocError> {
+    let mut views = Views::new(alloc);
+    tell_all(&mut views, all)?;
+    Ok(views)
+}
+
+fn joined_views(alloc: Global) -> Result<Views, AllocError> {
+    let both = views_of(alloc, &LEFT)?.join(views_of(alloc, &RIGHT)?)?;
     let mut last = Views::unit(alloc);
-    last.tell(1, Reduction::Sum, 3)?;
-    last.tell(4, Reduction::Max, -7)?;
-    let whole = left.join(right)?.join(last)?;
-    for (reducer, sum) in [(0, 9), (1, 3), (2, -7), (5, 0)] {
-        assert_eq!(rt; whole.total(reducer, Reduction::Sum), Total::Sum(sum));
+    tell_all(&mut last, &LAST)?;
+    both.join(last)
+}
+
+/// What reducers come to over the three; one that was told nothing has 0, or none.
+static TOTALS: [(u32, Reduction, Total); 7] = [
+    (0, Reduction::Sum, Total::Sum(9)),
+    (1, Reduction::Sum, Total::Sum(3)),
+    (2, Reduction::Sum, Total::Sum(-7)),
+    (5, Reduction::Sum, Total::Sum(0)),
+    (3, Reduction::Max, Total::Max(Some(-2))),
+    (4, Reduction::Max, Total::Max(Some(-7))),
+    (5, Reduction::Max, Total::Max(None)),
+];
+
+// Views with totals of different reducers, the fewer on either side.
+#[test]
+fn totals_of_joined_views(rt: HostRuntime) -> Result<(), AllocError> {
+    let whole = joined_views(rt.alloc())?;
+    for (reducer, how, total) in &TOTALS {
+        assert_eq!(rt; whole.total(*reducer, *how), *total, "reducer {reducer}");
     }
-    for (reducer, greatest) in [(3, Some(-2)), (4, Some(-7)), (5, None)] {
-        assert_eq!(rt; whole.total(reducer, Reduction::Max), Total::Max(greatest));
-    }
-    assert_eq!(rt; whole.lines(), [1, 2].as_slice());
+    Ok(())
+}
+
+#[test]
+fn lines_of_joined_views(rt: HostRuntime) -> Result<(), AllocError> {
+    assert_eq!(rt; joined_views(rt.alloc())?.lines(), [1, 2].as_slice());
     Ok(())
 }

@@ -1,336 +1,559 @@
 //! The rows of call sites of small runs, whole and joined from pieces, and which path is chosen, by hand.
 
-use cw_sites::table::{SiteRow, SiteTable};
+use Told::{EndChild, EndHalf, Enter, Join, Leave, Note, Spawn, SpawnHalf};
+use cw_sites::table::SiteTable;
 use std::alloc::{AllocError, Global};
 
-fn row(calls: u64, own_work: u64, own_span: u64, work: u64, span: u64) -> SiteRow {
-    SiteRow {
-        calls,
-        own_work,
-        own_span,
-        work,
-        span,
+/// What a table is told, at a count of instructions.
+#[derive(Clone, Copy)]
+enum Told {
+    /// A call in place of a site begins.
+    Enter(u64, u32),
+    /// A call in place ends, inside an invocation of a site.
+    Leave(u64, u32),
+    /// A spawned call of a site begins, and whether it is its block's first one since the last join.
+    Spawn(u64, u32, bool),
+    /// A spawned call ends, inside an invocation of a site.
+    EndChild(u64, u32),
+    /// Half of a loop begins, and whether it is its block's first spawn since the last join.
+    SpawnHalf(u64, bool),
+    /// Half of a loop ends.
+    EndHalf(u64),
+    /// The block that runs joins.
+    Join(u64),
+    /// The instructions so far are given to their sites.
+    Note(u64),
+}
+
+fn tell(table: &mut SiteTable, told: Told) -> Result<(), AllocError> {
+    match told {
+        Enter(count, site) => table.enter(count, site),
+        Leave(count, outer) => table.leave(count, outer),
+        Spawn(count, site, first) => table.spawn(count, site, first),
+        EndChild(count, outer) => table.end_child(count, outer),
+        SpawnHalf(count, first) => table.spawn_half(count, first),
+        EndHalf(count) => table.end_half(count),
+        Join(count) => table.join(count),
+        Note(count) => table.note(count),
     }
 }
 
-// A short child of 2 instructions beside a rest of 4, one instruction before and three after.
-#[test]
-fn a_longer_rest(rt: HostRuntime) -> Result<(), AllocError> {
-    let mut table = SiteTable::new(rt.alloc(), 0);
-    table.enter(0, 0)?;
-    table.spawn(1, 1, true)?;
-    table.end_child(3, 0)?;
-    table.join(7)?;
-    table.leave(10, 0)?;
-    assert_eq!(rt; table.site(0), row(1, 8, 8, 10, 8));
-    assert_eq!(rt; table.site(1), row(1, 2, 0, 2, 2));
-    assert_eq!(rt; table.site(2), row(0, 0, 0, 0, 0));
-    assert_eq!(rt; table.path(), 8);
+fn tell_all(table: &mut SiteTable, all: &[Told]) -> Result<(), AllocError> {
+    for told in all {
+        tell(table, *told)?;
+    }
     Ok(())
 }
 
-// A child that weighs as much as the rest is chosen.
+/// The calls, own work, own span, work and span of a site.
+fn numbers(table: &SiteTable, site: u32) -> [u64; 5] {
+    let row = table.site(site);
+    [row.calls, row.own_work, row.own_span, row.work, row.span]
+}
+
+/// The first site whose row is another one.
+fn wrong_row(table: &SiteTable, rows: &[(u32, [u64; 5])]) -> Option<u32> {
+    for (site, row) in rows {
+        if numbers(table, *site) != *row {
+            return Some(*site);
+        }
+    }
+    None
+}
+
+/// A piece of a run that is counted apart.
+struct Piece {
+    /// The site of the invocation that it begins in.
+    here: u32,
+    /// What its table is told.
+    told: &'static [Told],
+    /// Whether its block has not spawned before it since the last join.
+    first: bool,
+}
+
+/// A run, with a piece that is counted apart, or with none.
+struct Run {
+    name: &'static str,
+    /// What the run's table is told before the piece is joined.
+    before: &'static [Told],
+    piece: Option<Piece>,
+    /// What it is told after that.
+    after: &'static [Told],
+    /// Rows of sites at the end: calls, own work, own span, work and span.
+    rows: &'static [(u32, [u64; 5])],
+}
+
+fn join_piece(alloc: Global, table: &mut SiteTable, piece: &Piece) -> Result<(), AllocError> {
+    let mut apart = SiteTable::new(alloc, piece.here);
+    tell_all(&mut apart, piece.told)?;
+    table.join_piece(apart, piece.first)
+}
+
+fn tell_run(alloc: Global, table: &mut SiteTable, run: &Run) -> Result<(), AllocError> {
+    tell_all(table, run.before)?;
+    if let Some(piece) = &run.piece {
+        join_piece(alloc, table, piece)?;
+    }
+    tell_all(table, run.after)
+}
+
+fn wrong_row_of(alloc: Global, run: &Run) -> Result<Option<u32>, AllocError> {
+    let mut table = SiteTable::new(alloc, 0);
+    tell_run(alloc, &mut table, run)?;
+    Ok(wrong_row(&table, run.rows))
+}
+
+fn path_of(alloc: Global, run: &Run) -> Result<u64, AllocError> {
+    let mut table = SiteTable::new(alloc, 0);
+    tell_run(alloc, &mut table, run)?;
+    Ok(table.path())
+}
+
+/// Runs that no piece of is counted apart.
+static WHOLE_RUNS: [Run; 6] = [
+    Run {
+        // A short child of 2 instructions beside a rest of 4, one instruction before and three after.
+        name: "a longer rest",
+        before: &[
+            Enter(0, 0),
+            Spawn(1, 1, true),
+            EndChild(3, 0),
+            Join(7),
+            Leave(10, 0),
+        ],
+        piece: None,
+        after: &[],
+        rows: &[
+            (0, [1, 8, 8, 10, 8]),
+            (1, [1, 2, 0, 2, 2]),
+            (2, [0, 0, 0, 0, 0]),
+        ],
+    },
+    Run {
+        // A child that weighs as much as the rest is chosen.
+        name: "a tie of child and rest",
+        before: &[
+            Enter(0, 0),
+            Spawn(1, 1, true),
+            EndChild(5, 0),
+            Join(9),
+            Leave(10, 0),
+        ],
+        piece: None,
+        after: &[],
+        rows: &[(0, [1, 6, 2, 10, 6]), (1, [1, 4, 4, 4, 4])],
+    },
+    Run {
+        // Of two children whose paths weigh the same from the first spawn on, the earlier one is chosen.
+        name: "a tie of children",
+        before: &[
+            Enter(0, 0),
+            Spawn(1, 1, true),
+            EndChild(7, 0),
+            Spawn(9, 2, false),
+            EndChild(13, 0),
+            Join(13),
+            Leave(13, 0),
+        ],
+        piece: None,
+        after: &[],
+        rows: &[
+            (0, [1, 3, 1, 13, 7]),
+            (1, [1, 6, 6, 6, 6]),
+            (2, [1, 4, 0, 4, 4]),
+        ],
+    },
+    Run {
+        // The later of two children is longer by one instruction between the spawns: what lies between is on the path.
+        name: "a later child",
+        before: &[
+            Enter(0, 0),
+            Spawn(1, 1, true),
+            EndChild(7, 0),
+            Spawn(10, 2, false),
+            EndChild(14, 0),
+            Join(14),
+            Leave(14, 0),
+        ],
+        piece: None,
+        after: &[],
+        rows: &[
+            (0, [1, 4, 4, 14, 8]),
+            (1, [1, 6, 0, 6, 6]),
+            (2, [1, 4, 4, 4, 4]),
+        ],
+    },
+    Run {
+        // A function that calls itself twice more from one site: only the outermost call of the site is summed.
+        name: "a recursion",
+        before: &[
+            Enter(0, 0),
+            Enter(4, 2),
+            Enter(15, 1),
+            Enter(26, 1),
+            Leave(32, 1),
+            Leave(35, 2),
+            Leave(38, 0),
+            Leave(40, 0),
+        ],
+        piece: None,
+        after: &[],
+        rows: &[
+            (0, [1, 6, 6, 40, 40]),
+            (1, [2, 20, 20, 20, 20]),
+            (2, [1, 14, 14, 34, 34]),
+        ],
+    },
+    Run {
+        // Halves of a loop belong to the invocation round the loop: 1 instruction, a half of 3 beside one of 5,
+        // 1 instruction.
+        name: "halves of a loop",
+        before: &[
+            Enter(0, 0),
+            SpawnHalf(1, true),
+            Enter(2, 1),
+            Leave(3, 0),
+            EndHalf(4),
+            Enter(5, 1),
+            Leave(8, 0),
+            Join(9),
+            Leave(10, 0),
+        ],
+        piece: None,
+        after: &[],
+        rows: &[(0, [1, 6, 4, 10, 7]), (1, [2, 4, 3, 4, 4])],
+    },
+];
+
+/// A child of 6 with calls of its own, a rest of 5 with a call, and a child of 4 with a call: with the rest the later
+/// child is longer, and the steps of the earlier one are dropped from between.
+const A_LONG_CHILD_REPLACED: [Told; 13] = [
+    Enter(0, 0),
+    Spawn(1, 1, true),
+    Enter(2, 2),
+    Leave(3, 1),
+    Enter(4, 3),
+    Leave(6, 1),
+    EndChild(7, 0),
+    Enter(8, 4),
+    Leave(11, 0),
+    Spawn(12, 5, false),
+    Enter(13, 6),
+    Leave(15, 5),
+    EndChild(16, 0),
+];
+
+/// Runs with a long child replaced.
+static LONG_RUNS: [Run; 2] = [
+    Run {
+        // A rest of 3 follows: the later child is chosen.
+        name: "a long child replaced and chosen",
+        before: &A_LONG_CHILD_REPLACED,
+        piece: None,
+        after: &[Enter(18, 7), Leave(19, 0), Join(19), Leave(20, 0)],
+        rows: &[
+            (0, [1, 6, 4, 20, 11]),
+            (1, [1, 3, 0, 6, 6]),
+            (2, [1, 1, 0, 1, 1]),
+            (3, [1, 2, 0, 2, 2]),
+            (4, [1, 3, 3, 3, 3]),
+            (5, [1, 2, 2, 4, 4]),
+            (6, [1, 2, 2, 2, 2]),
+            (7, [1, 1, 0, 1, 1]),
+        ],
+    },
+    Run {
+        // A rest of 8 follows: it is chosen, and the steps of the later child are dropped from between.
+        name: "a long rest chosen",
+        before: &A_LONG_CHILD_REPLACED,
+        piece: None,
+        after: &[Enter(18, 7), Leave(24, 0), Join(24), Leave(25, 0)],
+        rows: &[
+            (0, [1, 6, 6, 25, 15]),
+            (4, [1, 3, 3, 3, 3]),
+            (5, [1, 2, 0, 4, 4]),
+            (6, [1, 2, 0, 2, 2]),
+            (7, [1, 6, 6, 6, 6]),
+        ],
+    },
+];
+
+/// Runs with a piece that is counted apart.
+static JOINED_RUNS: [Run; 4] = [
+    Run {
+        // 1 instruction, a child of 2, and in the rest, of 1 instruction in each place, a child of 4 and one of 2; then
+        // a join and 3 instructions. The path goes through the rest to the child of 4: 1 + 1 + 4 from the first spawn
+        // beside 2.
+        name: "a rest that ran apart",
+        before: &[Enter(0, 0), Spawn(1, 1, true), EndChild(3, 0)],
+        piece: Some(Piece {
+            here: 0,
+            told: &[
+                Spawn(1, 2, true),
+                EndChild(5, 0),
+                Spawn(6, 1, false),
+                EndChild(8, 0),
+                Note(9),
+            ],
+            first: false,
+        }),
+        after: &[Join(12), Leave(15, 0)],
+        rows: &[
+            (0, [1, 7, 5, 15, 9]),
+            (1, [2, 4, 0, 4, 4]),
+            (2, [1, 4, 4, 4, 4]),
+        ],
+    },
+    Run {
+        // The rest's longest child ties with the child before it: that child is chosen, as in a serial run.
+        name: "a tie with a rest that ran apart",
+        before: &[Enter(0, 0), Spawn(1, 1, true), EndChild(6, 0)],
+        piece: Some(Piece {
+            here: 0,
+            told: &[Spawn(1, 2, true), EndChild(5, 0)],
+            first: false,
+        }),
+        after: &[Join(11), Leave(11, 0)],
+        rows: &[
+            (0, [1, 2, 1, 11, 6]),
+            (1, [1, 5, 5, 5, 5]),
+            (2, [1, 4, 0, 4, 4]),
+        ],
+    },
+    Run {
+        // A piece with a join of its own, after one instruction of a block that has spawned nothing: before its join a
+        // child of 3 beside a rest of 1, after it a child of 2 beside a rest of 1.
+        name: "a piece that has joined",
+        before: &[Enter(0, 0), Note(1)],
+        piece: Some(Piece {
+            here: 0,
+            told: &[
+                Spawn(0, 2, true),
+                EndChild(3, 0),
+                Join(4),
+                Spawn(4, 2, true),
+                EndChild(6, 0),
+                Note(7),
+            ],
+            first: true,
+        }),
+        after: &[Join(8), Leave(9, 0)],
+        rows: &[(0, [1, 4, 2, 9, 7]), (2, [2, 5, 5, 5, 5])],
+    },
+    Run {
+        // A piece that ran apart inside of an invocation of its own site, whose work is not summed a second time.
+        name: "a piece inside its own site",
+        before: &[Enter(0, 0), Enter(1, 1), Note(3)],
+        piece: Some(Piece {
+            here: 1,
+            told: &[Enter(0, 1), Leave(5, 1)],
+            first: true,
+        }),
+        after: &[Leave(9, 0), Leave(10, 0)],
+        rows: &[(0, [1, 2, 2, 10, 10]), (1, [2, 8, 8, 8, 8])],
+    },
+];
+
 #[test]
-fn a_tie_of_child_and_rest(rt: HostRuntime) -> Result<(), AllocError> {
-    let mut table = SiteTable::new(rt.alloc(), 0);
-    table.enter(0, 0)?;
-    table.spawn(1, 1, true)?;
-    table.end_child(5, 0)?;
-    table.join(9)?;
-    table.leave(10, 0)?;
-    assert_eq!(rt; table.site(0), row(1, 6, 2, 10, 6));
-    assert_eq!(rt; table.site(1), row(1, 4, 4, 4, 4));
+fn whole_runs(rt: HostRuntime) -> Result<(), AllocError> {
+    for run in &WHOLE_RUNS {
+        assert_eq!(rt; wrong_row_of(rt.alloc(), run)?, None, "{}", run.name);
+    }
     Ok(())
 }
 
-// Of two children whose paths weigh the same from the first spawn on, the earlier one is chosen.
 #[test]
-fn a_tie_of_children(rt: HostRuntime) -> Result<(), AllocError> {
-    let mut table = SiteTable::new(rt.alloc(), 0);
-    table.enter(0, 0)?;
-    table.spawn(1, 1, true)?;
-    table.end_child(7, 0)?;
-    table.spawn(9, 2, false)?;
-    table.end_child(13, 0)?;
-    table.join(13)?;
-    table.leave(13, 0)?;
-    assert_eq!(rt; table.site(0), row(1, 3, 1, 13, 7));
-    assert_eq!(rt; table.site(1), row(1, 6, 6, 6, 6));
-    assert_eq!(rt; table.site(2), row(1, 4, 0, 4, 4));
+fn long_runs(rt: HostRuntime) -> Result<(), AllocError> {
+    for run in &LONG_RUNS {
+        assert_eq!(rt; wrong_row_of(rt.alloc(), run)?, None, "{}", run.name);
+    }
     Ok(())
 }
 
-// The later of two children is longer by one instruction between the spawns: what lies between is on the path.
 #[test]
-fn a_later_child(rt: HostRuntime) -> Result<(), AllocError> {
-    let mut table = SiteTable::new(rt.alloc(), 0);
-    table.enter(0, 0)?;
-    table.spawn(1, 1, true)?;
-    table.end_child(7, 0)?;
-    table.spawn(10, 2, false)?;
-    table.end_child(14, 0)?;
-    table.join(14)?;
-    table.leave(14, 0)?;
-    assert_eq!(rt; table.site(0), row(1, 4, 4, 14, 8));
-    assert_eq!(rt; table.site(1), row(1, 6, 0, 6, 6));
-    assert_eq!(rt; table.site(2), row(1, 4, 4, 4, 4));
+fn joined_runs(rt: HostRuntime) -> Result<(), AllocError> {
+    for run in &JOINED_RUNS {
+        assert_eq!(rt; wrong_row_of(rt.alloc(), run)?, None, "{}", run.name);
+    }
     Ok(())
 }
 
-// A function that calls itself twice more from one site: only the outermost call of the site is summed.
+// The path of the first run weighs as much as its span.
 #[test]
-fn a_recursion(rt: HostRuntime) -> Result<(), AllocError> {
-    let mut table = SiteTable::new(rt.alloc(), 0);
-    table.enter(0, 0)?;
-    table.enter(4, 2)?;
-    table.enter(15, 1)?;
-    table.enter(26, 1)?;
-    table.leave(32, 1)?;
-    table.leave(35, 2)?;
-    table.leave(38, 0)?;
-    table.leave(40, 0)?;
-    assert_eq!(rt; table.site(0), row(1, 6, 6, 40, 40));
-    assert_eq!(rt; table.site(1), row(2, 20, 20, 20, 20));
-    assert_eq!(rt; table.site(2), row(1, 14, 14, 34, 34));
+fn the_path_of_a_run(rt: HostRuntime) -> Result<(), AllocError> {
+    assert_eq!(rt; path_of(rt.alloc(), &WHOLE_RUNS[0])?, 8);
     Ok(())
 }
 
-// Halves of a loop belong to the invocation round the loop: 1 instruction, a half of 3 beside one of 5, 1 instruction.
-#[test]
-fn halves_of_a_loop(rt: HostRuntime) -> Result<(), AllocError> {
-    let mut table = SiteTable::new(rt.alloc(), 0);
-    table.enter(0, 0)?;
-    table.spawn_half(1, true)?;
-    table.enter(2, 1)?;
-    table.leave(3, 0)?;
-    table.end_half(4)?;
-    table.enter(5, 1)?;
-    table.leave(8, 0)?;
-    table.join(9)?;
-    table.leave(10, 0)?;
-    assert_eq!(rt; table.site(0), row(1, 6, 4, 10, 7));
-    assert_eq!(rt; table.site(1), row(2, 4, 3, 4, 4));
-    Ok(())
+/// A turn of a loop, of 15 instructions, that calls site 1, which calls site 2.
+fn turn_with_two_calls(table: &mut SiteTable, turn: u32) -> Result<(), AllocError> {
+    let count = turn as u64 * 15;
+    table.enter(count + 1, 1)?;
+    table.enter(count + 3, 2)?;
+    table.leave(count + 6, 1)?;
+    table.leave(count + 10, 0)
 }
+
+/// The greatest count of steps of the path after each of 2,000 turns.
+fn most_steps_in_turns(table: &mut SiteTable) -> Result<usize, AllocError> {
+    let mut most = 0;
+    for turn in 0..2_000u32 {
+        turn_with_two_calls(table, turn)?;
+        most = most.max(table.paths.steps.len());
+    }
+    Ok(most)
+}
+
+/// A call with such turns, and that count.
+fn run_with_turns(table: &mut SiteTable) -> Result<usize, AllocError> {
+    table.enter(0, 0)?;
+    let most = most_steps_in_turns(table)?;
+    table.leave(30_000, 0)?;
+    Ok(most)
+}
+
+static ROWS_OF_TURNS: [(u32, [u64; 5]); 3] = [
+    (0, [1, 12_000, 12_000, 30_000, 30_000]),
+    (1, [2_000, 12_000, 12_000, 18_000, 18_000]),
+    (2, [2_000, 6_000, 6_000, 6_000, 6_000]),
+];
 
 // A path through many calls of two sites stays as short as twice the sites and a constant.
 #[test]
 fn a_long_loop_of_calls(rt: HostRuntime) -> Result<(), AllocError> {
     let mut table = SiteTable::new(rt.alloc(), 0);
-    table.enter(0, 0)?;
-    for turn in 0..2_000u64 {
-        let count = turn * 15;
-        table.enter(count + 1, 1)?;
-        table.enter(count + 3, 2)?;
-        table.leave(count + 6, 1)?;
-        table.leave(count + 10, 0)?;
-        assert!(rt; table.paths.steps.len() <= 71);
+    assert!(rt; run_with_turns(&mut table)? <= 71);
+    assert_eq!(rt; wrong_row(&table, &ROWS_OF_TURNS), None);
+    Ok(())
+}
+
+/// 300 children of 2 instructions each, with 9 before each.
+fn spawn_many(table: &mut SiteTable) -> Result<(), AllocError> {
+    for turn in 0..300u64 {
+        table.spawn(11 * turn + 9, 1, turn == 0)?;
+        table.end_child(11 * turn + 11, 0)?;
     }
-    table.leave(30_000, 0)?;
-    assert_eq!(rt; table.site(0), row(1, 12_000, 12_000, 30_000, 30_000));
-    assert_eq!(rt; table.site(1), row(2_000, 12_000, 12_000, 18_000, 18_000));
-    assert_eq!(rt; table.site(2), row(2_000, 6_000, 6_000, 6_000, 6_000));
     Ok(())
 }
 
-// A rest that ran apart: 1 instruction, a child of 2, and in the rest, of 1 instruction in each place, a child of 4 and
-// one of 2; then a join and 3 instructions. The path goes through the rest to the child of 4: 1 + 1 + 4 from the first
-// spawn beside 2.
-#[test]
-fn a_rest_that_ran_apart(rt: HostRuntime) -> Result<(), AllocError> {
-    let alloc = rt.alloc();
-    let mut table = SiteTable::new(alloc, 0);
+/// A call with such children, and the count of the path's steps before the join.
+fn run_with_many_spawns(table: &mut SiteTable) -> Result<usize, AllocError> {
     table.enter(0, 0)?;
-    table.spawn(1, 1, true)?;
-    table.end_child(3, 0)?;
-    let mut rest = SiteTable::new(alloc, 0);
-    rest.spawn(1, 2, true)?;
-    rest.end_child(5, 0)?;
-    rest.spawn(6, 1, false)?;
-    rest.end_child(8, 0)?;
-    rest.note(9)?;
-    table.join_piece(rest, false)?;
-    table.join(12)?;
-    table.leave(15, 0)?;
-    assert_eq!(rt; table.site(0), row(1, 7, 5, 15, 9));
-    assert_eq!(rt; table.site(1), row(2, 4, 0, 4, 4));
-    assert_eq!(rt; table.site(2), row(1, 4, 4, 4, 4));
-    Ok(())
+    spawn_many(table)?;
+    let steps = table.paths.steps.len();
+    table.join(3300)?;
+    table.leave(3300, 0)?;
+    Ok(steps)
 }
 
-// The rest's longest child ties with the child before it: that child is chosen, as in a serial run.
-#[test]
-fn a_tie_with_a_rest_that_ran_apart(rt: HostRuntime) -> Result<(), AllocError> {
-    let alloc = rt.alloc();
-    let mut table = SiteTable::new(alloc, 0);
-    table.enter(0, 0)?;
-    table.spawn(1, 1, true)?;
-    table.end_child(6, 0)?;
-    let mut rest = SiteTable::new(alloc, 0);
-    rest.spawn(1, 2, true)?;
-    rest.end_child(5, 0)?;
-    table.join_piece(rest, false)?;
-    table.join(11)?;
-    table.leave(11, 0)?;
-    assert_eq!(rt; table.site(0), row(1, 2, 1, 11, 6));
-    assert_eq!(rt; table.site(1), row(1, 5, 5, 5, 5));
-    assert_eq!(rt; table.site(2), row(1, 4, 0, 4, 4));
-    Ok(())
-}
-
-// A piece with a join of its own, after one instruction of a block that has spawned nothing: before its join a child of 3
-// beside a rest of 1, after it a child of 2 beside a rest of 1.
-#[test]
-fn a_piece_that_has_joined(rt: HostRuntime) -> Result<(), AllocError> {
-    let alloc = rt.alloc();
-    let mut table = SiteTable::new(alloc, 0);
-    table.enter(0, 0)?;
-    table.note(1)?;
-    let mut piece = SiteTable::new(alloc, 0);
-    piece.spawn(0, 2, true)?;
-    piece.end_child(3, 0)?;
-    piece.join(4)?;
-    piece.spawn(4, 2, true)?;
-    piece.end_child(6, 0)?;
-    piece.note(7)?;
-    table.join_piece(piece, true)?;
-    table.join(8)?;
-    table.leave(9, 0)?;
-    assert_eq!(rt; table.site(0), row(1, 4, 2, 9, 7));
-    assert_eq!(rt; table.site(2), row(2, 5, 5, 5, 5));
-    Ok(())
-}
-
-// A piece that ran apart inside of an invocation of its own site, whose work is not summed a second time.
-#[test]
-fn a_piece_inside_its_own_site(rt: HostRuntime) -> Result<(), AllocError> {
-    let alloc = rt.alloc();
-    let mut table = SiteTable::new(alloc, 0);
-    table.enter(0, 0)?;
-    table.enter(1, 1)?;
-    table.note(3)?;
-    let mut piece = SiteTable::new(alloc, 1);
-    piece.enter(0, 1)?;
-    piece.leave(5, 1)?;
-    table.join_piece(piece, true)?;
-    table.leave(9, 0)?;
-    table.leave(10, 0)?;
-    assert_eq!(rt; table.site(0), row(1, 2, 2, 10, 10));
-    assert_eq!(rt; table.site(1), row(2, 8, 8, 8, 8));
-    Ok(())
-}
+static ROWS_OF_MANY_SPAWNS: [(u32, [u64; 5]); 2] = [
+    (0, [1, 2700, 2700, 3300, 2702]),
+    (1, [300, 600, 2, 600, 600]),
+];
 
 // 300 spawns without a join, 9 instructions before each and 2 in its child: the last child is chosen, with all that lies
 // before it, and the steps of that are added up before there are many.
 #[test]
 fn many_spawns_without_a_join(rt: HostRuntime) -> Result<(), AllocError> {
     let mut table = SiteTable::new(rt.alloc(), 0);
-    table.enter(0, 0)?;
-    for turn in 0..300u64 {
-        table.spawn(11 * turn + 9, 1, turn == 0)?;
-        table.end_child(11 * turn + 11, 0)?;
+    assert!(rt; run_with_many_spawns(&mut table)? < 100);
+    assert_eq!(rt; wrong_row(&table, &ROWS_OF_MANY_SPAWNS), None);
+    Ok(())
+}
+
+/// Instructions of one call of each of three sites, or 0 where it is not called, in ours and in a piece that is joined
+/// to it: the calls and the sums of both.
+struct Merged {
+    ours: [u32; 3],
+    piece: [u32; 3],
+    calls: [u32; 3],
+    sums: [u32; 3],
+}
+
+static MERGED: [Merged; 4] = [
+    Merged {
+        ours: [5, 7, 0],
+        piece: [20, 0, 0],
+        calls: [2, 1, 0],
+        sums: [25, 7, 0],
+    },
+    Merged {
+        ours: [5, 0, 0],
+        piece: [20, 30, 40],
+        calls: [2, 1, 1],
+        sums: [25, 30, 40],
+    },
+    Merged {
+        ours: [0, 0, 0],
+        piece: [20, 0, 40],
+        calls: [1, 0, 1],
+        sums: [20, 0, 40],
+    },
+    Merged {
+        ours: [5, 0, 9],
+        piece: [0, 0, 0],
+        calls: [1, 0, 1],
+        sums: [5, 0, 9],
+    },
+];
+
+/// One call of each site that has instructions, one after another.
+fn call_each(table: &mut SiteTable, works: &[u32; 3]) -> Result<(), AllocError> {
+    for site in 0..3u32 {
+        call_once(table, site, works[site as usize])?;
     }
-    assert!(rt; table.paths.steps.len() < 100);
-    table.join(3300)?;
-    table.leave(3300, 0)?;
-    assert_eq!(rt; table.site(0), row(1, 2700, 2700, 3300, 2702));
-    assert_eq!(rt; table.site(1), row(300, 600, 2, 600, 600));
     Ok(())
 }
 
-// A child of 6 with calls of its own, a rest of 5 with a call, and a child of 4 with a call: with the rest the later child
-// is longer, and the steps of the earlier one are dropped from between.
-fn a_long_child_replaced(alloc: Global) -> Result<SiteTable, AllocError> {
+fn call_once(table: &mut SiteTable, site: u32, work: u32) -> Result<(), AllocError> {
+    if work == 0 {
+        return Ok(());
+    }
+    let begin = table.noted;
+    table.enter(begin, site)?;
+    table.leave(begin.saturating_add(work as u64), 0)
+}
+
+/// Whether the row of a site is this one, and stays summed where a call of 3 instructions follows.
+fn is_summed(table: &mut SiteTable, site: u32, calls: u32, sum: u32) -> Result<bool, AllocError> {
+    let (calls, sum) = (calls as u64, sum as u64);
+    let before = numbers(table, site) == [calls, sum, sum, sum, sum];
+    call_once(table, site, 3)?;
+    let more = sum + 3;
+    let after = numbers(table, site) == [calls + 1, more, more, more, more];
+    Ok(before && after)
+}
+
+fn merge(alloc: Global, table: &mut SiteTable, row: &Merged) -> Result<(), AllocError> {
+    call_each(table, &row.ours)?;
+    let mut piece = SiteTable::new(alloc, 0);
+    call_each(&mut piece, &row.piece)?;
+    table.join_piece(piece, true)
+}
+
+/// The first site whose row is not that of both.
+fn wrong_sum(table: &mut SiteTable, row: &Merged) -> Result<Option<u32>, AllocError> {
+    for site in 0..3u32 {
+        let k = site as usize;
+        if !is_summed(table, site, row.calls[k], row.sums[k])? {
+            return Ok(Some(site));
+        }
+    }
+    Ok(None)
+}
+
+fn wrong_sum_of(alloc: Global, row: &Merged) -> Result<Option<u32>, AllocError> {
     let mut table = SiteTable::new(alloc, 0);
-    table.enter(0, 0)?;
-    table.spawn(1, 1, true)?;
-    table.enter(2, 2)?;
-    table.leave(3, 1)?;
-    table.enter(4, 3)?;
-    table.leave(6, 1)?;
-    table.end_child(7, 0)?;
-    table.enter(8, 4)?;
-    table.leave(11, 0)?;
-    table.spawn(12, 5, false)?;
-    table.enter(13, 6)?;
-    table.leave(15, 5)?;
-    table.end_child(16, 0)?;
-    Ok(table)
-}
-
-// A rest of 3 follows: the later child is chosen.
-#[test]
-fn a_long_child_replaced_and_chosen(rt: HostRuntime) -> Result<(), AllocError> {
-    let mut table = a_long_child_replaced(rt.alloc())?;
-    table.enter(18, 7)?;
-    table.leave(19, 0)?;
-    table.join(19)?;
-    table.leave(20, 0)?;
-    assert_eq!(rt; table.site(0), row(1, 6, 4, 20, 11));
-    assert_eq!(rt; table.site(1), row(1, 3, 0, 6, 6));
-    assert_eq!(rt; table.site(2), row(1, 1, 0, 1, 1));
-    assert_eq!(rt; table.site(3), row(1, 2, 0, 2, 2));
-    assert_eq!(rt; table.site(4), row(1, 3, 3, 3, 3));
-    assert_eq!(rt; table.site(5), row(1, 2, 2, 4, 4));
-    assert_eq!(rt; table.site(6), row(1, 2, 2, 2, 2));
-    assert_eq!(rt; table.site(7), row(1, 1, 0, 1, 1));
-    Ok(())
-}
-
-// A rest of 8 follows: it is chosen, and the steps of the later child are dropped from between.
-#[test]
-fn a_long_rest_chosen(rt: HostRuntime) -> Result<(), AllocError> {
-    let mut table = a_long_child_replaced(rt.alloc())?;
-    table.enter(18, 7)?;
-    table.leave(24, 0)?;
-    table.join(24)?;
-    table.leave(25, 0)?;
-    assert_eq!(rt; table.site(0), row(1, 6, 6, 25, 15));
-    assert_eq!(rt; table.site(4), row(1, 3, 3, 3, 3));
-    assert_eq!(rt; table.site(5), row(1, 2, 0, 4, 4));
-    assert_eq!(rt; table.site(6), row(1, 2, 0, 2, 2));
-    assert_eq!(rt; table.site(7), row(1, 6, 6, 6, 6));
-    Ok(())
+    merge(alloc, &mut table, row)?;
+    wrong_sum(&mut table, row)
 }
 
 // What a piece ran is added to what ours did, site by site, whichever of the two has rows for more sites; and a call that
 // begins later is summed as ever.
 #[test]
 fn rows_of_more_sites_stay(rt: HostRuntime) -> Result<(), AllocError> {
-    let alloc = rt.alloc();
-    let cases: [([u32; 3], [u32; 3], [u32; 3], [u32; 3]); 4] = [
-        ([5, 7, 0], [20, 0, 0], [2, 1, 0], [25, 7, 0]),
-        ([5, 0, 0], [20, 30, 40], [2, 1, 1], [25, 30, 40]),
-        ([0, 0, 0], [20, 0, 40], [1, 0, 1], [20, 0, 40]),
-        ([5, 0, 9], [0, 0, 0], [1, 0, 1], [5, 0, 9]),
-    ];
-    for (ours, piece, calls, sums) in cases {
-        let mut table = called(alloc, &ours)?;
-        table.join_piece(called(alloc, &piece)?, true)?;
-        for site in 0..3u32 {
-            let count = calls[site as usize] as u64;
-            let sum = sums[site as usize] as u64;
-            assert_eq!(rt; table.site(site), row(count, sum, sum, sum, sum));
-            let begin = table.noted;
-            table.enter(begin, site)?;
-            table.leave(begin.saturating_add(3), 0)?;
-            let more = sum + 3;
-            assert_eq!(rt; table.site(site), row(count + 1, more, more, more, more));
-        }
+    for (k, row) in MERGED.iter().enumerate() {
+        assert_eq!(rt; wrong_sum_of(rt.alloc(), row)?, None, "row {k}");
     }
     Ok(())
-}
-
-// A table of one call of each site that has instructions, one after another.
-fn called(alloc: Global, works: &[u32; 3]) -> Result<SiteTable, AllocError> {
-    let mut table = SiteTable::new(alloc, 0);
-    for site in 0..3u32 {
-        let work = works[site as usize];
-        if work > 0 {
-            let begin = table.noted;
-            table.enter(begin, site)?;
-            table.leave(begin.saturating_add(work as u64), 0)?;
-        }
-    }
-    Ok(table)
 }

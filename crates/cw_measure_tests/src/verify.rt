@@ -1,396 +1,468 @@
 //! Which small codes on integers fit: one rule broken alone, and just kept, by hand.
 
 mod arrays;
+mod codes;
 mod readers;
 
-use cw_code::code::{BlockKind, Callee, Code, Func, Instr, Reducer, Site, UnaryOperator};
+use Step::{Call, Just, Spawn};
+use codes::{
+    Frame, GIVING, NOTHING, Placed, add_frame, add_reducer, end_function, no_code, place,
+    place_all, refusal_of,
+};
+use cw_code::code::{BlockKind, Callee, Code, Func, Instr, UnaryOperator};
 use cw_model::syntax::{CallKind, Name, Operator, Reduction};
-use cw_verify::verify::verify;
 use std::alloc::{AllocError, Global};
 
-const OPEN: Instr = Instr::Open(BlockKind::Scope);
-
-// A function on integers, with no array.
-fn on_integers(gives_int: bool, params: usize, slots: usize) -> Func {
-    Func {
-        start: 0,
-        end: 0,
-        gives_int,
-        params,
-        slots,
-        array_params: 0,
-        arrays: 0,
-        readers: 0,
-    }
+/// An instruction of a main.
+#[derive(Clone, Copy)]
+enum Step {
+    /// This one.
+    Just(Instr),
+    /// A call in place: the function, the number of the site, and the slot of the result.
+    Call(u32, u32, Option<u32>),
+    /// A spawned call: the same.
+    Spawn(u32, u32, Option<u32>),
 }
 
-// A function, placed after the instructions that stand already.
-fn place(code: &mut Code, f: Func, body: &[Instr]) -> Result<(), AllocError> {
-    let start = code.instrs.len();
-    code.instrs.extend_from_slice(body)?;
-    let end = code.instrs.len();
-    code.funcs.push(Func { start, end, ..f })?;
-    Ok(())
-}
-
-// A call site, the next one.
-fn add_site(
-    alloc: Global,
-    code: &mut Code,
-    number: u32,
-    kind: CallKind,
-    function: u32,
-) -> Result<(), AllocError> {
-    code.sites.push(Site {
-        number,
-        kind,
-        line: 1,
-        callee: Name::new(alloc, b"")?,
-        function,
-    })?;
-    Ok(())
-}
-
-// A reducer, the next one.
-fn add_reducer(
-    alloc: Global,
-    code: &mut Code,
-    name: &[u8],
-    how: Reduction,
-) -> Result<(), AllocError> {
-    let name = Name::new(alloc, name)?;
-    code.reducers.push(Reducer { name, how })?;
-    Ok(())
-}
-
-// Code with nothing in it.
-fn no_code(alloc: Global) -> Code {
-    Code {
-        instrs: Vec::new(alloc),
-        funcs: Vec::new(alloc),
-        main: 0,
-        main_line: 1,
-        sites: Vec::new(alloc),
-        reducers: Vec::new(alloc),
-        tags: Vec::new(alloc),
-        passed: Vec::new(alloc),
-        lent: Vec::new(alloc),
-    }
-}
-
-// Code without a function, with a reducer and a tag, and these sites: of function 1 in place and spawned, and of
-// function 2 in place and spawned.
-fn code_of_none(alloc: Global) -> Result<Code, AllocError> {
-    let mut code = no_code(alloc);
-    add_reducer(alloc, &mut code, b"", Reduction::Sum)?;
-    code.tags.push(Name::new(alloc, b"")?)?;
-    add_site(alloc, &mut code, 1, CallKind::Plain, 1)?;
-    add_site(alloc, &mut code, 2, CallKind::Spawned, 1)?;
-    add_site(alloc, &mut code, 3, CallKind::Plain, 2)?;
-    add_site(alloc, &mut code, 4, CallKind::Spawned, 2)?;
-    Ok(code)
-}
-
-// The number of the refusal of a main with one parameter and two names, or 0 where it fits. Function 1 gives its
-// parameter, and function 2 gives nothing.
-fn refusal(alloc: Global, main: &[Instr]) -> Result<u8, AllocError> {
-    let mut code = code_of_none(alloc)?;
-    place(&mut code, on_integers(true, 1, 2), main)?;
-    let same = [Instr::Load(0), Instr::ReturnValue];
-    place(&mut code, on_integers(true, 1, 1), &same)?;
-    place(&mut code, on_integers(false, 0, 0), &[Instr::Return])?;
-    refusal_of(alloc, code)
-}
-
-fn refusal_of(alloc: Global, code: Code) -> Result<u8, AllocError> {
-    match verify(alloc, code) {
-        Ok(_) => Ok(0),
-        Err(e) => Ok(e.number()),
-    }
-}
-
-fn callee(function: u32, site: u32, target: Option<u32>) -> Callee {
-    Callee {
+fn call(kind: CallKind, function: u32, site: u32, target: Option<u32>) -> Instr {
+    let callee = Callee {
         function,
         site,
         line: 9,
         target,
         passed: 0,
         lent: 0,
+    };
+    Instr::Call(kind, callee)
+}
+
+fn instr(step: Step) -> Instr {
+    match step {
+        Just(instr) => instr,
+        Call(function, site, target) => call(CallKind::Plain, function, site, target),
+        Spawn(function, site, target) => call(CallKind::Spawned, function, site, target),
     }
 }
 
-fn called(function: u32, site: u32, target: Option<u32>) -> Instr {
-    Instr::Call(CallKind::Plain, callee(function, site, target))
+fn push_all(instrs: &mut Vec<Instr>, steps: &[Step]) -> Result<(), AllocError> {
+    for step in steps {
+        instrs.push(instr(*step))?;
+    }
+    Ok(())
 }
 
-fn spawned(function: u32, site: u32, target: Option<u32>) -> Instr {
-    Instr::Call(CallKind::Spawned, callee(function, site, target))
+/// A function, placed after the instructions that stand already.
+fn place_steps(code: &mut Code, f: Func, steps: &[Step]) -> Result<(), AllocError> {
+    let start = code.instrs.len();
+    push_all(&mut code.instrs, steps)?;
+    end_function(code, f, start)
 }
 
-// Each main is refused with this number, or fits at 0.
-fn all_are(alloc: Global, cases: &[(&[Instr], u8)]) -> Result<bool, AllocError> {
-    for (main, number) in cases {
-        if refusal(alloc, main)? != *number {
-            return Ok(false);
+const ONE: Step = Just(Instr::Push(1));
+
+const END: Step = Just(Instr::ReturnValue);
+
+const OPEN: Step = Just(Instr::Open(BlockKind::Scope));
+
+const CLOSE: Step = Just(Instr::Close);
+
+const SYNC: Step = Just(Instr::Sync);
+
+/// The name that `SPAWN` gives its result to.
+const LOAD: Step = Just(Instr::Load(1));
+
+/// The parameter.
+const TEST: Step = Just(Instr::Load(0));
+
+const SPAWN: Step = Spawn(1, 2, Some(1));
+
+const OTHER: Step = Spawn(1, 2, Some(0));
+
+/// Sites of function 1 in place and spawned, and of function 2 in place and spawned.
+static FRAME: Frame = Frame {
+    sites: &[
+        (CallKind::Plain, 1),
+        (CallKind::Spawned, 1),
+        (CallKind::Plain, 2),
+        (CallKind::Spawned, 2),
+    ],
+    passed: &[],
+    lent: &[],
+};
+
+const MAIN: Func = Func {
+    params: 1,
+    slots: 2,
+    ..GIVING
+};
+
+/// Function 1 gives its parameter, and function 2 gives nothing.
+static OTHERS: [Placed; 2] = [
+    (
+        Func {
+            params: 1,
+            slots: 1,
+            ..GIVING
+        },
+        &[Instr::Load(0), Instr::ReturnValue],
+    ),
+    (NOTHING, &[Instr::Return]),
+];
+
+/// Code without a function, with a reducer and a tag.
+fn add_all_but_functions(alloc: Global, code: &mut Code) -> Result<(), AllocError> {
+    add_frame(alloc, code, &FRAME)?;
+    add_reducer(alloc, code, b"", Reduction::Sum)?;
+    code.tags.push(Name::new(alloc, b"")?)?;
+    Ok(())
+}
+
+fn place_main(alloc: Global, code: &mut Code, steps: &[Step]) -> Result<(), AllocError> {
+    add_all_but_functions(alloc, code)?;
+    place_steps(code, MAIN, steps)?;
+    place_all(code, &OTHERS)
+}
+
+/// The number of the refusal of a main with one parameter and two names, or 0 where it fits.
+fn refusal(alloc: Global, steps: &[Step]) -> Result<u8, AllocError> {
+    let mut code = no_code(alloc);
+    place_main(alloc, &mut code, steps)?;
+    refusal_of(alloc, code)
+}
+
+/// A main, and the number of its refusal, or 0 where it fits.
+type Case = (&'static [Step], u8);
+
+/// The index of the first case that comes out otherwise.
+fn wrong_case(alloc: Global, cases: &[Case]) -> Result<Option<usize>, AllocError> {
+    for (k, (steps, number)) in cases.iter().enumerate() {
+        if refusal(alloc, *steps)? != *number {
+            return Ok(Some(k));
         }
     }
-    Ok(true)
+    Ok(None)
 }
 
-// The number of the refusal of code with a main alone, and these instructions after it.
-fn refusal_alone(
-    alloc: Global,
+/// A main alone, of one name.
+struct Alone {
     gives_int: bool,
     params: usize,
-    body: &[Instr],
-    after: &[Instr],
-) -> Result<u8, AllocError> {
-    let mut code = code_of_none(alloc)?;
-    place(&mut code, on_integers(gives_int, params, 1), body)?;
-    code.instrs.extend_from_slice(after)?;
+    body: &'static [Instr],
+    /// Instructions after it.
+    after: &'static [Instr],
+    number: u8,
+}
+
+static ALONE: [Alone; 5] = [
+    Alone {
+        gives_int: true,
+        params: 1,
+        body: &[Instr::Push(1), Instr::ReturnValue],
+        after: &[],
+        number: 0,
+    },
+    // more parameters than names
+    Alone {
+        gives_int: true,
+        params: 2,
+        body: &[Instr::Push(1), Instr::ReturnValue],
+        after: &[],
+        number: 6,
+    },
+    // an instruction after the last function
+    Alone {
+        gives_int: true,
+        params: 1,
+        body: &[Instr::Push(1), Instr::ReturnValue],
+        after: &[Instr::Return],
+        number: 6,
+    },
+    // a function without instructions, and a main that gives nothing
+    Alone {
+        gives_int: true,
+        params: 1,
+        body: &[],
+        after: &[],
+        number: 6,
+    },
+    Alone {
+        gives_int: false,
+        params: 1,
+        body: &[Instr::Return],
+        after: &[],
+        number: 6,
+    },
+];
+
+fn place_alone(alloc: Global, code: &mut Code, alone: &Alone) -> Result<(), AllocError> {
+    add_all_but_functions(alloc, code)?;
+    let f = Func {
+        gives_int: alone.gives_int,
+        params: alone.params,
+        slots: 1,
+        ..NOTHING
+    };
+    place(code, f, alone.body)?;
+    code.instrs.extend_from_slice(alone.after)?;
+    Ok(())
+}
+
+fn refusal_alone(alloc: Global, alone: &Alone) -> Result<u8, AllocError> {
+    let mut code = no_code(alloc);
+    place_alone(alloc, &mut code, alone)?;
     refusal_of(alloc, code)
 }
 
 #[test]
-fn functions(rt: HostRuntime) -> Result<(), AllocError> {
-    let alloc = rt.alloc();
-    let code = code_of_none(alloc)?;
-    assert!(rt; refusal_of(alloc, code)? == 6);
-    let gives = [Instr::Push(1), Instr::ReturnValue];
-    assert!(rt; refusal_alone(alloc, true, 1, &gives, &[])? == 0);
-    // more parameters than names
-    assert!(rt; refusal_alone(alloc, true, 2, &gives, &[])? == 6);
-    // an instruction after the last function
-    assert!(rt; refusal_alone(alloc, true, 1, &gives, &[Instr::Return])? == 6);
-    // a function without instructions, and a main that gives nothing
-    assert!(rt; refusal_alone(alloc, true, 1, &[], &[])? == 6);
-    assert!(rt; refusal_alone(alloc, false, 1, &[Instr::Return], &[])? == 6);
-    let cases: [(&[Instr], u8); 3] = [
-        (&gives, 0),
-        // runs on into the next function
-        (&[Instr::Push(1)], 6),
-        // a return of the other kind
-        (&[Instr::Return], 6),
-    ];
-    assert!(rt; all_are(alloc, &cases)?);
-    Ok(())
-}
-
-#[test]
-fn reducers(rt: HostRuntime) -> Result<(), AllocError> {
-    let alloc = rt.alloc();
-    let cases: [(&[&[u8]], u8); 5] = [
-        (&[b"a"], 0),
-        (&[b"a", b"b", b"ab"], 0),
-        // two of one name, whichever way they reduce
-        (&[b"a", b"a"], 6),
-        (&[b"b", b"ab", b"a", b"ab"], 6),
-        (&[b"a", b"b", b"c", b"c"], 6),
-    ];
-    for (names, number) in cases {
-        let mut code = no_code(alloc);
-        let mut how = Reduction::Sum;
-        for name in names {
-            add_reducer(alloc, &mut code, *name, how)?;
-            how = Reduction::Max;
-        }
-        let gives = [Instr::Push(1), Instr::ReturnValue];
-        place(&mut code, on_integers(true, 1, 1), &gives)?;
-        assert!(rt; refusal_of(alloc, code)? == number);
+fn mains_alone(rt: HostRuntime) -> Result<(), AllocError> {
+    for (k, alone) in ALONE.iter().enumerate() {
+        assert_eq!(rt; refusal_alone(rt.alloc(), alone)?, alone.number, "row {k}");
     }
     Ok(())
 }
 
 #[test]
-fn jumps(rt: HostRuntime) -> Result<(), AllocError> {
-    let alloc = rt.alloc();
-    let one = Instr::Push(1);
-    let end = Instr::ReturnValue;
-    let cases: [(&[Instr], u8); 10] = [
-        (&[one, Instr::SkipIfZero(0), one, end], 0),
-        // two branches with unequal operands
-        (&[one, Instr::SkipIfZero(1), one, end], 6),
-        // one past the function's end, and into the next one
-        (&[one, Instr::SkipIfZero(2), one, end], 6),
-        (&[one, Instr::SkipIfZero(3), one, end], 6),
-        (&[Instr::Skip(1), one], 6),
-        // a turn that leaves an operand more
-        (&[one, Instr::GoBack(1)], 6),
-        (&[one, Instr::Store(0), Instr::GoBack(2)], 0),
-        // never reached: any place of the function will do, and no other
-        (&[one, end, Instr::GoBack(2)], 0),
-        (&[one, end, Instr::GoBack(3)], 6),
-        (&[one, end, Instr::Skip(0)], 6),
-    ];
-    assert!(rt; all_are(alloc, &cases)?);
+fn no_function(rt: HostRuntime) -> Result<(), AllocError> {
+    let mut code = no_code(rt.alloc());
+    add_all_but_functions(rt.alloc(), &mut code)?;
+    assert_eq!(rt; refusal_of(rt.alloc(), code)?, 6);
     Ok(())
 }
+
+/// The names of reducers, and the number of the refusal.
+static REDUCERS: [(&[&[u8]], u8); 5] = [
+    (&[b"a"], 0),
+    (&[b"a", b"b", b"ab"], 0),
+    // two of one name, whichever way they reduce
+    (&[b"a", b"a"], 6),
+    (&[b"b", b"ab", b"a", b"ab"], 6),
+    (&[b"a", b"b", b"c", b"c"], 6),
+];
+
+/// The first of the reducers sums, and each other one keeps the greatest.
+fn add_reducers(alloc: Global, code: &mut Code, names: &[&[u8]]) -> Result<(), AllocError> {
+    let mut how = Reduction::Sum;
+    for name in names {
+        add_reducer(alloc, code, *name, how)?;
+        how = Reduction::Max;
+    }
+    Ok(())
+}
+
+/// A main of one parameter.
+const MAIN_OF_ONE: Func = Func {
+    params: 1,
+    slots: 1,
+    ..GIVING
+};
+
+static GIVES: [Instr; 2] = [Instr::Push(1), Instr::ReturnValue];
+
+fn refusal_of_reducers(alloc: Global, names: &[&[u8]]) -> Result<u8, AllocError> {
+    let mut code = no_code(alloc);
+    add_reducers(alloc, &mut code, names)?;
+    place(&mut code, MAIN_OF_ONE, &GIVES)?;
+    refusal_of(alloc, code)
+}
+
+#[test]
+fn reducers(rt: HostRuntime) -> Result<(), AllocError> {
+    for (k, (names, number)) in REDUCERS.iter().enumerate() {
+        assert_eq!(rt;
+            refusal_of_reducers(rt.alloc(), *names)?,
+            *number,
+            "row {k}"
+        );
+    }
+    Ok(())
+}
+
+static FUNCTIONS: [Case; 3] = [
+    (&[ONE, END], 0),
+    // runs on into the next function
+    (&[ONE], 6),
+    // a return of the other kind
+    (&[Just(Instr::Return)], 6),
+];
+
+#[test]
+fn functions(rt: HostRuntime) -> Result<(), AllocError> {
+    assert_eq!(rt; wrong_case(rt.alloc(), &FUNCTIONS)?, None);
+    Ok(())
+}
+
+static JUMPS: [Case; 10] = [
+    (&[ONE, Just(Instr::SkipIfZero(0)), ONE, END], 0),
+    // two branches with unequal operands
+    (&[ONE, Just(Instr::SkipIfZero(1)), ONE, END], 6),
+    // one past the function's end, and into the next one
+    (&[ONE, Just(Instr::SkipIfZero(2)), ONE, END], 6),
+    (&[ONE, Just(Instr::SkipIfZero(3)), ONE, END], 6),
+    (&[Just(Instr::Skip(1)), ONE], 6),
+    // a turn that leaves an operand more
+    (&[ONE, Just(Instr::GoBack(1))], 6),
+    (&[ONE, Just(Instr::Store(0)), Just(Instr::GoBack(2))], 0),
+    // never reached: any place of the function will do, and no other
+    (&[ONE, END, Just(Instr::GoBack(2))], 0),
+    (&[ONE, END, Just(Instr::GoBack(3))], 6),
+    (&[ONE, END, Just(Instr::Skip(0))], 6),
+];
+
+#[test]
+fn jumps(rt: HostRuntime) -> Result<(), AllocError> {
+    assert_eq!(rt; wrong_case(rt.alloc(), &JUMPS)?, None);
+    Ok(())
+}
+
+const PLUS: Step = Just(Instr::Binary(Operator::Plus, 1));
+
+const NOT: Step = Just(Instr::Unary(UnaryOperator::Not, 1));
+
+const PRINT: Step = Just(Instr::Print);
+
+const REDUCE: Step = Just(Instr::Reduce(0));
+
+static OPERANDS: [Case; 13] = [
+    (&[END], 6),
+    (&[ONE, PLUS, END], 6),
+    (&[ONE, ONE, PLUS, END], 0),
+    (&[NOT, END], 6),
+    (&[PRINT, ONE, END], 6),
+    (&[REDUCE, ONE, END], 6),
+    (&[ONE, PRINT, ONE, REDUCE, ONE, END], 0),
+    // an argument missing
+    (&[Call(1, 1, None), ONE, END], 6),
+    (&[ONE, Call(1, 1, None), ONE, END], 0),
+    // an operand left over: at a spawn, at a join, at a scope's end
+    (&[ONE, ONE, Call(1, 1, None), END], 0),
+    (&[ONE, ONE, Spawn(1, 2, None), END], 6),
+    (&[ONE, SYNC, END], 6),
+    (&[OPEN, ONE, CLOSE, END], 6),
+];
 
 #[test]
 fn operands(rt: HostRuntime) -> Result<(), AllocError> {
-    let alloc = rt.alloc();
-    let one = Instr::Push(1);
-    let end = Instr::ReturnValue;
-    let plus = Instr::Binary(Operator::Plus, 1);
-    let cases: [(&[Instr], u8); 13] = [
-        (&[end], 6),
-        (&[one, plus, end], 6),
-        (&[one, one, plus, end], 0),
-        (&[Instr::Unary(UnaryOperator::Not, 1), end], 6),
-        (&[Instr::Print, one, end], 6),
-        (&[Instr::Reduce(0), one, end], 6),
-        (&[one, Instr::Print, one, Instr::Reduce(0), one, end], 0),
-        // an argument missing
-        (&[called(1, 1, None), one, end], 6),
-        (&[one, called(1, 1, None), one, end], 0),
-        // an operand left over: at a spawn, at a join, at a scope's end
-        (&[one, one, called(1, 1, None), end], 0),
-        (&[one, one, spawned(1, 2, None), end], 6),
-        (&[one, Instr::Sync, end], 6),
-        (&[OPEN, one, Instr::Close, end], 6),
-    ];
-    assert!(rt; all_are(alloc, &cases)?);
+    assert_eq!(rt; wrong_case(rt.alloc(), &OPERANDS)?, None);
     Ok(())
 }
+
+static NAMES: [Case; 16] = [
+    (&[Just(Instr::Load(1)), END], 0),
+    (&[Just(Instr::Load(2)), END], 6),
+    (&[ONE, Just(Instr::Store(2)), ONE, END], 6),
+    (&[ONE, Call(1, 1, Some(1)), ONE, END], 0),
+    (&[ONE, Call(1, 1, Some(2)), ONE, END], 6),
+    // a function and sites that are not there
+    (&[ONE, Call(3, 1, None), ONE, END], 6),
+    (&[ONE, Call(1, 0, None), ONE, END], 6),
+    (&[ONE, Call(1, 5, None), ONE, END], 6),
+    // a site of the other kind, and of another function
+    (&[ONE, Call(1, 2, None), ONE, END], 6),
+    (&[ONE, Call(1, 3, None), ONE, END], 6),
+    // a slot for the result of a call that gives none
+    (&[Call(2, 3, None), ONE, END], 0),
+    (&[Call(2, 3, Some(1)), ONE, END], 6),
+    // a reducer and a tag that are not there, never reached too
+    (&[ONE, Just(Instr::Reduce(1)), ONE, END], 6),
+    (&[ONE, END, Just(Instr::Reduce(1))], 6),
+    (
+        &[Just(Instr::Open(BlockKind::Region(0))), CLOSE, ONE, END],
+        0,
+    ),
+    (
+        &[Just(Instr::Open(BlockKind::Region(1))), CLOSE, ONE, END],
+        6,
+    ),
+];
 
 #[test]
 fn names(rt: HostRuntime) -> Result<(), AllocError> {
-    let alloc = rt.alloc();
-    let one = Instr::Push(1);
-    let end = Instr::ReturnValue;
-    let cases: [(&[Instr], u8); 16] = [
-        (&[Instr::Load(1), end], 0),
-        (&[Instr::Load(2), end], 6),
-        (&[one, Instr::Store(2), one, end], 6),
-        (&[one, called(1, 1, Some(1)), one, end], 0),
-        (&[one, called(1, 1, Some(2)), one, end], 6),
-        // a function and sites that are not there
-        (&[one, called(3, 1, None), one, end], 6),
-        (&[one, called(1, 0, None), one, end], 6),
-        (&[one, called(1, 5, None), one, end], 6),
-        // a site of the other kind, and of another function
-        (&[one, called(1, 2, None), one, end], 6),
-        (&[one, called(1, 3, None), one, end], 6),
-        // a slot for the result of a call that gives none
-        (&[called(2, 3, None), one, end], 0),
-        (&[called(2, 3, Some(1)), one, end], 6),
-        // a reducer and a tag that are not there, never reached too
-        (&[one, Instr::Reduce(1), one, end], 6),
-        (&[one, end, Instr::Reduce(1)], 6),
-        (
-            &[Instr::Open(BlockKind::Region(0)), Instr::Close, one, end],
-            0,
-        ),
-        (
-            &[Instr::Open(BlockKind::Region(1)), Instr::Close, one, end],
-            6,
-        ),
-    ];
-    assert!(rt; all_are(alloc, &cases)?);
+    assert_eq!(rt; wrong_case(rt.alloc(), &NAMES)?, None);
     Ok(())
 }
+
+static BLOCKS: [Case; 12] = [
+    (&[OPEN, CLOSE, ONE, END], 0),
+    (&[CLOSE, ONE, END], 6),
+    // left open: at a return, and at a jump back
+    (&[OPEN, ONE, END], 6),
+    (&[OPEN, Just(Instr::GoBack(1))], 6),
+    (&[OPEN, CLOSE, Just(Instr::GoBack(2))], 0),
+    // a name that a spawn has
+    (&[ONE, SPAWN, LOAD, END], 6),
+    (&[ONE, SPAWN, ONE, SPAWN, ONE, END], 6),
+    (&[ONE, SPAWN, SYNC, LOAD, END], 0),
+    // its own block joins it, and no other
+    (&[OPEN, ONE, SPAWN, CLOSE, LOAD, END], 0),
+    (
+        &[
+            ONE,
+            SPAWN,
+            OPEN,
+            SYNC,
+            LOAD,
+            Just(Instr::Store(0)),
+            CLOSE,
+            ONE,
+            END,
+        ],
+        6,
+    ),
+    (&[ONE, SPAWN, OPEN, CLOSE, LOAD, END], 6),
+    (&[ONE, SPAWN, OPEN, CLOSE, SYNC, LOAD, END], 0),
+];
 
 #[test]
 fn blocks(rt: HostRuntime) -> Result<(), AllocError> {
-    let alloc = rt.alloc();
-    let one = Instr::Push(1);
-    let end = Instr::ReturnValue;
-    let load = Instr::Load(1);
-    let spawn = spawned(1, 2, Some(1));
-    let close = Instr::Close;
-    let cases: [(&[Instr], u8); 12] = [
-        (&[OPEN, close, one, end], 0),
-        (&[close, one, end], 6),
-        // left open: at a return, and at a jump back
-        (&[OPEN, one, end], 6),
-        (&[OPEN, Instr::GoBack(1)], 6),
-        (&[OPEN, close, Instr::GoBack(2)], 0),
-        // a name that a spawn has
-        (&[one, spawn, load, end], 6),
-        (&[one, spawn, one, spawn, one, end], 6),
-        (&[one, spawn, Instr::Sync, load, end], 0),
-        // its own block joins it, and no other
-        (&[OPEN, one, spawn, close, load, end], 0),
-        (
-            &[
-                one,
-                spawn,
-                OPEN,
-                Instr::Sync,
-                load,
-                Instr::Store(0),
-                close,
-                one,
-                end,
-            ],
-            6,
-        ),
-        (&[one, spawn, OPEN, close, load, end], 6),
-        (&[one, spawn, OPEN, close, Instr::Sync, load, end], 0),
-    ];
-    assert!(rt; all_are(alloc, &cases)?);
+    assert_eq!(rt; wrong_case(rt.alloc(), &BLOCKS)?, None);
     Ok(())
 }
 
+/// Past an operand and a spawn.
+const PAST: Step = Just(Instr::SkipIfZero(2));
+
+/// Past an operand, a spawn and the skip of the other branch.
+const ELSE: Step = Just(Instr::SkipIfZero(3));
+
+/// Past the other branch.
+const ON: Step = Just(Instr::Skip(2));
+
+static BRANCHES: [Case; 6] = [
+    // one branch has left the name empty
+    (&[TEST, PAST, ONE, SPAWN, LOAD, END], 6),
+    (&[TEST, PAST, ONE, SPAWN, SYNC, LOAD, END], 0),
+    // each branch has left another one empty
+    (
+        &[TEST, ELSE, ONE, SPAWN, ON, ONE, OTHER, SYNC, LOAD, END],
+        0,
+    ),
+    (&[TEST, ELSE, ONE, SPAWN, ON, ONE, OTHER, TEST, END], 6),
+    // a later turn finds a name empty that the first one did not
+    (
+        &[
+            LOAD,
+            Just(Instr::Store(0)),
+            ONE,
+            SPAWN,
+            Just(Instr::GoBack(4)),
+        ],
+        6,
+    ),
+    (
+        &[
+            LOAD,
+            Just(Instr::Store(0)),
+            ONE,
+            SPAWN,
+            SYNC,
+            Just(Instr::GoBack(5)),
+        ],
+        0,
+    ),
+];
+
 #[test]
 fn branches(rt: HostRuntime) -> Result<(), AllocError> {
-    let alloc = rt.alloc();
-    let one = Instr::Push(1);
-    let end = Instr::ReturnValue;
-    let load = Instr::Load(1);
-    let test = Instr::Load(0);
-    let spawn = spawned(1, 2, Some(1));
-    let other = spawned(1, 2, Some(0));
-    let past = Instr::SkipIfZero(2);
-    let cases: [(&[Instr], u8); 6] = [
-        // one branch has left the name empty
-        (&[test, past, one, spawn, load, end], 6),
-        (&[test, past, one, spawn, Instr::Sync, load, end], 0),
-        // each branch has left another one empty
-        (
-            &[
-                test,
-                Instr::SkipIfZero(3),
-                one,
-                spawn,
-                Instr::Skip(2),
-                one,
-                other,
-                Instr::Sync,
-                load,
-                end,
-            ],
-            0,
-        ),
-        (
-            &[
-                test,
-                Instr::SkipIfZero(3),
-                one,
-                spawn,
-                Instr::Skip(2),
-                one,
-                other,
-                test,
-                end,
-            ],
-            6,
-        ),
-        // a later turn finds a name empty that the first one did not
-        (&[load, Instr::Store(0), one, spawn, Instr::GoBack(4)], 6),
-        (
-            &[
-                load,
-                Instr::Store(0),
-                one,
-                spawn,
-                Instr::Sync,
-                Instr::GoBack(5),
-            ],
-            0,
-        ),
-    ];
-    assert!(rt; all_are(alloc, &cases)?);
+    assert_eq!(rt; wrong_case(rt.alloc(), &BRANCHES)?, None);
     Ok(())
 }

@@ -7,8 +7,6 @@ pub mod laws;
 pub mod limits;
 pub mod monoid;
 pub mod syntax;
-#[cfg(test)]
-mod tests;
 pub mod token;
 pub mod total;
 pub mod trap;

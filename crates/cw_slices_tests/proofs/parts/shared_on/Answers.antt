@@ -2,7 +2,7 @@ use Rattle.std.proofs.Common.{◌+◌, length, Some, slice_get, sym, ap, ◌∙�
 use Rattle.cw_slices.specs.Blocks.{IsIn}
 use Rattle.cw_slices.specs.lemmas.Patches.{are_in, in_ins, ins_same, length_ins, length_replicated}
 use Rattle.cw_slices.specs.lemmas.Rights.{halved_of, halved_there}
-use Rattle.cw_slices.proofs.tests.shared_on.Goals as goal
+use Rattle.cw_slices_tests.proofs.parts.shared_on.Goals as goal
 
 pub share-share-requires-clause-there : goal.share-share-requires-clause-there
 share-share-requires-clause-there c =

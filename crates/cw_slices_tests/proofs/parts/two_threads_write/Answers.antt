@@ -1,6 +1,6 @@
 use denote.Param.Send.{sendable}
 use Rattle.cw_slices.specs.lemmas.Sent.{slice_send}
-use Rattle.cw_slices.proofs.tests.two_threads_write.Goals as goal
+use Rattle.cw_slices_tests.proofs.parts.two_threads_write.Goals as goal
 
 pub join-left-requires-send-F : goal.join-left-requires-send-F
 join-left-requires-send-F g c κs = search (sendable, slice_send) depth 9

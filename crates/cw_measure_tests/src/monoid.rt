@@ -2,7 +2,7 @@
 
 ghost use Rattle.std.specs.Prelude.{◌≡◌, IfOk};
 
-use crate::monoid::Monoid;
+use cw_model::monoid::Monoid;
 use std::alloc::{AllocError, Global};
 use std::marker::Model;
 use std::test::Fail;

@@ -1,8 +1,10 @@
+//! Parts that are cut, lent and shared, and joined again, by one thread and by two.
+
 ghost use Rattle.std.specs.Prelude.{◌≡◌, ◌<◌, length, pos, Some, slice_get, slice_set};
 ghost use Rattle.cw_slices.specs.Placed.{IsOwn};
 ghost use Rattle.cw_slices.specs.Blocks.{IsIn};
 
-use super::{Block, Slice};
+use cw_slices::{Block, Slice};
 use std::test::Fail;
 use std::thread;
 
@@ -37,7 +39,7 @@ fn write_first(mut part: Slice, number: i64) -> Slice
 
 // Cuts one inside the other, whose parts two threads write, joined from the inside.
 #[test]
-#[tactic(auto, using(crate::specs::lemmas::Sent::slice_send))]
+#[tactic(auto, using(cw_slices::specs::lemmas::Sent::slice_send))]
 fn two_threads_write(rt: HostRuntime) -> Result<(), Fail> {
     let whole = Slice::zeros(rt.alloc(), 5)?;
     let (left, rest) = whole.cut(2);
@@ -101,7 +103,7 @@ fn read_first(block: Block) -> (Block, i64)
 
 // Two threads read one block, one of them through a share, which it shares on; and then its owner writes it.
 #[test]
-#[tactic(auto, using(crate::specs::lemmas::Sent::slice_send, crate::specs::lemmas::Sent::block_send))]
+#[tactic(auto, using(cw_slices::specs::lemmas::Sent::slice_send, cw_slices::specs::lemmas::Sent::block_send))]
 fn two_threads_read(rt: HostRuntime) -> Result<(), Fail> {
     let mut slice = Slice::zeros(rt.alloc(), 4)?;
     slice.set(0, 6);
@@ -142,7 +144,7 @@ fn write_last(mut block: Block, number: i64) -> Block
 
 // One thread writes a part that is lent, and another the block that it was lent from.
 #[test]
-#[tactic(auto, using(crate::specs::lemmas::Sent::slice_send, crate::specs::lemmas::Sent::block_send))]
+#[tactic(auto, using(cw_slices::specs::lemmas::Sent::slice_send, cw_slices::specs::lemmas::Sent::block_send))]
 fn a_part_is_lent(rt: HostRuntime) -> Result<(), Fail> {
     let mut block = Block::zeros(rt.alloc(), 4)?;
     let part = block.lend(1, 2);

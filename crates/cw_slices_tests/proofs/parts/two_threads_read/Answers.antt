@@ -1,6 +1,6 @@
 use Rattle.std.proofs.Common.{Some, pos, slice_get, slice_set, w64, to_z, of_z, ap, ◌∙◌}
 use Rattle.cw_slices.specs.Blocks.{ins}
-use Rattle.cw_slices.proofs.tests.two_threads_read.Goals as goal
+use Rattle.cw_slices_tests.proofs.parts.two_threads_read.Goals as goal
 
 pub join-block-requires-after_bounds : goal.join-block-requires-after_bounds
 join-block-requires-after_bounds g c κs =

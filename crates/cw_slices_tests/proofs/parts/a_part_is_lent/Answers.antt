@@ -1,7 +1,7 @@
 use Rattle.std.proofs.Common.{◌≡◌, ◌+◌, pos, length, replicate, Some, slice_get, slice_set, inr, ap, ◌∙◌, subst, sym, arith}
 use Rattle.cw_slices.specs.Blocks.{IsIn, ins, outs, patched}
 use Rattle.cw_slices.specs.lemmas.Patches.{are_in, in_ins, in_back, in_beside, length_ins}
-use Rattle.cw_slices.proofs.tests.a_part_is_lent.Goals as goal
+use Rattle.cw_slices_tests.proofs.parts.a_part_is_lent.Goals as goal
 
 pub lend-part-requires-clause-there : goal.lend-part-requires-clause-there
 lend-part-requires-clause-there g c = are_in c.in_ok-block.block.cells 1 2 (λ k lt. subst (λ l. IsIn l (1 + k)) (sym c.in_ok-block.ensures.0) (in_ins (replicate 4 (pos 0)) (1 + k) (omega (arith, lt))))

@@ -1,7 +1,7 @@
 use Rattle.std.proofs.Common.{◌+◌, [], ◌∷◌, pos, slice_set, ap, ◌∙◌, subst, sym, arith}
 use Rattle.cw_slices.specs.Blocks.{IsIn, ins}
 use Rattle.cw_slices.specs.lemmas.Patches.{are_in, in_ins}
-use Rattle.cw_slices.proofs.tests.dropped_with_a_share_out.Goals as goal
+use Rattle.cw_slices_tests.proofs.parts.dropped_with_a_share_out.Goals as goal
 
 pub share-share-requires-clause-there : goal.share-share-requires-clause-there
 share-share-requires-clause-there g c =

@@ -2,7 +2,7 @@ use Rattle.std.proofs.Common.{◌≡◌, ◌+◌, ℤ, List, [], ◌∷◌, pos,
 use Prim.Native.Nat.{suc}
 use Rattle.cw_slices.specs.Blocks.{IsIn, ins, outs, patched}
 use Rattle.cw_slices.specs.lemmas.Patches.{are_in, in_ins}
-use Rattle.cw_slices.proofs.tests.parts_are_lent_at_the_ends.Goals as goal
+use Rattle.cw_slices_tests.proofs.parts.parts_are_lent_at_the_ends.Goals as goal
 
 one_of : (xs : List ℤ) → length xs ≡ 1 → (x : ℤ) × (xs ≡ x ∷ [])
 one_of [] e = let e' : 0 ≡ 1 = e in absurd (omega (arith, e'))
