@@ -4,4 +4,6 @@
 #[cfg(test)]
 mod machine;
 #[cfg(test)]
+mod programs;
+#[cfg(test)]
 mod report;

@@ -1,0 +1,129 @@
+//! Arguments, limits and burdens that a run refuses.
+
+use crate::machine::{MOST, Setting, code_in};
+use cw_code::code::Instr;
+use cw_machine::alone::run_alone;
+use cw_machine::values::values_alone;
+use cw_model::burden::{Burden, Edges};
+use cw_text::Fault;
+use cw_verify::verified::Verified;
+use std::alloc::Global;
+use std::sync::Arc;
+
+// A run of four instructions on one argument, with these arguments, this limit and this charge, and the number of its
+// refusal, or 0 where it ends with its value.
+#[derive(Clone, Copy)]
+struct Request {
+    name: &'static str,
+    args: &'static [i64],
+    limit: u64,
+    charge: u64,
+    number: u8,
+}
+
+static REQUESTS: [Request; 8] = [
+    Request {
+        name: "its argument and its cost",
+        args: &[5],
+        limit: 4,
+        charge: 0,
+        number: 0,
+    },
+    Request {
+        name: "one instruction less",
+        args: &[5],
+        limit: 3,
+        charge: 0,
+        number: 7,
+    },
+    Request {
+        name: "the greatest limit and charge",
+        args: &[5],
+        limit: MOST,
+        charge: 1_000_000_000,
+        number: 0,
+    },
+    Request {
+        name: "no argument",
+        args: &[],
+        limit: 4,
+        charge: 0,
+        number: 11,
+    },
+    Request {
+        name: "two arguments",
+        args: &[5, 6],
+        limit: 4,
+        charge: 0,
+        number: 11,
+    },
+    Request {
+        name: "no instruction",
+        args: &[5],
+        limit: 0,
+        charge: 0,
+        number: 11,
+    },
+    Request {
+        name: "one more than the greatest limit",
+        args: &[5],
+        limit: MOST + 1,
+        charge: 0,
+        number: 11,
+    },
+    Request {
+        name: "one more than the greatest charge",
+        args: &[5],
+        limit: 4,
+        charge: 1_000_000_001,
+        number: 11,
+    },
+];
+
+const BODY: &[Instr] = &[
+    Instr::Load(0),
+    Instr::Push(3),
+    Instr::Reduce(0),
+    Instr::ReturnValue,
+];
+
+impl Request {
+    fn burden(&self) -> Burden {
+        Burden {
+            charge: self.charge,
+            edges: Edges::Spawn,
+        }
+    }
+}
+
+// The number of the refusal of a run.
+fn refusal(alloc: Global, code: Arc<Verified>, request: &Request) -> u8 {
+    match run_alone(alloc, code, request.args, request.limit, request.burden()) {
+        Ok(_) => 0,
+        Err(fault) => fault.number(),
+    }
+}
+
+// The same with nothing counted.
+fn plain_refusal(alloc: Global, code: Arc<Verified>, request: &Request) -> u8 {
+    match values_alone(alloc, code, request.args, request.limit, request.burden()) {
+        Ok(_) => 0,
+        Err(fault) => fault.number(),
+    }
+}
+
+// Whether both runs are answered so.
+fn is_answered(alloc: Global, request: &Request) -> Result<bool, Fault> {
+    let code = code_in(alloc, Setting::Small, BODY)?;
+    let counted = refusal(alloc, Arc::try_clone(&code)?, request);
+    let plain = plain_refusal(alloc, code, request);
+    Ok(counted == request.number && plain == request.number)
+}
+
+#[test]
+fn requests(rt: HostRuntime) -> Result<(), Fault> {
+    for request in &REQUESTS {
+        assert!(rt; is_answered(rt.alloc(), request)?, "{}", request.name);
+    }
+    Ok(())
+}
