@@ -1,7 +1,6 @@
 //! Rows for bytes, tokens and the grammar.
 
 use crate::told::all_told;
-use std::test::Fail;
 
 const TOKENS: &[(&str, &str)] = &[
     (

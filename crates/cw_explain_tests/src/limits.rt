@@ -1,11 +1,23 @@
 //! A row for each limit, and one for each trap.
 
-use crate::told::told;
+use crate::told::is_told;
 use cw_model::trap::Trap;
 use cw_text::Fault;
 use cw_told::explain;
 use std::alloc::{AllocError, Global};
+use std::process::Abort;
 use std::test::Fail;
+
+// A text that repeats a part.
+enum Text {
+    // What stands in front, the part, how often it stands there, and what stands behind.
+    Repeated(&'static str, &'static str, usize, &'static str),
+    // What stands in front, what stands in each part before its number and behind it, how many parts there are, numbered from
+    // 0, and what stands behind.
+    Numbered(&'static str, (&'static str, &'static str), u32, &'static str),
+    // 16 functions of 256 loops, each in 258 lines, and one loop more.
+    Loops,
+}
 
 // So many times a text, in front of another and behind one.
 fn repeated(
@@ -15,12 +27,8 @@ fn repeated(
     count: usize,
     back: &str,
 ) -> Result<String, AllocError> {
-    let mut out = String::from_str(alloc, front)?;
-    for _ in 0..count {
-        out.push_str(text)?;
-    }
-    out.push_str(back)?;
-    Ok(out)
+    let many = text.repeat(alloc, count)?;
+    format!(in alloc; "{front}{many}{back}")
 }
 
 // So many texts, each with its number in place of the mark between two parts.
@@ -28,182 +36,191 @@ fn numbered(
     alloc: Global,
     front: &str,
     parts: (&str, &str),
-    count: usize,
+    count: u32,
     back: &str,
 ) -> Result<String, AllocError> {
+    let (before, behind) = parts;
     let mut out = String::from_str(alloc, front)?;
     for number in 0..count {
-        out.push_str(parts.0)?;
-        write!(out, "{number}")?;
-        out.push_str(parts.1)?;
+        let part = format!(in alloc; "{before}{number}{behind}")?;
+        out.push_str(part.as_str())?;
     }
     out.push_str(back)?;
     Ok(out)
 }
 
+fn loops(alloc: Global) -> Result<String, AllocError> {
+    let each = "cilk_for (int i = 0; i < 1; i++) { }\n";
+    let full = repeated(alloc, "() {\n", each, 256, "}\n")?;
+    let back = "int main() {\n  cilk_for (int i = 0; i < 1; i++) { }\n  return 0; }";
+    numbered(alloc, "", ("void f", full.as_str()), 16, back)
+}
+
+fn text_of(alloc: Global, text: &Text) -> Result<String, AllocError> {
+    match text {
+        Text::Repeated(front, part, count, back) => repeated(alloc, front, part, *count, back),
+        Text::Numbered(front, parts, count, back) => numbered(alloc, front, *parts, *count, back),
+        Text::Loops => loops(alloc),
+    }
+}
+
+// Limits of text and of tokens, each with what is told.
+const OF_TEXT: &[(Text, &str)] = &[
+    (
+        Text::Repeated("", "\n", 1_048_577, ""),
+        "refused 5 line 1\nthe source has 1048577 bytes: at most 1048576\n",
+    ),
+    (
+        Text::Repeated("int\n", "(", 65, ""),
+        "refused 5 line 2\nmore than 64 brackets are open at once in this line\n  2 | (((((((((((((((((((((((((((((((((((((((((((((((((((((((((((((((((\n",
+    ),
+    (
+        Text::Repeated("int main() {\nreturn 1", "\n+ 1", 128, ";\n}"),
+        "refused 5 line 130\nmore than 256 tokens stand in a row without a semicolon or a brace: take a name for a part\n  130 | + 1;\n",
+    ),
+];
+
+// Limits of the parts of a source, each with what is told.
+const OF_PARTS: &[(Text, &str)] = &[
+    (
+        Text::Numbered(
+            "int main() { return 0; }\n",
+            ("void f", "() { }\n"),
+            1_024,
+            "",
+        ),
+        "refused 5 line 1025\nthere are more than 1024 functions\n  1025 | void f1023() { }\n",
+    ),
+    (
+        Text::Numbered(
+            "int main() { return 0; }\n",
+            ("reducer sum r", ";\n"),
+            33,
+            "",
+        ),
+        "refused 5 line 34\nthere are more than 32 reducers\n  34 | reducer sum r32;\n",
+    ),
+    // of both kinds, 32 in all
+    (
+        Text::Numbered(
+            "reducer sum s;\nint main() { return 0; }\n",
+            ("reducer max m", ";\n"),
+            32,
+            "",
+        ),
+        "refused 5 line 34\nthere are more than 32 reducers\n  34 | reducer max m31;\n",
+    ),
+    (
+        Text::Numbered(
+            "void f(int a",
+            (", int b", ""),
+            16,
+            ")\n{ }\nint main() { return 0; }",
+        ),
+        "refused 5 line 1\nf has 17 parameters: at most 16\n  1 | void f(int a, int b0, int b1, int b2, int b3, int b4, int b5, int b6, int b7, int b8, int b9, int b10, int b11, int b12, int b13, int b14, int b15)\n",
+    ),
+    (
+        Text::Numbered(
+            "int main(int n) {\n",
+            ("int x", " = 0;\n"),
+            256,
+            "return 0; }",
+        ),
+        "refused 5 line 257\nmain declares more than 256 names, its parameters among them: move a part into a function of its own\n  257 | int x255 = 0;\n",
+    ),
+    (
+        Text::Repeated(
+            "int main() {\n  ",
+            "region t01234567890123456789012345678901 { }",
+            1,
+            "\n  return 0;\n}",
+        ),
+        "refused 5 line 2\nthe tag t01234567890123456789012345678901 has 33 bytes: at most 32\n  2 |   region t01234567890123456789012345678901 { }\n",
+    ),
+    (
+        Text::Numbered("int main() {\n", ("region t", " { }\n"), 65, "return 0; }"),
+        "refused 5 line 66\nthere are more than 64 different tags\n  66 | region t64 { }\n",
+    ),
+];
+
+// The limit of loops, with what is told.
+const OF_LOOPS: &[(Text, &str)] = &[(
+    Text::Loops,
+    "refused 5 line 4130\nthere are more than 4096 cilk_for statements\n  4130 |   cilk_for (int i = 0; i < 1; i++) { }\n",
+)];
+
+// Asserts that this is told of each of these texts.
+fn all_told(rt: &impl Abort, alloc: Global, rows: &[(Text, &str)]) -> Result<(), Fail> {
+    for (text, wanted) in rows {
+        let whole = text_of(alloc, text)?;
+        let holds = is_told(alloc, whole.as_bytes(), wanted);
+        assert!(rt; holds, "{wanted}");
+    }
+    Ok(())
+}
+
 #[test]
 fn limits_of_text_and_tokens(rt: HostRuntime) -> Result<(), Fail> {
-    let alloc = rt.alloc();
-    let long = repeated(alloc, "", "\n", 1_048_577, "")?;
-    assert_eq!(rt;
-        told(alloc, long.as_bytes())?.as_str(),
-        "refused 5 line 1\nthe source has 1048577 bytes: at most 1048576\n"
-    );
-    let open = repeated(alloc, "int\n", "(", 65, "")?;
-    assert_eq!(rt;
-        told(alloc, open.as_bytes())?.as_str(),
-        "refused 5 line 2\nmore than 64 brackets are open at once in this line\n  2 | (((((((((((((((((((((((((((((((((((((((((((((((((((((((((((((((((\n"
-    );
-    let row = repeated(alloc, "int main() {\nreturn 1", "\n+ 1", 128, ";\n}")?;
-    assert_eq!(rt;
-        told(alloc, row.as_bytes())?.as_str(),
-        "refused 5 line 130\nmore than 256 tokens stand in a row without a semicolon or a brace: take a name for a part\n  130 | + 1;\n"
-    );
-    Ok(())
+    all_told(&rt, rt.alloc(), OF_TEXT)
 }
 
 #[test]
 fn limits_of_parts(rt: HostRuntime) -> Result<(), Fail> {
-    let alloc = rt.alloc();
-    let functions = numbered(
-        alloc,
-        "int main() { return 0; }\n",
-        ("void f", "() { }\n"),
-        1_024,
-        "",
-    )?;
-    assert_eq!(rt;
-        told(alloc, functions.as_bytes())?.as_str(),
-        "refused 5 line 1025\nthere are more than 1024 functions\n  1025 | void f1023() { }\n"
-    );
-    let reducers = numbered(
-        alloc,
-        "int main() { return 0; }\n",
-        ("reducer sum r", ";\n"),
-        33,
-        "",
-    )?;
-    assert_eq!(rt;
-        told(alloc, reducers.as_bytes())?.as_str(),
-        "refused 5 line 34\nthere are more than 32 reducers\n  34 | reducer sum r32;\n"
-    );
-    // of both kinds, 32 in all
-    let both = numbered(
-        alloc,
-        "reducer sum s;\nint main() { return 0; }\n",
-        ("reducer max m", ";\n"),
-        32,
-        "",
-    )?;
-    assert_eq!(rt;
-        told(alloc, both.as_bytes())?.as_str(),
-        "refused 5 line 34\nthere are more than 32 reducers\n  34 | reducer max m31;\n"
-    );
-    let parameters = numbered(
-        alloc,
-        "void f(int a",
-        (", int b", ""),
-        16,
-        ")\n{ }\nint main() { return 0; }",
-    )?;
-    assert_eq!(rt;
-        told(alloc, parameters.as_bytes())?.as_str(),
-        "refused 5 line 1\nf has 17 parameters: at most 16\n  1 | void f(int a, int b0, int b1, int b2, int b3, int b4, int b5, int b6, int b7, int b8, int b9, int b10, int b11, int b12, int b13, int b14, int b15)\n"
-    );
-    let declared = numbered(
-        alloc,
-        "int main(int n) {\n",
-        ("int x", " = 0;\n"),
-        256,
-        "return 0; }",
-    )?;
-    assert_eq!(rt;
-        told(alloc, declared.as_bytes())?.as_str(),
-        "refused 5 line 257\nmain declares more than 256 names, its parameters among them: move a part into a function of its own\n  257 | int x255 = 0;\n"
-    );
-    let long = "int main() {\n  region t01234567890123456789012345678901 { }\n  return 0;\n}";
-    assert_eq!(rt;
-        told(alloc, long.as_bytes())?.as_str(),
-        "refused 5 line 2\nthe tag t01234567890123456789012345678901 has 33 bytes: at most 32\n  2 |   region t01234567890123456789012345678901 { }\n"
-    );
-    let tags = numbered(
-        alloc,
-        "int main() {\n",
-        ("region t", " { }\n"),
-        65,
-        "return 0; }",
-    )?;
-    assert_eq!(rt;
-        told(alloc, tags.as_bytes())?.as_str(),
-        "refused 5 line 66\nthere are more than 64 different tags\n  66 | region t64 { }\n"
-    );
-    // 16 functions of 256 loops, each in 258 lines, and one loop more
-    let full = repeated(
-        alloc,
-        "() {\n",
-        "cilk_for (int i = 0; i < 1; i++) { }\n",
-        256,
-        "}\n",
-    )?;
-    let loops = numbered(
-        alloc,
-        "",
-        ("void f", full.as_str()),
-        16,
-        "int main() {\n  cilk_for (int i = 0; i < 1; i++) { }\n  return 0; }",
-    )?;
-    assert_eq!(rt;
-        told(alloc, loops.as_bytes())?.as_str(),
-        "refused 5 line 4130\nthere are more than 4096 cilk_for statements\n  4130 |   cilk_for (int i = 0; i < 1; i++) { }\n"
-    );
-    Ok(())
+    all_told(&rt, rt.alloc(), OF_PARTS)
 }
 
-// What is told of a trap in line 2.
-fn trapped(alloc: Global, code: Trap) -> Result<String, Fault> {
+#[test]
+fn the_limit_of_loops(rt: HostRuntime) -> Result<(), Fail> {
+    all_told(&rt, rt.alloc(), OF_LOOPS)
+}
+
+// Each trap, and what is told of it in line 2.
+const TRAPS: &[(Trap, &str)] = &[
+    (
+        Trap::Overflow,
+        "the result of an operation is no integer of 64 bits: it is below -2^63 or above 2^63 - 1\n  2 |   int x = 1 / 0;\n",
+    ),
+    (
+        Trap::DivisionByZero,
+        "a division or a remainder by 0\n  2 |   int x = 1 / 0;\n",
+    ),
+    (
+        Trap::OutOfBounds,
+        "an index, the place of a cut or the range of a loop lies outside of its array\n  2 |   int x = 1 / 0;\n",
+    ),
+    (
+        Trap::BadLength,
+        "the length of an array is below 0 or above 16777216\n  2 |   int x = 1 / 0;\n",
+    ),
+    (
+        Trap::TooManyTurns,
+        "a cilk_for has more than 2147483647 turns\n  2 |   int x = 1 / 0;\n",
+    ),
+    (
+        Trap::TooDeep,
+        "more than 10000 calls lie inside one another, that of main among them\n  2 |   int x = 1 / 0;\n",
+    ),
+];
+
+// Whether this is told of a trap in line 2.
+fn is_trap_told(alloc: Global, code: Trap, wanted: &str) -> bool {
     let output = Vec::new(alloc);
     let fault = Fault::Trap {
         code,
         line: 2,
         output,
     };
-    explain(
-        alloc,
-        b"int main() {\n  int x = 1 / 0;\n  return x; }",
-        &fault,
-    )
+    let source = b"int main() {\n  int x = 1 / 0;\n  return x; }";
+    match explain(alloc, source, &fault) {
+        Ok(text) => text.as_str() == wanted,
+        Err(_) => false,
+    }
 }
 
 #[test]
-fn traps(rt: HostRuntime) -> Result<(), Fail> {
-    for (code, text) in [
-        (
-            Trap::Overflow,
-            "the result of an operation is no integer of 64 bits: it is below -2^63 or above 2^63 - 1\n  2 |   int x = 1 / 0;\n",
-        ),
-        (
-            Trap::DivisionByZero,
-            "a division or a remainder by 0\n  2 |   int x = 1 / 0;\n",
-        ),
-        (
-            Trap::OutOfBounds,
-            "an index, the place of a cut or the range of a loop lies outside of its array\n  2 |   int x = 1 / 0;\n",
-        ),
-        (
-            Trap::BadLength,
-            "the length of an array is below 0 or above 16777216\n  2 |   int x = 1 / 0;\n",
-        ),
-        (
-            Trap::TooManyTurns,
-            "a cilk_for has more than 2147483647 turns\n  2 |   int x = 1 / 0;\n",
-        ),
-        (
-            Trap::TooDeep,
-            "more than 10000 calls lie inside one another, that of main among them\n  2 |   int x = 1 / 0;\n",
-        ),
-    ] {
-        let told = trapped(rt.alloc(), code)?;
-        assert_eq!(rt; told.as_str(), text);
+fn traps(rt: HostRuntime) {
+    for (code, wanted) in TRAPS {
+        let holds = is_trap_told(rt.alloc(), *code, wanted);
+        assert!(rt; holds, "{wanted}");
     }
-    Ok(())
 }

@@ -1,7 +1,6 @@
 //! A row for each rule of ownership.
 
 use crate::told::all_told;
-use std::test::Fail;
 
 // What a name is touched by while it is taken.
 const TAKEN: &[(&str, &str)] = &[

@@ -1,7 +1,6 @@
 //! Programs as one writes them at first, coming from Cilk in C: each is refused, and told what to change.
 
 use crate::told::all_told;
-use std::test::Fail;
 
 // Queens, with a call in a test.
 const QUEENS: &str = "\

@@ -7,7 +7,7 @@ use cw_parse::parse;
 use cw_text::{Fault, Source};
 use cw_told::explain;
 use cw_types::check;
-use std::alloc::{AllocError, Global};
+use std::alloc::Global;
 use std::process::Abort;
 
 // The first fault of a text, from its bytes to its loops.
@@ -21,26 +21,29 @@ fn fault_of(alloc: Global, bytes: &[u8]) -> Result<(), Fault> {
     Ok(())
 }
 
-/// What standard error has of a text: the line of its first fault, and what is told of it.
-pub fn told(alloc: Global, bytes: &[u8]) -> Result<String, AllocError> {
+// What standard error has of a text: the line of its first fault, and what is told of it.
+fn told(alloc: Global, bytes: &[u8]) -> Result<String, Fault> {
     match fault_of(alloc, bytes) {
-        Ok(()) => String::from_str(alloc, "ok\n"),
-        Err(fault) => match explain(alloc, bytes, &fault) {
-            Ok(text) => {
-                let text = text.as_str();
-                format!(in alloc; "{fault}\n{text}")
-            }
-            Err(_) => String::from_str(alloc, "no memory\n"),
-        },
+        Ok(()) => Ok(String::from_str(alloc, "ok\n")?),
+        Err(fault) => {
+            let text = explain(alloc, bytes, &fault)?;
+            Ok(format!(in alloc; "{fault}\n{text}")?)
+        }
+    }
+}
+
+/// Whether this is told of a text.
+pub fn is_told(alloc: Global, bytes: &[u8], wanted: &str) -> bool {
+    match told(alloc, bytes) {
+        Ok(told) => told.as_str() == wanted,
+        Err(_) => false,
     }
 }
 
 /// Asserts that this is told of each of these texts.
 pub fn all_told(rt: &impl Abort, alloc: Global, rows: &[(&str, &str)]) {
     for (text, wanted) in rows {
-        match told(alloc, text.as_bytes()) {
-            Ok(told) => assert_eq!(rt; told.as_str(), *wanted, "{text}"),
-            Err(_) => assert!(rt; false, "no memory"),
-        }
+        let holds = is_told(alloc, text.as_bytes(), wanted);
+        assert!(rt; holds, "{text}");
     }
 }

@@ -1,7 +1,6 @@
 //! A row for each rule of names and types.
 
 use crate::told::all_told;
-use std::test::Fail;
 
 const HEADS: &[(&str, &str)] = &[
     (

@@ -1,247 +1,216 @@
 //! Texts with their tokens, each kind alone and beside others, and texts that have none, by the rules of the language.
 
-use cw_lex::lex;
+use crate::stages::{Rule, Stage, all_break, answers, tokens_of};
 use cw_model::limits::MOST_SOURCE_BYTES;
 use cw_model::token::{Kind, Token};
-use cw_text::{Fault, Place, Source};
-use std::alloc::{AllocError, Global};
+use std::alloc::Global;
+use std::process::Abort;
 use std::test::Fail;
 
-fn tokens_of(alloc: Global, text: &[u8]) -> Result<Vec<Token>, Fault> {
-    let source = Source::read(alloc, text)?;
-    let tokens = lex(alloc, &source)?;
-    Ok(tokens)
-}
+/// A token: its kind, the byte that it begins at, the byte behind it, and its line.
+pub type Told = (Kind, u32, u32, u32);
 
-// A part of a text: its kind, and its length in bytes.
-type Part = (Kind, u32);
-
-// Tokens that stand side by side from the first byte on, in the first line.
-fn side_by_side(alloc: Global, parts: &[Part]) -> Result<Vec<Token>, AllocError> {
-    let mut tokens = Vec::new(alloc);
-    let mut start = 0u32;
-    for (kind, len) in parts {
-        let end = start.saturating_add(*len);
-        tokens.push(Token {
-            kind: *kind,
-            start,
-            end,
-            line: 1,
-        })?;
-        start = end;
+// Whether these are the tokens.
+fn are_told(tokens: &[Token], told: &[Told]) -> bool {
+    for (token, (kind, start, end, line)) in tokens.iter().zip(told) {
+        let same = token.kind == *kind && token.start == *start;
+        if !same || token.end != *end || token.line != *line {
+            return false;
+        }
     }
-    Ok(tokens)
+    tokens.len() == told.len()
 }
 
-#[test]
-fn keywords_are_no_names(rt: HostRuntime) -> Result<(), Fail> {
-    let alloc = rt.alloc();
-    for (text, kind) in [
-        ("int", Kind::Int),
-        ("void", Kind::Void),
-        ("const", Kind::Const),
-        ("if", Kind::If),
-        ("else", Kind::Else),
-        ("while", Kind::While),
-        ("return", Kind::Return),
-        ("print", Kind::Print),
-        ("len", Kind::Len),
-        ("cut", Kind::Cut),
-        ("at", Kind::At),
-        ("as", Kind::As),
-        ("region", Kind::Region),
-        ("reducer", Kind::Reducer),
-        ("sum", Kind::Sum),
-        ("max", Kind::Max),
-        ("grain", Kind::Grain),
-        ("over", Kind::Over),
-        ("cilk_spawn", Kind::Spawn),
-        ("cilk_sync", Kind::Sync),
-        ("cilk_scope", Kind::Scope),
-        ("cilk_for", Kind::For),
-    ] {
-        let tokens = tokens_of(alloc, text.as_bytes())?;
-        let wanted = side_by_side(alloc, &[(kind, text.len() as u32)])?;
-        assert_eq!(rt; tokens, wanted, "{text}");
+/// Whether these are the tokens of a text.
+pub fn has_tokens(alloc: Global, text: &[u8], told: &[Told]) -> bool {
+    match tokens_of(alloc, text) {
+        Ok(tokens) => are_told(tokens.as_slice(), told),
+        Err(_) => false,
     }
-    Ok(())
 }
 
-#[test]
-fn other_words_are_names(rt: HostRuntime) -> Result<(), Fail> {
-    let alloc = rt.alloc();
-    for text in [
-        "Int",
-        "ints",
-        "in",
-        "Max",
-        "max_",
-        "maxi",
-        "ma",
-        "Const",
-        "const_",
-        "cons",
-        "for",
-        "_",
-        "a_B9",
-        "cilk_fo",
+/// Asserts that these are the tokens of each of these texts.
+pub fn test_texts(rt: &impl Abort, alloc: Global, rows: &[(&str, &[Told])]) {
+    for (text, told) in rows {
+        let holds = has_tokens(alloc, text.as_bytes(), told);
+        assert!(rt; holds, "{text}");
+    }
+}
+
+// Words that are one token.
+const WORDS: &[(&str, Kind)] = &[
+    // keywords are no names
+    ("int", Kind::Int),
+    ("void", Kind::Void),
+    ("const", Kind::Const),
+    ("if", Kind::If),
+    ("else", Kind::Else),
+    ("while", Kind::While),
+    ("return", Kind::Return),
+    ("print", Kind::Print),
+    ("len", Kind::Len),
+    ("cut", Kind::Cut),
+    ("at", Kind::At),
+    ("as", Kind::As),
+    ("region", Kind::Region),
+    ("reducer", Kind::Reducer),
+    ("sum", Kind::Sum),
+    ("max", Kind::Max),
+    ("grain", Kind::Grain),
+    ("over", Kind::Over),
+    ("cilk_spawn", Kind::Spawn),
+    ("cilk_sync", Kind::Sync),
+    ("cilk_scope", Kind::Scope),
+    ("cilk_for", Kind::For),
+    // other words are
+    ("Int", Kind::Name),
+    ("ints", Kind::Name),
+    ("in", Kind::Name),
+    ("Max", Kind::Name),
+    ("max_", Kind::Name),
+    ("maxi", Kind::Name),
+    ("ma", Kind::Name),
+    ("Const", Kind::Name),
+    ("const_", Kind::Name),
+    ("cons", Kind::Name),
+    ("for", Kind::Name),
+    ("_", Kind::Name),
+    ("a_B9", Kind::Name),
+    ("cilk_fo", Kind::Name),
+    (
         "name_of_exactly_64_bytes_abcdefghijklmnopqrstuvwxyz_ABCDEFGHIJKL",
-    ] {
-        let tokens = tokens_of(alloc, text.as_bytes())?;
-        let wanted = side_by_side(alloc, &[(Kind::Name, text.len() as u32)])?;
-        assert_eq!(rt; tokens, wanted, "{text}");
-    }
-    Ok(())
-}
-
-// The symbols in the order of the text "(){}[],;+=+++-*/%<=<>=>!!====".
-const ALL_SYMBOLS: [Part; 23] = [
-    (Kind::LeftParen, 1),
-    (Kind::RightParen, 1),
-    (Kind::LeftBrace, 1),
-    (Kind::RightBrace, 1),
-    (Kind::LeftBracket, 1),
-    (Kind::RightBracket, 1),
-    (Kind::Comma, 1),
-    (Kind::Semicolon, 1),
-    (Kind::AddAssign, 2),
-    (Kind::Increment, 2),
-    (Kind::Plus, 1),
-    (Kind::Minus, 1),
-    (Kind::Star, 1),
-    (Kind::Slash, 1),
-    (Kind::Percent, 1),
-    (Kind::LessEqual, 2),
-    (Kind::Less, 1),
-    (Kind::GreaterEqual, 2),
-    (Kind::Greater, 1),
-    (Kind::Not, 1),
-    (Kind::NotEqual, 2),
-    (Kind::Equal, 2),
-    (Kind::Assign, 1),
+        Kind::Name,
+    ),
 ];
 
 #[test]
-fn symbols_are_as_long_as_they_can_be(rt: HostRuntime) -> Result<(), Fail> {
-    let alloc = rt.alloc();
-    let cases: [(&[u8], &[Part]); 4] = [
-        (b"(){}[],;+=+++-*/%<=<>=>!!====", &ALL_SYMBOLS),
-        (b"+++", &[(Kind::Increment, 2), (Kind::Plus, 1)]),
-        (b"===", &[(Kind::Equal, 2), (Kind::Assign, 1)]),
-        (b"++=", &[(Kind::Increment, 2), (Kind::Assign, 1)]),
-    ];
-    for (text, parts) in cases {
-        assert_eq!(rt; tokens_of(alloc, text)?, side_by_side(alloc, parts)?);
+fn words_are_keywords_or_names(rt: HostRuntime) {
+    for (text, kind) in WORDS {
+        let whole = [(*kind, 0, text.len() as u32, 1)];
+        let holds = has_tokens(rt.alloc(), text.as_bytes(), &whole);
+        assert!(rt; holds, "{text}");
     }
-    Ok(())
 }
 
-#[test]
-fn numbers_end_before_what_is_no_part_of_them(rt: HostRuntime) -> Result<(), Fail> {
-    let alloc = rt.alloc();
-    let cases: [(&[u8], &[Part]); 4] = [
-        (
-            b"007",
-            &[
-                (Kind::Number(0), 1),
-                (Kind::Number(0), 1),
-                (Kind::Number(7), 1),
-            ],
-        ),
-        (b"1a", &[(Kind::Number(1), 1), (Kind::Name, 1)]),
-        (b"0x1F", &[(Kind::Number(0), 1), (Kind::Name, 3)]),
-        (
-            b"9223372036854775807",
-            &[(Kind::Number(9_223_372_036_854_775_807), 19)],
-        ),
-    ];
-    for (text, parts) in cases {
-        assert_eq!(rt; tokens_of(alloc, text)?, side_by_side(alloc, parts)?);
-    }
-    Ok(())
-}
+// Symbols are as long as they can be.
+const SYMBOLS: &[(&str, &[Told])] = &[
+    (
+        "(){}[],;+=+++-*/%<=<>=>!!====",
+        &[
+            (Kind::LeftParen, 0, 1, 1),
+            (Kind::RightParen, 1, 2, 1),
+            (Kind::LeftBrace, 2, 3, 1),
+            (Kind::RightBrace, 3, 4, 1),
+            (Kind::LeftBracket, 4, 5, 1),
+            (Kind::RightBracket, 5, 6, 1),
+            (Kind::Comma, 6, 7, 1),
+            (Kind::Semicolon, 7, 8, 1),
+            (Kind::AddAssign, 8, 10, 1),
+            (Kind::Increment, 10, 12, 1),
+            (Kind::Plus, 12, 13, 1),
+            (Kind::Minus, 13, 14, 1),
+            (Kind::Star, 14, 15, 1),
+            (Kind::Slash, 15, 16, 1),
+            (Kind::Percent, 16, 17, 1),
+            (Kind::LessEqual, 17, 19, 1),
+            (Kind::Less, 19, 20, 1),
+            (Kind::GreaterEqual, 20, 22, 1),
+            (Kind::Greater, 22, 23, 1),
+            (Kind::Not, 23, 24, 1),
+            (Kind::NotEqual, 24, 26, 1),
+            (Kind::Equal, 26, 28, 1),
+            (Kind::Assign, 28, 29, 1),
+        ],
+    ),
+    ("+++", &[(Kind::Increment, 0, 2, 1), (Kind::Plus, 2, 3, 1)]),
+    ("===", &[(Kind::Equal, 0, 2, 1), (Kind::Assign, 2, 3, 1)]),
+    (
+        "++=",
+        &[(Kind::Increment, 0, 2, 1), (Kind::Assign, 2, 3, 1)],
+    ),
+];
+
+// Numbers end before what is no part of them.
+const NUMBERS: &[(&str, &[Told])] = &[
+    (
+        "007",
+        &[
+            (Kind::Number(0), 0, 1, 1),
+            (Kind::Number(0), 1, 2, 1),
+            (Kind::Number(7), 2, 3, 1),
+        ],
+    ),
+    ("1a", &[(Kind::Number(1), 0, 1, 1), (Kind::Name, 1, 2, 1)]),
+    ("0x1F", &[(Kind::Number(0), 0, 1, 1), (Kind::Name, 1, 4, 1)]),
+    (
+        "9223372036854775807",
+        &[(Kind::Number(9_223_372_036_854_775_807), 0, 19, 1)],
+    ),
+];
+
+// Comments leave no token.
+const COMMENTS: &[(&str, &[Told])] = &[
+    ("a1//x", &[(Kind::Name, 0, 2, 1)]),
+    ("", &[]),
+    (" \t\r\n", &[]),
+    ("// only", &[]),
+    ("//", &[]),
+    ("//\n//", &[]),
+];
+
+// Tokens have places and lines.
+const PLACES: &[(&str, &[Told])] = &[
+    ("\r\n\tx", &[(Kind::Name, 3, 4, 2)]),
+    ("x // end", &[(Kind::Name, 0, 1, 1)]),
+    ("// y\nx", &[(Kind::Name, 5, 6, 2)]),
+    ("// y\r\n//\n\nx//", &[(Kind::Name, 10, 11, 4)]),
+    ("//\n//\n  x\n", &[(Kind::Name, 8, 9, 3)]),
+    ("\r\rx\n\n", &[(Kind::Name, 2, 3, 1)]),
+    ("// a // b\r \n x // \x7f $ @", &[(Kind::Name, 13, 14, 2)]),
+];
 
 #[test]
-fn comments_leave_no_token(rt: HostRuntime) -> Result<(), Fail> {
-    let alloc = rt.alloc();
-    assert_eq!(rt;
-        tokens_of(alloc, b"a1//x")?,
-        side_by_side(alloc, &[(Kind::Name, 2)])?
-    );
-    for text in ["", " \t\r\n", "// only", "//", "//\n//"] {
-        assert_eq!(rt; tokens_of(alloc, text.as_bytes())?.len(), 0, "{text}");
-    }
-    Ok(())
+fn tokens_have_kinds_places_and_lines(rt: HostRuntime) {
+    test_texts(&rt, rt.alloc(), SYMBOLS);
+    test_texts(&rt, rt.alloc(), NUMBERS);
+    test_texts(&rt, rt.alloc(), COMMENTS);
+    test_texts(&rt, rt.alloc(), PLACES);
 }
 
-#[test]
-fn tokens_have_places_and_lines(rt: HostRuntime) -> Result<(), Fail> {
-    let alloc = rt.alloc();
-    // the only token of each text, from, to and in its line
-    let cases: [(&[u8], u32, u32, u32); 7] = [
-        (b"\r\n\tx", 3, 4, 2),
-        (b"x // end", 0, 1, 1),
-        (b"// y\nx", 5, 6, 2),
-        (b"// y\r\n//\n\nx//", 10, 11, 4),
-        (b"//\n//\n  x\n", 8, 9, 3),
-        (b"\r\rx\n\n", 2, 3, 1),
-        (b"// a // b\r \n x // \x7f $ @", 13, 14, 2),
-    ];
-    for (text, start, end, line) in cases {
-        let tokens = tokens_of(alloc, text)?;
-        let wanted = vec![in alloc;
-            Token {
-                kind: Kind::Name,
-                start,
-                end,
-                line
-            },
-        ]?;
-        assert_eq!(rt; tokens, wanted);
-    }
-    Ok(())
-}
+// Texts with a byte or a number that is no token; the first fault decides.
+const FAULTS: &[(u32, &str)] = &[
+    (1, "$"),
+    (3, "int x;\n\n  #"),
+    (2, "a\n& b"),
+    (1, "\u{0}"),
+    (2, "// @\n\u{b}"),
+    (1, "9223372036854775808"),
+    (2, "1\n18446744073709551616\n"),
+    (
+        1,
+        "@\nname_of_exactly_65_bytes_abcdefghijklmnopqrstuvwxyz_ABCDEFGHIJKLM",
+    ),
+];
+
+// A name that is too long is the first fault.
+const LONG_NAME: &[(u32, &str)] = &[(
+    2,
+    "\nname_of_exactly_65_bytes_abcdefghijklmnopqrstuvwxyz_ABCDEFGHIJKLM @",
+)];
 
 #[test]
-fn the_first_fault_decides(rt: HostRuntime) -> Result<(), Fail> {
-    let alloc = rt.alloc();
-    for (text, fault) in [
-        ("$", Fault::Lexical(Place { line: 1 })),
-        ("int x;\n\n  #", Fault::Lexical(Place { line: 3 })),
-        ("a\n& b", Fault::Lexical(Place { line: 2 })),
-        ("\u{0}", Fault::Lexical(Place { line: 1 })),
-        ("// @\n\u{b}", Fault::Lexical(Place { line: 2 })),
-        ("9223372036854775808", Fault::Lexical(Place { line: 1 })),
-        (
-            "1\n18446744073709551616\n",
-            Fault::Lexical(Place { line: 2 }),
-        ),
-        (
-            "\nname_of_exactly_65_bytes_abcdefghijklmnopqrstuvwxyz_ABCDEFGHIJKLM @",
-            Fault::Size(Place { line: 2 }),
-        ),
-        (
-            "@\nname_of_exactly_65_bytes_abcdefghijklmnopqrstuvwxyz_ABCDEFGHIJKLM",
-            Fault::Lexical(Place { line: 1 }),
-        ),
-    ] {
-        assert_eq!(rt;
-            tokens_of(alloc, text.as_bytes()).err(),
-            Some(fault),
-            "{text}"
-        );
-    }
-    Ok(())
+fn the_first_fault_decides(rt: HostRuntime) {
+    all_break(&rt, rt.alloc(), Stage::Tokens, Rule::Lexical, FAULTS);
+    all_break(&rt, rt.alloc(), Stage::Tokens, Rule::Size, LONG_NAME);
 }
 
 #[test]
 fn the_longest_text_is_cut(rt: HostRuntime) -> Result<(), Fail> {
-    let alloc = rt.alloc();
-    let mut bytes = vec![in alloc; b';'; MOST_SOURCE_BYTES]?;
-    let tokens = tokens_of(alloc, bytes.as_slice())?;
-    assert_eq!(rt; tokens.len(), 1_048_576);
+    let mut bytes = vec![in rt.alloc(); b';'; MOST_SOURCE_BYTES]?;
+    let tokens = tokens_of(rt.alloc(), bytes.as_slice())?;
+    assert!(rt; tokens.len() == 1_048_576);
     bytes.push(b'$')?;
-    let fault = tokens_of(alloc, bytes.as_slice()).err();
-    assert_eq!(rt; fault, Some(Fault::Size(Place { line: 1 })));
+    let holds = answers(rt.alloc(), Stage::Tokens, Rule::Size, 1, bytes.as_slice());
+    assert!(rt; holds);
     Ok(())
 }

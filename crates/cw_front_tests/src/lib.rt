@@ -12,4 +12,6 @@ mod parsing;
 #[cfg(test)]
 mod sources;
 #[cfg(test)]
+mod stages;
+#[cfg(test)]
 mod typing;

@@ -14,11 +14,7 @@ mod loops;
 mod names;
 mod turns;
 
-use cw_lex::lex;
-use cw_own::{Owned, own};
-use cw_parse::parse;
-use cw_text::{Fault, Place, Source};
-use cw_types::check;
+use crate::stages::{Rule, Stage, parts_answer};
 use std::alloc::Global;
 use std::process::Abort;
 
@@ -36,39 +32,32 @@ const MAIN: &str = "int main() {\nint x = 0; int y = 0; int a[2]; int b[2];\n";
 // The end of `main`, where what it spawned is joined.
 const END: &str = "\ncilk_sync;\nreturn 0; }";
 
-// What ownership answers of line 1 and these parts.
-fn owned(alloc: Global, before: &str, text: &str, after: &str) -> Result<Owned, Fault> {
-    let whole = format!(in alloc; "{HEAD}{before}{text}{after}")?;
-    let source = Source::read(alloc, whole.as_bytes())?;
-    let tokens = lex(alloc, &source)?;
-    let ast = parse(alloc, &source, tokens.as_slice())?;
-    let typed = check(alloc, ast)?;
-    own(alloc, typed)
-}
-
-// The fault that tells this line.
-fn breaks(line: u32) -> Option<Fault> {
-    Some(Fault::Ownership(Place { line }))
+// Whether line 1 and these parts break ownership in this line; where it is 0, whether they keep it.
+fn tells(alloc: Global, line: u32, before: &str, text: &str, after: &str) -> bool {
+    let parts = [HEAD, before, text, after];
+    parts_answer(alloc, Stage::Ownership, Rule::Ownership, line, parts)
 }
 
 // Each statement between these parts breaks ownership in its line.
 fn all_break(rt: &impl Abort, alloc: Global, before: &str, rows: &[(u32, &str)], after: &str) {
     for (line, text) in rows {
-        let fault = owned(alloc, before, text, after).err();
-        assert_eq!(rt; fault, breaks(*line), "{text}");
+        let holds = tells(alloc, *line, before, text, after);
+        assert!(rt; holds, "{text}");
     }
 }
 
 // Each of these statements between these parts keeps ownership, whatever line stands beside it.
 fn all_keep(rt: &impl Abort, alloc: Global, before: &str, rows: &[(u32, &str)], after: &str) {
     for (_, text) in rows {
-        assert_eq!(rt; owned(alloc, before, text, after).err(), None, "{text}");
+        let holds = tells(alloc, 0, before, text, after);
+        assert!(rt; holds, "{text}");
     }
 }
 
 // Each of these texts between these parts keeps ownership.
 fn keep(rt: &impl Abort, alloc: Global, before: &str, texts: &[&str], after: &str) {
     for text in texts {
-        assert_eq!(rt; owned(alloc, before, text, after).err(), None, "{text}");
+        let holds = tells(alloc, 0, before, text, after);
+        assert!(rt; holds, "{text}");
     }
 }

@@ -1,6 +1,6 @@
 //! Each of the 256 names that a function may declare is known from the others.
 
-use crate::owning::{breaks, owned};
+use crate::owning::tells;
 use std::alloc::{AllocError, Global};
 use std::test::Fail;
 
@@ -21,13 +21,9 @@ fn each_name_is_known_from_the_others(rt: HostRuntime) -> Result<(), Fail> {
     let alloc = rt.alloc();
     for place in [0, 63, 64, 127, 128, 191, 192, 255] {
         let text = spawned_and_read(alloc, place, place)?;
-        assert_eq!(rt;
-            owned(alloc, "", text.as_str(), "").err(),
-            breaks(5),
-            "{place}"
-        );
+        assert!(rt; tells(alloc, 5, "", text.as_str(), ""), "{place}");
         let text = spawned_and_read(alloc, place, (place + 64) % 256)?;
-        assert_eq!(rt; owned(alloc, "", text.as_str(), "").err(), None, "{place}");
+        assert!(rt; tells(alloc, 0, "", text.as_str(), ""), "{place}");
     }
     Ok(())
 }

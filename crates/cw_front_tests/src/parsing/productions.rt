@@ -1,7 +1,7 @@
 //! For each production a source with it, one without each of its tokens, and one with each of them
 //! twice. The lines of the faults were found by reading the grammar.
 
-use crate::parsing::shown::tree_of;
+use crate::stages::tree_of;
 use cw_text::{Fault, Place};
 use std::alloc::{AllocError, Global};
 use std::process::Abort;

@@ -1,33 +1,16 @@
 //! Trees as text, for tests.
 
-use cw_lex::lex;
+use crate::stages::tree_of;
 use cw_model::syntax::{CallKind, NameKind, Operator, Reduction};
-use cw_parse::parse;
-use cw_text::{Fault, Place, Source};
 use cw_tree::syntax::{Ast, Call, Expr, Head, Line, Name, Stmt};
 use std::alloc::{AllocError, Global};
 
-/// The tree of a text.
-pub(crate) fn tree_of(alloc: Global, text: &[u8]) -> Result<Ast, Fault> {
-    let source = Source::read(alloc, text)?;
-    let tokens = lex(alloc, &source)?;
-    let ast = parse(alloc, &source, tokens.as_slice())?;
-    Ok(ast)
-}
-
-/// The first fault of a text, if it has one.
-pub(crate) fn fault_of(alloc: Global, text: &[u8]) -> Option<Fault> {
-    tree_of(alloc, text).err()
-}
-
-/// A token in this line can continue no source, or the source ends in it too early.
-pub(crate) fn misplaced(line: u32) -> Option<Fault> {
-    Some(Fault::Syntax(Place { line }))
-}
-
-/// A token in this line passes a limit.
-pub(crate) fn too_large(line: u32) -> Option<Fault> {
-    Some(Fault::Size(Place { line }))
+/// Whether a text has a tree, and it is this one as text.
+pub(crate) fn has_tree(alloc: Global, text: &[u8], tree: &[u8]) -> Result<bool, AllocError> {
+    match tree_of(alloc, text) {
+        Ok(ast) => Ok(shown(alloc, &ast)?.as_bytes() == tree),
+        Err(_) => Ok(false),
+    }
 }
 
 // A part of a tree that is still to be shown.

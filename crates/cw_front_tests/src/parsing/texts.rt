@@ -2,8 +2,9 @@
 //! print, what they cost or which rule they break, and further ones. The trees were worked out from
 //! the texts by the grammar of the language.
 
-use crate::parsing::shown::{fault_of, misplaced, shown, tree_of};
-use std::alloc::Global;
+use crate::parsing::shown::has_tree;
+use crate::stages::{Pieces, Rule, Stage, all_break, text_of};
+use std::alloc::{AllocError, Global};
 use std::process::Abort;
 use std::test::Fail;
 
@@ -15,7 +16,7 @@ struct Worked {
 }
 
 // Programs whose meaning, costs or refusals the definitions give.
-const PROGRAMS: [Worked; 44] = [
+const PROGRAMS: &[Worked] = &[
     Worked {
         name: "first",
         text: "int f(int v) { return v; } int main() { int x = 0; x = cilk_spawn f(1); cilk_sync; \
@@ -319,7 +320,7 @@ const PROGRAMS: [Worked; 44] = [
 ];
 
 // Programs of most forms of the language.
-const FORMS: [Worked; 7] = [
+const FORMS: &[Worked] = &[
     Worked {
         name: "most",
         text: "// fills, cuts and sums\n\
@@ -389,6 +390,20 @@ const FORMS: [Worked; 7] = [
         tree: "1 int main{1 for i = 0 i < 4 i++ 64{};1 return 0;}\n",
     },
     Worked {
+        name: "comment_at_the_end",
+        text: "int f(int v) { return v; } int main() { return 0; }// end",
+        tree: "1 int f v{1 return v;}\n1 int main{1 return 0;}\n",
+    },
+    Worked {
+        name: "longest_name",
+        text: "int main() { int xxxxxxxxxxxxxxxxxxxxxxxxxxxxxxxxxxxxxxxxxxxxxxxxxxxxxxxxxxxxxxxx = 0; \
+         xxxxxxxxxxxxxxxxxxxxxxxxxxxxxxxxxxxxxxxxxxxxxxxxxxxxxxxxxxxxxxxx = cilk_spawn f(1); cilk_sync; \
+         return xxxxxxxxxxxxxxxxxxxxxxxxxxxxxxxxxxxxxxxxxxxxxxxxxxxxxxxxxxxxxxxx; }",
+        tree: "1 int main{1 int xxxxxxxxxxxxxxxxxxxxxxxxxxxxxxxxxxxxxxxxxxxxxxxxxxxxxxxxxxxxxxxx = 0;\
+         1 xxxxxxxxxxxxxxxxxxxxxxxxxxxxxxxxxxxxxxxxxxxxxxxxxxxxxxxxxxxxxxxx = spawn f#1 1;1 sync;\
+         1 return xxxxxxxxxxxxxxxxxxxxxxxxxxxxxxxxxxxxxxxxxxxxxxxxxxxxxxxxxxxxxxxx;}\n",
+    },
+    Worked {
         name: "broken",
         text: "int\n\
          main() { return\n\
@@ -397,96 +412,93 @@ const FORMS: [Worked; 7] = [
     },
 ];
 
-fn test_all(rt: &impl Abort, alloc: Global, rows: &[Worked]) -> Result<(), Fail> {
+fn test_all(rt: &impl Abort, alloc: Global, rows: &[Worked]) -> Result<(), AllocError> {
     for row in rows {
-        let ast = tree_of(alloc, row.text.as_bytes())?;
-        let found = shown(alloc, &ast)?;
-        assert_eq!(rt; found.as_str(), row.tree, "{}", row.name);
+        let holds = has_tree(alloc, row.text.as_bytes(), row.tree.as_bytes())?;
+        assert!(rt; holds, "{}", row.name);
     }
     Ok(())
 }
 
 #[test]
 fn programs_of_the_definitions_have_their_trees(rt: HostRuntime) -> Result<(), Fail> {
-    test_all(&rt, rt.alloc(), &PROGRAMS)
+    test_all(&rt, rt.alloc(), PROGRAMS)?;
+    Ok(())
 }
 
 #[test]
 fn programs_of_most_forms_have_their_trees(rt: HostRuntime) -> Result<(), Fail> {
-    test_all(&rt, rt.alloc(), &FORMS)
-}
-
-#[test]
-fn a_comment_at_the_end_needs_no_line_of_its_own(rt: HostRuntime) -> Result<(), Fail> {
-    let alloc = rt.alloc();
-    let text = "int f(int v) { return v; } int main() { return 0; }// end";
-    let ast = tree_of(alloc, text.as_bytes())?;
-    let found = shown(alloc, &ast)?;
-    assert_eq!(rt;
-        found.as_str(),
-        "1 int f v{1 return v;}\n1 int main{1 return 0;}\n"
-    );
+    test_all(&rt, rt.alloc(), FORMS)?;
     Ok(())
 }
 
-#[test]
-fn the_longest_name_is_kept(rt: HostRuntime) -> Result<(), Fail> {
-    let alloc = rt.alloc();
-    let name = "x".repeat(alloc, 64)?;
-    let text = format!(in alloc;
-        "int main() {{ int {name} = 0; {name} = cilk_spawn f(1); cilk_sync; return {name}; }}"
-    )?;
-    let ast = tree_of(alloc, text.as_bytes())?;
-    let found = shown(alloc, &ast)?;
-    let tree = format!(in alloc;
-        "1 int main{{1 int {name} = 0;1 {name} = spawn f#1 1;1 sync;1 return {name};}}\n"
-    )?;
-    assert_eq!(rt; found.as_str(), tree.as_str());
-    Ok(())
+// Texts of pieces, and the pieces of their trees.
+const GROWN: &[(Pieces, Pieces)] = &[
+    // signs lie in one another
+    (
+        &[(1, b"int main() { return "), (254, b"-"), (1, b"1; }")],
+        &[
+            (1, b"1 int main{1 return "),
+            (254, b"(-"),
+            (1, b"1"),
+            (254, b")"),
+            (1, b";}\n"),
+        ],
+    ),
+    // parentheses leave no node
+    (
+        &[
+            (1, b"int main() { return "),
+            (63, b"("),
+            (1, b"0"),
+            (63, b")"),
+            (1, b"; }"),
+        ],
+        &[(1, b"1 int main{1 return 0;}\n")],
+    ),
+    (
+        &[
+            (1, b"int main() { return "),
+            (63, b"("),
+            (1, b"7"),
+            (63, b")"),
+            (1, b"; }"),
+        ],
+        &[(1, b"1 int main{1 return 7;}\n")],
+    ),
+];
+
+// Whether the tree of a text of pieces is the one of these pieces.
+fn grows(alloc: Global, text: Pieces, tree: Pieces) -> Result<bool, AllocError> {
+    let text = text_of(alloc, text)?;
+    let tree = text_of(alloc, tree)?;
+    has_tree(alloc, text.as_slice(), tree.as_slice())
 }
 
 #[test]
-fn signs_lie_in_one_another(rt: HostRuntime) -> Result<(), Fail> {
-    let alloc = rt.alloc();
-    let signs = "-".repeat(alloc, 254)?;
-    let text = format!(in alloc; "int main() {{ return {signs}1; }}")?;
-    let ast = tree_of(alloc, text.as_bytes())?;
-    let found = shown(alloc, &ast)?;
-    let opening = "(-".repeat(alloc, 254)?;
-    let closing = ")".repeat(alloc, 254)?;
-    let tree = format!(in alloc; "1 int main{{1 return {opening}1{closing};}}\n")?;
-    assert_eq!(rt; found.as_str(), tree.as_str());
-    Ok(())
-}
-
-#[test]
-fn parentheses_leave_no_node(rt: HostRuntime) -> Result<(), Fail> {
-    let alloc = rt.alloc();
-    let opening = "(".repeat(alloc, 63)?;
-    let closing = ")".repeat(alloc, 63)?;
-    let text = format!(in alloc; "int main() {{ return {opening}0{closing}; }}")?;
-    let ast = tree_of(alloc, text.as_bytes())?;
-    let found = shown(alloc, &ast)?;
-    assert_eq!(rt; found.as_str(), "1 int main{1 return 0;}\n");
-    Ok(())
-}
-
-#[test]
-fn texts_are_refused_in_the_line_that_cannot_go_on(rt: HostRuntime) -> Result<(), Fail> {
-    let alloc = rt.alloc();
-    for (text, line) in [
-        // each ends too early
-        ("", 1),
-        ("// nothing\n ", 2),
-        ("int main() { return 0;", 1),
-        ("int main() {\n  return 0;\n", 3),
-        ("int main() { return 0", 1),
-        // 0 is a number alone, and a name begins behind a number
-        ("int main() { return 007; }", 1),
-        ("int main() { return 1a; }", 1),
-        ("int main() {\n  return 0\n}\n", 3),
-    ] {
-        assert_eq!(rt; fault_of(alloc, text.as_bytes()), misplaced(line), "{text}");
+fn long_texts_have_their_trees(rt: HostRuntime) -> Result<(), Fail> {
+    for (k, (text, tree)) in GROWN.iter().enumerate() {
+        let holds = grows(rt.alloc(), text, tree)?;
+        assert!(rt; holds, "row {k}");
     }
     Ok(())
+}
+
+// Texts, and the line of each that cannot go on.
+const REFUSED: &[(u32, &str)] = &[
+    // each ends too early
+    (1, ""),
+    (2, "// nothing\n "),
+    (1, "int main() { return 0;"),
+    (3, "int main() {\n  return 0;\n"),
+    (1, "int main() { return 0"),
+    // 0 is a number alone, and a name begins behind a number
+    (1, "int main() { return 007; }"),
+    (1, "int main() { return 1a; }"),
+    (3, "int main() {\n  return 0\n}\n"),
+];
+
+#[test]
+fn texts_are_refused_in_the_line_that_cannot_go_on(rt: HostRuntime) {
+    all_break(&rt, rt.alloc(), Stage::Tree, Rule::Syntax, REFUSED);
 }

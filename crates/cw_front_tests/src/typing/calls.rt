@@ -1,7 +1,6 @@
 //! Calls: what is called, with what, and where the result goes.
 
 use crate::typing::{all_break, all_keep, bodies_break, bodies_keep};
-use std::test::Fail;
 
 const FITTING: &[&str] = &[
     "x = f(y);\nf(x);\nv(a);\nx = w(a[x], b);\nw(1, a);",
@@ -60,12 +59,11 @@ const NOT_FITTING_INSIDE: &[(u32, &str)] = &[
 ];
 
 #[test]
-fn calls_fit_their_functions(rt: HostRuntime) -> Result<(), Fail> {
-    bodies_keep(&rt, rt.alloc(), FITTING)?;
-    bodies_break(&rt, rt.alloc(), NO_FUNCTION)?;
-    bodies_break(&rt, rt.alloc(), NOT_FITTING)?;
-    bodies_break(&rt, rt.alloc(), NOT_FITTING_INSIDE)?;
-    Ok(())
+fn calls_fit_their_functions(rt: HostRuntime) {
+    bodies_keep(&rt, rt.alloc(), FITTING);
+    bodies_break(&rt, rt.alloc(), NO_FUNCTION);
+    bodies_break(&rt, rt.alloc(), NOT_FITTING);
+    bodies_break(&rt, rt.alloc(), NOT_FITTING_INSIDE);
 }
 
 const IN_THE_WHOLE_SOURCE: &[&str] = &[

@@ -1,17 +1,11 @@
 //! Arrays that are only read: where a parameter that is const may stand, and what may stand for one.
 
-use crate::typing::{all_break, all_keep, ill_typed, typed};
-use std::alloc::{AllocError, Global};
-use std::process::Abort;
-use std::test::Fail;
+use crate::typing::{END, all_break, all_keep, broken, keep};
 
-// A source with these statements, from line 2 on, in a function that has the integer `x`, the array `b` and the array `a`
-// that is const. `f` takes one that is const and gives an integer, `g` takes an array, `h` one of each.
-fn in_reader(alloc: Global, body: &str) -> Result<String, AllocError> {
-    format!(in alloc;
-        "int f(const int q[]) {{ return len(q); }} void g(int q[]) {{ }} void h(int p[], const int q[]) {{ }} int main() {{ return 0; }} int n(const int a[], int b[], int x) {{\n{body}\nreturn 0; }}"
-    )
-}
+// What stands before the statements of a function that has the integer `x`, the array `b` and the array `a` that is const;
+// they begin in line 2. `f` takes one that is const and gives an integer, `g` takes an array, `h` one of each.
+const IN_READER: &str =
+    "int f(const int q[]) { return len(q); } void g(int q[]) { } void h(int p[], const int q[]) { } int main() { return 0; } int n(const int a[], int b[], int x) {\n";
 
 const KEPT: &[&str] = &[
     "print(a[x]);",
@@ -60,33 +54,10 @@ const BROKEN: &[(u32, &str)] = &[
     (3, "cilk_scope {\ncut a at 1 as l, r { } }"),
 ];
 
-// Each of these statements breaks a rule in its line.
-fn bodies_break(rt: &impl Abort, alloc: Global, rows: &[(u32, &str)]) -> Result<(), Fail> {
-    for (line, body) in rows {
-        let text = in_reader(alloc, body)?;
-        assert_eq!(rt;
-            typed(alloc, text.as_str()).err(),
-            ill_typed(*line),
-            "{body}"
-        );
-    }
-    Ok(())
-}
-
-// Each of them keeps all rules.
-fn bodies_keep(rt: &impl Abort, alloc: Global, bodies: &[&str]) -> Result<(), Fail> {
-    for body in bodies {
-        let text = in_reader(alloc, body)?;
-        assert_eq!(rt; typed(alloc, text.as_str()).err(), None, "{body}");
-    }
-    Ok(())
-}
-
 #[test]
-fn a_const_parameter_is_only_read(rt: HostRuntime) -> Result<(), Fail> {
-    bodies_keep(&rt, rt.alloc(), KEPT)?;
-    bodies_break(&rt, rt.alloc(), BROKEN)?;
-    Ok(())
+fn a_const_parameter_is_only_read(rt: HostRuntime) {
+    keep(&rt, rt.alloc(), IN_READER, KEPT, END);
+    broken(&rt, rt.alloc(), IN_READER, BROKEN, END);
 }
 
 const WHOLE_KEPT: &[&str] = &[

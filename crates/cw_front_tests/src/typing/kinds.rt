@@ -1,7 +1,6 @@
 //! Integers, arrays, reducers and functions, each where it may stand and where another may.
 
 use crate::typing::{bodies_break, bodies_keep};
-use std::test::Fail;
 
 const EACH_IN_ITS_PLACE: &[&str] = &[
     "x = x + y * -a[x] + !len(b);\nx = a[a[0]];\na[len(a) - 1] = b[y];",
@@ -89,12 +88,11 @@ const OF_THE_OTHER_KIND_INSIDE: &[(u32, &str)] = &[
 ];
 
 #[test]
-fn integers_and_arrays(rt: HostRuntime) -> Result<(), Fail> {
-    bodies_keep(&rt, rt.alloc(), EACH_IN_ITS_PLACE)?;
-    bodies_break(&rt, rt.alloc(), ARRAYS_FOR_INTEGERS)?;
-    bodies_break(&rt, rt.alloc(), INTEGERS_FOR_ARRAYS)?;
-    bodies_break(&rt, rt.alloc(), OF_THE_OTHER_KIND_INSIDE)?;
-    Ok(())
+fn integers_and_arrays(rt: HostRuntime) {
+    bodies_keep(&rt, rt.alloc(), EACH_IN_ITS_PLACE);
+    bodies_break(&rt, rt.alloc(), ARRAYS_FOR_INTEGERS);
+    bodies_break(&rt, rt.alloc(), INTEGERS_FOR_ARRAYS);
+    bodies_break(&rt, rt.alloc(), OF_THE_OTHER_KIND_INSIDE);
 }
 
 const SUMS: &[&str] = &[
@@ -196,12 +194,11 @@ const FUNCTIONS_ELSEWHERE: &[(u32, &str)] = &[
 ];
 
 #[test]
-fn reducers_and_functions(rt: HostRuntime) -> Result<(), Fail> {
-    bodies_keep(&rt, rt.alloc(), SUMS)?;
-    bodies_keep(&rt, rt.alloc(), GREATEST)?;
-    bodies_break(&rt, rt.alloc(), OF_ANOTHER_KIND)?;
-    bodies_break(&rt, rt.alloc(), NO_REDUCER)?;
-    bodies_break(&rt, rt.alloc(), REDUCERS_ELSEWHERE)?;
-    bodies_break(&rt, rt.alloc(), FUNCTIONS_ELSEWHERE)?;
-    Ok(())
+fn reducers_and_functions(rt: HostRuntime) {
+    bodies_keep(&rt, rt.alloc(), SUMS);
+    bodies_keep(&rt, rt.alloc(), GREATEST);
+    bodies_break(&rt, rt.alloc(), OF_ANOTHER_KIND);
+    bodies_break(&rt, rt.alloc(), NO_REDUCER);
+    bodies_break(&rt, rt.alloc(), REDUCERS_ELSEWHERE);
+    bodies_break(&rt, rt.alloc(), FUNCTIONS_ELSEWHERE);
 }

@@ -1,13 +1,18 @@
 //! Limits: exactly reached, passed by one, and told before any rule.
 
-use crate::typing::{fault_of, ill_typed, too_large};
+use crate::stages::{Rule, Stage, answers};
 use std::alloc::{AllocError, Global};
 use std::process::Abort;
 use std::test::Fail;
 
 // A source that repeats a part: what stands before the parts; what stands in each part before its number and
 // behind it, and how many parts there are, numbered from 0; and what stands behind them.
-type Parts<'a> = (&'a str, (&'a str, &'a str), u32, &'a str);
+type Parts = (
+    &'static str,
+    (&'static str, &'static str),
+    u32,
+    &'static str,
+);
 
 fn text_of(alloc: Global, parts: &Parts) -> Result<String, AllocError> {
     let (front, (before, behind), count, back) = *parts;
@@ -20,74 +25,100 @@ fn text_of(alloc: Global, parts: &Parts) -> Result<String, AllocError> {
     Ok(text)
 }
 
-// Asserts that each of these sources keeps all limits and rules.
-fn all_reach(rt: &impl Abort, alloc: Global, rows: &[Parts]) -> Result<(), Fail> {
-    for parts in rows {
-        let text = text_of(alloc, parts)?;
-        assert_eq!(rt; fault_of(alloc, text.as_str()), None, "{text}");
-    }
-    Ok(())
-}
-
-// Asserts that in each of these sources the line is the least that passes a limit.
-fn all_pass(rt: &impl Abort, alloc: Global, rows: &[(u32, Parts)]) -> Result<(), Fail> {
+// Asserts that in each of these sources the line is the least that breaks the rule, and 0 where none does.
+fn test_rows(
+    rt: &impl Abort,
+    alloc: Global,
+    rule: Rule,
+    rows: &[(u32, Parts)],
+) -> Result<(), AllocError> {
     for (line, parts) in rows {
         let text = text_of(alloc, parts)?;
-        assert_eq!(rt; fault_of(alloc, text.as_str()), too_large(*line), "{text}");
+        let holds = answers(alloc, Stage::Types, rule, *line, text.as_bytes());
+        assert!(rt; holds, "{text}");
     }
     Ok(())
 }
 
-const NAMES: &[Parts] = &[
+// Names of a function, as many as there may be.
+const NAMES: &[(u32, Parts)] = &[
     // 16 parameters
-    ("int main(int p", (", int p", ""), 15, ") { return 0; }"),
     (
-        "void f(int p[]",
-        (", int p", "[]"),
-        15,
-        ") { }\nint main() { return 0; }",
+        0,
+        ("int main(int p", (", int p", ""), 15, ") { return 0; }"),
+    ),
+    (
+        0,
+        (
+            "void f(int p[]",
+            (", int p", "[]"),
+            15,
+            ") { }\nint main() { return 0; }",
+        ),
     ),
     // 256 names: of statements, with a parameter, of blocks side by side, of loops, of cuts
     (
-        "int main() {",
-        ("\nint x", " = 0;"),
-        256,
-        "\nreturn x255; }",
-    ),
-    ("int main() {", ("\nint x", "[1];"), 256, "\nreturn 0; }"),
-    (
-        "int main(int a) {",
-        ("\nint x", " = a;"),
-        255,
-        "\nreturn 0; }",
+        0,
+        (
+            "int main() {",
+            ("\nint x", " = 0;"),
+            256,
+            "\nreturn x255; }",
+        ),
     ),
     (
-        "void f(int a[]) {",
-        ("\nif (1) { int x = ", "; }"),
-        255,
-        " }\nint main() { return 0; }",
+        0,
+        ("int main() {", ("\nint x", "[1];"), 256, "\nreturn 0; }"),
     ),
     (
-        "int main() {",
-        ("\ncilk_for (int i = 0; i < ", "; i++) { }"),
-        256,
-        "\nreturn 0; }",
+        0,
+        (
+            "int main(int a) {",
+            ("\nint x", " = a;"),
+            255,
+            "\nreturn 0; }",
+        ),
     ),
     (
-        "void f(int a[], int b) {",
-        ("\ncut a at ", " as l, r { }"),
-        127,
-        " }\nint main() { return 0; }",
+        0,
+        (
+            "void f(int a[]) {",
+            ("\nif (1) { int x = ", "; }"),
+            255,
+            " }\nint main() { return 0; }",
+        ),
+    ),
+    (
+        0,
+        (
+            "int main() {",
+            ("\ncilk_for (int i = 0; i < ", "; i++) { }"),
+            256,
+            "\nreturn 0; }",
+        ),
+    ),
+    (
+        0,
+        (
+            "void f(int a[], int b) {",
+            ("\ncut a at ", " as l, r { }"),
+            127,
+            " }\nint main() { return 0; }",
+        ),
     ),
     // each function has its own
     (
-        "",
-        ("void f", "(int a) {\nint x = 0; int y = 0; }\n"),
-        200,
-        "int main() { return 0; }",
+        0,
+        (
+            "",
+            ("void f", "(int a) {\nint x = 0; int y = 0; }\n"),
+            200,
+            "int main() { return 0; }",
+        ),
     ),
 ];
 
+// One more, or more than one.
 const NAMES_BEYOND: &[(u32, Parts)] = &[
     (
         1,
@@ -189,31 +220,38 @@ const NAMES_BEYOND: &[(u32, Parts)] = &[
     ),
 ];
 
-#[test]
-fn names_of_a_function(rt: HostRuntime) -> Result<(), Fail> {
-    all_reach(&rt, rt.alloc(), NAMES)?;
-    all_pass(&rt, rt.alloc(), NAMES_BEYOND)?;
-    Ok(())
-}
-
-const ITEMS: &[Parts] = &[
+// Functions and reducers, as many as there may be.
+const ITEMS: &[(u32, Parts)] = &[
     (
-        "",
-        ("int f", "() { return 0; }\n"),
-        1_023,
-        "int main() { return 0; }",
+        0,
+        (
+            "",
+            ("int f", "() { return 0; }\n"),
+            1_023,
+            "int main() { return 0; }",
+        ),
     ),
-    ("", ("reducer sum r", ";\n"), 32, "int main() { return 0; }"),
-    // of both kinds together
-    ("", ("reducer max r", ";\n"), 32, "int main() { return 0; }"),
     (
-        "reducer max m; reducer max n;\n",
-        ("reducer sum r", ";\n"),
-        30,
-        "int main() { return 0; }",
+        0,
+        ("", ("reducer sum r", ";\n"), 32, "int main() { return 0; }"),
+    ),
+    // of both kinds together
+    (
+        0,
+        ("", ("reducer max r", ";\n"), 32, "int main() { return 0; }"),
+    ),
+    (
+        0,
+        (
+            "reducer max m; reducer max n;\n",
+            ("reducer sum r", ";\n"),
+            30,
+            "int main() { return 0; }",
+        ),
     ),
 ];
 
+// One more, or more than one.
 const ITEMS_BEYOND: &[(u32, Parts)] = &[
     (
         1_025,
@@ -261,42 +299,49 @@ const ITEMS_BEYOND: &[(u32, Parts)] = &[
     ),
 ];
 
-#[test]
-fn functions_and_reducers(rt: HostRuntime) -> Result<(), Fail> {
-    all_reach(&rt, rt.alloc(), ITEMS)?;
-    all_pass(&rt, rt.alloc(), ITEMS_BEYOND)?;
-    Ok(())
-}
-
-const TAGS: &[Parts] = &[
+// Tags, as many and as long as they may be.
+const TAGS: &[(u32, Parts)] = &[
     // 64 different ones, and one again
     (
-        "int main() {",
-        ("\nregion t", " { }"),
-        64,
-        "\nregion t1 { region t63 { } } return 0; }",
+        0,
+        (
+            "int main() {",
+            ("\nregion t", " { }"),
+            64,
+            "\nregion t1 { region t63 { } } return 0; }",
+        ),
     ),
     (
-        "void f() { region a { } while (0) { region b { } } }\nint main() {",
-        ("\nregion t", " { }"),
-        62,
-        "\nreturn 0; }",
+        0,
+        (
+            "void f() { region a { } while (0) { region b { } } }\nint main() {",
+            ("\nregion t", " { }"),
+            62,
+            "\nreturn 0; }",
+        ),
     ),
     (
-        "int main() {",
-        ("\nregion t { } if (", ") { }"),
-        100,
-        "\nreturn 0; }",
+        0,
+        (
+            "int main() {",
+            ("\nregion t { } if (", ") { }"),
+            100,
+            "\nreturn 0; }",
+        ),
     ),
     // 32 bytes
     (
-        "int main() {",
-        ("\nregion aaaaaaaaaabbbbbbbbbbccccccccccd", " { }"),
-        1,
-        "\nreturn 0; }",
+        0,
+        (
+            "int main() {",
+            ("\nregion aaaaaaaaaabbbbbbbbbbccccccccccd", " { }"),
+            1,
+            "\nreturn 0; }",
+        ),
     ),
 ];
 
+// One more, or a byte more.
 const TAGS_BEYOND: &[(u32, Parts)] = &[
     (
         66,
@@ -359,13 +404,7 @@ const TAGS_BEYOND: &[(u32, Parts)] = &[
     ),
 ];
 
-#[test]
-fn tags(rt: HostRuntime) -> Result<(), Fail> {
-    all_reach(&rt, rt.alloc(), TAGS)?;
-    all_pass(&rt, rt.alloc(), TAGS_BEYOND)?;
-    Ok(())
-}
-
+// Sources that break rules too: the limit is told.
 const BEFORE_RULES: &[(u32, Parts)] = &[
     // a rule is broken in an earlier line
     (
@@ -418,12 +457,30 @@ const BEFORE_RULES: &[(u32, Parts)] = &[
     ),
 ];
 
+// Where no limit is passed, the rule is told.
+const RULES: &[(u32, Parts)] = &[(
+    2,
+    ("int main() {", ("\nint x", " = y;"), 256, "\nreturn 0; }"),
+)];
+
 #[test]
-fn limits_are_told_before_rules(rt: HostRuntime) -> Result<(), Fail> {
-    all_pass(&rt, rt.alloc(), BEFORE_RULES)?;
-    // where no limit is passed, the rule
-    let parts: Parts = ("int main() {", ("\nint x", " = y;"), 256, "\nreturn 0; }");
-    let text = text_of(rt.alloc(), &parts)?;
-    assert_eq!(rt; fault_of(rt.alloc(), text.as_str()), ill_typed(2), "{text}");
+fn limits_are_reached_and_passed(rt: HostRuntime) -> Result<(), Fail> {
+    for rows in [
+        NAMES,
+        NAMES_BEYOND,
+        ITEMS,
+        ITEMS_BEYOND,
+        TAGS,
+        TAGS_BEYOND,
+        BEFORE_RULES,
+    ] {
+        test_rows(&rt, rt.alloc(), Rule::Size, rows)?;
+    }
+    Ok(())
+}
+
+#[test]
+fn rules_are_told_where_no_limit_is_passed(rt: HostRuntime) -> Result<(), Fail> {
+    test_rows(&rt, rt.alloc(), Rule::Types, RULES)?;
     Ok(())
 }

@@ -1,7 +1,6 @@
 //! Names of functions and reducers, where locals are known, and where a name may be declared.
 
 use crate::typing::{all_break, all_keep, bodies_break, bodies_keep};
-use std::test::Fail;
 
 const LISTED: &[&str] = &[
     "int main() { return 0; }",
@@ -141,10 +140,9 @@ const NOT_KNOWN_HERE: &[(u32, &str)] = &[
 ];
 
 #[test]
-fn locals_are_known_to_the_end_of_their_block(rt: HostRuntime) -> Result<(), Fail> {
-    bodies_keep(&rt, rt.alloc(), KNOWN)?;
-    bodies_break(&rt, rt.alloc(), NOT_KNOWN_HERE)?;
-    Ok(())
+fn locals_are_known_to_the_end_of_their_block(rt: HostRuntime) {
+    bodies_keep(&rt, rt.alloc(), KNOWN);
+    bodies_break(&rt, rt.alloc(), NOT_KNOWN_HERE);
 }
 
 // A name that nothing declares, in each place of a statement.
@@ -204,10 +202,9 @@ const UNKNOWN_INSIDE: &[(u32, &str)] = &[
 ];
 
 #[test]
-fn each_name_is_known(rt: HostRuntime) -> Result<(), Fail> {
-    bodies_break(&rt, rt.alloc(), UNKNOWN)?;
-    bodies_break(&rt, rt.alloc(), UNKNOWN_INSIDE)?;
-    Ok(())
+fn each_name_is_known(rt: HostRuntime) {
+    bodies_break(&rt, rt.alloc(), UNKNOWN);
+    bodies_break(&rt, rt.alloc(), UNKNOWN_INSIDE);
 }
 
 const NEW: &[&str] = &[
@@ -266,9 +263,8 @@ const HEADS_NOT_NEW: &[(u32, &str)] = &[
 ];
 
 #[test]
-fn declared_names_are_new(rt: HostRuntime) -> Result<(), Fail> {
-    bodies_keep(&rt, rt.alloc(), NEW)?;
-    bodies_break(&rt, rt.alloc(), NOT_NEW)?;
-    bodies_break(&rt, rt.alloc(), HEADS_NOT_NEW)?;
-    Ok(())
+fn declared_names_are_new(rt: HostRuntime) {
+    bodies_keep(&rt, rt.alloc(), NEW);
+    bodies_break(&rt, rt.alloc(), NOT_NEW);
+    bodies_break(&rt, rt.alloc(), HEADS_NOT_NEW);
 }

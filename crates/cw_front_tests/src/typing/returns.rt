@@ -1,7 +1,6 @@
 //! Returns, the heads of loops, and which line is told.
 
 use crate::typing::{all_break, all_keep, bodies_break, bodies_keep};
-use std::test::Fail;
 
 const RETURNING: &[&str] = &[
     "void f() { }\nint main() { return 0; }",
@@ -203,10 +202,9 @@ const NO_HEADS: &[(u32, &str)] = &[
 ];
 
 #[test]
-fn loops_have_heads(rt: HostRuntime) -> Result<(), Fail> {
-    bodies_keep(&rt, rt.alloc(), HEADS)?;
-    bodies_break(&rt, rt.alloc(), NO_HEADS)?;
-    Ok(())
+fn loops_have_heads(rt: HostRuntime) {
+    bodies_keep(&rt, rt.alloc(), HEADS);
+    bodies_break(&rt, rt.alloc(), NO_HEADS);
 }
 
 const LINES: &[(u32, &str)] = &[
