@@ -18,6 +18,14 @@ from trees import Burden
 TOP = os.path.normpath(os.path.join(os.path.dirname(os.path.abspath(__file__)), "..", ".."))
 MODES = [("run", ".out"), ("scale", ".scale.csv"), ("sites", ".sites.csv"), ("greedy", ".greedy.csv")]
 PROCESSORS = 8
+TEST = [
+    "",
+    "#[test]",
+    "fn reports_as_beside_it(rt: HostRuntime) -> Result<(), Fail> {",
+    "    holds(rt, &EXAMPLE)",
+    "}",
+    "",
+]
 
 
 def read(path):
@@ -26,13 +34,14 @@ def read(path):
 
 
 def constant(name, texts):
-    """The texts of an example as a constant of Rattle."""
-    lines = ["//! The program examples/%s.cilk, and the files beside it." % name, "", "use crate::examples::Example;"]
-    lines += ["", "pub const EXAMPLE: Example = Example {"]
+    """The texts of an example as a constant of Rattle, and the test of them."""
+    lines = ["//! The program examples/%s.cilk, and the files beside it." % name, ""]
+    lines += ["use crate::examples::{Example, holds};", "use std::test::Fail;"]
+    lines += ["", "const EXAMPLE: Example = Example {"]
     for field, text in texts:
         escaped = text.replace("\\", "\\\\").replace('"', '\\"')
         lines.append('    %s: "%s",' % (field, escaped))
-    return "\n".join(lines + ["};", ""])
+    return "\n".join(lines + ["};"] + TEST)
 
 
 def texts_of(name, path):

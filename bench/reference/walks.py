@@ -21,7 +21,6 @@ WANTED = {"ended": 10, "trapped": 4}
 HEAD = '''//! Random programs, written by `bench/reference/walks.py`.
 
 /// A random program with its arguments, and what its run costs: up to its end or its trap.
-#[derive(Clone, Copy, Debug)]
 pub struct Generated<'a> {
     pub source: &'a [u8],
     pub args: &'a [i64],

@@ -1,28 +1,8 @@
 //! Runs of the language with arrays: elements, lengths, calls that take arrays, cuts, and their traps. The limits are
 //! exact: one instruction less is over.
 
-use crate::program::answer_by_all;
-use std::process::Abort;
-use std::sync::Wait;
+use crate::program::{Row, all_hold_by_all};
 use std::test::Fail;
-use std::thread::Threads;
-
-// The words, the source, the exit status, standard output and standard error.
-type Row<'a> = (&'a str, &'a str, u8, &'a str, &'a str);
-
-// Each of these rows holds.
-fn all_hold<R: Abort + AllocGlobal + Threads + Wait + Copy + Drop + Send + 'static>(
-    rt: R,
-    rows: &[Row],
-) -> Result<(), Fail> {
-    for row in rows {
-        let (status, out, err) = answer_by_all(rt, row.0, row.1.as_bytes())?;
-        assert_eq!(rt; status, row.2, "{}: {}", row.0, row.1);
-        assert_eq!(rt; out.as_slice(), row.3.as_bytes(), "{}: {}", row.0, row.1);
-        assert_eq!(rt; err.as_slice(), row.4.as_bytes(), "{}: {}", row.0, row.1);
-    }
-    Ok(())
-}
 
 const CUT_AT_3: &str = "int main() { int a[3]; cut a at 3 as l, r { } return 0; }";
 
@@ -93,90 +73,112 @@ const SIEVE: &str = "int main(int n) {
 }
 ";
 
+// Cuts, and their costs.
+const CUTS: &[Row] = &[
+    // the array 2, the cut 2, its end 1, return 2
+    ("run f --limit 7", CUT_AT_3, 0, "return 0\n", ""),
+    ("run f --limit 6", CUT_AT_3, 4, "", "over limit\n"),
+    ("run f --limit 9", EMPTY_PART, 0, "0\nreturn 0\n", ""),
+    ("run f --limit 8", EMPTY_PART, 4, "", "over limit\n"),
+    ("run f --limit 31", FILL, 0, "return 57\n", ""),
+    ("run f --limit 30", FILL, 4, "", "over limit\n"),
+    ("run f", CUT_TWICE, 0, "return 17034\n", ""),
+];
+
 #[test]
-fn runs_arrays_and_cuts(rt: HostRuntime) -> Result<(), Fail> {
-    let rows: &[Row] = &[
-        // the array 2, the cut 2, its end 1, return 2
-        ("run f --limit 7", CUT_AT_3, 0, "return 0\n", ""),
-        ("run f --limit 6", CUT_AT_3, 4, "", "over limit\n"),
-        ("run f --limit 9", EMPTY_PART, 0, "0\nreturn 0\n", ""),
-        ("run f --limit 8", EMPTY_PART, 4, "", "over limit\n"),
-        ("run f --limit 31", FILL, 0, "return 57\n", ""),
-        ("run f --limit 30", FILL, 4, "", "over limit\n"),
-        ("run f", CUT_TWICE, 0, "return 17034\n", ""),
-        ("run f", SPAWNED, 0, "42\nreturn 22\n", ""),
-        ("run f", FRESH, 0, "return 6\n", ""),
-        ("run f 100", SIEVE, 0, "return 25\n", ""),
-        (
-            "run f",
-            "int main() { int a[0]; return len(a); }",
-            0,
-            "return 0\n",
-            "",
-        ),
-    ];
-    all_hold(rt, rows)
+fn runs_cuts(rt: HostRuntime) -> Result<(), Fail> {
+    all_hold_by_all(rt, "", CUTS)
 }
+
+// Elements, lengths, and arrays that calls take.
+const ARRAYS: &[Row] = &[
+    ("run f", SPAWNED, 0, "42\nreturn 22\n", ""),
+    ("run f", FRESH, 0, "return 6\n", ""),
+    ("run f 100", SIEVE, 0, "return 25\n", ""),
+    (
+        "run f",
+        "int main() { int a[0]; return len(a); }",
+        0,
+        "return 0\n",
+        "",
+    ),
+];
+
+#[test]
+fn runs_arrays(rt: HostRuntime) -> Result<(), Fail> {
+    all_hold_by_all(rt, "", ARRAYS)
+}
+
+// Cuts and lengths that trap.
+const NO_ARRAYS: &[Row] = &[
+    ("run f", CUT_AT_4, 3, "", "trap 3 line 1\n"),
+    ("run f --limit 4", CUT_AT_4, 3, "", "trap 3 line 1\n"),
+    ("run f --limit 3", CUT_AT_4, 4, "", "over limit\n"),
+    ("run f", CUT_BELOW_0, 3, "", "trap 3 line 1\n"),
+    (
+        "run f",
+        "int main() { int a[0 - 1]; return 0; }",
+        3,
+        "",
+        "trap 4 line 1\n",
+    ),
+    (
+        "run f",
+        "int main() { int a[16777217]; return 0; }",
+        3,
+        "",
+        "trap 4 line 1\n",
+    ),
+];
+
+#[test]
+fn traps_at_cuts_and_lengths(rt: HostRuntime) -> Result<(), Fail> {
+    all_hold_by_all(rt, "", NO_ARRAYS)
+}
+
+// Elements outside their array.
+const OUTSIDE: &[Row] = &[
+    (
+        "run f",
+        "int main() {\nint a[2];\nreturn a[2]; }",
+        3,
+        "",
+        "trap 3 line 3\n",
+    ),
+    (
+        "run f",
+        "int main() {\nint a[2];\nreturn a[-1]; }",
+        3,
+        "",
+        "trap 3 line 3\n",
+    ),
+    // the index, and then the value, whose trap comes first
+    (
+        "run f",
+        "int main() {\nint a[2];\nprint(5);\na[2] = 1 / 0;\nreturn 0; }",
+        3,
+        "5\n",
+        "trap 2 line 4\n",
+    ),
+    (
+        "run f",
+        "int main() {\nint a[2];\na[1 + 1] =\n1;\nreturn 0; }",
+        3,
+        "",
+        "trap 3 line 3\n",
+    ),
+    (
+        "run f",
+        "void f(int a[], int i) {\na[i] = 1; }\nint main() {\nint a[2];\ncilk_spawn f(a, 2);\nprint(1);\ncilk_sync;\nreturn 0; }",
+        3,
+        "",
+        "trap 3 line 2\n",
+    ),
+];
 
 #[test]
 fn traps_outside_an_array(rt: HostRuntime) -> Result<(), Fail> {
-    let rows: &[Row] = &[
-        ("run f", CUT_AT_4, 3, "", "trap 3 line 1\n"),
-        ("run f --limit 4", CUT_AT_4, 3, "", "trap 3 line 1\n"),
-        ("run f --limit 3", CUT_AT_4, 4, "", "over limit\n"),
-        ("run f", CUT_BELOW_0, 3, "", "trap 3 line 1\n"),
-        (
-            "run f",
-            "int main() { int a[0 - 1]; return 0; }",
-            3,
-            "",
-            "trap 4 line 1\n",
-        ),
-        (
-            "run f",
-            "int main() { int a[16777217]; return 0; }",
-            3,
-            "",
-            "trap 4 line 1\n",
-        ),
-        (
-            "run f",
-            "int main() {\nint a[2];\nreturn a[2]; }",
-            3,
-            "",
-            "trap 3 line 3\n",
-        ),
-        (
-            "run f",
-            "int main() {\nint a[2];\nreturn a[-1]; }",
-            3,
-            "",
-            "trap 3 line 3\n",
-        ),
-        // the index, and then the value, whose trap comes first
-        (
-            "run f",
-            "int main() {\nint a[2];\nprint(5);\na[2] = 1 / 0;\nreturn 0; }",
-            3,
-            "5\n",
-            "trap 2 line 4\n",
-        ),
-        (
-            "run f",
-            "int main() {\nint a[2];\na[1 + 1] =\n1;\nreturn 0; }",
-            3,
-            "",
-            "trap 3 line 3\n",
-        ),
-        (
-            "run f",
-            "void f(int a[], int i) {\na[i] = 1; }\nint main() {\nint a[2];\ncilk_spawn f(a, 2);\nprint(1);\ncilk_sync;\nreturn 0; }",
-            3,
-            "",
-            "trap 3 line 2\n",
-        ),
-    ];
-    all_hold(rt, rows)
+    all_hold_by_all(rt, "", OUTSIDE)
 }
 
 const TWO_ADDITIONS: &str = "reducer sum s; void add() { s += 9223372036854775807; } \
@@ -197,33 +199,35 @@ reducer sum unused;
 const ADDED_BEFORE_A_TRAP: &str =
     "reducer sum s; int main(int z) { s += 3; print(4); s += 1 / z; return 0; }";
 
+// Sums, and what they cost.
+const SUMS: &[Row] = &[
+    // each spawn 1, each addition 2 and the end of its function 1, the sync 1, return 2
+    (
+        "run f --limit 11",
+        TWO_ADDITIONS,
+        0,
+        "sum s = 18446744073709551614\nreturn 0\n",
+        "",
+    ),
+    ("run f --limit 10", TWO_ADDITIONS, 4, "", "over limit\n"),
+    (
+        "run f",
+        TWO_REDUCERS,
+        0,
+        "0\n1\n2\n3\nsum up = 6\nsum down = -6\nsum unused = 0\nreturn 9\n",
+        "",
+    ),
+    ("run f 0", ADDED_BEFORE_A_TRAP, 3, "4\n", "trap 2 line 1\n"),
+    (
+        "run f 1",
+        ADDED_BEFORE_A_TRAP,
+        0,
+        "4\nsum s = 4\nreturn 0\n",
+        "",
+    ),
+];
+
 #[test]
 fn runs_sums(rt: HostRuntime) -> Result<(), Fail> {
-    let rows: &[Row] = &[
-        // each spawn 1, each addition 2 and the end of its function 1, the sync 1, return 2
-        (
-            "run f --limit 11",
-            TWO_ADDITIONS,
-            0,
-            "sum s = 18446744073709551614\nreturn 0\n",
-            "",
-        ),
-        ("run f --limit 10", TWO_ADDITIONS, 4, "", "over limit\n"),
-        (
-            "run f",
-            TWO_REDUCERS,
-            0,
-            "0\n1\n2\n3\nsum up = 6\nsum down = -6\nsum unused = 0\nreturn 9\n",
-            "",
-        ),
-        ("run f 0", ADDED_BEFORE_A_TRAP, 3, "4\n", "trap 2 line 1\n"),
-        (
-            "run f 1",
-            ADDED_BEFORE_A_TRAP,
-            0,
-            "4\nsum s = 4\nreturn 0\n",
-            "",
-        ),
-    ];
-    all_hold(rt, rows)
+    all_hold_by_all(rt, "", SUMS)
 }

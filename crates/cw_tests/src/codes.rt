@@ -5,8 +5,10 @@ use cw_machine::alone::run_alone;
 use cw_model::burden::{Burden, Edges};
 use cw_model::syntax::{CallKind, Operator};
 use cw_text::Fault;
+use cw_verify::verified::Verified;
 use cw_verify::verify::verify;
 use std::alloc::{AllocError, Global};
+use std::process::Abort;
 use std::sync::Arc;
 use std::test::Fail;
 
@@ -155,14 +157,8 @@ const KINDS: [Instr; 32] = [
     Instr::Skip(u32::MAX),
 ];
 
-// The code of the program; the lists of array slots are those of no call, of main, and of the loop's function.
-fn code(alloc: Global) -> Result<Code, AllocError> {
-    let mut instrs = Vec::new(alloc);
-    instrs.extend_from_slice(&MAIN)?;
-    instrs.extend_from_slice(&LOOP)?;
-    instrs.extend_from_slice(&LOOP_END)?;
-    let mut funcs = Vec::new(alloc);
-    funcs.push(Func {
+const FUNCS: [Func; 2] = [
+    Func {
         start: 0,
         end: 10,
         gives_int: true,
@@ -171,8 +167,8 @@ fn code(alloc: Global) -> Result<Code, AllocError> {
         array_params: 0,
         arrays: 1,
         readers: 0,
-    })?;
-    funcs.push(Func {
+    },
+    Func {
         start: 10,
         end: 57,
         gives_int: false,
@@ -181,25 +177,51 @@ fn code(alloc: Global) -> Result<Code, AllocError> {
         array_params: 1,
         arrays: 3,
         readers: 0,
-    })?;
-    let mut passed = Vec::new(alloc);
-    for _ in 0..4u32 {
-        passed.push(Vec::new(alloc))?;
+    },
+];
+
+// The lists of array slots: those of no call, of main, and of the loop's function.
+const LISTS: [&[u32]; 7] = [&[], &[], &[], &[], &[0], &[1], &[2]];
+
+// The instructions, with this one at this place.
+fn instrs_with(alloc: Global, place: usize, instr: Instr) -> Result<Vec<Instr>, AllocError> {
+    let mut instrs = Vec::new(alloc);
+    instrs.extend_from_slice(&MAIN)?;
+    instrs.extend_from_slice(&LOOP)?;
+    instrs.extend_from_slice(&LOOP_END)?;
+    if let Some(at) = instrs.get_mut(place) {
+        *at = instr;
     }
-    for slot in 0..3u32 {
-        let mut slots = Vec::new(alloc);
-        slots.push(slot)?;
-        passed.push(slots)?;
+    Ok(instrs)
+}
+
+fn funcs(alloc: Global) -> Result<Vec<Func>, AllocError> {
+    let mut funcs = Vec::new(alloc);
+    funcs.extend_from_slice(&FUNCS)?;
+    Ok(funcs)
+}
+
+fn copies(alloc: Global, lists: &[&[u32]]) -> Result<Vec<Vec<u32>>, AllocError> {
+    let mut copies = Vec::new(alloc);
+    for list in lists {
+        let mut copy = Vec::new(alloc);
+        copy.extend_from_slice(list)?;
+        copies.push(copy)?;
     }
+    Ok(copies)
+}
+
+// The code of the program with these instructions.
+fn code(alloc: Global, instrs: Vec<Instr>) -> Result<Code, AllocError> {
     Ok(Code {
         instrs,
-        funcs,
+        funcs: funcs(alloc)?,
         main: 0,
         main_line: 1,
         sites: Vec::new(alloc),
         reducers: Vec::new(alloc),
         tags: Vec::new(alloc),
-        passed,
+        passed: copies(alloc, &LISTS)?,
         lent: Vec::new(alloc),
     })
 }
@@ -210,102 +232,123 @@ const NO_BURDEN: Burden = Burden {
 };
 
 // What came of a code.
-#[derive(Drop, Debug, PartialEq, Eq)]
+#[derive(Clone, Copy, PartialEq, Eq)]
 enum Came {
     // It does not fit.
     Refused,
-    // It ran: with this value, or without one.
-    Ran(Option<i64>),
+    // It ran to its end, with this value.
+    Ended(i64),
+    // It ran and trapped, or passed its limit.
+    Stopped,
     // Want of memory, or something that no run answers.
     Failed,
 }
 
+// What a code that fits comes to.
+fn run_of(alloc: Global, verified: Verified, limit: u64) -> Result<Came, AllocError> {
+    let verified = Arc::new(alloc, verified)?;
+    match run_alone(alloc, verified, &[], limit, NO_BURDEN) {
+        Ok(ended) => Ok(Came::Ended(ended.value)),
+        Err(Fault::OverLimit) | Err(Fault::Trap { .. }) => Ok(Came::Stopped),
+        Err(_) => Ok(Came::Failed),
+    }
+}
+
 // What the code comes to with this instruction at this place, within this limit.
 fn run_with(alloc: Global, place: usize, instr: Instr, limit: u64) -> Result<Came, AllocError> {
-    let mut code = code(alloc)?;
-    if let Some(at) = code.instrs.get_mut(place) {
-        *at = instr;
-    }
+    let code = code(alloc, instrs_with(alloc, place, instr)?)?;
     match verify(alloc, code) {
-        Ok(verified) => match run_alone(alloc, Arc::new(alloc, verified)?, &[], limit, NO_BURDEN) {
-            Ok(ended) => Ok(Came::Ran(Some(ended.value))),
-            Err(Fault::OverLimit) | Err(Fault::Trap { .. }) => Ok(Came::Ran(None)),
-            Err(_) => Ok(Came::Failed),
-        },
+        Ok(verified) => run_of(alloc, verified, limit),
         Err(Fault::Code) => Ok(Came::Refused),
         Err(_) => Ok(Came::Failed),
     }
 }
 
+// The code as it stands costs 136, and not one less.
 #[test]
-fn each_instruction_replaced_is_refused_or_runs(rt: HostRuntime) -> Result<(), Fail> {
-    let alloc = rt.alloc();
-    // the code as it stands costs 136
-    assert_eq!(rt;
-        run_with(alloc, 0, Instr::Push(4), 136)?,
-        Came::Ran(Some(0))
-    );
-    assert_eq!(rt; run_with(alloc, 0, Instr::Push(4), 135)?, Came::Ran(None));
+fn the_code_runs(rt: HostRuntime) -> Result<(), Fail> {
+    let within = run_with(rt.alloc(), 0, Instr::Push(4), 136)?;
+    let below = run_with(rt.alloc(), 0, Instr::Push(4), 135)?;
+    assert!(rt; within == Came::Ended(0) && below == Came::Stopped);
+    Ok(())
+}
+
+// How many of these are refused at this place; each is refused or runs.
+fn refused_at<R: Abort>(rt: &R, alloc: Global, place: usize, kinds: &[Instr]) -> Result<u32, Fail> {
     let mut refused: u32 = 0;
-    for place in 0..57usize {
-        for kind in &KINDS {
-            let what = run_with(alloc, place, *kind, 100)?;
-            assert!(rt; what != Came::Failed, "{place} {kind:?}");
-            if what == Came::Refused {
-                refused = refused.wrapping_add(1);
-            }
+    for kind in kinds {
+        let came = run_with(alloc, place, *kind, 100)?;
+        assert!(rt; came != Came::Failed, "{place} {kind:?}");
+        if came == Came::Refused {
+            refused = refused.wrapping_add(1);
         }
     }
-    // a jump past the end, a call at no site, a join with an operand, the end of a call in a block: most do not fit
+    Ok(refused)
+}
+
+// How many of these are refused at all places.
+fn refused_anywhere<R: Abort>(rt: &R, alloc: Global, kinds: &[Instr]) -> Result<u32, Fail> {
+    let mut refused: u32 = 0;
+    for place in 0..57usize {
+        refused = refused.wrapping_add(refused_at(rt, alloc, place, kinds)?);
+    }
+    Ok(refused)
+}
+
+// A jump past the end, a call at no site, a join with an operand, the end of a call in a block: most do not fit.
+#[test]
+fn each_instruction_replaced_is_refused_or_runs(rt: HostRuntime) -> Result<(), Fail> {
+    let refused = refused_anywhere(&rt, rt.alloc(), &KINDS)?;
     assert!(rt; refused > 1000, "{refused}");
-    for (place, instr) in [
-        // an operand too few, an operand left over at a join, a block that is not closed, a cut that is not ended
-        (2, Instr::Sync),
-        (7, Instr::Sync),
-        (30, Instr::Load(0)),
-        (55, Instr::Sync),
-        // a function that is not there, a list of another function, no list
-        (
-            4,
-            Instr::Start(
-                Inner {
-                    function: 2,
-                    passed: 4,
-                },
-                1,
-            ),
-        ),
-        (
-            4,
-            Instr::Start(
-                Inner {
-                    function: 1,
-                    passed: 1,
-                },
-                1,
-            ),
-        ),
-        (
-            4,
-            Instr::Start(
-                Inner {
-                    function: 1,
-                    passed: 7,
-                },
-                1,
-            ),
-        ),
-        // the right part is given to the left half and used again
-        (51, Instr::Recur(CallKind::Spawned, RIGHT)),
-        // a jump one past the end, and one into the other function
-        (36, Instr::Skip(20)),
-        (35, Instr::GoBack(26)),
-    ] {
-        assert_eq!(rt;
-            run_with(alloc, place, instr, 100)?,
-            Came::Refused,
-            "{place}"
-        );
+    Ok(())
+}
+
+// A function that is not there, a list of another function, no list.
+const NO_FUNCTION: Inner = Inner {
+    function: 2,
+    passed: 4,
+};
+
+const OTHER_LIST: Inner = Inner {
+    function: 1,
+    passed: 1,
+};
+
+const NO_LIST: Inner = Inner {
+    function: 1,
+    passed: 7,
+};
+
+// Places, and instructions that do not fit there.
+const UNFIT: [(usize, Instr); 10] = [
+    // an operand too few, an operand left over at a join, a block that is not closed, a cut that is not ended
+    (2, Instr::Sync),
+    (7, Instr::Sync),
+    (30, Instr::Load(0)),
+    (55, Instr::Sync),
+    (4, Instr::Start(NO_FUNCTION, 1)),
+    (4, Instr::Start(OTHER_LIST, 1)),
+    (4, Instr::Start(NO_LIST, 1)),
+    // the right part is given to the left half and used again
+    (51, Instr::Recur(CallKind::Spawned, RIGHT)),
+    // a jump one past the end, and one into the other function
+    (36, Instr::Skip(20)),
+    (35, Instr::GoBack(26)),
+];
+
+fn all_are_refused<R: Abort>(
+    rt: &R,
+    alloc: Global,
+    replaced: &[(usize, Instr)],
+) -> Result<(), Fail> {
+    for (place, instr) in replaced {
+        let came = run_with(alloc, *place, *instr, 100)?;
+        assert!(rt; came == Came::Refused, "{place}");
     }
     Ok(())
+}
+
+#[test]
+fn instructions_that_do_not_fit_are_refused(rt: HostRuntime) -> Result<(), Fail> {
+    all_are_refused(&rt, rt.alloc(), &UNFIT)
 }

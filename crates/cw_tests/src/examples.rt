@@ -24,7 +24,7 @@ mod roots_mended;
 mod spawned;
 mod stencil;
 
-use crate::program::answer;
+use crate::program::answers;
 use std::process::Abort;
 use std::sync::Wait;
 use std::test::Fail;
@@ -40,106 +40,50 @@ pub struct Example {
     pub greedy: &'static str,
 }
 
-const EXAMPLES: [Example; 12] = [
-    collatz::EXAMPLE,
-    fib::EXAMPLE,
-    fib_cutoff::EXAMPLE,
-    later::EXAMPLE,
-    mergesort::EXAMPLE,
-    prefix::EXAMPLE,
-    primes::EXAMPLE,
-    primes_each::EXAMPLE,
-    product::EXAMPLE,
-    quarters::EXAMPLE,
-    queens::EXAMPLE,
-    spawned::EXAMPLE,
-];
-
-// Those with a parallel loop.
-const WITH_LOOPS: [Example; 9] = [
-    dot::EXAMPLE,
-    histogram::EXAMPLE,
-    longest::EXAMPLE,
-    matrix::EXAMPLE,
-    mergesort_parallel::EXAMPLE,
-    primes_loop::EXAMPLE,
-    roots::EXAMPLE,
-    roots_mended::EXAMPLE,
-    stencil::EXAMPLE,
-];
-
-// The exit status, standard output and standard error of the program in this mode, with its words before the file.
-fn answer_in<R: Abort + AllocGlobal + Threads + Wait + Copy + Drop + Send + 'static>(
+// Whether the program writes this of the example, with these words in front of its own.
+fn writes<R: AllocGlobal + Threads + Wait + Copy + Drop + Send + 'static>(
     rt: R,
     mode: &str,
     example: &Example,
-) -> Result<(u8, Vec<u8>, Vec<u8>), Fail> {
+    wanted: &str,
+) -> Result<bool, Fail> {
     let mut words = String::from_str(rt.alloc(), mode)?;
-    words.push_str(" ")?;
     words.push_str(example.words)?;
-    answer(rt, words.as_str(), example.source.as_bytes())
+    let source = example.source.as_bytes();
+    answers(rt, words.as_str(), source, 0, wanted, "")
 }
 
-// What stands beside an example of its answer in this mode.
-fn beside(example: &Example, mode: &str) -> &'static str {
-    match mode {
-        "run" => example.run,
-        "scale" => example.scale,
-        "sites" => example.sites,
-        _ => example.greedy,
-    }
-}
-
-// Each of these answers what stands beside it.
-fn all_answer<R: Abort + AllocGlobal + Threads + Wait + Copy + Drop + Send + 'static>(
+// The program writes this of the example, as above.
+fn reports<R: Abort + AllocGlobal + Threads + Wait + Copy + Drop + Send + 'static>(
     rt: R,
     mode: &str,
-    examples: &[Example],
+    example: &Example,
+    wanted: &str,
 ) -> Result<(), Fail> {
-    for example in examples {
-        let (status, out, err) = answer_in(rt, mode, example)?;
-        assert_eq!(rt; (status, err.len()), (0, 0), "{mode} {}", example.words);
-        let wanted = beside(example, mode);
-        assert_eq!(rt;
-            out.as_slice(),
-            wanted.as_bytes(),
-            "{mode} {}",
-            example.words
-        );
-    }
+    let writes = writes(rt, mode, example, wanted)?;
+    assert!(rt; writes, "{mode}{}", example.words);
     Ok(())
 }
 
-// Each of these is accepted.
-fn all_are_accepted<R: Abort + AllocGlobal + Threads + Wait + Copy + Drop + Send + 'static>(
+// The example is accepted.
+fn is_accepted<R: Abort + AllocGlobal + Threads + Wait + Copy + Drop + Send + 'static>(
     rt: R,
-    examples: &[Example],
+    example: &Example,
 ) -> Result<(), Fail> {
-    for example in examples {
-        let source = example.source.as_bytes();
-        let (status, out, err) = answer(rt, "check example.cilk", source)?;
-        assert_eq!(rt; (status, err.len()), (0, 0), "{}", example.words);
-        assert_eq!(rt; out.as_slice(), "ok\n".as_bytes(), "{}", example.words);
-    }
+    let source = example.source.as_bytes();
+    let is_accepted = answers(rt, "check example.cilk", source, 0, "ok\n", "")?;
+    assert!(rt; is_accepted, "check {}", example.words);
     Ok(())
 }
 
-#[test]
-fn the_examples_report_as_beside_them(rt: HostRuntime) -> Result<(), Fail> {
-    let examples = &EXAMPLES;
-    all_are_accepted(rt, examples)?;
-    all_answer(rt, "run", examples)?;
-    all_answer(rt, "scale", examples)?;
-    all_answer(rt, "sites", examples)?;
-    all_answer(rt, "greedy 8", examples)
-}
-
-#[test]
-fn those_with_loops_report_as_beside_them(rt: HostRuntime) -> Result<(), Fail> {
-    let examples = &WITH_LOOPS;
-    all_are_accepted(rt, examples)?;
-    all_answer(rt, "run", examples)?;
-    all_answer(rt, "scale", examples)?;
-    all_answer(rt, "sites", examples)?;
-    all_answer(rt, "greedy 8", examples)
+/// The example is accepted, and each report is what stands beside it.
+pub fn holds<R: Abort + AllocGlobal + Threads + Wait + Copy + Drop + Send + 'static>(
+    rt: R,
+    example: &Example,
+) -> Result<(), Fail> {
+    is_accepted(rt, example)?;
+    reports(rt, "run ", example, example.run)?;
+    reports(rt, "scale ", example, example.scale)?;
+    reports(rt, "sites ", example, example.sites)?;
+    reports(rt, "greedy 8 ", example, example.greedy)
 }

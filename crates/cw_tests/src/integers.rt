@@ -1,12 +1,12 @@
 //! Runs of the language of integers: control flow, recursion, traps, printed values and sync blocks. The limits are exact:
 //! one instruction less is over.
 
-use crate::program::answer;
+use crate::program::{Row, all_hold, answers};
 use std::alloc::{AllocError, Global};
+use std::process::Abort;
+use std::sync::Wait;
 use std::test::Fail;
-
-// The words, the source, the exit status, standard output and standard error.
-type Row<'a> = (&'a str, &'a str, u8, &'a str, &'a str);
+use std::thread::Threads;
 
 const FIB: &str = "int fib(int n) {
   if (n < 2) { return n; }
@@ -162,175 +162,220 @@ int main(int n) {
 }
 ";
 
+// A recursion with spawns.
+const RECURSION: &[Row] = &[
+    // fib pays 21 above its base case, where it pays 6, and main pays 6
+    ("run f 0 --limit 12", FIB, 0, "return 0\n", ""),
+    ("run f 0 --limit 11", FIB, 4, "", "over limit\n"),
+    ("run f 4 --limit 120", FIB, 0, "return 3\n", ""),
+    ("run f 4 --limit 119", FIB, 4, "", "over limit\n"),
+    ("run f 20", FIB, 0, "return 6765\n", ""),
+    ("run f", FIB, 5, "", "arguments\n"),
+];
+
 #[test]
-fn runs_control_flow_and_recursion(rt: HostRuntime) -> Result<(), Fail> {
-    let rows: &[Row] = &[
-        // fib pays 21 above its base case, where it pays 6, and main pays 6
-        ("run f 0 --limit 12", FIB, 0, "return 0\n", ""),
-        ("run f 0 --limit 11", FIB, 4, "", "over limit\n"),
-        ("run f 4 --limit 120", FIB, 0, "return 3\n", ""),
-        ("run f 4 --limit 119", FIB, 4, "", "over limit\n"),
-        ("run f 20", FIB, 0, "return 6765\n", ""),
-        ("run f", FIB, 5, "", "arguments\n"),
-        ("run f --limit 39", BRANCHES, 0, "7\n8\nreturn 2\n", ""),
-        ("run f --limit 38", BRANCHES, 4, "", "over limit\n"),
-        // each call of f that spawns pays 14 and what the next one pays, the last one 6, and main 6
-        ("run f 9998 --limit 149982", CHAIN, 0, "return 9998\n", ""),
-        ("run f 9998 --limit 149981", CHAIN, 4, "", "over limit\n"),
-        ("run f 9999", CHAIN, 3, "", "trap 6 line 1\n"),
-        // main pays 4, and each of 9,999 calls of f pays 6
-        ("run f", ENDLESS, 3, "", "trap 6 line 1\n"),
-        ("run f --limit 59998", ENDLESS, 3, "", "trap 6 line 1\n"),
-        ("run f --limit 59997", ENDLESS, 4, "", "over limit\n"),
-        (
-            "run f --limit 1000000",
-            "int main() { while (1) { } return 0; }",
-            4,
-            "",
-            "over limit\n",
-        ),
-    ];
-    for row in rows {
-        let (status, out, err) = answer(rt, row.0, row.1.as_bytes())?;
-        assert_eq!(rt; status, row.2, "{}: {}", row.0, row.1);
-        assert_eq!(rt; out.as_slice(), row.3.as_bytes(), "{}: {}", row.0, row.1);
-        assert_eq!(rt; err.as_slice(), row.4.as_bytes(), "{}: {}", row.0, row.1);
+fn runs_recursion(rt: HostRuntime) -> Result<(), Fail> {
+    all_hold(rt, RECURSION)
+}
+
+// Branches, loops and deep calls.
+const CONTROL: &[Row] = &[
+    ("run f --limit 39", BRANCHES, 0, "7\n8\nreturn 2\n", ""),
+    ("run f --limit 38", BRANCHES, 4, "", "over limit\n"),
+    // each call of f that spawns pays 14 and what the next one pays, the last one 6, and main 6
+    ("run f 9998 --limit 149982", CHAIN, 0, "return 9998\n", ""),
+    ("run f 9998 --limit 149981", CHAIN, 4, "", "over limit\n"),
+    ("run f 9999", CHAIN, 3, "", "trap 6 line 1\n"),
+    // main pays 4, and each of 9,999 calls of f pays 6
+    ("run f", ENDLESS, 3, "", "trap 6 line 1\n"),
+    ("run f --limit 59998", ENDLESS, 3, "", "trap 6 line 1\n"),
+    ("run f --limit 59997", ENDLESS, 4, "", "over limit\n"),
+    (
+        "run f --limit 1000000",
+        "int main() { while (1) { } return 0; }",
+        4,
+        "",
+        "over limit\n",
+    ),
+];
+
+#[test]
+fn runs_control_flow(rt: HostRuntime) -> Result<(), Fail> {
+    all_hold(rt, CONTROL)
+}
+
+// Divisions, and what is printed before one traps.
+const DIVISIONS: &[Row] = &[
+    ("run f 1 --limit 15", DIVISION, 0, "7\nreturn 0\n", ""),
+    ("run f 1 --limit 14", DIVISION, 4, "", "over limit\n"),
+    ("run f 0", DIVISION, 3, "", "trap 2 line 1\n"),
+    ("run f 0 --limit 7", DIVISION, 3, "", "trap 2 line 1\n"),
+    ("run f 0 --limit 6", DIVISION, 4, "", "over limit\n"),
+    (
+        "run f 0 --limit 1000000",
+        DIVISION_BESIDE_A_LOOP,
+        3,
+        "",
+        "trap 2 line 1\n",
+    ),
+    (
+        "run f 0",
+        PRINT_BEFORE_A_TRAP,
+        3,
+        "1\n-2\n",
+        "trap 2 line 5\n",
+    ),
+    (
+        "run f 1",
+        PRINT_BEFORE_A_TRAP,
+        0,
+        "1\n-2\n3\nreturn 1\n",
+        "",
+    ),
+];
+
+#[test]
+fn runs_divisions(rt: HostRuntime) -> Result<(), Fail> {
+    all_hold(rt, DIVISIONS)
+}
+
+// Sums that pass the greatest number, and each operator.
+const OPERATIONS: &[Row] = &[
+    (
+        "run f",
+        "int main() { return 9223372036854775807 + 1; }",
+        3,
+        "",
+        "trap 1 line 1\n",
+    ),
+    (
+        "run f --limit 2",
+        "int main() { return 9223372036854775807 + 1; }",
+        4,
+        "",
+        "over limit\n",
+    ),
+    (
+        "run f",
+        OPERATORS,
+        0,
+        "-3\n-1\n0\n1\n1\n0\n1\n0\n1\n0\n9\nreturn 0\n",
+        "",
+    ),
+];
+
+#[test]
+fn runs_operators(rt: HostRuntime) -> Result<(), Fail> {
+    all_hold(rt, OPERATIONS)
+}
+
+// What spawned calls print, and where their values may be used.
+const BLOCKS: &[Row] = &[
+    (
+        "run f --limit 15",
+        THREE_PRINTS,
+        0,
+        "1\n2\n3\nreturn 0\n",
+        "",
+    ),
+    ("run f --limit 14", THREE_PRINTS, 4, "", "over limit\n"),
+    ("run f", EARLY_PRINT, 2, "", "refused 4 line 1\n"),
+    ("run f --limit 12", LATE_PRINT, 0, "1\nreturn 0\n", ""),
+    ("run f --limit 11", IN_A_REGION, 0, "1\n2\nreturn 0\n", ""),
+    ("run f --limit 10", IN_A_REGION, 4, "", "over limit\n"),
+    // declare 2, scope 1, spawn 2 and f 2, the scope's end 1, return 2
+    ("run f --limit 10", IN_A_SCOPE, 0, "return 5\n", ""),
+    ("run f --limit 9", IN_A_SCOPE, 4, "", "over limit\n"),
+];
+
+#[test]
+fn runs_sync_blocks(rt: HostRuntime) -> Result<(), Fail> {
+    all_hold(rt, BLOCKS)
+}
+
+// The words, what opens an operand, the operand, what closes it, and how often; and as of other rows what they lead to.
+type Deep = (
+    &'static str,
+    &'static str,
+    &'static str,
+    &'static str,
+    usize,
+    u8,
+    &'static str,
+    &'static str,
+);
+
+const DEEPEST: &[Deep] = &[
+    ("run f", "(", "0", ")", 63, 0, "return 0\n", ""),
+    ("run f", "(", "0", ")", 64, 2, "", "refused 5 line 1\n"),
+    ("run f --limit 256", "-", "1", "", 254, 0, "return 1\n", ""),
+    (
+        "run f --limit 255",
+        "-",
+        "1",
+        "",
+        254,
+        4,
+        "",
+        "over limit\n",
+    ),
+    ("run f", "-", "1", "", 255, 2, "", "refused 5 line 1\n"),
+];
+
+fn add_often(text: &mut String, part: &str, count: usize) -> Result<(), AllocError> {
+    for _ in 0..count {
+        text.push_str(part)?;
     }
     Ok(())
 }
 
-#[test]
-fn runs_traps_lines_and_sums(rt: HostRuntime) -> Result<(), Fail> {
-    let rows: &[Row] = &[
-        ("run f 1 --limit 15", DIVISION, 0, "7\nreturn 0\n", ""),
-        ("run f 1 --limit 14", DIVISION, 4, "", "over limit\n"),
-        ("run f 0", DIVISION, 3, "", "trap 2 line 1\n"),
-        ("run f 0 --limit 7", DIVISION, 3, "", "trap 2 line 1\n"),
-        ("run f 0 --limit 6", DIVISION, 4, "", "over limit\n"),
-        (
-            "run f 0 --limit 1000000",
-            DIVISION_BESIDE_A_LOOP,
-            3,
-            "",
-            "trap 2 line 1\n",
-        ),
-        (
-            "run f 0",
-            PRINT_BEFORE_A_TRAP,
-            3,
-            "1\n-2\n",
-            "trap 2 line 5\n",
-        ),
-        (
-            "run f 1",
-            PRINT_BEFORE_A_TRAP,
-            0,
-            "1\n-2\n3\nreturn 1\n",
-            "",
-        ),
-        (
-            "run f",
-            "int main() { return 9223372036854775807 + 1; }",
-            3,
-            "",
-            "trap 1 line 1\n",
-        ),
-        (
-            "run f --limit 2",
-            "int main() { return 9223372036854775807 + 1; }",
-            4,
-            "",
-            "over limit\n",
-        ),
-        (
-            "run f",
-            OPERATORS,
-            0,
-            "-3\n-1\n0\n1\n1\n0\n1\n0\n1\n0\n9\nreturn 0\n",
-            "",
-        ),
-        (
-            "run f --limit 15",
-            THREE_PRINTS,
-            0,
-            "1\n2\n3\nreturn 0\n",
-            "",
-        ),
-        ("run f --limit 14", THREE_PRINTS, 4, "", "over limit\n"),
-        ("run f", EARLY_PRINT, 2, "", "refused 4 line 1\n"),
-        ("run f --limit 12", LATE_PRINT, 0, "1\nreturn 0\n", ""),
-        ("run f --limit 11", IN_A_REGION, 0, "1\n2\nreturn 0\n", ""),
-        ("run f --limit 10", IN_A_REGION, 4, "", "over limit\n"),
-        // declare 2, scope 1, spawn 2 and f 2, the scope's end 1, return 2
-        ("run f --limit 10", IN_A_SCOPE, 0, "return 5\n", ""),
-        ("run f --limit 9", IN_A_SCOPE, 4, "", "over limit\n"),
-    ];
-    for row in rows {
-        let (status, out, err) = answer(rt, row.0, row.1.as_bytes())?;
-        assert_eq!(rt; status, row.2, "{}: {}", row.0, row.1);
-        assert_eq!(rt; out.as_slice(), row.3.as_bytes(), "{}: {}", row.0, row.1);
-        assert_eq!(rt; err.as_slice(), row.4.as_bytes(), "{}: {}", row.0, row.1);
-    }
-    Ok(())
-}
-
-// A program whose main returns this operand in so many signs or parentheses.
-fn nested(
-    alloc: Global,
-    open: &str,
-    operand: &str,
-    close: &str,
-    count: usize,
-) -> Result<String, AllocError> {
+// A program whose main returns the operand in so many signs or parentheses.
+fn nested(alloc: Global, deep: &Deep) -> Result<String, AllocError> {
     let mut text = String::from_str(alloc, "int main() { return ")?;
-    for _ in 0..count {
-        text.push_str(open)?;
-    }
-    text.push_str(operand)?;
-    for _ in 0..count {
-        text.push_str(close)?;
-    }
+    add_often(&mut text, deep.1, deep.4)?;
+    text.push_str(deep.2)?;
+    add_often(&mut text, deep.3, deep.4)?;
     text.push_str("; }")?;
     Ok(text)
 }
 
-#[test]
-fn runs_the_deepest_expressions(rt: HostRuntime) -> Result<(), Fail> {
-    let alloc = rt.alloc();
-    for (words, open, operand, close, count, status, out, err) in [
-        ("run f", "(", "0", ")", 63, 0, "return 0\n", ""),
-        ("run f", "(", "0", ")", 64, 2, "", "refused 5 line 1\n"),
-        ("run f --limit 256", "-", "1", "", 254, 0, "return 1\n", ""),
-        (
-            "run f --limit 255",
-            "-",
-            "1",
-            "",
-            254,
-            4,
-            "",
-            "over limit\n",
-        ),
-        ("run f", "-", "1", "", 255, 2, "", "refused 5 line 1\n"),
-    ] {
-        let source = nested(alloc, open, operand, close, count)?;
-        let told = answer(rt, words, source.as_bytes())?;
-        assert_eq!(rt; told.0, status, "{count} of {open}");
-        assert_eq!(rt; told.1.as_slice(), out.as_bytes(), "{count} of {open}");
-        assert_eq!(rt; told.2.as_slice(), err.as_bytes(), "{count} of {open}");
+// Whether the program with the operand answers so.
+fn is_so_deep<R: AllocGlobal + Threads + Wait + Copy + Drop + Send + 'static>(
+    rt: R,
+    deep: &Deep,
+) -> Result<bool, Fail> {
+    let source = nested(rt.alloc(), deep)?;
+    answers(rt, deep.0, source.as_bytes(), deep.5, deep.6, deep.7)
+}
+
+fn all_are_so_deep<R: Abort + AllocGlobal + Threads + Wait + Copy + Drop + Send + 'static>(
+    rt: R,
+    deepest: &[Deep],
+) -> Result<(), Fail> {
+    for deep in deepest {
+        let is_so_deep = is_so_deep(rt, deep)?;
+        assert!(rt; is_so_deep, "{} of {}", deep.4, deep.1);
     }
     Ok(())
 }
 
 #[test]
+fn runs_the_deepest_expressions(rt: HostRuntime) -> Result<(), Fail> {
+    all_are_so_deep(rt, DEEPEST)
+}
+
+const EXAMPLES: &[Row] = &[
+    ("run primes.cilk 1000", PRIMES, 0, "return 168\n", ""),
+    (
+        "run collatz.cilk 5",
+        COLLATZ,
+        0,
+        "0\n1\n7\n2\n5\nreturn 0\n",
+        "",
+    ),
+];
+
+#[test]
 fn runs_the_examples(rt: HostRuntime) -> Result<(), Fail> {
-    for (words, source, wanted) in [
-        ("run primes.cilk 1000", PRIMES, "return 168\n"),
-        ("run collatz.cilk 5", COLLATZ, "0\n1\n7\n2\n5\nreturn 0\n"),
-    ] {
-        let (status, out, err) = answer(rt, words, source.as_bytes())?;
-        assert_eq!(rt; (status, err.len()), (0, 0), "{words}");
-        assert_eq!(rt; out.as_slice(), wanted.as_bytes(), "{words}");
-    }
-    Ok(())
+    all_hold(rt, EXAMPLES)
 }

@@ -1,29 +1,12 @@
 //! Parallel loops: values, costs to the instruction, traps and the limit on loops. The costs are those of docs/LANGUAGE.md: a
 //! leaf of `t` turns takes 14 and 11 for each turn beside its body, an inner node 21 + 5 q + 2 k.
 
-use crate::program::{answer, answer_by_all};
+use crate::program::{Row, all_hold, all_hold_by_all, all_hold_with, answers};
 use std::alloc::{AllocError, Global};
 use std::process::Abort;
 use std::sync::Wait;
 use std::test::Fail;
 use std::thread::Threads;
-
-// The words, the source, the exit status, standard output and standard error.
-type Row<'a> = (&'a str, &'a str, u8, &'a str, &'a str);
-
-// Each of these rows holds.
-fn all_hold<R: Abort + AllocGlobal + Threads + Wait + Copy + Drop + Send + 'static>(
-    rt: R,
-    rows: &[Row],
-) -> Result<(), Fail> {
-    for row in rows {
-        let (status, out, err) = answer_by_all(rt, row.0, row.1.as_bytes())?;
-        assert_eq!(rt; status, row.2, "{}: {}", row.0, row.1);
-        assert_eq!(rt; out.as_slice(), row.3.as_bytes(), "{}: {}", row.0, row.1);
-        assert_eq!(rt; err.as_slice(), row.4.as_bytes(), "{}: {}", row.0, row.1);
-    }
-    Ok(())
-}
 
 const SQUARES: &str = "int main() { int a[4]; \
 cilk_for (int i = 0; i < 4; i++) grain 2 over (a) { a[i] = i * i; } return a[3]; }";
@@ -117,62 +100,84 @@ const DIVIDED: &str = "int main(int z) {
 }
 ";
 
+// What loops cost, and one less.
+const LIMITS: &[Row] = &[
+    ("run f --limit 134", SQUARES, 0, "return 9\n", ""),
+    ("run f --limit 133", SQUARES, 4, "", "over limit\n"),
+    // leaves of 2, 1 and 2 turns
+    ("run f --limit 192", FIVE_SQUARES, 0, "return 16\n", ""),
+    ("run f --limit 191", FIVE_SQUARES, 4, "", "over limit\n"),
+    ("run f --limit 22", NO_TURN, 0, "return 0\n", ""),
+    ("run f --limit 21", NO_TURN, 4, "", "over limit\n"),
+    ("run f --limit 3", MOST_TURNS, 4, "", "over limit\n"),
+    ("run f --limit 30", LAST_NUMBER, 0, "return 0\n", ""),
+    ("run f --limit 29", LAST_NUMBER, 4, "", "over limit\n"),
+];
+
+#[test]
+fn parallel_loops_cost_what_their_turns_do(rt: HostRuntime) -> Result<(), Fail> {
+    all_hold_by_all(rt, "", LIMITS)
+}
+
+// What loops come to.
+const VALUES: &[Row] = &[
+    ("run f", TWO_ARRAYS, 0, "return 19030\n", ""),
+    (
+        "run f",
+        NESTED,
+        0,
+        "0\n1\n2\n1\n2\n3\n2\n3\n4\n3\n4\n5\nsum s = 1848\nreturn 7\n",
+        "",
+    ),
+    ("run f", SPAWNING, 0, "sum s = 60\nreturn 1609\n", ""),
+    ("run f 1", DIVIDED, 0, "0\n1\n2\n7\n3\nreturn 0\n", ""),
+];
+
 #[test]
 fn runs_parallel_loops(rt: HostRuntime) -> Result<(), Fail> {
-    let rows: &[Row] = &[
-        ("run f --limit 134", SQUARES, 0, "return 9\n", ""),
-        ("run f --limit 133", SQUARES, 4, "", "over limit\n"),
-        // leaves of 2, 1 and 2 turns
-        ("run f --limit 192", FIVE_SQUARES, 0, "return 16\n", ""),
-        ("run f --limit 191", FIVE_SQUARES, 4, "", "over limit\n"),
-        ("run f --limit 22", NO_TURN, 0, "return 0\n", ""),
-        ("run f --limit 21", NO_TURN, 4, "", "over limit\n"),
-        ("run f --limit 3", MOST_TURNS, 4, "", "over limit\n"),
-        ("run f --limit 30", LAST_NUMBER, 0, "return 0\n", ""),
-        ("run f --limit 29", LAST_NUMBER, 4, "", "over limit\n"),
-        ("run f", TWO_ARRAYS, 0, "return 19030\n", ""),
-        (
-            "run f",
-            NESTED,
-            0,
-            "0\n1\n2\n1\n2\n3\n2\n3\n4\n3\n4\n5\nsum s = 1848\nreturn 7\n",
-            "",
-        ),
-        ("run f", SPAWNING, 0, "sum s = 60\nreturn 1609\n", ""),
-        (
-            "run f --limit 122",
-            GREATEST,
-            0,
-            "max m = 2\nreturn 0\n",
-            "",
-        ),
-        ("run f --limit 121", GREATEST, 4, "", "over limit\n"),
-        ("run f", GREATEST_OF_NONE, 0, "max m = none\nreturn 0\n", ""),
-        (
-            "run f",
-            BOTH_KINDS,
-            0,
-            "max top = -1\nsum s = 28\nmax none = none\nreturn 0\n",
-            "",
-        ),
-        ("run f 1", DIVIDED, 0, "0\n1\n2\n7\n3\nreturn 0\n", ""),
-    ];
-    all_hold(rt, rows)
+    all_hold_by_all(rt, "", VALUES)
 }
+
+// Loops with reducers that keep the greatest.
+const GREATESTS: &[Row] = &[
+    (
+        "run f --limit 122",
+        GREATEST,
+        0,
+        "max m = 2\nreturn 0\n",
+        "",
+    ),
+    ("run f --limit 121", GREATEST, 4, "", "over limit\n"),
+    ("run f", GREATEST_OF_NONE, 0, "max m = none\nreturn 0\n", ""),
+    (
+        "run f",
+        BOTH_KINDS,
+        0,
+        "max top = -1\nsum s = 28\nmax none = none\nreturn 0\n",
+        "",
+    ),
+];
+
+#[test]
+fn parallel_loops_keep_the_greatest(rt: HostRuntime) -> Result<(), Fail> {
+    all_hold_by_all(rt, "", GREATESTS)
+}
+
+// Loops that trap, or pass their limit before.
+const TRAPS: &[Row] = &[
+    ("run f", ONE_TURN_MORE, 3, "", "trap 3 line 1\n"),
+    ("run f", BELOW_ITS_ARRAY, 3, "", "trap 3 line 3\n"),
+    ("run f", TOO_MANY_TURNS, 3, "", "trap 5 line 1\n"),
+    ("run f --limit 3", TOO_MANY_TURNS, 3, "", "trap 5 line 1\n"),
+    ("run f --limit 2", TOO_MANY_TURNS, 4, "", "over limit\n"),
+    ("run f", ALL_NUMBERS, 3, "", "trap 5 line 1\n"),
+    ("run f 0", DIVIDED, 3, "0\n1\n2\n", "trap 2 line 5\n"),
+    ("scale f 0", DIVIDED, 3, "", "trap 2 line 5\n"),
+];
 
 #[test]
 fn parallel_loops_trap(rt: HostRuntime) -> Result<(), Fail> {
-    let rows: &[Row] = &[
-        ("run f", ONE_TURN_MORE, 3, "", "trap 3 line 1\n"),
-        ("run f", BELOW_ITS_ARRAY, 3, "", "trap 3 line 3\n"),
-        ("run f", TOO_MANY_TURNS, 3, "", "trap 5 line 1\n"),
-        ("run f --limit 3", TOO_MANY_TURNS, 3, "", "trap 5 line 1\n"),
-        ("run f --limit 2", TOO_MANY_TURNS, 4, "", "over limit\n"),
-        ("run f", ALL_NUMBERS, 3, "", "trap 5 line 1\n"),
-        ("run f 0", DIVIDED, 3, "0\n1\n2\n", "trap 2 line 5\n"),
-        ("scale f 0", DIVIDED, 3, "", "trap 2 line 5\n"),
-    ];
-    all_hold(rt, rows)
+    all_hold_by_all(rt, "", TRAPS)
 }
 
 const SCALE: &str = "tag,work,span,parallelism,burdened_span,burdened_parallelism\n";
@@ -183,28 +188,27 @@ int main() { cilk_for (int i = 0; i < 4; i++) grain 2 { s += i; } return 0; }";
 const PRINTED: &str = "int main() { int a[4]; \
 cilk_for (int i = 0; i < 4; i++) grain 2 over (a) { a[i] = i * i; } print(a[3]); return 0; }";
 
+// What these two print, and their tables.
+const PRINTS: &[Row] = &[
+    ("run f", ADDED, 0, "sum s = 6\nreturn 0\n", ""),
+    ("run f", PRINTED, 0, "9\nreturn 0\n", ""),
+];
+
+const MEASURED: &[Row] = &[
+    // statement 3, inner node 21, two leaves of 40, return 2
+    ("scale f", ADDED, 0, ",106,66,1.606,15066,0.007\n", ""),
+    // declaration 2, statement 3, inner node 26, two leaves of 50, print 3, return 2
+    ("scale f", PRINTED, 0, ",136,86,1.581,15086,0.009\n", ""),
+];
+
+#[test]
+fn measured_loops_print(rt: HostRuntime) -> Result<(), Fail> {
+    all_hold(rt, PRINTS)
+}
+
 #[test]
 fn parallel_loops_are_measured(rt: HostRuntime) -> Result<(), Fail> {
-    let alloc = rt.alloc();
-    for (source, printed, row) in [
-        // statement 3, inner node 21, two leaves of 40, return 2
-        (
-            ADDED,
-            "sum s = 6\nreturn 0\n",
-            ",106,66,1.606,15066,0.007\n",
-        ),
-        // declaration 2, statement 3, inner node 26, two leaves of 50, print 3, return 2
-        (PRINTED, "9\nreturn 0\n", ",136,86,1.581,15086,0.009\n"),
-    ] {
-        let (status, out, err) = answer(rt, "run f", source.as_bytes())?;
-        assert_eq!(rt; (status, err.len()), (0, 0), "{source}");
-        assert_eq!(rt; out.as_slice(), printed.as_bytes(), "{source}");
-        let (status, out, err) = answer(rt, "scale f", source.as_bytes())?;
-        let wanted = format!(in alloc; "{SCALE}{row}")?;
-        assert_eq!(rt; (status, err.len()), (0, 0), "{source}");
-        assert_eq!(rt; out.as_slice(), wanted.as_bytes(), "{source}");
-    }
-    Ok(())
+    all_hold_with(rt, "", SCALE, MEASURED)
 }
 
 // Of a loop over each count of turns from 0 to 40 whose body costs 4, in a `main` that returns 0: what it costs, with grains
@@ -257,48 +261,109 @@ const COSTS: [[u32; 41]; 9] = [
     ],
 ];
 
-#[test]
-fn every_short_range_costs_what_its_halves_do(rt: HostRuntime) -> Result<(), Fail> {
-    let alloc = rt.alloc();
-    let mut grain: u32 = 0;
-    for costs in &COSTS {
-        grain = grain.wrapping_add(1);
-        let source = format!(in alloc;
-            "reducer sum s; int main(int n) {{ cilk_for (int i = 0; i < n; i++) grain {grain} {{ s += i * i; }} return 0; }}"
-        )?;
-        let mut turns: u32 = 0;
-        let mut sum: u32 = 0;
-        for cost in costs {
-            let enough = format!(in alloc; "run f {turns} --limit {cost}")?;
-            let wanted = format!(in alloc; "sum s = {sum}\nreturn 0\n")?;
-            let (status, out, err) = answer(rt, enough.as_str(), source.as_bytes())?;
-            assert_eq!(rt; (status, err.len()), (0, 0), "{enough} {source}");
-            assert_eq!(rt; out.as_slice(), wanted.as_bytes(), "{enough} {source}");
-            let less = cost.wrapping_sub(1);
-            let less = format!(in alloc; "run f {turns} --limit {less}")?;
-            let (status, out, err) = answer(rt, less.as_str(), source.as_bytes())?;
-            assert_eq!(rt; (status, out.len()), (4, 0), "{less} {source}");
-            assert_eq!(rt; err.as_slice(), b"over limit\n".as_slice());
-            sum = sum.wrapping_add(turns.wrapping_mul(turns));
-            turns = turns.wrapping_add(1);
-        }
+// Whether so many turns end within this limit, and sum the squares of their numbers to this.
+fn ends<R: AllocGlobal + Threads + Wait + Copy + Drop + Send + 'static>(
+    rt: R,
+    source: &str,
+    turns: u32,
+    limit: u32,
+    sum: u32,
+) -> Result<bool, Fail> {
+    let words = format!(in rt.alloc(); "run f {turns} --limit {limit}")?;
+    let wanted = format!(in rt.alloc(); "sum s = {sum}\nreturn 0\n")?;
+    answers(
+        rt,
+        words.as_str(),
+        source.as_bytes(),
+        0,
+        wanted.as_str(),
+        "",
+    )
+}
+
+// Whether so many turns pass this limit.
+fn is_over<R: AllocGlobal + Threads + Wait + Copy + Drop + Send + 'static>(
+    rt: R,
+    source: &str,
+    turns: u32,
+    limit: u32,
+) -> Result<bool, Fail> {
+    let words = format!(in rt.alloc(); "run f {turns} --limit {limit}")?;
+    answers(rt, words.as_str(), source.as_bytes(), 4, "", "over limit\n")
+}
+
+// A loop that sums squares, with this grain.
+fn squares(alloc: Global, grain: u32) -> Result<String, AllocError> {
+    format!(in alloc;
+        "reducer sum s; int main(int n) {{ cilk_for (int i = 0; i < n; i++) grain {grain} {{ s += i * i; }} return 0; }}"
+    )
+}
+
+// The loop of this grain costs this with 0, 1, 2, .. turns: it ends within it, and not within one less.
+fn all_cost<R: Abort + AllocGlobal + Threads + Wait + Copy + Drop + Send + 'static>(
+    rt: R,
+    grain: u32,
+    costs: &[u32],
+) -> Result<(), Fail> {
+    let source = squares(rt.alloc(), grain)?;
+    let mut turns: u32 = 0;
+    let mut sum: u32 = 0;
+    for cost in costs {
+        let ends = ends(rt, source.as_str(), turns, *cost, sum)?;
+        let is_over = is_over(rt, source.as_str(), turns, cost.wrapping_sub(1))?;
+        assert!(rt; ends && is_over, "{turns} turns with grain {grain}");
+        sum = sum.wrapping_add(turns.wrapping_mul(turns));
+        turns = turns.wrapping_add(1);
     }
     Ok(())
 }
 
+// The loops of the grains 1, 2, 3, .. have these costs.
+fn all_grains_cost<R: Abort + AllocGlobal + Threads + Wait + Copy + Drop + Send + 'static>(
+    rt: R,
+    grains: &[[u32; 41]],
+) -> Result<(), Fail> {
+    let mut grain: u32 = 0;
+    for costs in grains {
+        grain = grain.wrapping_add(1);
+        all_cost(rt, grain, costs.as_slice())?;
+    }
+    Ok(())
+}
+
+#[test]
+fn every_short_range_costs_what_its_halves_do(rt: HostRuntime) -> Result<(), Fail> {
+    all_grains_cost(rt, &COSTS)
+}
+
+const LOOP: &str = "cilk_for (int i = 0; i < 0; i++) { }\n";
+
+// Adds a function of 256 loops.
+fn add_function(alloc: Global, text: &mut String, number: u32) -> Result<(), AllocError> {
+    let head = format!(in alloc; "void f{number}() {{\n")?;
+    text.push_str(head.as_str())?;
+    for _ in 0..256u32 {
+        text.push_str(LOOP)?;
+    }
+    text.push_str("}\n")
+}
+
+// Calls of the 16 functions.
+fn calls(alloc: Global) -> Result<String, AllocError> {
+    let mut text = String::new(alloc);
+    for number in 0..16u32 {
+        let call = format!(in alloc; "f{number}(); ")?;
+        text.push_str(call.as_str())?;
+    }
+    Ok(text)
+}
+
 // A program of 16 functions of 256 loops each, which a main with these loops of its own calls.
 fn loops(alloc: Global, own: &str) -> Result<String, AllocError> {
+    let calls = calls(alloc)?;
     let mut text = String::new(alloc);
-    let mut calls = String::new(alloc);
     for number in 0..16u32 {
-        let head = format!(in alloc; "void f{number}() {{\n")?;
-        text.push_str(head.as_str())?;
-        for _ in 0..256u32 {
-            text.push_str("cilk_for (int i = 0; i < 0; i++) { }\n")?;
-        }
-        text.push_str("}\n")?;
-        let call = format!(in alloc; "f{number}(); ")?;
-        calls.push_str(call.as_str())?;
+        add_function(alloc, &mut text, number)?;
     }
     text.push_str("int main() {\n")?;
     text.push_str(own)?;
@@ -307,21 +372,37 @@ fn loops(alloc: Global, own: &str) -> Result<String, AllocError> {
     Ok(text)
 }
 
+// The same as of other rows, but that the source is the loops of main.
+const MANY: &[Row] = &[
+    // a call 1, each loop 3 and an empty leaf of 14, the end of a function 1; return 2
+    ("run f --limit 69666", "", 0, "return 0\n", ""),
+    ("run f --limit 69665", "", 4, "", "over limit\n"),
+    // the 4,097th by place, behind 16 functions of 258 lines and the head of main
+    ("check f", LOOP, 2, "", "refused 5 line 4130\n"),
+];
+
+// Whether a row holds of a program with many loops.
+fn holds_of_many<R: AllocGlobal + Threads + Wait + Copy + Drop + Send + 'static>(
+    rt: R,
+    row: &Row,
+) -> Result<bool, Fail> {
+    let source = loops(rt.alloc(), row.1)?;
+    answers(rt, row.0, source.as_bytes(), row.2, row.3, row.4)
+}
+
+// Each of these rows holds of a program with many loops.
+fn all_hold_of_many<R: Abort + AllocGlobal + Threads + Wait + Copy + Drop + Send + 'static>(
+    rt: R,
+    rows: &[Row],
+) -> Result<(), Fail> {
+    for row in rows {
+        let holds = holds_of_many(rt, row)?;
+        assert!(rt; holds, "{}", row.0);
+    }
+    Ok(())
+}
+
 #[test]
 fn refuses_too_many_loops(rt: HostRuntime) -> Result<(), Fail> {
-    let alloc = rt.alloc();
-    let most = loops(alloc, "")?;
-    // a call 1, each loop 3 and an empty leaf of 14, the end of a function 1; return 2
-    let (status, out, err) = answer(rt, "run f --limit 69666", most.as_bytes())?;
-    assert_eq!(rt; (status, err.len()), (0, 0));
-    assert_eq!(rt; out.as_slice(), b"return 0\n".as_slice());
-    let (status, out, err) = answer(rt, "run f --limit 69665", most.as_bytes())?;
-    assert_eq!(rt; (status, out.len()), (4, 0));
-    assert_eq!(rt; err.as_slice(), b"over limit\n".as_slice());
-    // the 4,097th by place, behind 16 functions of 258 lines and the head of main
-    let more = loops(alloc, "cilk_for (int i = 0; i < 0; i++) { }\n")?;
-    let (status, out, err) = answer(rt, "check f", more.as_bytes())?;
-    assert_eq!(rt; (status, out.len()), (2, 0));
-    assert_eq!(rt; err.as_slice(), b"refused 5 line 4130\n".as_slice());
-    Ok(())
+    all_hold_of_many(rt, MANY)
 }

@@ -1,20 +1,37 @@
 //! Refusals at every stage, each with its line.
 
-use crate::program::answer;
+use crate::program::answers;
 use std::alloc::{AllocError, Global};
+use std::process::Abort;
+use std::sync::Wait;
 use std::test::Fail;
+use std::thread::Threads;
 
-fn repeated(alloc: Global, byte: u8, count: usize) -> Result<Vec<u8>, AllocError> {
-    let mut bytes = Vec::new(alloc);
-    for _ in 0..count {
-        bytes.push(byte)?;
-    }
-    Ok(bytes)
+// A source, and its line on standard error.
+type Refusal = (&'static str, &'static str);
+
+// Whether the source is refused with this line; the arguments and the limit do not suit any of them.
+fn is_refused<R: AllocGlobal + Threads + Wait + Copy + Drop + Send + 'static>(
+    rt: R,
+    source: &[u8],
+    line: &str,
+) -> Result<bool, Fail> {
+    answers(rt, "run f 1 2 3 --limit 1", source, 2, "", line)
 }
 
-// Sources that the tokens or the grammar refuse, with their lines on standard error.
-const NO_SOURCES: &[(&str, &str)] = &[
-    // bytes and tokens
+fn all_are_refused<R: Abort + AllocGlobal + Threads + Wait + Copy + Drop + Send + 'static>(
+    rt: R,
+    refusals: &[Refusal],
+) -> Result<(), Fail> {
+    for refusal in refusals {
+        let is_refused = is_refused(rt, refusal.0.as_bytes(), refusal.1)?;
+        assert!(rt; is_refused, "{}: {}", refusal.1, refusal.0);
+    }
+    Ok(())
+}
+
+// Bytes and tokens.
+const NO_TOKENS: &[Refusal] = &[
     ("\n\n\u{80}", "refused 1 line 3\n"),
     ("int main() {\n  return @; }", "refused 1 line 2\n"),
     (
@@ -32,7 +49,15 @@ const NO_SOURCES: &[(&str, &str)] = &[
         "refused 5 line 1\n",
     ),
     ("int main() { return 007; }", "refused 2 line 1\n"),
-    // the grammar
+];
+
+#[test]
+fn refuses_tokens(rt: HostRuntime) -> Result<(), Fail> {
+    all_are_refused(rt, NO_TOKENS)
+}
+
+// The grammar.
+const NO_SOURCES: &[Refusal] = &[
     ("", "refused 2 line 1\n"),
     ("// no program\n\n", "refused 2 line 3\n"),
     ("int main() { return 0;\n", "refused 2 line 2\n"),
@@ -45,9 +70,13 @@ const NO_SOURCES: &[(&str, &str)] = &[
     ),
 ];
 
-// Sources that a limit, a rule of names and types or ownership refuses, with their lines.
-const NO_PROGRAMS: &[(&str, &str)] = &[
-    // limits, and then names and types
+#[test]
+fn refuses_sources(rt: HostRuntime) -> Result<(), Fail> {
+    all_are_refused(rt, NO_SOURCES)
+}
+
+// Limits, and then names and types.
+const NO_NAMES: &[Refusal] = &[
     (
         "int f(int a, int b, int c, int d, int e, int f, int g, int h, int i, int j, int k, int l,\nint m, int n, int o, int p, int q) { return 0; }",
         "refused 5 line 1\n",
@@ -87,7 +116,15 @@ const NO_PROGRAMS: &[(&str, &str)] = &[
         "int main() { return 0; }\nint main() { return 0; }",
         "refused 3 line 2\n",
     ),
-    // ownership
+];
+
+#[test]
+fn refuses_names_and_types(rt: HostRuntime) -> Result<(), Fail> {
+    all_are_refused(rt, NO_NAMES)
+}
+
+// Ownership.
+const NO_OWNERS: &[Refusal] = &[
     (
         "int f(int v) { return v; } int main() { int x = 0; x = cilk_spawn f(1); int y = x; cilk_sync; return x; }",
         "refused 4 line 1\n",
@@ -109,6 +146,15 @@ const NO_PROGRAMS: &[(&str, &str)] = &[
         "int f(int v) { return v; } int main() { int x = 0; int y = 0; while (x < 1) { y = cilk_spawn f(1); } cilk_sync; return 0; }",
         "refused 4 line 1\n",
     ),
+];
+
+#[test]
+fn refuses_uses_of_results(rt: HostRuntime) -> Result<(), Fail> {
+    all_are_refused(rt, NO_OWNERS)
+}
+
+// Ownership of arrays, and what comes before it.
+const NO_ARRAYS: &[Refusal] = &[
     // one array twice, an array that is cut, and an integer from outside a parallel loop
     (
         "void g(int a[], int b[]) { } int main() { int a[1]; g(a, a); return 0; }",
@@ -139,15 +185,8 @@ const NO_PROGRAMS: &[(&str, &str)] = &[
 ];
 
 #[test]
-fn refuses_sources(rt: HostRuntime) -> Result<(), Fail> {
-    for (source, line) in NO_SOURCES.iter().chain(NO_PROGRAMS) {
-        // the arguments and the limit do not suit any of them
-        let (status, out, err) = answer(rt, "run f 1 2 3 --limit 1", source.as_bytes())?;
-        assert_eq!(rt; status, 2, "{line}");
-        assert_eq!(rt; out.as_slice(), b"".as_slice(), "{line}");
-        assert_eq!(rt; err.as_slice(), line.as_bytes());
-    }
-    Ok(())
+fn refuses_uses_of_arrays(rt: HostRuntime) -> Result<(), Fail> {
+    all_are_refused(rt, NO_ARRAYS)
 }
 
 // A program of so many call statements.
@@ -161,52 +200,67 @@ fn calls(alloc: Global, count: usize) -> Result<String, AllocError> {
 }
 
 #[test]
+fn checks_as_many_call_statements_as_may_be(rt: HostRuntime) -> Result<(), Fail> {
+    let most = calls(rt.alloc(), 65_535)?;
+    let is_right = answers(rt, "check f", most.as_bytes(), 0, "ok\n", "")?;
+    assert!(rt; is_right);
+    Ok(())
+}
+
+#[test]
 fn refuses_too_many_call_statements(rt: HostRuntime) -> Result<(), Fail> {
-    let alloc = rt.alloc();
-    let most = calls(alloc, 65_535)?;
-    let (status, out, err) = answer(rt, "check f", most.as_bytes())?;
-    assert_eq!(rt; (status, err.len()), (0, 0));
-    assert_eq!(rt; out.as_slice(), b"ok\n".as_slice());
-    let more = calls(alloc, 65_536)?;
-    let (status, out, err) = answer(rt, "check f", more.as_bytes())?;
-    assert_eq!(rt; (status, out.len()), (2, 0));
-    assert_eq!(rt; err.as_slice(), b"refused 5 line 1\n".as_slice());
+    let more = calls(rt.alloc(), 65_536)?;
+    let is_right = answers(rt, "check f", more.as_bytes(), 2, "", "refused 5 line 1\n")?;
+    assert!(rt; is_right);
     Ok(())
 }
 
-#[test]
-fn refuses_long_sources(rt: HostRuntime) -> Result<(), Fail> {
-    let alloc = rt.alloc();
-    let mut spaces = repeated(alloc, b' ', 1_048_576)?;
-    let (status, out, err) = answer(rt, "run f", spaces.as_slice())?;
-    assert_eq!(rt; (status, out.len()), (2, 0));
-    assert_eq!(rt; err.as_slice(), b"refused 2 line 1\n".as_slice());
-    spaces.push(b' ')?;
-    let (status, out, err) = answer(rt, "run f", spaces.as_slice())?;
-    assert_eq!(rt; (status, out.len()), (2, 0));
-    assert_eq!(rt; err.as_slice(), b"refused 5 line 1\n".as_slice());
-    let faulty = repeated(alloc, 255, 2_097_152)?;
-    let (status, out, err) = answer(rt, "run f", faulty.as_slice())?;
-    assert_eq!(rt; (status, out.len()), (2, 0));
-    assert_eq!(rt; err.as_slice(), b"refused 5 line 1\n".as_slice());
-    Ok(())
+// One byte, so often.
+fn repeated(alloc: Global, byte: u8, count: usize) -> Result<Vec<u8>, AllocError> {
+    let mut bytes = Vec::new(alloc);
+    for _ in 0..count {
+        bytes.push(byte)?;
+    }
+    Ok(bytes)
 }
 
-#[test]
-fn refuses_long_rows_and_deep_brackets(rt: HostRuntime) -> Result<(), Fail> {
-    let alloc = rt.alloc();
-    for (byte, count, line) in [
-        (b'x', 1, "refused 2 line 1\n"),
-        (b',', 256, "refused 2 line 1\n"),
-        (b',', 257, "refused 5 line 1\n"),
-        (b'(', 64, "refused 2 line 1\n"),
-        (b'(', 65, "refused 5 line 1\n"),
-        (b'(', 1_048_576, "refused 5 line 1\n"),
-    ] {
-        let source = repeated(alloc, byte, count)?;
-        let (status, out, err) = answer(rt, "run f", source.as_slice())?;
-        assert_eq!(rt; (status, out.len()), (2, 0), "{count}");
-        assert_eq!(rt; err.as_slice(), line.as_bytes());
+// A byte, how often it stands, and the line.
+type Repeated = (u8, usize, &'static str);
+
+const LONG: &[Repeated] = &[
+    (b' ', 1_048_576, "refused 2 line 1\n"),
+    (b' ', 1_048_577, "refused 5 line 1\n"),
+    (255, 2_097_152, "refused 5 line 1\n"),
+    // long rows, and deep brackets
+    (b'x', 1, "refused 2 line 1\n"),
+    (b',', 256, "refused 2 line 1\n"),
+    (b',', 257, "refused 5 line 1\n"),
+    (b'(', 64, "refused 2 line 1\n"),
+    (b'(', 65, "refused 5 line 1\n"),
+    (b'(', 1_048_576, "refused 5 line 1\n"),
+];
+
+// Whether a source of one byte is refused so.
+fn is_refused_long<R: AllocGlobal + Threads + Wait + Copy + Drop + Send + 'static>(
+    rt: R,
+    long: &Repeated,
+) -> Result<bool, Fail> {
+    let source = repeated(rt.alloc(), long.0, long.1)?;
+    answers(rt, "run f", source.as_slice(), 2, "", long.2)
+}
+
+fn all_are_refused_long<R: Abort + AllocGlobal + Threads + Wait + Copy + Drop + Send + 'static>(
+    rt: R,
+    sources: &[Repeated],
+) -> Result<(), Fail> {
+    for long in sources {
+        let is_refused = is_refused_long(rt, long)?;
+        assert!(rt; is_refused, "{} of {}", long.1, long.0);
     }
     Ok(())
+}
+
+#[test]
+fn refuses_long_sources_and_rows_and_deep_brackets(rt: HostRuntime) -> Result<(), Fail> {
+    all_are_refused_long(rt, LONG)
 }

@@ -8,6 +8,7 @@ use cw_pool::gate::Quiet;
 use cw_report::{Counted, Input, Sink};
 use std::io;
 use std::io::{Read, Write};
+use std::process::Abort;
 use std::sync::{Arc, Wait};
 use std::test::Fail;
 use std::thread::Threads;
@@ -101,79 +102,144 @@ fn report<R: AllocGlobal + Threads + Wait + Copy + Drop + Send + 'static>(
     })
 }
 
+impl Told {
+    // Whether it is this.
+    fn is(&self, status: u8, failures: u64, out: &[u8], err: &str) -> bool {
+        self.status == status
+            && self.failures == failures
+            && self.out.as_slice() == out
+            && self.err.as_slice() == err.as_bytes()
+    }
+}
+
+// Whether all of this is taken by a sink with this room.
+fn is_taken<R: AllocGlobal + Threads + Wait + Copy + Drop + Send + 'static>(
+    rt: R,
+    words: &str,
+    text: &str,
+    room: usize,
+    fails: bool,
+) -> Result<bool, Fail> {
+    let told = report(rt, words, room, fails)?;
+    Ok(told.is(0, 0, text.as_bytes(), ""))
+}
+
+// Whether these first bytes of a report are taken by a sink with room for so many, and the failure is told.
+fn is_cut<R: AllocGlobal + Threads + Wait + Copy + Drop + Send + 'static>(
+    rt: R,
+    words: &str,
+    first: &[u8],
+    fails: bool,
+) -> Result<bool, Fail> {
+    let told = report(rt, words, first.len(), fails)?;
+    Ok(told.is(7, 1, first, "write failed\n"))
+}
+
+// Rooms that are enough, and whether the sink fails where they are used up.
+const ENOUGH: [(usize, bool); 4] = [(10, true), (10, false), (11, true), (11, false)];
+
+fn all_is_taken<R: Abort + AllocGlobal + Threads + Wait + Copy + Drop + Send + 'static>(
+    rt: R,
+    words: &str,
+    rooms: &[(usize, bool)],
+) -> Result<(), Fail> {
+    for (room, fails) in rooms {
+        let is_taken = is_taken(rt, words, "return 42\n", *room, *fails)?;
+        assert!(rt; is_taken, "{words}: {room}");
+    }
+    Ok(())
+}
+
 #[test]
 fn reports_where_there_is_room(rt: HostRuntime) -> Result<(), Fail> {
-    for words in ["run f 42 --workers 1", "run f 42 --workers 4"] {
-        for (room, fails) in [(10, true), (10, false), (11, true), (11, false)] {
-            let told = report(rt, words, room, fails)?;
-            assert_eq!(rt; (told.status, told.failures), (0, 0), "{words}: {room}");
-            assert_eq!(rt; told.out.as_slice(), b"return 42\n".as_slice());
-            assert!(rt; told.err.is_empty(), "{words}: {room}");
-        }
+    all_is_taken(rt, "run f 42 --workers 1", &ENOUGH)?;
+    all_is_taken(rt, "run f 42 --workers 4", &ENOUGH)
+}
+
+// Each room that is not enough.
+fn each_is_cut<R: Abort + AllocGlobal + Threads + Wait + Copy + Drop + Send + 'static>(
+    rt: R,
+    words: &str,
+    text: &str,
+) -> Result<(), Fail> {
+    for room in 0..text.len() {
+        let first = &text.as_bytes()[..room];
+        let is_cut_by_failure = is_cut(rt, words, first, true)?;
+        let is_cut_by_none = is_cut(rt, words, first, false)?;
+        assert!(rt; is_cut_by_failure && is_cut_by_none, "{words}: {room}");
     }
     Ok(())
 }
 
 #[test]
 fn reports_to_narrow_sinks(rt: HostRuntime) -> Result<(), Fail> {
-    let reports = [
-        ("run f 42 --workers 1", "return 42\n"),
-        ("run f 42 --workers 4", "return 42\n"),
-        ("check f", "ok\n"),
-    ];
-    for (words, text) in reports {
-        for room in 0..text.len() {
-            for fails in [true, false] {
-                let told = report(rt, words, room, fails)?;
-                assert_eq!(rt; (told.status, told.failures), (7, 1), "{words}: {room}");
-                assert_eq!(rt;
-                    told.out.as_slice(),
-                    &text.as_bytes()[..room],
-                    "{words}: {room}"
-                );
-                assert_eq!(rt; told.err.as_slice(), b"write failed\n".as_slice());
-            }
-        }
-    }
-    Ok(())
+    each_is_cut(rt, "run f 42 --workers 1", "return 42\n")?;
+    each_is_cut(rt, "run f 42 --workers 4", "return 42\n")?;
+    each_is_cut(rt, "check f", "ok\n")
+}
+
+// What is told of a source that fails so at its first read: the status, the reads that failed, and standard error; nothing
+// stands on standard output.
+fn is_told_of<R: AllocGlobal + Threads + Wait + Copy + Drop + Send + 'static>(
+    rt: R,
+    kind: io::ErrorKind,
+    status: u8,
+    failures: u64,
+    line: &str,
+) -> Result<bool, Fail> {
+    let alloc = rt.alloc();
+    let asked = asked(alloc, "run f")?;
+    let mut out = Counted::new(Vec::new(alloc));
+    let mut err = Counted::new(Vec::new(alloc));
+    let mut source = Counted::new(Broken { kind });
+    let got = tool_by_crew(rt, &asked, &mut source, &mut out, &mut err)?;
+    Ok(
+        got == status
+            && source.failed_reads() == failures
+            && out.into_inner().is_empty()
+            && err.into_inner().as_slice() == line.as_bytes(),
+    )
 }
 
 #[test]
 fn tells_of_unread_sources(rt: HostRuntime) -> Result<(), Fail> {
-    let alloc = rt.alloc();
-    let asked = asked(alloc, "run f")?;
-    let refused = (
-        io::ErrorKind::PermissionDenied,
-        (5, 1),
-        b"file\n".as_slice(),
-    );
-    let wanting = (io::ErrorKind::OutOfMemory, (6, 0), b"memory\n".as_slice());
-    for (kind, answered, line) in [refused, wanting] {
-        let mut out = Counted::new(Vec::new(alloc));
-        let mut err = Counted::new(Vec::new(alloc));
-        let mut source = Counted::new(Broken { kind });
-        let got = tool_by_crew(rt, &asked, &mut source, &mut out, &mut err)?;
-        assert_eq!(rt; (got, source.failed_reads()), answered);
-        assert_eq!(rt; out.into_inner().as_slice(), b"".as_slice());
-        assert_eq!(rt; err.into_inner().as_slice(), line);
-    }
+    let is_told = is_told_of(rt, io::ErrorKind::PermissionDenied, 5, 1, "file\n")?;
+    assert!(rt; is_told);
     Ok(())
 }
 
 #[test]
-fn keeps_its_status_where_the_line_is_not_taken(rt: HostRuntime) -> Result<(), Fail> {
+fn tells_of_want_of_memory(rt: HostRuntime) -> Result<(), Fail> {
+    let is_told = is_told_of(rt, io::ErrorKind::OutOfMemory, 6, 0, "memory\n")?;
+    assert!(rt; is_told);
+    Ok(())
+}
+
+// The status, and what standard error takes of its line with room for 9 bytes, of a source without a byte.
+fn refused_narrowly<R: AllocGlobal + Threads + Wait + Copy + Drop + Send + 'static>(
+    rt: R,
+) -> Result<Told, Fail> {
     let alloc = rt.alloc();
     let asked = asked(alloc, "run f")?;
     let mut out = Counted::new(Vec::new(alloc));
-    let taken = Vec::new(alloc);
     let mut err = Counted::new(Narrow {
-        taken,
+        taken: Vec::new(alloc),
         room: 9,
         fails: true,
     });
     let mut source = Counted::new(b"".as_slice());
     let status = tool_by_crew(rt, &asked, &mut source, &mut out, &mut err)?;
-    assert_eq!(rt; (status, err.failures()), (2, 1));
-    assert_eq!(rt; err.into_inner().taken.as_slice(), b"refused 2".as_slice());
+    Ok(Told {
+        status,
+        failures: err.failures(),
+        out: out.into_inner(),
+        err: err.into_inner().taken,
+    })
+}
+
+#[test]
+fn keeps_its_status_where_the_line_is_not_taken(rt: HostRuntime) -> Result<(), Fail> {
+    let told = refused_narrowly(rt)?;
+    assert!(rt; told.is(2, 1, b"", "refused 2"));
     Ok(())
 }

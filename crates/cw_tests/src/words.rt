@@ -1,151 +1,197 @@
 //! The words of the program.
 
-use crate::program::{answer, asked};
+use crate::program::{Row, all_hold, answer, asked};
 use cw_cli::{Mode, Options};
 use cw_model::burden::{Burden, Edges};
+use std::alloc::Global;
+use std::process::Abort;
+use std::sync::Wait;
 use std::test::Fail;
+use std::thread::Threads;
+
+// Words that name the file f.cilk, and what they ask for: the mode, the arguments, the limit, and what is charged on which edges.
+type Asked = (&'static str, Mode, &'static [i64], u64, u64, Edges);
+
+const ASKED: &[Asked] = &[
+    (
+        "check f.cilk",
+        Mode::Check,
+        &[],
+        1_000_000_000,
+        15_000,
+        Edges::Spawn,
+    ),
+    (
+        "check -- f.cilk",
+        Mode::Check,
+        &[],
+        1_000_000_000,
+        15_000,
+        Edges::Spawn,
+    ),
+    (
+        "run f.cilk",
+        Mode::Run,
+        &[],
+        1_000_000_000,
+        15_000,
+        Edges::Spawn,
+    ),
+    (
+        "run --limit 9 f.cilk 4 9223372036854775807",
+        Mode::Run,
+        &[4, 9223372036854775807],
+        9,
+        15_000,
+        Edges::Spawn,
+    ),
+    (
+        "run f.cilk 007 --limit 4611686018427387904 00000000000000000000000000000000000012",
+        Mode::Run,
+        &[7, 12],
+        4_611_686_018_427_387_904,
+        15_000,
+        Edges::Spawn,
+    ),
+    (
+        "run --limit=1 -- f.cilk 0",
+        Mode::Run,
+        &[0],
+        1,
+        15_000,
+        Edges::Spawn,
+    ),
+    (
+        "run --burden 0 f.cilk 3",
+        Mode::Run,
+        &[3],
+        1_000_000_000,
+        0,
+        Edges::Spawn,
+    ),
+    (
+        "run f.cilk --burden=1000000000 --limit=7",
+        Mode::Run,
+        &[],
+        7,
+        1_000_000_000,
+        Edges::Spawn,
+    ),
+    (
+        "scale f.cilk",
+        Mode::Scale,
+        &[],
+        1_000_000_000,
+        15_000,
+        Edges::Spawn,
+    ),
+    (
+        "scale --burden 0 f.cilk 3 --limit 9",
+        Mode::Scale,
+        &[3],
+        9,
+        0,
+        Edges::Spawn,
+    ),
+    (
+        "sites f.cilk 4 --burden=007 -- 5",
+        Mode::Sites,
+        &[4, 5],
+        1_000_000_000,
+        7,
+        Edges::Spawn,
+    ),
+    (
+        "greedy 2 f.cilk",
+        Mode::Greedy(2),
+        &[],
+        1_000_000_000,
+        15_000,
+        Edges::Spawn,
+    ),
+    (
+        "greedy --limit 9 0001000000 f.cilk 3",
+        Mode::Greedy(1_000_000),
+        &[3],
+        9,
+        15_000,
+        Edges::Spawn,
+    ),
+    (
+        "scale f.cilk --edges both",
+        Mode::Scale,
+        &[],
+        1_000_000_000,
+        15_000,
+        Edges::Both,
+    ),
+    (
+        "run --edges=spawn f.cilk 3 --burden 7",
+        Mode::Run,
+        &[3],
+        1_000_000_000,
+        7,
+        Edges::Spawn,
+    ),
+];
+
+// Whether the words ask for this.
+fn asks(alloc: Global, row: &Asked) -> Result<bool, Fail> {
+    let asked = asked(alloc, row.0)?;
+    let options = Options {
+        mode: row.1,
+        limit: row.3,
+        burden: Burden {
+            charge: row.4,
+            edges: row.5,
+        },
+    };
+    Ok(
+        asked.file.as_str() == "f.cilk"
+            && asked.args.as_slice() == row.2
+            && asked.options == options,
+    )
+}
+
+fn all_ask<R: Abort>(rt: &R, alloc: Global, rows: &[Asked]) -> Result<(), Fail> {
+    for row in rows {
+        let asks = asks(alloc, row)?;
+        assert!(rt; asks, "{}", row.0);
+    }
+    Ok(())
+}
 
 #[test]
 fn reads_requests(rt: HostRuntime) -> Result<(), Fail> {
-    let alloc = rt.alloc();
-    for (line, mode, args, limit, charge, edges) in [
-        (
-            "check f.cilk",
-            Mode::Check,
-            [].as_slice(),
-            1_000_000_000,
-            15_000,
-            Edges::Spawn,
-        ),
-        (
-            "check -- f.cilk",
-            Mode::Check,
-            [].as_slice(),
-            1_000_000_000,
-            15_000,
-            Edges::Spawn,
-        ),
-        (
-            "run f.cilk",
-            Mode::Run,
-            [].as_slice(),
-            1_000_000_000,
-            15_000,
-            Edges::Spawn,
-        ),
-        (
-            "run --limit 9 f.cilk 4 9223372036854775807",
-            Mode::Run,
-            [4, 9223372036854775807].as_slice(),
-            9,
-            15_000,
-            Edges::Spawn,
-        ),
-        (
-            "run f.cilk 007 --limit 4611686018427387904 00000000000000000000000000000000000012",
-            Mode::Run,
-            [7, 12].as_slice(),
-            4_611_686_018_427_387_904,
-            15_000,
-            Edges::Spawn,
-        ),
-        (
-            "run --limit=1 -- f.cilk 0",
-            Mode::Run,
-            [0].as_slice(),
-            1,
-            15_000,
-            Edges::Spawn,
-        ),
-        (
-            "run --burden 0 f.cilk 3",
-            Mode::Run,
-            [3].as_slice(),
-            1_000_000_000,
-            0,
-            Edges::Spawn,
-        ),
-        (
-            "run f.cilk --burden=1000000000 --limit=7",
-            Mode::Run,
-            [].as_slice(),
-            7,
-            1_000_000_000,
-            Edges::Spawn,
-        ),
-        (
-            "scale f.cilk",
-            Mode::Scale,
-            [].as_slice(),
-            1_000_000_000,
-            15_000,
-            Edges::Spawn,
-        ),
-        (
-            "scale --burden 0 f.cilk 3 --limit 9",
-            Mode::Scale,
-            [3].as_slice(),
-            9,
-            0,
-            Edges::Spawn,
-        ),
-        (
-            "sites f.cilk 4 --burden=007 -- 5",
-            Mode::Sites,
-            [4, 5].as_slice(),
-            1_000_000_000,
-            7,
-            Edges::Spawn,
-        ),
-        (
-            "greedy 2 f.cilk",
-            Mode::Greedy(2),
-            [].as_slice(),
-            1_000_000_000,
-            15_000,
-            Edges::Spawn,
-        ),
-        (
-            "greedy --limit 9 0001000000 f.cilk 3",
-            Mode::Greedy(1_000_000),
-            [3].as_slice(),
-            9,
-            15_000,
-            Edges::Spawn,
-        ),
-        (
-            "scale f.cilk --edges both",
-            Mode::Scale,
-            [].as_slice(),
-            1_000_000_000,
-            15_000,
-            Edges::Both,
-        ),
-        (
-            "run --edges=spawn f.cilk 3 --burden 7",
-            Mode::Run,
-            [3].as_slice(),
-            1_000_000_000,
-            7,
-            Edges::Spawn,
-        ),
-    ] {
-        let asked = asked(alloc, line)?;
-        let options = Options {
-            mode,
-            limit,
-            burden: Burden { charge, edges },
-        };
-        assert_eq!(rt; asked.file.as_str(), "f.cilk", "{line}");
-        assert_eq!(rt; asked.args.as_slice(), args, "{line}");
-        assert_eq!(rt; asked.options, options, "{line}");
+    all_ask(&rt, rt.alloc(), ASKED)
+}
+
+// Whether the words are refused with this beginning.
+fn is_misuse<R: AllocGlobal + Threads + Wait + Copy + Drop + Send + 'static>(
+    rt: R,
+    words: &str,
+    start: &str,
+) -> Result<bool, Fail> {
+    let told = answer(rt, words, b"")?;
+    Ok(told.status == 5 && told.out.is_empty() && told.err.starts_with(start.as_bytes()))
+}
+
+fn all_are_misuse<R: Abort + AllocGlobal + Threads + Wait + Copy + Drop + Send + 'static>(
+    rt: R,
+    rows: &[Misuse],
+) -> Result<(), Fail> {
+    for row in rows {
+        let is_misuse = is_misuse(rt, row.0, row.1)?;
+        assert!(rt; is_misuse, "{}", row.0);
     }
     Ok(())
 }
 
 // Words that are no request, and the beginning of what stands on standard error.
-const REFUSED: &[(&str, &str)] = &[
-    // numbers
+type Misuse = (&'static str, &'static str);
+
+// Numbers.
+const NO_NUMBERS: &[Misuse] = &[
     ("run f 9223372036854775808", "arguments\n"),
     ("run f +1", "arguments\n"),
     ("run f 1a", "arguments\n"),
@@ -162,7 +208,15 @@ const REFUSED: &[(&str, &str)] = &[
     ("scale f 9223372036854775808", "arguments\n"),
     ("sites f --limit 0", "arguments\n"),
     ("sites f 1 x", "arguments\n"),
-    // words
+];
+
+#[test]
+fn refuses_numbers(rt: HostRuntime) -> Result<(), Fail> {
+    all_are_misuse(rt, NO_NUMBERS)
+}
+
+// Words of `check` and `run`, one too many or one too few.
+const NO_WORDS: &[Misuse] = &[
     ("run f -1", "error: unexpected argument '-1' found\n"),
     (
         "run",
@@ -193,6 +247,15 @@ const REFUSED: &[(&str, &str)] = &[
         "check f --burden 9",
         "error: unexpected argument '--burden' found\n",
     ),
+];
+
+#[test]
+fn refuses_words(rt: HostRuntime) -> Result<(), Fail> {
+    all_are_misuse(rt, NO_WORDS)
+}
+
+// Words of the tables and the schedule.
+const NO_TABLES: &[Misuse] = &[
     (
         "scale",
         "error: the following required arguments were not provided:\n",
@@ -227,6 +290,15 @@ const REFUSED: &[(&str, &str)] = &[
         "greedy 2 f --edges both",
         "error: unexpected argument '--edges' found\n",
     ),
+];
+
+#[test]
+fn refuses_words_of_tables(rt: HostRuntime) -> Result<(), Fail> {
+    all_are_misuse(rt, NO_TABLES)
+}
+
+// Other words.
+const NO_COMMANDS: &[Misuse] = &[
     ("scales f", "error: unrecognized subcommand 'scales'\n"),
     ("walk f", "error: unrecognized subcommand 'walk'\n"),
     ("f", "error: unrecognized subcommand 'f'\n"),
@@ -239,132 +311,156 @@ const REFUSED: &[(&str, &str)] = &[
     ("run f -- --explain", "arguments\n"),
 ];
 
-// Words that ask for help, its beginning, and something that it says.
-const HELPED: &[(&str, &str, &str)] = &[
-    (
-        "--help",
-        "Tells how much parallelism a Cilk program",
+#[test]
+fn refuses_other_words(rt: HostRuntime) -> Result<(), Fail> {
+    all_are_misuse(rt, NO_COMMANDS)
+}
+
+// Words that ask for help, its beginning, and some things that it says.
+type Help = (&'static str, &'static str, &'static [&'static str]);
+
+// The help of the program.
+const PROGRAM: &[Help] = &[(
+    "--help",
+    "Tells how much parallelism a Cilk program",
+    &[
         "standard input",
-    ),
-    (
-        "--help",
-        "Tells how much parallelism a Cilk program",
         "'region NAME { .. }'",
-    ),
-    (
-        "--help",
-        "Tells how much parallelism a Cilk program",
         "under its tag NAME",
-    ),
-    (
-        "--help",
-        "Tells how much parallelism a Cilk program",
         "docs/GUIDE.md",
-    ),
-    (
-        "--help",
-        "Tells how much parallelism a Cilk program",
         "  4  over limit ",
-    ),
-    (
-        "--help",
-        "Tells how much parallelism a Cilk program",
         "  sites  ",
-    ),
-    (
-        "--help",
-        "Tells how much parallelism a Cilk program",
         "may take some seconds",
-    ),
-    (
-        "--help",
-        "Tells how much parallelism a Cilk program",
         "  --explain  ",
-    ),
-    (
-        "--help",
-        "Tells how much parallelism a Cilk program",
         "  --edges   spawn, or both",
-    ),
-    (
-        "--help",
-        "Tells how much parallelism a Cilk program",
         "--version",
-    ),
-    (
-        "--help",
-        "Tells how much parallelism a Cilk program",
         "4611686018427387904",
-    ),
-    ("check --help", "Compiles a program", "'cilkwork --help'"),
-    ("check --help", "Compiles a program", "--explain tells why"),
-    ("run --help", "Runs a program", "'sum NAME = V'"),
-    ("run --help", "Runs a program", "[default: 1000000000]"),
-    ("help run", "Runs a program", "--explain tells why"),
-    ("scale --help", "Runs a program", "  burdened_parallelism  "),
-    ("run --help", "Runs a program", "'max NAME = none'"),
-    ("scale --help", "Runs a program", "[default: 15000]"),
-    ("scale --help", "Runs a program", "[default: spawn]"),
-    ("scale --help", "Runs a program", "--edges <E>"),
-    ("scale --help", "Runs a program", "'cilkwork --help'"),
-    ("sites --help", "Runs a program", "  own_span  "),
-    ("help sites", "Runs a program", "docs/GUIDE.md"),
-    (
-        "--help",
-        "Tells how much parallelism a Cilk program",
         "  4  too many strands ",
+    ],
+)];
+
+// That of its commands.
+const COMMANDS: &[Help] = &[
+    (
+        "check --help",
+        "Compiles a program",
+        &["'cilkwork --help'", "--explain tells why"],
     ),
-    ("greedy --help", "Runs a program", "Usage: cilkwork greedy"),
-    ("greedy --help", "Runs a program", "<P> <FILE> [ARGS]..."),
-    ("greedy --help", "Runs a program", "  greedy      "),
+    (
+        "run --help",
+        "Runs a program",
+        &[
+            "'sum NAME = V'",
+            "[default: 1000000000]",
+            "'max NAME = none'",
+        ],
+    ),
+    ("help run", "Runs a program", &["--explain tells why"]),
+    (
+        "scale --help",
+        "Runs a program",
+        &[
+            "  burdened_parallelism  ",
+            "[default: 15000]",
+            "[default: spawn]",
+            "--edges <E>",
+            "'cilkwork --help'",
+        ],
+    ),
+    ("sites --help", "Runs a program", &["  own_span  "]),
+    ("help sites", "Runs a program", &["docs/GUIDE.md"]),
+    (
+        "greedy --help",
+        "Runs a program",
+        &[
+            "Usage: cilkwork greedy",
+            "<P> <FILE> [ARGS]...",
+            "  greedy      ",
+        ],
+    ),
 ];
 
-// The one table of exit statuses stands in the help of the program, and 'default' is said of numbers alone.
-#[test]
-fn tells_each_thing_once(rt: HostRuntime) -> Result<(), Fail> {
-    for line in [
-        "check --help",
-        "run --help",
-        "scale --help",
-        "sites --help",
-        "greedy --help",
-    ] {
-        let (_, out, _) = answer(rt, line, b"")?;
-        let help = String::from_utf8(out).map_err(|_| Fail::from("no text"))?;
-        assert!(rt; !help.as_str().contains("write failed"), "{line}");
+// The help that these words ask for.
+fn help_of<R: AllocGlobal + Threads + Wait + Copy + Drop + Send + 'static>(
+    rt: R,
+    words: &str,
+) -> Result<String, Fail> {
+    let told = answer(rt, words, b"")?;
+    if told.status != 0 || !told.err.is_empty() {
+        return Err(Fail::from("no help"));
     }
-    Ok(())
+    String::from_utf8(told.out).map_err(|_| Fail::from("no text"))
 }
 
-#[test]
-fn tells_its_version(rt: HostRuntime) -> Result<(), Fail> {
-    let (status, out, err) = answer(rt, "--version", b"")?;
-    assert_eq!(rt; (status, err.len()), (0, 0));
-    assert_eq!(rt; out.as_slice(), b"cilkwork 0.1.0\n".as_slice());
-    Ok(())
+// Whether no line has more than 80 bytes.
+fn is_narrow(help: &str) -> bool {
+    help.lines().all(|line| line.len() <= 80)
 }
 
-#[test]
-fn refuses_words(rt: HostRuntime) -> Result<(), Fail> {
-    for (line, text) in REFUSED {
-        let (status, out, err) = answer(rt, line, b"")?;
-        assert_eq!(rt; (status, out.len()), (5, 0), "{line}");
-        assert!(rt; err.starts_with(text.as_bytes()), "{line}");
+// Whether it says each of these.
+fn says_all(help: &str, parts: &[&str]) -> bool {
+    parts.iter().all(|part| help.contains(part))
+}
+
+// Whether the help begins so, says all of this and is narrow.
+fn helps<R: AllocGlobal + Threads + Wait + Copy + Drop + Send + 'static>(
+    rt: R,
+    row: &Help,
+) -> Result<bool, Fail> {
+    let help = help_of(rt, row.0)?;
+    let text = help.as_str();
+    Ok(text.starts_with(row.1) && says_all(text, row.2) && is_narrow(text))
+}
+
+fn all_help<R: Abort + AllocGlobal + Threads + Wait + Copy + Drop + Send + 'static>(
+    rt: R,
+    rows: &[Help],
+) -> Result<(), Fail> {
+    for row in rows {
+        let helps = helps(rt, row)?;
+        assert!(rt; helps, "{}", row.0);
     }
     Ok(())
 }
 
 #[test]
 fn gives_help(rt: HostRuntime) -> Result<(), Fail> {
-    for (line, start, part) in HELPED {
-        let (status, out, err) = answer(rt, line, b"")?;
-        assert_eq!(rt; (status, err.len()), (0, 0), "{line}");
-        let help = String::from_utf8(out).map_err(|_| Fail::from("no text"))?;
-        assert!(rt; help.as_str().starts_with(start), "{line}");
-        assert!(rt; help.as_str().contains(part), "{line}");
-        for text in help.as_str().lines() {
-            assert!(rt; text.len() <= 80, "{text}");
-        }
+    all_help(rt, PROGRAM)
+}
+
+#[test]
+fn gives_help_of_commands(rt: HostRuntime) -> Result<(), Fail> {
+    all_help(rt, COMMANDS)
+}
+
+// The help of these commands does not tell what the one table of exit statuses does, which stands in the help of the program.
+const STATUSLESS: &[&str] = &[
+    "check --help",
+    "run --help",
+    "scale --help",
+    "sites --help",
+    "greedy --help",
+];
+
+fn none_tells_statuses<R: Abort + AllocGlobal + Threads + Wait + Copy + Drop + Send + 'static>(
+    rt: R,
+    lines: &[&str],
+) -> Result<(), Fail> {
+    for line in lines {
+        let help = help_of(rt, line)?;
+        assert!(rt; !help.as_str().contains("write failed"), "{line}");
     }
     Ok(())
+}
+
+#[test]
+fn tells_each_thing_once(rt: HostRuntime) -> Result<(), Fail> {
+    none_tells_statuses(rt, STATUSLESS)
+}
+
+const VERSION: &[Row] = &[("--version", "", 0, "cilkwork 0.1.0\n", "")];
+
+#[test]
+fn tells_its_version(rt: HostRuntime) -> Result<(), Fail> {
+    all_hold(rt, VERSION)
 }

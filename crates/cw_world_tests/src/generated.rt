@@ -1,7 +1,6 @@
 //! Random programs, written by `bench/reference/walks.py`.
 
 /// A random program with its arguments, and what its run costs: up to its end or its trap.
-#[derive(Clone, Copy, Debug)]
 pub struct Generated<'a> {
     pub source: &'a [u8],
     pub args: &'a [i64],

@@ -1,12 +1,15 @@
 //! Every event at every moment of short runs: each is possible or refused as was worked out by hand.
 
+ghost use Rattle.std.specs.Prelude.{IfOk};
 ghost use Rattle.cw_world.specs.Worlds.{IsSound};
 
 use crate::programs::{PRINTS, code_of};
 use cw_model::burden::{Burden, Edges};
+use cw_text::Fault;
 use cw_world::event::Event::{self, Collect, Inline, Offer, Retake, Run, Settle, Steal};
 use cw_world::event::Refused;
 use cw_world::world::World;
+use std::alloc::Global;
 use std::test::Fail;
 
 const BURDEN: Burden = Burden {
@@ -92,79 +95,87 @@ fn passes(world: &mut World, moments: &[&[Event]]) -> bool
     right
 }
 
+// A world of two workers that prints 1, 2 and 3.
+fn printing(alloc: Global) -> Result<World, Fault>
+    ensures { IfOk result (λ world. IsSound world) }
+{
+    let code = code_of(alloc, PRINTS)?;
+    let world = World::start(alloc, code, &[], 100, BURDEN, 2)?;
+    Ok(world)
+}
+
+// Whether the run goes on after these moments, and has ended after the last ones.
+fn ends_after(alloc: Global, moments: &[&[Event]], last: &[&[Event]]) -> Result<bool, Fault> {
+    let mut world = printing(alloc)?;
+    let passes_most = passes(&mut world, moments);
+    let goes_on = world.outcome().is_none();
+    let passes_last = passes(&mut world, last);
+    Ok(passes_most && goes_on && passes_last && world.outcome().is_some())
+}
+
 // Worker 1 steals the rest behind the first call and worker 0 the one behind the second.
+const STOLEN: &[&[Event]] = &[
+    // to the first spawn, which is decided
+    &[Run(0)],
+    &[Run(0)],
+    &[Offer(0), Inline(0)],
+    // the rest is stolen, and comes to the second spawn
+    &[Steal(1, 0), Run(0)],
+    &[Run(1), Run(0)],
+    &[Run(1), Run(0)],
+    &[Offer(1), Inline(1), Run(0)],
+    // the first call ends, and worker 0 runs the second rest to its end
+    &[Run(0), Run(1)],
+    &[Run(0), Run(1)],
+    &[Run(0), Run(1)],
+    &[Steal(0, 1), Run(1)],
+    &[Run(0), Run(1)],
+    &[Run(0), Run(1)],
+    &[Settle(0), Run(1)],
+    // the second call ends, and both effects come home
+    &[Run(1)],
+    &[Run(1)],
+    &[Run(1)],
+    &[Collect(1)],
+    &[Settle(1)],
+    &[Collect(0)],
+];
+
+// The join and the end.
+const JOINED: &[&[Event]] = &[&[Run(0)], &[Run(0)], &[Run(0)], &[]];
+
 #[test]
 fn both_rests_stolen(rt: HostRuntime) -> Result<(), Fail> {
-    let code = code_of(rt.alloc(), PRINTS)?;
-    let mut world = World::start(rt.alloc(), code, &[], 100, BURDEN, 2)?;
-    // to the first spawn, which is decided
-    let first: [&[Event]; 3] = [&[Run(0)], &[Run(0)], &[Offer(0), Inline(0)]];
-    // the rest is stolen, and comes to the second spawn
-    let second: [&[Event]; 4] = [
-        &[Steal(1, 0), Run(0)],
-        &[Run(1), Run(0)],
-        &[Run(1), Run(0)],
-        &[Offer(1), Inline(1), Run(0)],
-    ];
-    // the first call ends, and worker 0 runs the second rest to its end
-    let third: [&[Event]; 7] = [
-        &[Run(0), Run(1)],
-        &[Run(0), Run(1)],
-        &[Run(0), Run(1)],
-        &[Steal(0, 1), Run(1)],
-        &[Run(0), Run(1)],
-        &[Run(0), Run(1)],
-        &[Settle(0), Run(1)],
-    ];
-    // the second call ends, and both effects come home
-    let fourth: [&[Event]; 6] = [
-        &[Run(1)],
-        &[Run(1)],
-        &[Run(1)],
-        &[Collect(1)],
-        &[Settle(1)],
-        &[Collect(0)],
-    ];
-    // the join and the end
-    let last: [&[Event]; 4] = [&[Run(0)], &[Run(0)], &[Run(0)], &[]];
-    assert!(rt; passes(&mut world, first.as_slice()));
-    assert!(rt; passes(&mut world, second.as_slice()));
-    assert!(rt; passes(&mut world, third.as_slice()));
-    assert!(rt; passes(&mut world, fourth.as_slice()));
-    assert!(rt; world.outcome().is_none());
-    assert!(rt; passes(&mut world, last.as_slice()));
-    assert!(rt; world.outcome().is_some());
+    let ends = ends_after(rt.alloc(), STOLEN, JOINED)?;
+    assert!(rt; ends);
     Ok(())
 }
 
 // The first rest is offered and comes back from the deque, the second one is kept.
+const TAKEN_BACK: &[&[Event]] = &[
+    &[Run(0)],
+    &[Run(0)],
+    &[Offer(0), Inline(0)],
+    &[Run(0), Steal(1, 0)],
+    &[Run(0), Steal(1, 0)],
+    &[Run(0), Steal(1, 0)],
+    // at the join it may be taken back, or stolen, by its own worker too
+    &[Retake(0), Steal(0, 0), Steal(1, 0)],
+    &[Run(0)],
+    &[Run(0)],
+    &[Inline(0), Offer(0)],
+    &[Run(0)],
+    &[Run(0)],
+    &[Run(0)],
+    &[Retake(0)],
+];
+
+// The third print, the join and the end.
+const PRINTED: &[&[Event]] = &[&[Run(0)], &[Run(0)], &[Run(0)], &[Run(0)], &[Run(0)], &[]];
+
 #[test]
 fn both_rests_taken_back(rt: HostRuntime) -> Result<(), Fail> {
-    let code = code_of(rt.alloc(), PRINTS)?;
-    let mut world = World::start(rt.alloc(), code, &[], 100, BURDEN, 2)?;
-    let first: [&[Event]; 7] = [
-        &[Run(0)],
-        &[Run(0)],
-        &[Offer(0), Inline(0)],
-        &[Run(0), Steal(1, 0)],
-        &[Run(0), Steal(1, 0)],
-        &[Run(0), Steal(1, 0)],
-        // at the join it may be taken back, or stolen, by its own worker too
-        &[Retake(0), Steal(0, 0), Steal(1, 0)],
-    ];
-    let second: [&[Event]; 7] = [
-        &[Run(0)],
-        &[Run(0)],
-        &[Inline(0), Offer(0)],
-        &[Run(0)],
-        &[Run(0)],
-        &[Run(0)],
-        &[Retake(0)],
-    ];
-    let last: [&[Event]; 6] = [&[Run(0)], &[Run(0)], &[Run(0)], &[Run(0)], &[Run(0)], &[]];
-    assert!(rt; passes(&mut world, first.as_slice()));
-    assert!(rt; passes(&mut world, second.as_slice()));
-    assert!(rt; passes(&mut world, last.as_slice()));
-    assert!(rt; world.outcome().is_some());
+    let ends = ends_after(rt.alloc(), TAKEN_BACK, PRINTED)?;
+    assert!(rt; ends);
     Ok(())
 }

@@ -57,66 +57,74 @@ fn has_printed(world: &World) -> bool
     }
 }
 
+// Whether a world of so many workers goes on after these events, and has printed after the last ones.
+fn prints(alloc: Global, workers: usize, events: &[Event], last: &[Event]) -> Result<bool, Fault> {
+    let mut world = printing(alloc, workers)?;
+    let walks_most = walk(&mut world, events);
+    let goes_on = world.outcome().is_none();
+    let walks_last = walk(&mut world, last);
+    Ok(walks_most && goes_on && walks_last && has_printed(&world))
+}
+
+// Both rests are kept.
+const KEPT: &[Event] = &[
+    Run(0),
+    Run(0),
+    Inline(0),
+    Run(0),
+    Run(0),
+    Run(0),
+    Retake(0),
+    Run(0),
+    Run(0),
+    Inline(0),
+    Run(0),
+    Run(0),
+    Run(0),
+    Retake(0),
+];
+
+// What comes behind them.
+const KEPT_LAST: &[Event] = &[Run(0), Run(0), Run(0), Run(0), Run(0)];
+
 #[test]
 fn one_worker_keeps_each_rest(rt: HostRuntime) -> Result<(), Fail> {
-    let mut world = printing(rt.alloc(), 1)?;
-    assert!(rt;
-        walk(
-            &mut world,
-            &[Run(0), Run(0), Inline(0), Run(0), Run(0), Run(0), Retake(0)]
-        )
-    );
-    assert!(rt;
-        walk(
-            &mut world,
-            &[Run(0), Run(0), Inline(0), Run(0), Run(0), Run(0), Retake(0)]
-        )
-    );
-    assert!(rt; world.outcome().is_none());
-    assert!(rt; walk(&mut world, &[Run(0), Run(0), Run(0), Run(0), Run(0)]));
-    assert!(rt; has_printed(&world));
+    let prints = prints(rt.alloc(), 1, KEPT, KEPT_LAST)?;
+    assert!(rt; prints);
     Ok(())
 }
 
+const STOLEN: &[Event] = &[
+    // worker 1 steals the first rest, and offers the second one
+    Run(0),
+    Run(0),
+    Offer(0),
+    Steal(1, 0),
+    Run(1),
+    Run(1),
+    Offer(1),
+    // which worker 0 steals
+    Run(0),
+    Run(0),
+    Run(0),
+    Steal(0, 1),
+    Run(0),
+    Run(0),
+    Settle(0),
+    // both effects come home
+    Run(1),
+    Run(1),
+    Run(1),
+    Collect(1),
+    Settle(1),
+    Collect(0),
+];
+
+const STOLEN_LAST: &[Event] = &[Run(0), Run(0), Run(0)];
+
 #[test]
 fn two_workers_steal_each_rest(rt: HostRuntime) -> Result<(), Fail> {
-    let mut world = printing(rt.alloc(), 2)?;
-    assert!(rt;
-        walk(
-            &mut world,
-            &[
-                Run(0),
-                Run(0),
-                Offer(0),
-                Steal(1, 0),
-                Run(1),
-                Run(1),
-                Offer(1)
-            ]
-        )
-    );
-    assert!(rt;
-        walk(
-            &mut world,
-            &[
-                Run(0),
-                Run(0),
-                Run(0),
-                Steal(0, 1),
-                Run(0),
-                Run(0),
-                Settle(0)
-            ]
-        )
-    );
-    assert!(rt;
-        walk(
-            &mut world,
-            &[Run(1), Run(1), Run(1), Collect(1), Settle(1), Collect(0)]
-        )
-    );
-    assert!(rt; world.outcome().is_none());
-    assert!(rt; walk(&mut world, &[Run(0), Run(0), Run(0)]));
-    assert!(rt; has_printed(&world));
+    let prints = prints(rt.alloc(), 2, STOLEN, STOLEN_LAST)?;
+    assert!(rt; prints);
     Ok(())
 }

@@ -2,7 +2,7 @@
 
 ghost use Rattle.cw_world.specs.Worlds.{IsSound};
 
-use crate::generated::GENERATED;
+use crate::generated::{GENERATED, Generated};
 use crate::programs::{FIB, LENT, PRINTS, TRAPS, code_of};
 use cw_machine::alone::{Ended, run_alone};
 use cw_model::burden::{Burden, Edges};
@@ -11,6 +11,7 @@ use cw_verify::verified::Verified;
 use cw_world::event::Event::{self, Collect, Inline, Offer, Retake, Run, Settle, Steal};
 use cw_world::world::World;
 use std::alloc::Global;
+use std::process::Abort;
 use std::sync::Arc;
 use std::test::Fail;
 
@@ -21,7 +22,6 @@ const BURDEN: Burden = Burden {
 };
 
 // A program on its arguments, within so many instructions.
-#[derive(Clone, Copy, Debug)]
 struct Case<'a> {
     source: &'a [u8],
     args: &'a [i64],
@@ -29,7 +29,7 @@ struct Case<'a> {
 }
 
 // Runs that end, that trap and that pass their limit.
-const CASES: [Case<'static>; 6] = [
+const CASES: &[Case] = &[
     Case {
         source: PRINTS,
         args: &[],
@@ -147,7 +147,7 @@ fn wander(world: &mut World, workers: u64, seed: u64) -> Option<Result<Ended, Fa
 fn is_serial(
     alloc: Global,
     code: &Arc<Verified>,
-    case: Case,
+    case: &Case,
     workers: usize,
     seed: u64,
 ) -> Result<bool, Fault> {
@@ -164,7 +164,7 @@ fn is_serial(
 fn are_serial(
     alloc: Global,
     code: &Arc<Verified>,
-    case: Case,
+    case: &Case,
     seeds: &[u64],
 ) -> Result<bool, Fault> {
     let mut right = true;
@@ -177,44 +177,87 @@ fn are_serial(
     Ok(right)
 }
 
-#[test]
-fn walks_are_serial(rt: HostRuntime) -> Result<(), Fail> {
-    for case in CASES {
-        let code = code_of(rt.alloc(), case.source)?;
-        assert!(rt; are_serial(rt.alloc(), &code, case, &[1, 12345, 987654321])?);
+// Whether walks of a program come to what one worker comes to, by these seeds.
+fn is_case_serial(alloc: Global, case: &Case, seeds: &[u64]) -> Result<bool, Fault> {
+    let code = code_of(alloc, case.source)?;
+    are_serial(alloc, &code, case, seeds)
+}
+
+const SEEDS: [u64; 3] = [1, 12345, 987654321];
+
+fn all_cases_are_serial<R: Abort>(rt: &R, alloc: Global, cases: &[Case]) -> Result<(), Fault> {
+    for case in cases {
+        let is_serial = is_case_serial(alloc, case, &SEEDS)?;
+        assert!(rt; is_serial, "within {} instructions", case.n);
     }
     Ok(())
 }
 
-// Within just what each costs, within one instruction less, and within half of it.
 #[test]
-fn walks_of_random_programs_are_serial(rt: HostRuntime) -> Result<(), Fail> {
-    for program in &GENERATED {
-        let code = code_of(rt.alloc(), program.source)?;
+fn walks_are_serial(rt: HostRuntime) -> Result<(), Fail> {
+    all_cases_are_serial(&rt, rt.alloc(), CASES)?;
+    Ok(())
+}
+
+// Whether walks of a random program are serial within so many instructions.
+fn is_random_serial(alloc: Global, program: &Generated, n: u64) -> Result<bool, Fault> {
+    let case = Case {
+        source: program.source,
+        args: program.args,
+        n,
+    };
+    is_case_serial(alloc, &case, &[program.cost])
+}
+
+// Within just what each costs, within one instruction less, and within half of it.
+fn all_random_are_serial<R: Abort>(
+    rt: &R,
+    alloc: Global,
+    programs: &[Generated],
+) -> Result<(), Fault> {
+    for program in programs {
         let cost = program.cost;
         for n in [cost, cost.wrapping_sub(1), cost / 2] {
-            let case = Case {
-                source: program.source,
-                args: program.args,
-                n,
-            };
-            assert!(rt; are_serial(rt.alloc(), &code, case, &[cost])?);
+            let is_serial = is_random_serial(alloc, program, n)?;
+            assert!(rt; is_serial, "cost {cost} within {n}");
         }
     }
     Ok(())
+}
+
+#[test]
+fn walks_of_random_programs_are_serial(rt: HostRuntime) -> Result<(), Fail> {
+    all_random_are_serial(&rt, rt.alloc(), &GENERATED)?;
+    Ok(())
+}
+
+// Whether a world of so many workers is refused.
+fn is_refused(alloc: Global, workers: usize) -> Result<bool, Fault> {
+    let code = code_of(alloc, PRINTS)?;
+    match World::start(alloc, code, &[], 100, BURDEN, workers) {
+        Err(Fault::Arguments) => Ok(true),
+        _ => Ok(false),
+    }
+}
+
+// Whether one of so many starts.
+fn starts(alloc: Global, workers: usize) -> Result<bool, Fault> {
+    let code = code_of(alloc, PRINTS)?;
+    let world = World::start(alloc, code, &[], 100, BURDEN, workers)?;
+    Ok(world.outcome().is_none())
 }
 
 #[test]
 fn workers_out_of_range(rt: HostRuntime) -> Result<(), Fail> {
-    for workers in [0, 65] {
-        let code = code_of(rt.alloc(), PRINTS)?;
-        match World::start(rt.alloc(), code, &[], 100, BURDEN, workers) {
-            Err(Fault::Arguments) => {}
-            _ => return Err("a world of no workers, or of too many")?,
-        }
-    }
-    let code = code_of(rt.alloc(), PRINTS)?;
-    let world = World::start(rt.alloc(), code, &[], 100, BURDEN, 64)?;
-    assert!(rt; world.outcome().is_none());
+    let is_none_refused = is_refused(rt.alloc(), 0)?;
+    let is_more_refused = is_refused(rt.alloc(), 65)?;
+    assert!(rt; is_none_refused && is_more_refused);
+    Ok(())
+}
+
+#[test]
+fn the_most_workers(rt: HostRuntime) -> Result<(), Fail> {
+    let starts = starts(rt.alloc(), 64)?;
+    assert!(rt; starts);
     Ok(())
 }

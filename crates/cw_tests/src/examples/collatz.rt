@@ -1,8 +1,9 @@
 //! The program examples/collatz.cilk, and the files beside it.
 
-use crate::examples::Example;
+use crate::examples::{Example, holds};
+use std::test::Fail;
 
-pub const EXAMPLE: Example = Example {
+const EXAMPLE: Example = Example {
     words: "collatz.cilk 5",
     source: "// For each number from 1 to n, the steps that halving and tripling take to reach 1; prints the steps of each
 // number, in the order of the numbers, whatever runs beside what.
@@ -50,3 +51,8 @@ return 0
 8,412,184,184
 ",
 };
+
+#[test]
+fn reports_as_beside_it(rt: HostRuntime) -> Result<(), Fail> {
+    holds(rt, &EXAMPLE)
+}

@@ -1,8 +1,9 @@
 //! The program examples/dot.cilk, and the files beside it.
 
-use crate::examples::Example;
+use crate::examples::{Example, holds};
+use std::test::Fail;
 
-pub const EXAMPLE: Example = Example {
+const EXAMPLE: Example = Example {
     words: "dot.cilk 2000",
     source: "// Two sums of products: of n numbers with themselves, and with the same numbers in reverse. An array that is only read is
 // not cut: each half is a range of its numbers, and both halves read the whole. One array stands for both arguments, and
@@ -64,3 +65,8 @@ return 0
 8,119058,10747,15029
 ",
 };
+
+#[test]
+fn reports_as_beside_it(rt: HostRuntime) -> Result<(), Fail> {
+    holds(rt, &EXAMPLE)
+}

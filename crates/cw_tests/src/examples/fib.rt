@@ -1,8 +1,9 @@
 //! The program examples/fib.cilk, and the files beside it.
 
-use crate::examples::Example;
+use crate::examples::{Example, holds};
+use std::test::Fail;
 
-pub const EXAMPLE: Example = Example {
+const EXAMPLE: Example = Example {
     words: "fib.cilk 20",
     source: "// The n-th Fibonacci number by recursion, where each call spawns one of its two calls, however little there is to do.
 // fib_cutoff.cilk spawns no small ones.
@@ -42,3 +43,8 @@ int main(int n) {
 8,295527,339,37026
 ",
 };
+
+#[test]
+fn reports_as_beside_it(rt: HostRuntime) -> Result<(), Fail> {
+    holds(rt, &EXAMPLE)
+}

@@ -1,8 +1,9 @@
 //! The program examples/fib_cutoff.cilk, and the files beside it.
 
-use crate::examples::Example;
+use crate::examples::{Example, holds};
+use std::test::Fail;
 
-pub const EXAMPLE: Example = Example {
+const EXAMPLE: Example = Example {
     words: "fib_cutoff.cilk 20",
     source: "// The n-th Fibonacci number as in fib.cilk, with a cut-off: below 14 a call goes on without spawns.
 // cilkwork run fib_cutoff.cilk 20
@@ -56,3 +57,8 @@ int main(int n) {
 8,285023,9919,39332
 ",
 };
+
+#[test]
+fn reports_as_beside_it(rt: HostRuntime) -> Result<(), Fail> {
+    holds(rt, &EXAMPLE)
+}

@@ -1,8 +1,9 @@
 //! The program examples/histogram.cilk, and the files beside it.
 
-use crate::examples::Example;
+use crate::examples::{Example, holds};
+use std::test::Fail;
 
-pub const EXAMPLE: Example = Example {
+const EXAMPLE: Example = Example {
     words: "histogram.cilk 1000",
     source: "// How many of n numbers lie below 10, from 10 to 29, from 30 to 59 and above: a reducer for each range.
 // cilkwork run histogram.cilk 1000
@@ -50,3 +51,8 @@ return 0
 8,33104,1149,4278
 ",
 };
+
+#[test]
+fn reports_as_beside_it(rt: HostRuntime) -> Result<(), Fail> {
+    holds(rt, &EXAMPLE)
+}

@@ -1,8 +1,9 @@
 //! The program examples/later.cilk, and the files beside it.
 
-use crate::examples::Example;
+use crate::examples::{Example, holds};
+use std::test::Fail;
 
-pub const EXAMPLE: Example = Example {
+const EXAMPLE: Example = Example {
     words: "later.cilk 3 4",
     source: "// main takes two arguments; two calls are spawned before one sync.
 // cilkwork run later.cilk 3 4
@@ -41,3 +42,8 @@ int main(int a, int b) {
 8,24,22,22
 ",
 };
+
+#[test]
+fn reports_as_beside_it(rt: HostRuntime) -> Result<(), Fail> {
+    holds(rt, &EXAMPLE)
+}

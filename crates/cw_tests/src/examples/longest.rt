@@ -1,8 +1,9 @@
 //! The program examples/longest.cilk, and the files beside it.
 
-use crate::examples::Example;
+use crate::examples::{Example, holds};
+use std::test::Fail;
 
-pub const EXAMPLE: Example = Example {
+const EXAMPLE: Example = Example {
     words: "longest.cilk 1000",
     source: "// Which number from 1 to n takes the most steps by halving and tripling to reach 1, and how high such a number goes: two
 // reducers that keep the greatest. The steps stand before the number in one value, so that the greatest has its place
@@ -51,3 +52,8 @@ return 0
 8,1362043,19359,176546
 ",
 };
+
+#[test]
+fn reports_as_beside_it(rt: HostRuntime) -> Result<(), Fail> {
+    holds(rt, &EXAMPLE)
+}

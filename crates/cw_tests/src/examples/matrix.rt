@@ -1,8 +1,9 @@
 //! The program examples/matrix.cilk, and the files beside it.
 
-use crate::examples::Example;
+use crate::examples::{Example, holds};
+use std::test::Fail;
 
-pub const EXAMPLE: Example = Example {
+const EXAMPLE: Example = Example {
     words: "matrix.cilk 16",
     source: "// The product of two matrices of n by n numbers, a number of the product in each turn of a loop. Prints the sum of the
 // numbers on its diagonal and its last number.
@@ -48,3 +49,8 @@ return 0
 8,86977,5819,11221
 ",
 };
+
+#[test]
+fn reports_as_beside_it(rt: HostRuntime) -> Result<(), Fail> {
+    holds(rt, &EXAMPLE)
+}

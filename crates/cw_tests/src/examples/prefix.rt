@@ -1,8 +1,9 @@
 //! The program examples/prefix.cilk, and the files beside it.
 
-use crate::examples::Example;
+use crate::examples::{Example, holds};
+use std::test::Fail;
 
-pub const EXAMPLE: Example = Example {
+const EXAMPLE: Example = Example {
     words: "prefix.cilk 4000",
     source: "// Prefix sums of n ones: the sums of both halves beside each other, and then the last sum of the left half is added to
 // each of the right half, by halves too. Parts of up to 256 numbers are not halved. Prints the last sum.
@@ -69,3 +70,8 @@ return 0
 8,253240,23550,43123
 ",
 };
+
+#[test]
+fn reports_as_beside_it(rt: HostRuntime) -> Result<(), Fail> {
+    holds(rt, &EXAMPLE)
+}

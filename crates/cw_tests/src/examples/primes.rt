@@ -1,8 +1,9 @@
 //! The program examples/primes.cilk, and the files beside it.
 
-use crate::examples::Example;
+use crate::examples::{Example, holds};
+use std::test::Fail;
 
-pub const EXAMPLE: Example = Example {
+const EXAMPLE: Example = Example {
     words: "primes.cilk 1000",
     source: "// How many primes lie below n: ranges are halved down to 16 numbers, and the first half is spawned.
 // cilkwork run primes.cilk 1000
@@ -63,3 +64,8 @@ int main(int n) {
 8,112591,2772,15062
 ",
 };
+
+#[test]
+fn reports_as_beside_it(rt: HostRuntime) -> Result<(), Fail> {
+    holds(rt, &EXAMPLE)
+}

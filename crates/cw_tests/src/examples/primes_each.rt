@@ -1,8 +1,9 @@
 //! The program examples/primes_each.cilk, and the files beside it.
 
-use crate::examples::Example;
+use crate::examples::{Example, holds};
+use std::test::Fail;
 
-pub const EXAMPLE: Example = Example {
+const EXAMPLE: Example = Example {
     words: "primes_each.cilk 2000",
     source: "// How many primes lie below n, by a spawn for each number, one after another: each of them is too small to be worth it,
 // and each stands behind all those before it. primes_loop.cilk has the same work in a loop that is halved.
@@ -49,3 +50,8 @@ return 0
 8,257707,22746,34053
 ",
 };
+
+#[test]
+fn reports_as_beside_it(rt: HostRuntime) -> Result<(), Fail> {
+    holds(rt, &EXAMPLE)
+}

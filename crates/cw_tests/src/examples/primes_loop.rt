@@ -1,8 +1,9 @@
 //! The program examples/primes_loop.cilk, and the files beside it.
 
-use crate::examples::Example;
+use crate::examples::{Example, holds};
+use std::test::Fail;
 
-pub const EXAMPLE: Example = Example {
+const EXAMPLE: Example = Example {
     words: "primes_loop.cilk 2000",
     source: "// How many primes lie below n, as in primes_each.cilk, by a loop that is halved down to 125 numbers.
 // cilkwork run primes_loop.cilk 2000
@@ -45,3 +46,8 @@ return 0
 8,262242,21022,38006
 ",
 };
+
+#[test]
+fn reports_as_beside_it(rt: HostRuntime) -> Result<(), Fail> {
+    holds(rt, &EXAMPLE)
+}

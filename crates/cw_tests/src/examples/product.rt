@@ -1,8 +1,9 @@
 //! The program examples/product.cilk, and the files beside it.
 
-use crate::examples::Example;
+use crate::examples::{Example, holds};
+use std::test::Fail;
 
-pub const EXAMPLE: Example = Example {
+const EXAMPLE: Example = Example {
     words: "product.cilk 24",
     source: "// The product of two matrices of n by n numbers, by rows: the result is cut into halves down to 3 rows or less, and the
 // halves are written side by side. Every call reads both factors, also while others read them, since they are `const`.
@@ -93,3 +94,8 @@ multiply,336785,42156,7.989,87156,3.864
 8,359292,64663,64663
 ",
 };
+
+#[test]
+fn reports_as_beside_it(rt: HostRuntime) -> Result<(), Fail> {
+    holds(rt, &EXAMPLE)
+}

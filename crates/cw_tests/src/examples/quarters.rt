@@ -1,8 +1,9 @@
 //! The program examples/quarters.cilk, and the files beside it.
 
-use crate::examples::Example;
+use crate::examples::{Example, holds};
+use std::test::Fail;
 
-pub const EXAMPLE: Example = Example {
+const EXAMPLE: Example = Example {
     words: "quarters.cilk 32",
     source: "// The product of two matrices of n * n numbers, n a power of two from 2 on, each stored by its quarters: the upper left
 // one, the upper right one, the lower left one, the lower right one, each of them by its quarters in turn. Each quarter of
@@ -115,3 +116,8 @@ product,328652,20666,15.903,290666,1.130
 8,360431,52445,72985
 ",
 };
+
+#[test]
+fn reports_as_beside_it(rt: HostRuntime) -> Result<(), Fail> {
+    holds(rt, &EXAMPLE)
+}

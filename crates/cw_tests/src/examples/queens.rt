@@ -1,8 +1,9 @@
 //! The program examples/queens.cilk, and the files beside it.
 
-use crate::examples::Example;
+use crate::examples::{Example, holds};
+use std::test::Fail;
 
-pub const EXAMPLE: Example = Example {
+const EXAMPLE: Example = Example {
     words: "queens.cilk 7",
     source: "// How many ways there are to put n queens on a board of n by n squares, none of them in reach of another. The columns of
 // a row are halved, and one half is searched beside the other, on a board of its own; the reducer counts.
@@ -78,3 +79,8 @@ return 0
 8,630747,2483,79224
 ",
 };
+
+#[test]
+fn reports_as_beside_it(rt: HostRuntime) -> Result<(), Fail> {
+    holds(rt, &EXAMPLE)
+}

@@ -1,8 +1,9 @@
 //! The program examples/roots.cilk, and the files beside it.
 
-use crate::examples::Example;
+use crate::examples::{Example, holds};
+use std::test::Fail;
 
-pub const EXAMPLE: Example = Example {
+const EXAMPLE: Example = Example {
     words: "roots.cilk 4000",
     source: "// The sum of the integer square roots of n numbers. The numbers are made by one call, the roots are found side by side,
 // and one call adds them up: both calls are serial, and roots_mended.cilk has neither.
@@ -78,3 +79,8 @@ add_up,56011,56011,1.000,56011,1.000
 8,870734,151350,220949
 ",
 };
+
+#[test]
+fn reports_as_beside_it(rt: HostRuntime) -> Result<(), Fail> {
+    holds(rt, &EXAMPLE)
+}

@@ -1,8 +1,9 @@
 //! The program examples/roots_mended.cilk, and the files beside it.
 
-use crate::examples::Example;
+use crate::examples::{Example, holds};
+use std::test::Fail;
 
-pub const EXAMPLE: Example = Example {
+const EXAMPLE: Example = Example {
     words: "roots_mended.cilk 4000",
     source: "// The sum of the integer square roots of n numbers, as in roots.cilk: each number is made in the turn that needs it, and
 // a reducer adds the roots up.
@@ -51,3 +52,8 @@ find_roots,742548,23294,31.877,98293,7.554
 8,742552,23298,92888
 ",
 };
+
+#[test]
+fn reports_as_beside_it(rt: HostRuntime) -> Result<(), Fail> {
+    holds(rt, &EXAMPLE)
+}

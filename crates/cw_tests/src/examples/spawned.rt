@@ -1,8 +1,9 @@
 //! The program examples/spawned.cilk, and the files beside it.
 
-use crate::examples::Example;
+use crate::examples::{Example, holds};
+use std::test::Fail;
 
-pub const EXAMPLE: Example = Example {
+const EXAMPLE: Example = Example {
     words: "spawned.cilk",
     source: "// A spawned call may run beside what follows it, up to the sync.
 // cilkwork run spawned.cilk
@@ -34,3 +35,8 @@ int main() {
 8,15,13,13
 ",
 };
+
+#[test]
+fn reports_as_beside_it(rt: HostRuntime) -> Result<(), Fail> {
+    holds(rt, &EXAMPLE)
+}

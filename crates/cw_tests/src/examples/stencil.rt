@@ -1,8 +1,9 @@
 //! The program examples/stencil.cilk, and the files beside it.
 
-use crate::examples::Example;
+use crate::examples::{Example, holds};
+use std::test::Fail;
 
-pub const EXAMPLE: Example = Example {
+const EXAMPLE: Example = Example {
     words: "stencil.cilk 2000 20",
     source: "// Each of n numbers becomes the sum of its two neighbours, k times, with 0 beyond both ends. Halves of more than 500
 // numbers are done side by side: each part is handed the old numbers at its edges, since no other part can be read.
@@ -70,3 +71,8 @@ return 0
 8,1314757,325555,325555
 ",
 };
+
+#[test]
+fn reports_as_beside_it(rt: HostRuntime) -> Result<(), Fail> {
+    holds(rt, &EXAMPLE)
+}
