@@ -18,7 +18,7 @@ pub type Site = (u64, u64, u64, u64, u64);
 pub type Region = (u64, u64, u128);
 
 /// What a run comes to by hand. Where there are no rows, none were worked out.
-#[derive(Clone, Copy, Debug)]
+#[derive(Clone, Copy)]
 pub enum Told<'a> {
     /// It ends.
     Ends {

@@ -13,7 +13,7 @@ use std::alloc::Global;
 use std::snapshot::Snapshot;
 
 /// What becomes of a rest.
-#[derive(Clone, Copy, Debug)]
+#[derive(Clone, Copy)]
 pub enum Fate {
     /// It lies unrun up to its join, and is taken back.
     TakenBack,
@@ -24,11 +24,11 @@ pub enum Fate {
 }
 
 /// No whole run in sight: too deep, or too many events.
-#[derive(Clone, Copy, Debug)]
+#[derive(Clone, Copy)]
 pub struct Lost;
 
 /// What is told beforehand of a run.
-#[derive(Clone, Copy, Debug)]
+#[derive(Clone, Copy)]
 pub struct Way<'a> {
     /// What becomes of its rests, in the order in which they are handed out, over and over.
     pub fates: &'a [Fate],

@@ -10,7 +10,7 @@ use std::sync::Arc;
 
 /// A function of code: whether it gives a value, its integer parameters and slots, its array parameters and slots, the
 /// count of the arrays that it reads, and its instructions.
-#[derive(Clone, Copy, Debug)]
+#[derive(Clone, Copy)]
 pub struct Part<'a> {
     pub gives_int: bool,
     pub params: usize,
@@ -23,7 +23,7 @@ pub struct Part<'a> {
 
 /// A program: its functions, main the last one; the kind and the function of its call statements, its reducers and tags,
 /// and the lists of the array slots that its calls take, and of what they are lent.
-#[derive(Clone, Copy, Debug)]
+#[derive(Clone, Copy)]
 pub struct Program<'a> {
     pub parts: &'a [Part<'a>],
     pub sites: &'a [(CallKind, u32)],
@@ -72,51 +72,75 @@ fn place_sites(
     Ok(())
 }
 
-// These names.
-fn names_of(alloc: Global, texts: &[&str]) -> Result<Vec<Name>, AllocError> {
-    let mut names = Vec::new(alloc);
+// These tags.
+fn place_tags(alloc: Global, code: &mut Code, texts: &[&str]) -> Result<(), AllocError> {
     for text in texts {
-        names.push(Name::new(alloc, text.as_bytes())?)?;
+        code.tags.push(Name::new(alloc, text.as_bytes())?)?;
     }
-    Ok(names)
+    Ok(())
 }
 
 // These reducers.
-fn reducers_of(alloc: Global, told: &[(&str, Reduction)]) -> Result<Vec<Reducer>, AllocError> {
-    let mut reducers = Vec::new(alloc);
+fn place_reducers(
+    alloc: Global,
+    code: &mut Code,
+    told: &[(&str, Reduction)],
+) -> Result<(), AllocError> {
     for (text, how) in told {
-        reducers.push(Reducer {
+        code.reducers.push(Reducer {
             name: Name::new(alloc, text.as_bytes())?,
             how: *how,
         })?;
     }
-    Ok(reducers)
+    Ok(())
 }
 
-// These lists.
-fn lists_of<A: Copy>(alloc: Global, lists: &[&[A]]) -> Result<Vec<Vec<A>>, AllocError> {
-    let mut all = Vec::new(alloc);
+// These lists of the array slots that are passed.
+fn place_passed(alloc: Global, code: &mut Code, lists: &[&[u32]]) -> Result<(), AllocError> {
     for list in lists {
-        all.push(Vec::from_slice(alloc, list)?)?;
+        code.passed.push(Vec::from_slice(alloc, list)?)?;
     }
-    Ok(all)
+    Ok(())
+}
+
+// These lists of what is lent.
+fn place_lent(alloc: Global, code: &mut Code, lists: &[&[Loan]]) -> Result<(), AllocError> {
+    for list in lists {
+        code.lent.push(Vec::from_slice(alloc, list)?)?;
+    }
+    Ok(())
+}
+
+// Code with nothing in it but the index of main.
+fn empty_code(alloc: Global, main: u32) -> Code {
+    Code {
+        instrs: Vec::new(alloc),
+        funcs: Vec::new(alloc),
+        main,
+        main_line: 1,
+        sites: Vec::new(alloc),
+        reducers: Vec::new(alloc),
+        tags: Vec::new(alloc),
+        passed: Vec::new(alloc),
+        lent: Vec::new(alloc),
+    }
+}
+
+// All of a program.
+fn place_all(alloc: Global, code: &mut Code, program: &Program) -> Result<(), AllocError> {
+    place_parts(code, program.parts)?;
+    place_sites(alloc, code, program.sites)?;
+    place_reducers(alloc, code, program.reducers)?;
+    place_tags(alloc, code, program.tags)?;
+    place_passed(alloc, code, program.passed)?;
+    place_lent(alloc, code, program.lent)
 }
 
 /// The code of a program, which the verifier must let through.
 pub fn code_of(alloc: Global, program: &Program) -> Result<Arc<Verified>, Fault> {
-    let mut code = Code {
-        instrs: Vec::new(alloc),
-        funcs: Vec::new(alloc),
-        main: u32::try_from(program.parts.len().saturating_sub(1)).unwrap_or(0),
-        main_line: 1,
-        sites: Vec::new(alloc),
-        reducers: reducers_of(alloc, program.reducers)?,
-        tags: names_of(alloc, program.tags)?,
-        passed: lists_of(alloc, program.passed)?,
-        lent: lists_of(alloc, program.lent)?,
-    };
-    place_parts(&mut code, program.parts)?;
-    place_sites(alloc, &mut code, program.sites)?;
+    let main = u32::try_from(program.parts.len().saturating_sub(1)).unwrap_or(0);
+    let mut code = empty_code(alloc, main);
+    place_all(alloc, &mut code, program)?;
     let verified = verify(alloc, code)?;
     Ok(Arc::new(alloc, verified)?)
 }

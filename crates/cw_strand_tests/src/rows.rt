@@ -22,7 +22,7 @@ use std::test::Fail;
 
 // A program on its arguments, with what each charged edge of a spawn costs, and what it comes to at this cost, having
 // spawned so many calls.
-#[derive(Clone, Copy, Debug)]
+#[derive(Clone, Copy)]
 struct Row<'a> {
     name: &'a str,
     program: Program<'a>,
