@@ -9,6 +9,7 @@ use cw_pool::gate::{Gate, Quiet};
 use cw_pool::run::run;
 use cw_text::Fault;
 use std::alloc::Global;
+use std::process::Abort;
 use std::sync::{Arc, Wait};
 use std::test::Fail;
 use std::thread::Threads;
@@ -22,7 +23,6 @@ const BURDEN: Burden = Burden {
 };
 
 // A program on its argument, within so many instructions.
-#[derive(Clone, Copy, Debug)]
 struct Run<'a> {
     source: &'a [u8],
     arg: i64,
@@ -30,7 +30,7 @@ struct Run<'a> {
 }
 
 // Runs that end, that trap and that pass their limit.
-const RUNS: [Run<'static>; 6] = [
+const RUNS: &[Run] = &[
     Run {
         source: STEPS,
         arg: 40,
@@ -96,9 +96,9 @@ fn fault_of(run: &Result<Ended, Fault>) -> Option<u8> {
 }
 
 // What one worker answers.
-fn alone(alloc: Global, source: &[u8], arg: i64, n: u64) -> Result<Result<Ended, Fault>, Fault> {
-    let code = code_of(alloc, source)?;
-    Ok(run_alone(alloc, code, &[arg], n, BURDEN))
+fn alone(alloc: Global, run: &Run) -> Result<Result<Ended, Fault>, Fault> {
+    let code = code_of(alloc, run.source)?;
+    Ok(run_alone(alloc, code, &[run.arg], run.n, BURDEN))
 }
 
 // What a crew answers.
@@ -108,181 +108,304 @@ fn together<
 >(
     rt: R,
     alloc: Global,
-    source: &[u8],
-    arg: i64,
-    n: u64,
+    asked: &Run,
     crew: Vec<Hand<R>>,
     gate: Arc<G>,
 ) -> Result<Result<Ended, Fault>, Fault> {
-    let code = code_of(alloc, source)?;
-    Ok(run(&rt, alloc, code, &[arg], n, BURDEN, crew, gate))
+    let code = code_of(alloc, asked.source)?;
+    let args = [asked.arg];
+    Ok(run(&rt, alloc, code, &args, asked.n, BURDEN, crew, gate))
+}
+
+// Whether a crew of so many bodies that serve answers this.
+fn answers<R: Threads + Wait + Copy + Send + Drop + 'static>(
+    rt: R,
+    alloc: Global,
+    run: &Run,
+    bodies: usize,
+    wanted: &Result<Ended, Fault>,
+) -> Result<bool, Fault> {
+    let crew = serving(alloc, rt, bodies)?;
+    let gate = Arc::new(alloc, Quiet)?;
+    let got = together(rt, alloc, run, crew, gate)?;
+    Ok(is_same(&got, wanted))
 }
 
 // Whether 1, 2, 4 and 64 workers answer this.
 fn all_answer<R: Threads + Wait + Copy + Send + Drop + 'static>(
     rt: R,
     alloc: Global,
-    source: &[u8],
-    arg: i64,
-    n: u64,
+    run: &Run,
     wanted: &Result<Ended, Fault>,
 ) -> Result<bool, Fault> {
     for bodies in [0usize, 1, 3, 63] {
-        let crew = serving(alloc, rt, bodies)?;
-        let gate = Arc::new(alloc, Quiet)?;
-        let got = together(rt, alloc, source, arg, n, crew, gate)?;
-        if !is_same(&got, wanted) {
+        if !answers(rt, alloc, run, bodies, wanted)? {
             return Ok(false);
         }
     }
     Ok(true)
 }
 
-// Whether 2, 4 and 8 workers, each held at random, answer this; and whether each crew was held at all.
+// Whether one worker comes to this value, and all crews answer what it does.
+fn gives<R: Threads + Wait + Copy + Send + Drop + 'static>(
+    rt: R,
+    alloc: Global,
+    run: &Run,
+    value: i64,
+) -> Result<bool, Fault> {
+    let wanted = alone(alloc, run)?;
+    let all_answer = all_answer(rt, alloc, run, &wanted)?;
+    Ok(all_answer && value_of(&wanted) == Some(value))
+}
+
+// Whether one worker fails with the fault of this number, and all crews do.
+fn fails<R: Threads + Wait + Copy + Send + Drop + 'static>(
+    rt: R,
+    alloc: Global,
+    run: &Run,
+    number: u8,
+) -> Result<bool, Fault> {
+    let wanted = alone(alloc, run)?;
+    let all_answer = all_answer(rt, alloc, run, &wanted)?;
+    Ok(all_answer && fault_of(&wanted) == Some(number))
+}
+
+// The tenth of the Fibonacci numbers.
+const TENTH: Run = Run {
+    source: FIB,
+    arg: 10,
+    n: MOST,
+};
+
+#[test]
+fn spawns_and_regions(rt: HostRuntime) -> Result<(), Fail> {
+    let gives = gives(rt, rt.alloc(), &TENTH, 55)?;
+    assert!(rt; gives);
+    Ok(())
+}
+
+// Of 89 leaves each gives 0 or 1, and of the others the root gives most.
+#[test]
+fn reducers(rt: HostRuntime) -> Result<(), Fail> {
+    let totals = [Total::Sum(89), Total::Max(Some(55))];
+    let ended = alone(rt.alloc(), &TENTH)?;
+    assert!(rt; ended.is_ok_and(|ended| ended.totals.as_slice() == totals.as_slice()));
+    Ok(())
+}
+
+const LENT: Run = Run {
+    source: HALVES,
+    arg: 40,
+    n: MOST,
+};
+
+#[test]
+fn arrays_are_lent(rt: HostRuntime) -> Result<(), Fail> {
+    let gives = gives(rt, rt.alloc(), &LENT, 780)?;
+    assert!(rt; gives);
+    Ok(())
+}
+
+const READ_TOGETHER: Run = Run {
+    source: READ,
+    arg: 40,
+    n: MOST,
+};
+
+// Twice the sum of 0 to 39, and the last one.
+#[test]
+fn arrays_are_read_together(rt: HostRuntime) -> Result<(), Fail> {
+    let gives = gives(rt, rt.alloc(), &READ_TOGETHER, 1599)?;
+    assert!(rt; gives);
+    Ok(())
+}
+
+const TRAPPING: Run = Run {
+    source: TRAPS,
+    arg: 8,
+    n: MOST,
+};
+
+#[test]
+fn traps(rt: HostRuntime) -> Result<(), Fail> {
+    let fails = fails(rt, rt.alloc(), &TRAPPING, 8)?;
+    assert!(rt; fails);
+    Ok(())
+}
+
+const OVER: Run = Run {
+    source: FIB,
+    arg: 10,
+    n: 2000,
+};
+
+#[test]
+fn limits(rt: HostRuntime) -> Result<(), Fail> {
+    let fails = fails(rt, rt.alloc(), &OVER, 7)?;
+    assert!(rt; fails);
+    Ok(())
+}
+
+// What a crew of so many bodies that return at once answers.
+fn idly<R: Threads + Wait + Copy + Send + Drop + 'static>(
+    rt: R,
+    alloc: Global,
+    run: &Run,
+    bodies: usize,
+) -> Result<Result<Ended, Fault>, Fault> {
+    let crew = idle(alloc, bodies)?;
+    let gate = Arc::new(alloc, Quiet)?;
+    together(rt, alloc, run, crew, gate)
+}
+
+// The others do the work of bodies that return at once.
+#[test]
+fn crews_that_do_nothing(rt: HostRuntime) -> Result<(), Fail> {
+    let wanted = alone(rt.alloc(), &TENTH)?;
+    let got = idly(rt, rt.alloc(), &TENTH, 63)?;
+    assert!(rt; is_same(&got, &wanted));
+    Ok(())
+}
+
+// A crew of more than 63 bodies is refused.
+#[test]
+fn crews_of_too_many(rt: HostRuntime) -> Result<(), Fail> {
+    let got = idly(rt, rt.alloc(), &TENTH, 64)?;
+    assert!(rt; is_same(&got, &Err(Fault::Arguments)));
+    Ok(())
+}
+
+// What came of a run by two workers, of which worker 0 is held.
+#[derive(Drop)]
+struct Held {
+    // Whether it answered what one worker does.
+    is_same: bool,
+    value: Option<i64>,
+    // The holds that used up their turns.
+    used_up: u64,
+    // What worker 1 settled, and what both offered.
+    settled: u64,
+    offered: u64,
+}
+
+// Worker 0 is held at its first offer, or at each.
+fn run_held<R: Threads + Wait + Copy + Send + Drop + 'static>(
+    rt: R,
+    alloc: Global,
+    run: &Run,
+    only_first: bool,
+) -> Result<Held, Fault> {
+    let gate = Arc::new(alloc, Holder::new(only_first))?;
+    let told = Arc::try_clone(&gate)?;
+    let crew = serving(alloc, rt, 1)?;
+    let got = together(rt, alloc, run, crew, gate)?;
+    let wanted = alone(alloc, run)?;
+    Ok(Held {
+        is_same: is_same(&got, &wanted),
+        value: value_of(&got),
+        used_up: told.used_up(),
+        settled: told.settled(),
+        offered: told.all_offered(),
+    })
+}
+
+const THREE_STEPS: Run = Run {
+    source: STEPS,
+    arg: 3,
+    n: MOST,
+};
+
+// While worker 0 is held at its first offer, worker 1 steals that job and settles it.
+#[test]
+fn a_job_is_settled_while_its_owner_is_held(rt: HostRuntime) -> Result<(), Fail> {
+    let held = run_held(rt, rt.alloc(), &THREE_STEPS, true)?;
+    assert!(rt; held.is_same && held.used_up == 0 && held.settled >= 1);
+    Ok(())
+}
+
+const TWELFTH: Run = Run {
+    source: FIB,
+    arg: 12,
+    n: MOST,
+};
+
+// Worker 0 is held at each offer until as many jobs were settled by worker 1: all work of its rests is done there.
+#[test]
+fn each_rest_is_run_by_the_other(rt: HostRuntime) -> Result<(), Fail> {
+    let held = run_held(rt, rt.alloc(), &TWELFTH, false)?;
+    assert!(rt; held.is_same && held.value == Some(144));
+    assert!(rt; held.used_up == 0 && held.offered == 232);
+    Ok(())
+}
+
+const TWELVE_READ: Run = Run {
+    source: READ,
+    arg: 12,
+    n: MOST,
+};
+
+// The same where each rest has a share of what the call beside it reads: 11 spawns in each of two sums, and that of main.
+#[test]
+fn each_rest_that_reads_is_run_by_the_other(rt: HostRuntime) -> Result<(), Fail> {
+    let held = run_held(rt, rt.alloc(), &TWELVE_READ, false)?;
+    assert!(rt; held.is_same && held.value == Some(143));
+    assert!(rt; held.used_up == 0 && held.offered == 23);
+    Ok(())
+}
+
+// Whether a crew of so many bodies, each held at random, answers this, and was held at all.
+fn answers_held<R: Threads + Wait + Copy + Send + Drop + 'static>(
+    rt: R,
+    alloc: Global,
+    run: &Run,
+    bodies: usize,
+    seed: u64,
+    wanted: &Result<Ended, Fault>,
+) -> Result<bool, Fault> {
+    let crew = serving(alloc, rt, bodies)?;
+    let gate = Arc::new(alloc, Stumbling::new(seed))?;
+    let told = Arc::try_clone(&gate)?;
+    let got = together(rt, alloc, run, crew, gate)?;
+    Ok(is_same(&got, wanted) && told.held() > 0)
+}
+
+// Whether 2, 4 and 8 workers, each held at random, answer what one worker does.
 fn all_answer_held<R: Threads + Wait + Copy + Send + Drop + 'static>(
     rt: R,
     alloc: Global,
     run: &Run,
     seed: u64,
-    wanted: &Result<Ended, Fault>,
 ) -> Result<bool, Fault> {
+    let wanted = alone(alloc, run)?;
     for bodies in [1usize, 3, 7] {
-        let crew = serving(alloc, rt, bodies)?;
-        let gate = Arc::new(alloc, Stumbling::new(seed))?;
-        let told = Arc::try_clone(&gate)?;
-        let got = together(rt, alloc, run.source, run.arg, run.n, crew, gate)?;
-        if !is_same(&got, wanted) || told.held() == 0 {
+        if !answers_held(rt, alloc, run, bodies, seed, &wanted)? {
             return Ok(false);
         }
     }
     Ok(true)
 }
 
-#[test]
-fn spawns_and_regions(rt: HostRuntime) -> Result<(), Fail> {
-    let wanted = alone(rt.alloc(), FIB, 10, MOST)?;
-    assert!(rt; all_answer(rt, rt.alloc(), FIB, 10, MOST, &wanted)?);
-    assert_eq!(rt; value_of(&wanted), Some(55));
-    // of 89 leaves each gives 0 or 1, and of the others the root gives most
-    let totals = [Total::Sum(89), Total::Max(Some(55))];
-    assert!(rt; wanted.is_ok_and(|ended| ended.totals.as_slice() == totals.as_slice()));
+// The same of all these runs, by these seeds.
+fn all_runs_answer_held<R: Abort + Threads + Wait + Copy + Send + Drop + 'static>(
+    rt: R,
+    alloc: Global,
+    runs: &[Run],
+    seeds: &[u64],
+) -> Result<(), Fault> {
+    for run in runs {
+        for seed in seeds {
+            let all_answer = all_answer_held(rt, alloc, run, *seed)?;
+            assert!(rt; all_answer, "{} within {} by {seed}", run.arg, run.n);
+        }
+    }
     Ok(())
 }
 
-#[test]
-fn arrays_are_lent(rt: HostRuntime) -> Result<(), Fail> {
-    let wanted = alone(rt.alloc(), HALVES, 40, MOST)?;
-    assert!(rt; all_answer(rt, rt.alloc(), HALVES, 40, MOST, &wanted)?);
-    assert_eq!(rt; value_of(&wanted), Some(780));
-    Ok(())
-}
-
-#[test]
-fn arrays_are_read_together(rt: HostRuntime) -> Result<(), Fail> {
-    let wanted = alone(rt.alloc(), READ, 40, MOST)?;
-    assert!(rt; all_answer(rt, rt.alloc(), READ, 40, MOST, &wanted)?);
-    // twice the sum of 0 to 39, and the last one
-    assert_eq!(rt; value_of(&wanted), Some(1599));
-    Ok(())
-}
-
-#[test]
-fn traps(rt: HostRuntime) -> Result<(), Fail> {
-    let wanted = alone(rt.alloc(), TRAPS, 8, MOST)?;
-    assert!(rt; all_answer(rt, rt.alloc(), TRAPS, 8, MOST, &wanted)?);
-    assert_eq!(rt; fault_of(&wanted), Some(8));
-    Ok(())
-}
-
-#[test]
-fn limits(rt: HostRuntime) -> Result<(), Fail> {
-    let wanted = alone(rt.alloc(), FIB, 10, 2000)?;
-    assert!(rt; all_answer(rt, rt.alloc(), FIB, 10, 2000, &wanted)?);
-    assert_eq!(rt; fault_of(&wanted), Some(7));
-    Ok(())
-}
-
-// The others do the work of bodies that return at once, and a crew of more than 63 bodies is refused.
-#[test]
-fn crews_that_do_nothing(rt: HostRuntime) -> Result<(), Fail> {
-    let alloc = rt.alloc();
-    let wanted = alone(alloc, FIB, 10, MOST)?;
-    let got = together(
-        rt,
-        alloc,
-        FIB,
-        10,
-        MOST,
-        idle(alloc, 63)?,
-        Arc::new(alloc, Quiet)?,
-    )?;
-    assert!(rt; is_same(&got, &wanted));
-    let got = together(
-        rt,
-        alloc,
-        FIB,
-        10,
-        MOST,
-        idle(alloc, 64)?,
-        Arc::new(alloc, Quiet)?,
-    )?;
-    assert!(rt; is_same(&got, &Err(Fault::Arguments)));
-    Ok(())
-}
-
-// While worker 0 is held at its first offer, worker 1 steals that job and settles it.
-#[test]
-fn a_job_is_settled_while_its_owner_is_held(rt: HostRuntime) -> Result<(), Fail> {
-    let alloc = rt.alloc();
-    let wanted = alone(alloc, STEPS, 3, MOST)?;
-    let gate = Arc::new(alloc, Holder::new(true))?;
-    let told = Arc::try_clone(&gate)?;
-    let got = together(rt, alloc, STEPS, 3, MOST, serving(alloc, rt, 1)?, gate)?;
-    assert!(rt; is_same(&got, &wanted));
-    assert_eq!(rt; told.used_up(), 0);
-    assert!(rt; told.settled() >= 1);
-    Ok(())
-}
-
-// Worker 0 is held at each offer until as many jobs were settled by worker 1: all work of its rests is done there.
-#[test]
-fn each_rest_is_run_by_the_other(rt: HostRuntime) -> Result<(), Fail> {
-    let alloc = rt.alloc();
-    let wanted = alone(alloc, FIB, 12, MOST)?;
-    let gate = Arc::new(alloc, Holder::new(false))?;
-    let told = Arc::try_clone(&gate)?;
-    let got = together(rt, alloc, FIB, 12, MOST, serving(alloc, rt, 1)?, gate)?;
-    assert!(rt; is_same(&got, &wanted));
-    assert_eq!(rt; value_of(&got), Some(144));
-    assert_eq!(rt; told.used_up(), 0);
-    assert_eq!(rt; told.all_offered(), 232);
-    Ok(())
-}
-
-// The same where each rest has a share of what the call beside it reads: 11 spawns in each of two sums, and that of main.
-#[test]
-fn each_rest_that_reads_is_run_by_the_other(rt: HostRuntime) -> Result<(), Fail> {
-    let alloc = rt.alloc();
-    let wanted = alone(alloc, READ, 12, MOST)?;
-    let gate = Arc::new(alloc, Holder::new(false))?;
-    let told = Arc::try_clone(&gate)?;
-    let got = together(rt, alloc, READ, 12, MOST, serving(alloc, rt, 1)?, gate)?;
-    assert!(rt; is_same(&got, &wanted));
-    assert_eq!(rt; value_of(&got), Some(143));
-    assert_eq!(rt; told.used_up(), 0);
-    assert_eq!(rt; told.all_offered(), 23);
-    Ok(())
-}
+const SEEDS: [u64; 3] = [1, 36, 2026];
 
 // Whatever workers are held, and wherever, they answer what one worker does.
 #[test]
 fn workers_that_are_held_at_random(rt: HostRuntime) -> Result<(), Fail> {
-    let alloc = rt.alloc();
-    for run in &RUNS {
-        let wanted = alone(alloc, run.source, run.arg, run.n)?;
-        for seed in [1u64, 36, 2026] {
-            assert!(rt; all_answer_held(rt, alloc, run, seed, &wanted)?, "{}", seed);
-        }
-    }
+    all_runs_answer_held(rt, rt.alloc(), RUNS, &SEEDS)?;
     Ok(())
 }

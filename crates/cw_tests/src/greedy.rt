@@ -20,7 +20,6 @@ const SCHEDULES: &[Row] = &[
     ("greedy 002 --limit=120 f 4", FIB, 0, "2,120,67,76\n", ""),
     ("greedy 2 f", PRINTED, 0, "2,15,10,10\n", ""),
     ("greedy 1 f", PRINTED, 0, "1,15,10,15\n", ""),
-    ("greedy 1 f", MOST, 0, "1,15333348,429,15333348\n", ""),
 ];
 
 #[test]
@@ -55,12 +54,29 @@ const NO_SCHEDULES: &[Row] = &[
         "",
         "refused 3 line 1\n",
     ),
+];
+
+#[test]
+fn writes_no_schedule(rt: HostRuntime) -> Result<(), Fail> {
+    all_hold(rt, NO_SCHEDULES)
+}
+
+// As many strands as are kept, behind the head.
+const KEPT: &[Row] = &[("greedy 1 f", MOST, 0, "1,15333348,429,15333348\n", "")];
+
+#[test]
+fn schedules_a_million_strands(rt: HostRuntime) -> Result<(), Fail> {
+    all_hold_with(rt, "", HEADER, KEPT)
+}
+
+// More than are kept.
+const TOO_MANY: &[Row] = &[
     ("greedy 1 f", MORE, 4, "", "too many strands\n"),
     // a limit that the run passes is told first
     ("greedy 1 f --limit 15333347", MORE, 4, "", "over limit\n"),
 ];
 
 #[test]
-fn writes_no_schedule(rt: HostRuntime) -> Result<(), Fail> {
-    all_hold(rt, NO_SCHEDULES)
+fn schedules_no_more_strands(rt: HostRuntime) -> Result<(), Fail> {
+    all_hold(rt, TOO_MANY)
 }

@@ -58,7 +58,7 @@ fn said(alloc: Global, said: &Said) -> Told {
 }
 
 // What is told of a request over this source.
-fn told<R: AllocGlobal + Threads + Wait + Copy + Drop + Send + 'static>(
+fn told_of<R: AllocGlobal + Threads + Wait + Copy + Drop + Send + 'static>(
     rt: R,
     asked: &Request,
     source: &[u8],
@@ -101,7 +101,7 @@ pub fn answer<R: AllocGlobal + Threads + Wait + Copy + Drop + Send + 'static>(
     match request(alloc, words.as_slice()) {
         Ok(mut asked) => {
             asked.explain = explain;
-            told(rt, &asked, source)
+            told_of(rt, &asked, source)
         }
         Err(instead) => Ok(said(alloc, &instead)),
     }

@@ -10,9 +10,9 @@ use std::test::Fail;
 use std::thread::Threads;
 
 // Words that name the file f.cilk, and what they ask for: the mode, the arguments, the limit, and what is charged on which edges.
-type Asked = (&'static str, Mode, &'static [i64], u64, u64, Edges);
+type Reading = (&'static str, Mode, &'static [i64], u64, u64, Edges);
 
-const ASKED: &[Asked] = &[
+const REQUESTS: &[Reading] = &[
     (
         "check f.cilk",
         Mode::Check,
@@ -136,7 +136,7 @@ const ASKED: &[Asked] = &[
 ];
 
 // Whether the words ask for this.
-fn asks(alloc: Global, row: &Asked) -> Result<bool, Fail> {
+fn asks(alloc: Global, row: &Reading) -> Result<bool, Fail> {
     let asked = asked(alloc, row.0)?;
     let options = Options {
         mode: row.1,
@@ -153,7 +153,7 @@ fn asks(alloc: Global, row: &Asked) -> Result<bool, Fail> {
     )
 }
 
-fn all_ask<R: Abort>(rt: &R, alloc: Global, rows: &[Asked]) -> Result<(), Fail> {
+fn all_ask<R: Abort>(rt: &R, alloc: Global, rows: &[Reading]) -> Result<(), Fail> {
     for row in rows {
         let asks = asks(alloc, row)?;
         assert!(rt; asks, "{}", row.0);
@@ -163,7 +163,7 @@ fn all_ask<R: Abort>(rt: &R, alloc: Global, rows: &[Asked]) -> Result<(), Fail> 
 
 #[test]
 fn reads_requests(rt: HostRuntime) -> Result<(), Fail> {
-    all_ask(&rt, rt.alloc(), ASKED)
+    all_ask(&rt, rt.alloc(), REQUESTS)
 }
 
 // Whether the words are refused with this beginning.

@@ -22,6 +22,7 @@ const BURDEN: Burden = Burden {
 };
 
 // A program on its arguments, within so many instructions.
+#[derive(Drop)]
 struct Case<'a> {
     source: &'a [u8],
     args: &'a [i64],
