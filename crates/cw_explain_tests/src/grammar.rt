@@ -2,7 +2,7 @@
 
 use crate::told::all_told;
 
-const TOKENS: &[(&str, &str)] = &[
+static TOKENS: &[(&str, &str)] = &[
     (
         "int main() {\n  return @;\n}",
         "refused 1 line 2\nthe byte 64 ('@') starts no token\n  2 |   return @;\n",
@@ -34,7 +34,7 @@ const TOKENS: &[(&str, &str)] = &[
     ),
 ];
 
-const GRAMMAR: &[(&str, &str)] = &[
+static GRAMMAR: &[(&str, &str)] = &[
     // a call inside an expression
     (
         "int f() { return 1; }\nint main() {\n  int x = 1 + f();\n  return x;\n}",

@@ -65,7 +65,7 @@ fn text_of(alloc: Global, text: &Text) -> Result<String, AllocError> {
 }
 
 // Limits of text and of tokens, each with what is told.
-const OF_TEXT: &[(Text, &str)] = &[
+static OF_TEXT: &[(Text, &str)] = &[
     (
         Text::Repeated("", "\n", 1_048_577, ""),
         "refused 5 line 1\nthe source has 1048577 bytes: at most 1048576\n",
@@ -81,7 +81,7 @@ const OF_TEXT: &[(Text, &str)] = &[
 ];
 
 // Limits of the parts of a source, each with what is told.
-const OF_PARTS: &[(Text, &str)] = &[
+static OF_PARTS: &[(Text, &str)] = &[
     (
         Text::Numbered(
             "int main() { return 0; }\n",
@@ -144,7 +144,7 @@ const OF_PARTS: &[(Text, &str)] = &[
 ];
 
 // The limit of loops, with what is told.
-const OF_LOOPS: &[(Text, &str)] = &[(
+static OF_LOOPS: &[(Text, &str)] = &[(
     Text::Loops,
     "refused 5 line 4130\nthere are more than 4096 cilk_for statements\n  4130 |   cilk_for (int i = 0; i < 1; i++) { }\n",
 )];
@@ -175,7 +175,7 @@ fn the_limit_of_loops(rt: HostRuntime) -> Result<(), Fail> {
 }
 
 // Each trap, and what is told of it in line 2.
-const TRAPS: &[(Trap, &str)] = &[
+static TRAPS: &[(Trap, &str)] = &[
     (
         Trap::Overflow,
         "the result of an operation is no integer of 64 bits: it is below -2^63 or above 2^63 - 1\n  2 |   int x = 1 / 0;\n",

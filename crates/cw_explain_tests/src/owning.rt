@@ -3,7 +3,7 @@
 use crate::told::all_told;
 
 // What a name is touched by while it is taken.
-const TAKEN: &[(&str, &str)] = &[
+static TAKEN: &[(&str, &str)] = &[
     // the sample
     (
         "int fib(int n) {\n  if (n < 2) {\n    return n;\n  }\n  int x = 0;\n  int y = 0;\n  y = fib(n - 2);\n\n\n  x = cilk_spawn fib(n - 1);\n\n  print(x);\n  cilk_sync;\n  return x + y;\n}\nint main() { return 0; }",
@@ -65,7 +65,7 @@ const TAKEN: &[(&str, &str)] = &[
     ),
 ];
 
-const TWICE: &[(&str, &str)] = &[
+static TWICE: &[(&str, &str)] = &[
     (
         "void f(int a[], int b[]) { }\nint main() {\n  int a[4];\n  f(a, a);\n  return 0;\n}",
         "refused 4 line 4\nf is given a twice: the arrays of a call differ; cut a and pass its parts\n  4 |   f(a, a);\n",
@@ -81,7 +81,7 @@ const TWICE: &[(&str, &str)] = &[
 ];
 
 // What the body of a loop may touch.
-const LOOPS: &[(&str, &str)] = &[
+static LOOPS: &[(&str, &str)] = &[
     (
         "int main() {\n  int x = 0;\n  cilk_for (int i = 0; i < 4; i++) {\n    x = x + i;\n  }\n  return x;\n}",
         "refused 4 line 4\nx is written in line 4, and the body of the cilk_for in line 3 may only read it: its turns run side by side; add to a reducer, or write to an element of an array in over(..)\n  3 |   cilk_for (int i = 0; i < 4; i++) {\n  4 |     x = x + i;\n",

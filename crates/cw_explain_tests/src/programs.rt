@@ -125,7 +125,7 @@ int main(int n) {
 }
 ";
 
-const PROGRAMS: &[(&str, &str)] = &[
+static PROGRAMS: &[(&str, &str)] = &[
     (
         QUEENS,
         "refused 2 line 16\n( cannot stand here: is_safe(..) is a call, and a call is a statement of its own; give its result to an integer before, r = is_safe(..); and write r here\n  16 |     if (is_safe(rows, row, column)) {\n",

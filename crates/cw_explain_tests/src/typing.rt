@@ -2,7 +2,7 @@
 
 use crate::told::all_told;
 
-const HEADS: &[(&str, &str)] = &[
+static HEADS: &[(&str, &str)] = &[
     (
         "int f() { return 0; }",
         "refused 3 line 1\nthere is no function main: a run begins with int main(..)\n  1 | int f() { return 0; }\n",
@@ -41,7 +41,7 @@ const HEADS: &[(&str, &str)] = &[
     ),
 ];
 
-const NAMES: &[(&str, &str)] = &[
+static NAMES: &[(&str, &str)] = &[
     (
         "int main() {\n  return y;\n}",
         "refused 3 line 2\ny is not known here: a name is known from its declaration to the end of its block\n  2 |   return y;\n",
@@ -115,7 +115,7 @@ const NAMES: &[(&str, &str)] = &[
     ),
 ];
 
-const CALLS: &[(&str, &str)] = &[
+static CALLS: &[(&str, &str)] = &[
     (
         "int main() {\n  g();\n  return 0;\n}",
         "refused 3 line 2\nthere is no function g\n  2 |   g();\n",
@@ -142,7 +142,7 @@ const CALLS: &[(&str, &str)] = &[
     ),
 ];
 
-const STATEMENTS: &[(&str, &str)] = &[
+static STATEMENTS: &[(&str, &str)] = &[
     (
         "int main() {\n  cilk_scope {\n    return 1;\n  }\n  return 0;\n}",
         "refused 3 line 3\nno return stands inside of cilk_scope, cut, region or cilk_for: assign to a name from outside, and return behind the block\n  3 |     return 1;\n",

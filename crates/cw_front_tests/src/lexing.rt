@@ -38,7 +38,7 @@ pub fn test_texts(rt: &impl Abort, alloc: Global, rows: &[(&str, &[Told])]) {
 }
 
 // Words that are one token.
-const WORDS: &[(&str, Kind)] = &[
+static WORDS: &[(&str, Kind)] = &[
     // keywords are no names
     ("int", Kind::Int),
     ("void", Kind::Void),
@@ -93,7 +93,7 @@ fn words_are_keywords_or_names(rt: HostRuntime) {
 }
 
 // Symbols are as long as they can be.
-const SYMBOLS: &[(&str, &[Told])] = &[
+static SYMBOLS: &[(&str, &[Told])] = &[
     (
         "(){}[],;+=+++-*/%<=<>=>!!====",
         &[
@@ -131,7 +131,7 @@ const SYMBOLS: &[(&str, &[Told])] = &[
 ];
 
 // Numbers end before what is no part of them.
-const NUMBERS: &[(&str, &[Told])] = &[
+static NUMBERS: &[(&str, &[Told])] = &[
     (
         "007",
         &[
@@ -149,7 +149,7 @@ const NUMBERS: &[(&str, &[Told])] = &[
 ];
 
 // Comments leave no token.
-const COMMENTS: &[(&str, &[Told])] = &[
+static COMMENTS: &[(&str, &[Told])] = &[
     ("a1//x", &[(Kind::Name, 0, 2, 1)]),
     ("", &[]),
     (" \t\r\n", &[]),
@@ -159,7 +159,7 @@ const COMMENTS: &[(&str, &[Told])] = &[
 ];
 
 // Tokens have places and lines.
-const PLACES: &[(&str, &[Told])] = &[
+static PLACES: &[(&str, &[Told])] = &[
     ("\r\n\tx", &[(Kind::Name, 3, 4, 2)]),
     ("x // end", &[(Kind::Name, 0, 1, 1)]),
     ("// y\nx", &[(Kind::Name, 5, 6, 2)]),
@@ -178,7 +178,7 @@ fn tokens_have_kinds_places_and_lines(rt: HostRuntime) {
 }
 
 // Texts with a byte or a number that is no token; the first fault decides.
-const FAULTS: &[(u32, &str)] = &[
+static FAULTS: &[(u32, &str)] = &[
     (1, "$"),
     (3, "int x;\n\n  #"),
     (2, "a\n& b"),
@@ -193,7 +193,7 @@ const FAULTS: &[(u32, &str)] = &[
 ];
 
 // A name that is too long is the first fault.
-const LONG_NAME: &[(u32, &str)] = &[(
+static LONG_NAME: &[(u32, &str)] = &[(
     2,
     "\nname_of_exactly_65_bytes_abcdefghijklmnopqrstuvwxyz_ABCDEFGHIJKLM @",
 )];

@@ -49,7 +49,7 @@ fn fault_of(alloc: Global, brief: Brief) -> Result<Fault, AllocError> {
 }
 
 // Each fault, with its number, its status and its text.
-const FAULTS: &[(Brief, u8, u8, &str)] = &[
+static FAULTS: &[(Brief, u8, u8, &str)] = &[
     (Brief::Lexical(1), 1, 2, "refused 1 line 1"),
     (Brief::Syntax(20), 2, 2, "refused 2 line 20"),
     (Brief::Types(3), 3, 2, "refused 3 line 3"),
@@ -100,7 +100,7 @@ fn is_read(alloc: Global, bytes: &[u8]) -> bool {
 }
 
 // Sources of bytes that are no more than 127.
-const READ: &[&str] = &[
+static READ: &[&str] = &[
     "",
     "\n",
     "int main() { return 0; }\n",
@@ -116,7 +116,7 @@ fn sources_are_read(rt: HostRuntime) {
 }
 
 // Sources with a byte above ASCII, and its line.
-const REFUSED: &[(&[u8], u32)] = &[
+static REFUSED: &[(&[u8], u32)] = &[
     (b"\x80", 1),
     (b"int x;\n\xff", 2),
     (b"$\n\n// caf\xc3\xa9\n", 3),

@@ -293,11 +293,16 @@ fn weights(alloc: Global, burden: Burden) -> Result<[u128; 3], AllocError> {
     weigh(&mut path, burden)
 }
 
-// With a burden of 10 for each spawn.
+/// Which edges are charged with 10, and the weights then.
+static WEIGHTS: [(Edges, [u128; 3]); 2] = [
+    (Edges::Spawn, [14, 32, 133]),
+    (Edges::Both, [14, 32, 143]),
+];
+
 #[test]
 fn a_burdened_path(rt: HostRuntime) -> Result<(), AllocError> {
-    for (edges, last) in [(Edges::Spawn, 133), (Edges::Both, 143)] {
-        assert_eq!(rt; weights(rt.alloc(), burden_of(edges, 10))?, [14, 32, last]);
+    for (edges, wanted) in &WEIGHTS {
+        assert_eq!(rt; weights(rt.alloc(), burden_of(*edges, 10))?, *wanted);
     }
     Ok(())
 }

@@ -41,6 +41,7 @@ fn greatest_of(numbers: &[i64]) -> Max {
 
 /// Two pieces, and the greatest number of either and of both.
 struct Greatest {
+    name: &'static str,
     ours: &'static [i64],
     theirs: &'static [i64],
     of_ours: Option<i64>,
@@ -50,6 +51,7 @@ struct Greatest {
 
 static GREATEST: [Greatest; 5] = [
     Greatest {
+        name: "below 0",
         ours: &[-9, -3],
         theirs: &[-5, -7],
         of_ours: Some(-3),
@@ -57,6 +59,7 @@ static GREATEST: [Greatest; 5] = [
         of_both: Some(-3),
     },
     Greatest {
+        name: "on both sides of 0",
         ours: &[4, 4],
         theirs: &[-1, 9],
         of_ours: Some(4),
@@ -64,6 +67,7 @@ static GREATEST: [Greatest; 5] = [
         of_both: Some(9),
     },
     Greatest {
+        name: "all the same",
         ours: &[7, 7],
         theirs: &[7, 7],
         of_ours: Some(7),
@@ -72,6 +76,7 @@ static GREATEST: [Greatest; 5] = [
     },
     // none is less than the least number
     Greatest {
+        name: "the least number",
         ours: &[i64::MIN, i64::MIN],
         theirs: &[i64::MIN, i64::MIN],
         of_ours: Some(i64::MIN),
@@ -79,6 +84,7 @@ static GREATEST: [Greatest; 5] = [
         of_both: Some(i64::MIN),
     },
     Greatest {
+        name: "no number",
         ours: &[],
         theirs: &[],
         of_ours: None,
@@ -97,18 +103,23 @@ fn greatest_after_none(alloc: Global, numbers: &[i64]) -> Result<Option<i64>, Al
     Ok(Max::unit(alloc).join(greatest_of(numbers))?.value())
 }
 
+/// The greatest of the numbers of two pieces.
+fn greatest_of_both(ours: &[i64], theirs: &[i64]) -> Result<Option<i64>, AllocError> {
+    Ok(greatest_of(ours).join(greatest_of(theirs))?.value())
+}
+
 fn is_greatest(alloc: Global, row: &Greatest) -> Result<bool, AllocError> {
-    let both = greatest_of(row.ours).join(greatest_of(row.theirs))?;
+    let both = greatest_of_both(row.ours, row.theirs)?;
     let left = greatest_before_none(alloc, row.ours)?;
     let right = greatest_after_none(alloc, row.theirs)?;
-    Ok(both.value() == row.of_both && left == row.of_ours && right == row.of_theirs)
+    Ok(both == row.of_both && left == row.of_ours && right == row.of_theirs)
 }
 
 // The greatest number of two pieces, of which either may have none.
 #[test]
 fn the_greatest_of_two_pieces(rt: HostRuntime) -> Result<(), AllocError> {
-    for (k, row) in GREATEST.iter().enumerate() {
-        assert!(rt; is_greatest(rt.alloc(), row)?, "row {k}");
+    for row in &GREATEST {
+        assert!(rt; is_greatest(rt.alloc(), row)?, "{}", row.name);
     }
     Ok(())
 }

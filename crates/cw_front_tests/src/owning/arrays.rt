@@ -8,7 +8,7 @@ const JOINED: &str =
     "int main() {\nint x = 0; int y = 0; int a[2]; int b[2];\ncilk_spawn g(a); cilk_sync;\n";
 
 /// Statements in line 5 that touch the array `a`: they read an element or the length, or write an element.
-pub const ELEMENTS: &[(u32, &str)] = &[
+pub static ELEMENTS: &[(u32, &str)] = &[
     (5, "int z = a[0];"),
     (5, "int z = -a[0] + 1;"),
     (5, "int c[len(a)];"),
@@ -29,7 +29,7 @@ pub const ELEMENTS: &[(u32, &str)] = &[
 ];
 
 /// The same, where the array is passed, cut or named in a loop's list.
-pub const PASSED: &[(u32, &str)] = &[
+pub static PASSED: &[(u32, &str)] = &[
     (5, "g(a);"),
     (5, "y = s(a);"),
     (5, "h(a, b);"),
@@ -43,7 +43,7 @@ pub const PASSED: &[(u32, &str)] = &[
 ];
 
 /// The same, in a head.
-pub const HEADS: &[(u32, &str)] = &[
+pub static HEADS: &[(u32, &str)] = &[
     (5, "if (a[0]) { }"),
     (5, "if (len(a)) { } else { }"),
     (5, "while (a[0]) { }"),
@@ -53,7 +53,7 @@ pub const HEADS: &[(u32, &str)] = &[
 ];
 
 /// The same, in a block.
-pub const BLOCKS: &[(u32, &str)] = &[
+pub static BLOCKS: &[(u32, &str)] = &[
     (6, "if (1) {\nprint(a[0]); }"),
     (6, "if (1) { } else {\na[0] = 1; }"),
     (6, "while (1) {\nprint(len(a)); }"),
@@ -63,7 +63,7 @@ pub const BLOCKS: &[(u32, &str)] = &[
     (6, "while (1) { cilk_scope { if (1) {\nprint(a[0]); } } }"),
 ];
 
-const RETURNS: &[(u32, &str)] = &[
+static RETURNS: &[(u32, &str)] = &[
     (5, "return a[0]; }"),
     (5, "return len(a); }"),
     (6, "if (1) {\nreturn a[0]; }\nreturn 0; }"),
@@ -100,7 +100,7 @@ fn a_taken_array_is_not_returned(rt: HostRuntime) {
 }
 
 // Spawns in line 4 and a statement in line 5 that touches an array of theirs.
-const AFTER_SPAWNS: &[(u32, &str)] = &[
+static AFTER_SPAWNS: &[(u32, &str)] = &[
     (5, "x = cilk_spawn s(a);\nprint(a[0]);"),
     (5, "cilk_spawn s(a);\nprint(a[0]);"),
     (5, "cilk_spawn h(a, b);\nprint(len(a));"),
@@ -111,7 +111,7 @@ const AFTER_SPAWNS: &[(u32, &str)] = &[
 ];
 
 // A spawn takes no array of which it reads an element or the length, and a call gives its arrays back.
-const FREE: &[&str] = &[
+static FREE: &[&str] = &[
     "cilk_spawn f(a[0]); a[0] = 1; g(a);",
     "cilk_spawn f(len(a)); cilk_spawn g(a);",
     "cilk_spawn n(a, b[0]); b[0] = 1;",
@@ -132,7 +132,7 @@ fn a_spawn_takes_its_arrays(rt: HostRuntime) {
 }
 
 // Calls and lists that name an array twice, in line 4 or in a block that begins there.
-const TWICE: &[(u32, &str)] = &[
+static TWICE: &[(u32, &str)] = &[
     (4, "h(a, a);"),
     (4, "cilk_spawn h(a, a);"),
     (4, "three(a, 1, a);"),
@@ -151,7 +151,7 @@ const TWICE: &[(u32, &str)] = &[
     ),
 ];
 
-const ONCE: &[&str] = &[
+static ONCE: &[&str] = &[
     "h(a, b);",
     "cilk_spawn h(b, a);",
     "three(a, a[0] + a[1], b);",

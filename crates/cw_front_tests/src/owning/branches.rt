@@ -6,7 +6,7 @@ const SPAWNED: &str =
     "int main() {\nint x = 0; int y = 0; int a[2]; int b[2];\nx = cilk_spawn f(1);\n";
 
 // What a branch takes is taken after it.
-const TAKEN: &[(u32, &str)] = &[
+static TAKEN: &[(u32, &str)] = &[
     (5, "if (1) { x = cilk_spawn f(1); }\nprint(x);"),
     (5, "if (1) { x = cilk_spawn f(1); } else { }\nprint(x);"),
     (5, "if (1) { } else { x = cilk_spawn f(1); }\nprint(x);"),
@@ -55,7 +55,7 @@ const TAKEN: &[(u32, &str)] = &[
     ),
 ];
 
-const NOT_TAKEN: &[&str] = &[
+static NOT_TAKEN: &[&str] = &[
     "if (1) { x = cilk_spawn f(1); cilk_sync; }\nprint(x);",
     "if (1) { } else { x = cilk_spawn f(1); cilk_sync; }\nprint(x);",
     "if (1) { x = cilk_spawn f(1); return 0; }\nprint(x);",
@@ -78,7 +78,7 @@ fn after_an_if_a_name_is_taken_where_a_branch_takes_it(rt: HostRuntime) {
 }
 
 // A join frees after an `if` only where each branch that goes on joins.
-const ONE_JOINS: &[(u32, &str)] = &[
+static ONE_JOINS: &[(u32, &str)] = &[
     (6, "if (1) { cilk_sync; }\nprint(x);"),
     (6, "if (1) { cilk_sync; } else { }\nprint(x);"),
     (6, "if (1) { } else { cilk_sync; }\nprint(x);"),
@@ -99,7 +99,7 @@ const ONE_JOINS: &[(u32, &str)] = &[
     ),
 ];
 
-const ALL_JOIN: &[&str] = &[
+static ALL_JOIN: &[&str] = &[
     "if (1) { cilk_sync; } else { cilk_sync; }\nprint(x);",
     "if (1) { return 0; } else { cilk_sync; }\nprint(x);",
     "if (1) { cilk_sync; } else { return 0; }\nprint(x);",
@@ -114,7 +114,7 @@ fn after_an_if_a_name_is_free_where_all_branches_free_it(rt: HostRuntime) {
 }
 
 // Declarations in blocks that end while the name is taken; they begin in line 4.
-const LEFT: &[(u32, &str)] = &[
+static LEFT: &[(u32, &str)] = &[
     (5, "if (1) {\nint z = 0;\nz = cilk_spawn f(1); }"),
     (5, "if (1) {\nint z = 0;\nz = cilk_spawn f(1); } else { }"),
     (5, "if (1) { } else {\nint z = 0;\nz = cilk_spawn f(1); }"),
@@ -159,7 +159,7 @@ const LEFT: &[(u32, &str)] = &[
     ),
 ];
 
-const NOT_LEFT: &[&str] = &[
+static NOT_LEFT: &[&str] = &[
     "if (1) { int z = 0; z = cilk_spawn f(1); cilk_sync; }",
     "if (1) { } else { int c[2]; cilk_spawn g(c); cilk_sync; }",
     "while (1) { int z = 0; z = cilk_spawn f(1); cilk_sync; }",

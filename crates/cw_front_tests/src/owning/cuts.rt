@@ -42,7 +42,7 @@ fn an_array_that_is_cut_stands_in_no_block(rt: HostRuntime) {
 }
 
 // Joins and ends of other blocks that do not end the cut, and cuts inside it; the statement stands in line 5 or below.
-const HELD: &[(u32, &str)] = &[
+static HELD: &[(u32, &str)] = &[
     (6, "cilk_scope { cilk_sync; }\nprint(len(a));"),
     (6, "while (1) { cilk_sync; }\nprint(len(a));"),
     (
@@ -64,7 +64,7 @@ const HELD: &[(u32, &str)] = &[
     (5, "cut p at len(a) as l, r { }"),
 ];
 
-const PARTS: &[&str] = &[
+static PARTS: &[&str] = &[
     "print(p[0]); q[0] = len(p);",
     "h(p, q); g(p);",
     "cilk_spawn g(p); g(q);",

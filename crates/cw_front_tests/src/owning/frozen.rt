@@ -9,7 +9,7 @@ const JOINED: &str =
     "int main() {\nint x = 0; int y = 0; int a[2]; int b[2];\ncilk_spawn look(a); cilk_sync;\n";
 
 // Statements in line 5 that change what is frozen.
-const CHANGED: &[(u32, &str)] = &[
+static CHANGED: &[(u32, &str)] = &[
     (5, "a[0] = 1;"),
     (5, "a[a[0]] = a[1];"),
     (5, "g(a);"),
@@ -31,7 +31,7 @@ const CHANGED: &[(u32, &str)] = &[
 ];
 
 // Statements that read it.
-const READ: &[&str] = &[
+static READ: &[&str] = &[
     "print(a[0]);",
     "y = a[a[1]] + len(a);",
     "b[a[0]] = a[1];",
@@ -57,7 +57,7 @@ fn a_frozen_array_is_only_read(rt: HostRuntime) {
 
 // From line 4 on: what is taken is not read, whatever else only reads it; and what one branch takes and another freezes is
 // taken.
-const TAKEN_TOO: &[(u32, &str)] = &[
+static TAKEN_TOO: &[(u32, &str)] = &[
     (5, "cilk_spawn g(a);\nlook(a);"),
     (5, "cilk_spawn g(a);\ncilk_spawn look(a);"),
     (5, "cilk_spawn look(a);\ncilk_spawn g(a);"),
@@ -101,7 +101,7 @@ const TAKEN_TOO: &[(u32, &str)] = &[
     (5, "cilk_for (int i = 0; i < 2; i++) {\npair(a, b); }"),
 ];
 
-const FREE: &[&str] = &[
+static FREE: &[&str] = &[
     "look(a); a[0] = 1; pair(a, b); cut a at 1 as l, r { }",
     "cilk_spawn look(a); cilk_sync; a[0] = 1;",
     "cilk_scope { cilk_spawn look(a); } a[0] = 1;",
@@ -121,7 +121,7 @@ fn a_spawn_freezes_what_it_only_reads(rt: HostRuntime) {
 }
 
 // One array for two parameters, in line 4.
-const TWICE: &[(u32, &str)] = &[
+static TWICE: &[(u32, &str)] = &[
     (4, "fill(a, a);"),
     (4, "spill(a, a);"),
     (4, "h(a, a);"),
@@ -129,7 +129,7 @@ const TWICE: &[(u32, &str)] = &[
     (4, "cilk_spawn spill(b, b);"),
 ];
 
-const TOGETHER: &[&str] = &[
+static TOGETHER: &[&str] = &[
     "pair(a, a);",
     "cilk_spawn pair(a, a);",
     "fill(a, b); spill(a, b);",
@@ -143,7 +143,7 @@ fn one_array_stands_for_two_that_are_only_read(rt: HostRuntime) {
 }
 
 // A parameter that is const is read beside a spawn that reads it.
-const PASSED_ON: &[&str] = &[
+static PASSED_ON: &[&str] = &[
     "void k(const int a[]) { cilk_spawn look(a); print(a[0]); pair(a, a); } int main() { return 0; }",
     "int k(const int a[]) { int x = 0; x = cilk_spawn look(a); cilk_sync; return x + a[0]; } int main() { return 0; }",
 ];

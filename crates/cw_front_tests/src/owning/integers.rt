@@ -9,7 +9,7 @@ const JOINED: &str =
     "int main() {\nint x = 0; int y = 0; int a[2]; int b[2];\nx = cilk_spawn f(1); cilk_sync;\n";
 
 // Statements that read `x`.
-const READS: &[(u32, &str)] = &[
+static READS: &[(u32, &str)] = &[
     (5, "int z = x;"),
     (5, "int z = 1 + x;"),
     (5, "int z = x - 1;"),
@@ -32,7 +32,7 @@ const READS: &[(u32, &str)] = &[
 ];
 
 // Heads that read `x`.
-const HEADS: &[(u32, &str)] = &[
+static HEADS: &[(u32, &str)] = &[
     (5, "if (x) { }"),
     (5, "if (x) { } else { }"),
     (5, "while (x) { }"),
@@ -42,7 +42,7 @@ const HEADS: &[(u32, &str)] = &[
 ];
 
 // Blocks in which `x` is read.
-const BLOCKS: &[(u32, &str)] = &[
+static BLOCKS: &[(u32, &str)] = &[
     (6, "if (1) {\nprint(x); }"),
     (6, "if (1) {\nprint(x); } else { }"),
     (6, "if (1) { } else {\nprint(x); }"),
@@ -59,7 +59,7 @@ const BLOCKS: &[(u32, &str)] = &[
 ];
 
 // Statements that write `x`.
-const WRITES: &[(u32, &str)] = &[
+static WRITES: &[(u32, &str)] = &[
     (5, "x = 1;"),
     (5, "x = f(1);"),
     (5, "x = cilk_spawn f(1);"),
@@ -73,7 +73,7 @@ const WRITES: &[(u32, &str)] = &[
 ];
 
 // Returns that read `x`.
-const RETURNS: &[(u32, &str)] = &[
+static RETURNS: &[(u32, &str)] = &[
     (5, "return x; }"),
     (5, "if (x) { return 0; } else { return 1; } }"),
     (6, "if (1) {\nreturn x; }\nreturn 0; }"),
@@ -111,7 +111,7 @@ fn a_taken_integer_is_not_returned(rt: HostRuntime) {
 }
 
 // Spawns in line 4 and a statement in line 5 that touches what they took.
-const AFTER_SPAWNS: &[(u32, &str)] = &[
+static AFTER_SPAWNS: &[(u32, &str)] = &[
     (5, "x = cilk_spawn f(x);\nprint(x);"),
     (5, "x = cilk_spawn s(a);\nprint(x);"),
     (5, "x = cilk_spawn f(1); y = cilk_spawn f(2);\nprint(x);"),
@@ -120,7 +120,7 @@ const AFTER_SPAWNS: &[(u32, &str)] = &[
 ];
 
 // What a spawn reads before it takes its result, and what it does not take.
-const FREE: &[&str] = &[
+static FREE: &[&str] = &[
     "x = cilk_spawn f(x);",
     "x = cilk_spawn two(x, x + y);",
     "x = cilk_spawn n(a, x);",

@@ -6,7 +6,7 @@ const SPAWNED: &str =
     "int main() {\nint x = 0; int y = 0; int a[2]; int b[2];\nx = cilk_spawn f(1);\n";
 
 // A join of `main` in any of its blocks that are no sync blocks, and the ends of sync blocks.
-const FREED: &[&str] = &[
+static FREED: &[&str] = &[
     "cilk_sync; print(x);",
     "y = cilk_spawn f(1); cilk_sync; print(x + y);",
     "if (1) { cilk_sync; print(x); }",
@@ -23,7 +23,7 @@ const FREED: &[&str] = &[
 ];
 
 // A join in a sync block frees nothing that was taken outside it, nor does its end.
-const HELD: &[(u32, &str)] = &[
+static HELD: &[(u32, &str)] = &[
     (6, "cilk_scope { cilk_sync;\nprint(x); }"),
     (6, "cilk_scope { cilk_sync; }\nprint(x);"),
     (6, "region w { cilk_sync;\nprint(x); }"),
@@ -53,7 +53,7 @@ const HELD: &[(u32, &str)] = &[
 ];
 
 // A spawn belongs to the innermost sync block, and takes until that joins.
-const NOT_YET: &[(u32, &str)] = &[
+static NOT_YET: &[(u32, &str)] = &[
     (6, "cilk_scope { y = cilk_spawn f(1);\nprint(y); }"),
     (6, "region w { y = cilk_spawn f(1);\nprint(y); }"),
     (6, "cut a at 1 as l, r { cilk_spawn g(l);\nprint(len(l)); }"),

@@ -3,7 +3,7 @@
 use crate::owning::{END, MAIN, all_break};
 
 // In `main`, whose statements begin in line 4.
-const FAULTS: &[(u32, &str)] = &[
+static FAULTS: &[(u32, &str)] = &[
     (5, "x = cilk_spawn f(1);\nprint(x);\nprint(x);"),
     (5, "x = cilk_spawn f(1);\ny = x;\nx = 1;\ng(a);"),
     (6, "x = cilk_spawn f(1);\nprint(y);\nprint(x);\nh(a, a);"),
@@ -38,7 +38,7 @@ const FAULTS: &[(u32, &str)] = &[
 ];
 
 // In several functions.
-const FUNCTIONS: &[(u32, &str)] = &[
+static FUNCTIONS: &[(u32, &str)] = &[
     (
         3,
         "void k(int a[]) {\nh(a, a); }\nint main() {\nint x = 0;\nx = cilk_spawn f(1);\nreturn x; }",

@@ -20,7 +20,7 @@ const LOOP_END: &str = " }\nreturn 0; }";
 const LOOPS_END: &str = " } }\nreturn 0; }";
 
 // Statements that write `t`.
-const WRITES: &[(u32, &str)] = &[
+static WRITES: &[(u32, &str)] = &[
     (5, "t = 1;"),
     (5, "t = t + i;"),
     (5, "t = f(1);"),
@@ -34,7 +34,7 @@ const WRITES: &[(u32, &str)] = &[
 ];
 
 // Statements that name `b`, or `a` otherwise than by the variable.
-const ELEMENTS: &[(u32, &str)] = &[
+static ELEMENTS: &[(u32, &str)] = &[
     (5, "print(b[i]);"),
     (5, "print(b[0]);"),
     (5, "b[i] = 1;"),
@@ -62,7 +62,7 @@ const ELEMENTS: &[(u32, &str)] = &[
 ];
 
 // Statements that name `a` or `b` as a whole.
-const WHOLES: &[(u32, &str)] = &[
+static WHOLES: &[(u32, &str)] = &[
     (5, "print(len(b));"),
     (5, "g(b);"),
     (5, "cilk_spawn g(b);"),
@@ -107,7 +107,7 @@ fn an_outer_array_is_not_named_as_a_whole(rt: HostRuntime) {
 }
 
 // What a body may do with `t`, `i` and `a`.
-const READS: &[&str] = &[
+static READS: &[&str] = &[
     "int u = t + i; u = t;",
     "int c[t]; c[i] = t;",
     "print(t); print(-i * t); total += t; top max= t;",
@@ -128,7 +128,7 @@ const READS: &[&str] = &[
 ];
 
 // Statements that write the variable, or name in a further loop what is outside that.
-const VARIABLES: &[(u32, &str)] = &[
+static VARIABLES: &[(u32, &str)] = &[
     (5, "i = 1;"),
     (5, "i = i + 1;"),
     (5, "i = f(1);"),

@@ -3,7 +3,7 @@
 use crate::owning::{END, MAIN, all_break, keep};
 
 // The test, the body and what follows see what a turn leaves; the loop begins in line 4.
-const SEEN: &[(u32, &str)] = &[
+static SEEN: &[(u32, &str)] = &[
     (4, "while (x < 1) { x = cilk_spawn f(1); }"),
     (4, "while (x < 1) { cilk_sync; x = cilk_spawn f(1); }"),
     (4, "while (len(a)) { cilk_sync; cilk_spawn g(a); }"),
@@ -33,7 +33,7 @@ const SEEN: &[(u32, &str)] = &[
     ),
 ];
 
-const NOT_SEEN: &[&str] = &[
+static NOT_SEEN: &[&str] = &[
     "while (x < 1) { x = cilk_spawn f(1); cilk_sync; }\nprint(x);",
     "while (y < 1) { cilk_sync; x = cilk_spawn f(1); }",
     "while (y < 1) { cilk_sync; print(x); x = cilk_spawn f(1); }\ncilk_sync; print(x);",
@@ -53,7 +53,7 @@ fn a_while_sees_what_its_turns_take(rt: HostRuntime) {
 }
 
 // Loops inside one another.
-const SEEN_INSIDE: &[(u32, &str)] = &[
+static SEEN_INSIDE: &[(u32, &str)] = &[
     (
         4,
         "while (x) { while (1) { cilk_sync; x = cilk_spawn f(1); } }",
@@ -88,7 +88,7 @@ const SEEN_INSIDE: &[(u32, &str)] = &[
     ),
 ];
 
-const NOT_SEEN_INSIDE: &[&str] = &[
+static NOT_SEEN_INSIDE: &[&str] = &[
     "while (x) { while (1) { cilk_sync; x = cilk_spawn f(1); } cilk_sync; }",
     "while (1) { while (1) { print(y); } y = cilk_spawn f(1); cilk_sync; }",
     "while (1) { cilk_sync; while (y) { y = 0; } y = cilk_spawn f(1); }",

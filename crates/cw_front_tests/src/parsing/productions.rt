@@ -16,7 +16,7 @@ struct Row {
 }
 
 // Items, from line 1 on; the end is one line behind the last token.
-const ITEMS: [Row; 5] = [
+static ITEMS: [Row; 5] = [
     Row {
         tokens: &["reducer", "sum", "s", ";"],
         missing: &[2, 3, 4, 5],
@@ -49,7 +49,7 @@ const ITEMS: [Row; 5] = [
 ];
 
 // Statements, from line 2 on, in a function whose brace stands behind them in a line of its own.
-const STATEMENTS: [Row; 21] = [
+static STATEMENTS: [Row; 21] = [
     Row {
         tokens: &["int", "x", "=", "1", ";"],
         missing: &[0, 4, 5, 6, 7],
@@ -165,7 +165,7 @@ const STATEMENTS: [Row; 21] = [
 ];
 
 // Expressions, from line 2 on, in the parentheses of a "print"; these close in the line behind.
-const EXPRESSIONS: [Row; 18] = [
+static EXPRESSIONS: [Row; 18] = [
     Row {
         tokens: &["x", "==", "y"],
         missing: &[3, 4, 5],

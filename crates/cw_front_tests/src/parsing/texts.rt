@@ -16,7 +16,7 @@ struct Worked {
 }
 
 // Programs whose meaning, costs or refusals the definitions give.
-const PROGRAMS: &[Worked] = &[
+static PROGRAMS: &[Worked] = &[
     Worked {
         name: "first",
         text: "int f(int v) { return v; } int main() { int x = 0; x = cilk_spawn f(1); cilk_sync; \
@@ -320,7 +320,7 @@ const PROGRAMS: &[Worked] = &[
 ];
 
 // Programs of most forms of the language.
-const FORMS: &[Worked] = &[
+static FORMS: &[Worked] = &[
     Worked {
         name: "most",
         text: "// fills, cuts and sums\n\
@@ -433,7 +433,7 @@ fn programs_of_most_forms_have_their_trees(rt: HostRuntime) -> Result<(), Fail> 
 }
 
 // Texts of pieces, and the pieces of their trees.
-const GROWN: &[(Pieces, Pieces)] = &[
+static GROWN: &[(Pieces, Pieces)] = &[
     // signs lie in one another
     (
         &[(1, b"int main() { return "), (254, b"-"), (1, b"1; }")],
@@ -485,7 +485,7 @@ fn long_texts_have_their_trees(rt: HostRuntime) -> Result<(), Fail> {
 }
 
 // Texts, and the line of each that cannot go on.
-const REFUSED: &[(u32, &str)] = &[
+static REFUSED: &[(u32, &str)] = &[
     // each ends too early
     (1, ""),
     (2, "// nothing\n "),

@@ -5,7 +5,7 @@ use crate::stages::{Rule, Stage, all_break};
 use cw_model::token::Kind;
 
 // Texts, and their tokens.
-const TEXTS: &[(&str, &[Told])] = &[
+static TEXTS: &[(&str, &[Told])] = &[
     (
         "int main() { return 007; }",
         &[
@@ -115,7 +115,7 @@ fn texts_have_their_tokens(rt: HostRuntime) {
 }
 
 // Texts with no token, each with its line.
-const NO_TOKEN: &[(u32, &str)] = &[
+static NO_TOKEN: &[(u32, &str)] = &[
     (1, "int main() { return 9223372036854775808; }"),
     (3, "int main() {\n  return 0;\n  $\n}"),
     (1, ":"),
@@ -129,7 +129,7 @@ const NO_TOKEN: &[(u32, &str)] = &[
 ];
 
 // Names have at most 64 bytes.
-const LONG_NAMES: &[(u32, &str)] = &[
+static LONG_NAMES: &[(u32, &str)] = &[
     // the name has 65
     (
         1,

@@ -6,7 +6,7 @@ use std::alloc::{AllocError, Global};
 use std::test::Fail;
 
 // Sources, and their trees as text.
-const SOURCES: &[(&str, &str)] = &[
+static SOURCES: &[(&str, &str)] = &[
     ("int main() { return 0; }", "1 int main{1 return 0;}\n"),
     // items in their order, reducers beside functions
     (
@@ -62,7 +62,7 @@ fn sources_have_their_trees(rt: HostRuntime) -> Result<(), Fail> {
 }
 
 // Operators bind by their levels and to the left: expressions, and their trees.
-const OPERATORS: &[(&str, &str)] = &[
+static OPERATORS: &[(&str, &str)] = &[
     ("1 - 2 - 3", "((1-2)-3)"),
     ("1 - (2 - 3)", "(1-(2-3))"),
     ("8 / 4 * 2 % 3", "(((8/4)*2)%3)"),
@@ -98,7 +98,7 @@ fn operators_bind_by_their_levels_and_to_the_left(rt: HostRuntime) -> Result<(),
 }
 
 // Sources that end too early.
-const ENDS: &[(u32, &str)] = &[
+static ENDS: &[(u32, &str)] = &[
     (1, ""),
     (3, "\n\n"),
     (2, "// int main() { return 0; }\n"),
@@ -111,7 +111,7 @@ const ENDS: &[(u32, &str)] = &[
 ];
 
 // Sources with a token that cannot go on.
-const TOKENS: &[(u32, &str)] = &[
+static TOKENS: &[(u32, &str)] = &[
     // nothing stands between functions or behind them
     (2, "int f() { return 0; }\n;\nint main() { return 0; }"),
     (2, "int main() { return 0; }\n}\n"),
@@ -229,7 +229,7 @@ fn a_thousand_functions_are_read(rt: HostRuntime) -> Result<(), Fail> {
 }
 
 // At most 64 brackets are open, the brace of the body among them, and at most 64 blocks lie in one another.
-const BRACKETS: &[Grown] = &[
+static BRACKETS: &[Grown] = &[
     Grown {
         name: "63 parentheses in a brace",
         rule: Rule::Taken,
@@ -310,7 +310,7 @@ const BRACKETS: &[Grown] = &[
 ];
 
 // A limit comes at once, before the end of a long source.
-const AT_ONCE: &[Grown] = &[
+static AT_ONCE: &[Grown] = &[
     Grown {
         name: "20,000 parentheses",
         rule: Rule::Size,
@@ -344,7 +344,7 @@ const AT_ONCE: &[Grown] = &[
 ];
 
 // At most 256 tokens stand in a row.
-const ROWS: &[Grown] = &[
+static ROWS: &[Grown] = &[
     // "return", the signs and a number
     Grown {
         name: "254 signs",

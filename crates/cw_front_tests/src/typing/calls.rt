@@ -2,7 +2,7 @@
 
 use crate::typing::{all_break, all_keep, bodies_break, bodies_keep};
 
-const FITTING: &[&str] = &[
+static FITTING: &[&str] = &[
     "x = f(y);\nf(x);\nv(a);\nx = w(a[x], b);\nw(1, a);",
     "x = cilk_spawn f(1);\ncilk_spawn f(2);\ncilk_spawn v(b);\ny = cilk_spawn w(1, a);\ncilk_sync;",
     "while (x) {\nif (y) {\nx = f(x); } else {\nv(b); } }",
@@ -10,7 +10,7 @@ const FITTING: &[&str] = &[
     "cut a at 1 as l, r {\ncilk_spawn v(l);\nv(r); }\ncilk_for (int i = 0; i < 2; i++) {\nf(i); }",
 ];
 
-const NO_FUNCTION: &[(u32, &str)] = &[
+static NO_FUNCTION: &[(u32, &str)] = &[
     (2, "g();"),
     (2, "x = g(1);"),
     (2, "cilk_spawn g(1);"),
@@ -22,7 +22,7 @@ const NO_FUNCTION: &[(u32, &str)] = &[
     (2, "x = cilk_spawn main(1, 2);"),
 ];
 
-const NOT_FITTING: &[(u32, &str)] = &[
+static NOT_FITTING: &[(u32, &str)] = &[
     (2, "f();"),
     (2, "x = f();"),
     (2, "f(1, 2);"),
@@ -44,7 +44,7 @@ const NOT_FITTING: &[(u32, &str)] = &[
     (2, "x = cilk_spawn v(a);"),
 ];
 
-const NOT_FITTING_INSIDE: &[(u32, &str)] = &[
+static NOT_FITTING_INSIDE: &[(u32, &str)] = &[
     (3, "if (x) {\nf(); }"),
     (4, "if (x) {\n} else {\nx = v(b); }"),
     (4, "while (x) {\nx = 0;\ncilk_spawn f(); }"),
@@ -66,7 +66,7 @@ fn calls_fit_their_functions(rt: HostRuntime) {
     bodies_break(&rt, rt.alloc(), NOT_FITTING_INSIDE);
 }
 
-const IN_THE_WHOLE_SOURCE: &[&str] = &[
+static IN_THE_WHOLE_SOURCE: &[&str] = &[
     // a function before, itself, one after, and each the other
     "int f(int n) { return n; }\nint main() {\nint x = 0;\nx = f(1);\nreturn x; }",
     "int f(int n) {\nint x = 0;\nx = cilk_spawn f(n);\ncilk_sync;\nreturn x; }\nint main() { return 0; }",
@@ -77,7 +77,7 @@ const IN_THE_WHOLE_SOURCE: &[&str] = &[
     "int main() {\nm max= 1;\nreturn 0; }\nreducer max m;",
 ];
 
-const OF_THE_WHOLE_SOURCE: &[(u32, &str)] = &[
+static OF_THE_WHOLE_SOURCE: &[(u32, &str)] = &[
     (2, "int main() {\nmain();\nreturn 0; }"),
     (2, "void f() {\nmain(); }\nint main() { return 0; }"),
     // of a function after it

@@ -7,7 +7,7 @@ use crate::typing::{END, all_break, all_keep, broken, keep};
 const IN_READER: &str =
     "int f(const int q[]) { return len(q); } void g(int q[]) { } void h(int p[], const int q[]) { } int main() { return 0; } int n(const int a[], int b[], int x) {\n";
 
-const KEPT: &[&str] = &[
+static KEPT: &[&str] = &[
     "print(a[x]);",
     "x = a[0] + a[a[1]];",
     "print(len(a));",
@@ -22,7 +22,7 @@ const KEPT: &[&str] = &[
     "cilk_for (int i = 0; i < len(a); i++) over (b) { b[i] = i; }",
 ];
 
-const BROKEN: &[(u32, &str)] = &[
+static BROKEN: &[(u32, &str)] = &[
     (2, "a[0] = 1;"),
     (2, "a[0] = a[1];"),
     (2, "g(a);"),
@@ -60,12 +60,12 @@ fn a_const_parameter_is_only_read(rt: HostRuntime) {
     broken(&rt, rt.alloc(), IN_READER, BROKEN, END);
 }
 
-const WHOLE_KEPT: &[&str] = &[
+static WHOLE_KEPT: &[&str] = &[
     "int get(const int a[], int i) { return a[i]; }\nint main() {\nint a[2];\nint x = 0;\nx = get(a, 1);\nreturn x; }",
     "void f(const int a[], const int b[]) { }\nint main() {\nint a[2];\nf(a, a);\nreturn 0; }",
 ];
 
-const WHOLE_BROKEN: &[(u32, &str)] = &[
+static WHOLE_BROKEN: &[(u32, &str)] = &[
     (1, "int main(const int a[]) { return 0; }"),
     (
         1,

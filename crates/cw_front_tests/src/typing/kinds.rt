@@ -2,7 +2,7 @@
 
 use crate::typing::{bodies_break, bodies_keep};
 
-const EACH_IN_ITS_PLACE: &[&str] = &[
+static EACH_IN_ITS_PLACE: &[&str] = &[
     "x = x + y * -a[x] + !len(b);\nx = a[a[0]];\na[len(a) - 1] = b[y];",
     "int c[len(a)];\nc[0] = c[x] + 1;\nprint(c[0] < len(c));",
     "cut a at len(a) / 2 as l, r {\nx = l[0] + len(r);\nv(l); }",
@@ -13,7 +13,7 @@ const EACH_IN_ITS_PLACE: &[&str] = &[
     "x = w(b[0], b);",
 ];
 
-const ARRAYS_FOR_INTEGERS: &[(u32, &str)] = &[
+static ARRAYS_FOR_INTEGERS: &[(u32, &str)] = &[
     (2, "a = x;"),
     (2, "a = b;"),
     (2, "x = a;"),
@@ -42,7 +42,7 @@ const ARRAYS_FOR_INTEGERS: &[(u32, &str)] = &[
     (2, "cilk_for (int i = 0; i < a; i++) { }"),
 ];
 
-const INTEGERS_FOR_ARRAYS: &[(u32, &str)] = &[
+static INTEGERS_FOR_ARRAYS: &[(u32, &str)] = &[
     (2, "x[0] = 1;"),
     (2, "x = y[0];"),
     (2, "x = len(y);"),
@@ -61,7 +61,7 @@ const INTEGERS_FOR_ARRAYS: &[(u32, &str)] = &[
 ];
 
 // What blocks declare: the two parts of a cut are arrays, the variable of a loop an integer.
-const OF_THE_OTHER_KIND_INSIDE: &[(u32, &str)] = &[
+static OF_THE_OTHER_KIND_INSIDE: &[(u32, &str)] = &[
     (3, "cut a at 1 as l, r {\nx = l; }"),
     (3, "cut a at 1 as l, r {\nr = 1; }"),
     (3, "cilk_for (int i = 0; i < 1; i++) {\nx = i[0]; }"),
@@ -95,14 +95,14 @@ fn integers_and_arrays(rt: HostRuntime) {
     bodies_break(&rt, rt.alloc(), OF_THE_OTHER_KIND_INSIDE);
 }
 
-const SUMS: &[&str] = &[
+static SUMS: &[&str] = &[
     "s += x;\ns += a[0] * len(b);",
     "if (x) {\ns += 1; } else {\nwhile (x) {\ns += 2; } }",
     "cilk_scope {\ns += 1; }\nregion t {\ns += 1; }\ncut a at 1 as l, r {\ns += l[0]; }",
     "cilk_for (int i = 0; i < x; i++) {\ncilk_for (int j = 0; j < i; j++) {\ns += i * j; } }",
 ];
 
-const GREATEST: &[&str] = &[
+static GREATEST: &[&str] = &[
     "top max= x;\ntop max = a[0] * len(b);\ntop max= -x;",
     "if (x) {\ntop max= 1; } else {\nwhile (x) {\ntop max= 2;\ns += 2; } }",
     "cilk_scope {\ntop max= 1; }\nregion t {\ntop max= 1; }\ncut a at 1 as l, r {\ntop max= l[0]; }",
@@ -110,7 +110,7 @@ const GREATEST: &[&str] = &[
 ];
 
 // A reducer that is told what fits another kind, with a value that is right.
-const OF_ANOTHER_KIND: &[(u32, &str)] = &[
+static OF_ANOTHER_KIND: &[(u32, &str)] = &[
     (2, "s max= 1;"),
     (2, "top += 1;"),
     (2, "s\nmax= 1;"),
@@ -132,7 +132,7 @@ const OF_ANOTHER_KIND: &[(u32, &str)] = &[
     ),
 ];
 
-const NO_REDUCER: &[(u32, &str)] = &[
+static NO_REDUCER: &[(u32, &str)] = &[
     (2, "x max= 1;"),
     (2, "a max= 1;"),
     (2, "f max= 1;"),
@@ -149,7 +149,7 @@ const NO_REDUCER: &[(u32, &str)] = &[
     (3, "region t {\nt += 1; }"),
 ];
 
-const REDUCERS_ELSEWHERE: &[(u32, &str)] = &[
+static REDUCERS_ELSEWHERE: &[(u32, &str)] = &[
     (2, "s = 1;"),
     (2, "s = f(1);"),
     (2, "s[0] = 1;"),
@@ -180,7 +180,7 @@ const REDUCERS_ELSEWHERE: &[(u32, &str)] = &[
     (2, "cilk_for (int i = 0; i < 1; i++) over (s) { }"),
 ];
 
-const FUNCTIONS_ELSEWHERE: &[(u32, &str)] = &[
+static FUNCTIONS_ELSEWHERE: &[(u32, &str)] = &[
     (2, "f = 1;"),
     (2, "f[0] = 1;"),
     (2, "x = f;"),

@@ -41,7 +41,7 @@ fn test_rows(
 }
 
 // Names of a function, as many as there may be.
-const NAMES: &[(u32, Parts)] = &[
+static NAMES: &[(u32, Parts)] = &[
     // 16 parameters
     (
         0,
@@ -119,7 +119,7 @@ const NAMES: &[(u32, Parts)] = &[
 ];
 
 // One more, or more than one.
-const NAMES_BEYOND: &[(u32, Parts)] = &[
+static NAMES_BEYOND: &[(u32, Parts)] = &[
     (
         1,
         ("int main(int p", (", int p", ""), 16, ") { return 0; }"),
@@ -221,7 +221,7 @@ const NAMES_BEYOND: &[(u32, Parts)] = &[
 ];
 
 // Functions and reducers, as many as there may be.
-const ITEMS: &[(u32, Parts)] = &[
+static ITEMS: &[(u32, Parts)] = &[
     (
         0,
         (
@@ -252,7 +252,7 @@ const ITEMS: &[(u32, Parts)] = &[
 ];
 
 // One more, or more than one.
-const ITEMS_BEYOND: &[(u32, Parts)] = &[
+static ITEMS_BEYOND: &[(u32, Parts)] = &[
     (
         1_025,
         (
@@ -300,7 +300,7 @@ const ITEMS_BEYOND: &[(u32, Parts)] = &[
 ];
 
 // Tags, as many and as long as they may be.
-const TAGS: &[(u32, Parts)] = &[
+static TAGS: &[(u32, Parts)] = &[
     // 64 different ones, and one again
     (
         0,
@@ -342,7 +342,7 @@ const TAGS: &[(u32, Parts)] = &[
 ];
 
 // One more, or a byte more.
-const TAGS_BEYOND: &[(u32, Parts)] = &[
+static TAGS_BEYOND: &[(u32, Parts)] = &[
     (
         66,
         ("int main() {", ("\nregion t", " { }"), 65, "\nreturn 0; }"),
@@ -405,7 +405,7 @@ const TAGS_BEYOND: &[(u32, Parts)] = &[
 ];
 
 // Sources that break rules too: the limit is told.
-const BEFORE_RULES: &[(u32, Parts)] = &[
+static BEFORE_RULES: &[(u32, Parts)] = &[
     // a rule is broken in an earlier line
     (
         258,
@@ -458,7 +458,7 @@ const BEFORE_RULES: &[(u32, Parts)] = &[
 ];
 
 // Where no limit is passed, the rule is told.
-const RULES: &[(u32, Parts)] = &[(
+static RULES: &[(u32, Parts)] = &[(
     2,
     ("int main() {", ("\nint x", " = y;"), 256, "\nreturn 0; }"),
 )];

@@ -2,14 +2,14 @@
 
 use crate::typing::{all_break, all_keep, bodies_break, bodies_keep};
 
-const LISTED: &[&str] = &[
+static LISTED: &[&str] = &[
     "int main() { return 0; }",
     "int main(int a, int b) { return a; }",
     "reducer max r;\nreducer sum s;\nreducer max t; int main() { return 0; }",
     "reducer sum r;\nint f() { return 0; }\nreducer sum s;\nvoid g() { }\nint main() { return 0; }",
 ];
 
-const LISTED_TWICE: &[(u32, &str)] = &[
+static LISTED_TWICE: &[(u32, &str)] = &[
     (
         2,
         "int f() { return 0; }\nint f() { return 0; } int main() { return 0; }",
@@ -50,7 +50,7 @@ const LISTED_TWICE: &[(u32, &str)] = &[
     (2, "int main() { return 0; }\nreducer sum main;"),
 ];
 
-const NO_MAIN: &[(u32, &str)] = &[
+static NO_MAIN: &[(u32, &str)] = &[
     // where none stands, line 1
     (1, "\nint f() { return 0; }"),
     (1, "\nint f() { return 0; }\nreducer sum main;"),
@@ -66,13 +66,13 @@ fn functions_and_reducers_differ(rt: HostRuntime) {
     all_break(&rt, rt.alloc(), NO_MAIN);
 }
 
-const PARAMETERS: &[&str] = &[
+static PARAMETERS: &[&str] = &[
     "int f(int a, int b[]) { return a; }\nint g(int b, int a[]) { return b; }\nint main() { return 0; }",
     // one function's parameter is another's local
     "int f(int a) {\nint b = a;\nreturn b; }\nint main(int b) {\nint a = b;\nreturn a; }",
 ];
 
-const PARAMETERS_NOT_NEW: &[(u32, &str)] = &[
+static PARAMETERS_NOT_NEW: &[(u32, &str)] = &[
     (2, "\nint main(int a, int a) { return 0; }"),
     (2, "\nint main(int a, int b, int a) { return 0; }"),
     (
@@ -98,7 +98,7 @@ fn parameters_are_new(rt: HostRuntime) {
     all_break(&rt, rt.alloc(), PARAMETERS_NOT_NEW);
 }
 
-const KNOWN: &[&str] = &[
+static KNOWN: &[&str] = &[
     "int z = x;\nz = z + y;\nint c[z];\nc[z] = len(c);",
     // in blocks inside its own
     "int z = 1;\nif (z) {\nwhile (z) {\nx = z; } } else {\ncilk_scope {\nregion t {\nx = z; } } }",
@@ -108,7 +108,7 @@ const KNOWN: &[&str] = &[
     "cut a at 1 as l, r {\ncut l at 1 as m, n {\nm[0] = n[len(r)]; } }",
 ];
 
-const NOT_KNOWN_HERE: &[(u32, &str)] = &[
+static NOT_KNOWN_HERE: &[(u32, &str)] = &[
     // in its own declaration, and before it
     (2, "int z = z;"),
     (2, "int c[len(c)];"),
@@ -146,7 +146,7 @@ fn locals_are_known_to_the_end_of_their_block(rt: HostRuntime) {
 }
 
 // A name that nothing declares, in each place of a statement.
-const UNKNOWN: &[(u32, &str)] = &[
+static UNKNOWN: &[(u32, &str)] = &[
     (2, "z = 1;"),
     (2, "c[0] = 1;"),
     (2, "a[z] = 1;"),
@@ -179,7 +179,7 @@ const UNKNOWN: &[(u32, &str)] = &[
 ];
 
 // The same inside each kind of block.
-const UNKNOWN_INSIDE: &[(u32, &str)] = &[
+static UNKNOWN_INSIDE: &[(u32, &str)] = &[
     (3, "if (x) {\nreturn z; }"),
     (3, "if (x) {\nx = z; }"),
     (4, "if (x) {\nx = 1;\nx = z; }"),
@@ -207,7 +207,7 @@ fn each_name_is_known(rt: HostRuntime) {
     bodies_break(&rt, rt.alloc(), UNKNOWN_INSIDE);
 }
 
-const NEW: &[&str] = &[
+static NEW: &[&str] = &[
     "int z = 1;\nint c[1];\nint d[1];",
     // in blocks side by side, and behind them
     "if (x) {\nint z = 1;\n} else {\nint z[2];\n}\nint z = 2;",
@@ -218,7 +218,7 @@ const NEW: &[&str] = &[
     "int p = 1;\nint q = 1;\nregion p {\nregion x { } }",
 ];
 
-const NOT_NEW: &[(u32, &str)] = &[
+static NOT_NEW: &[(u32, &str)] = &[
     (3, "int z = 1;\nint z = 2;"),
     (3, "int z = 1;\nint z[2];"),
     (3, "int z[1];\nint z = 2;"),
@@ -240,7 +240,7 @@ const NOT_NEW: &[(u32, &str)] = &[
     (4, "while (x) {\nint z = 1;\nint z = 1; }"),
 ];
 
-const HEADS_NOT_NEW: &[(u32, &str)] = &[
+static HEADS_NOT_NEW: &[(u32, &str)] = &[
     (2, "cilk_for (int x = 0; x < 1; x++) { }"),
     (2, "cilk_for (int a = 0; a < 1; a++) { }"),
     (2, "cilk_for (int f = 0; f < 1; f++) { }"),

@@ -2,7 +2,7 @@
 
 use crate::typing::{all_break, all_keep, bodies_break, bodies_keep};
 
-const RETURNING: &[&str] = &[
+static RETURNING: &[&str] = &[
     "void f() { }\nint main() { return 0; }",
     "void f() {\nreturn; }\nint main() { return 0; }",
     "void f(int x) {\nif (x) {\nreturn; } }\nint main() { return 0; }",
@@ -14,7 +14,7 @@ const RETURNING: &[&str] = &[
     "int f(int x) {\ncilk_scope { }\nif (x) { return x; }\nreturn 0; }\nint main() { return 0; }",
 ];
 
-const OF_THE_OTHER_KIND: &[(u32, &str)] = &[
+static OF_THE_OTHER_KIND: &[(u32, &str)] = &[
     (2, "void f() {\nreturn 1; }\nint main() { return 0; }"),
     (
         3,
@@ -29,7 +29,7 @@ const OF_THE_OTHER_KIND: &[(u32, &str)] = &[
 ];
 
 // Inside a block of its own sync: at once, and in an `if` or a `while` there.
-const NO_RETURN_MAY_STAND: &[(u32, &str)] = &[
+static NO_RETURN_MAY_STAND: &[(u32, &str)] = &[
     (
         2,
         "int f() { cilk_scope {\nreturn 1; }\nreturn 0; }\nint main() { return 0; }",
@@ -88,7 +88,7 @@ fn returns_fit_their_functions(rt: HostRuntime) {
 }
 
 // At the head, whose line is that of the name.
-const NOT_SURELY: &[(u32, &str)] = &[
+static NOT_SURELY: &[(u32, &str)] = &[
     (2, "\nint f() { }\nint main() { return 0; }"),
     (2, "int\nf() { }\nint main() { return 0; }"),
     (2, "\nint main() { }"),
@@ -123,7 +123,7 @@ const NOT_SURELY: &[(u32, &str)] = &[
     ),
 ];
 
-const NOT_THE_LAST: &[(u32, &str)] = &[
+static NOT_THE_LAST: &[(u32, &str)] = &[
     (
         2,
         "int f() {\nreturn 1;\nreturn 0; }\nint main() { return 0; }",
@@ -168,14 +168,14 @@ fn bodies_surely_return(rt: HostRuntime) {
     all_break(&rt, rt.alloc(), NOT_THE_LAST);
 }
 
-const HEADS: &[&str] = &[
+static HEADS: &[&str] = &[
     "cilk_for (int i = 0; i < 1; i++) { }",
     "cilk_for (int i = 0; i < 1; i++) grain 1 { }",
     "cilk_for (int i = 0; i < 1; i++) grain 1000000 { }",
     "cilk_for (int i = 0; i < 1; i++) {\ncilk_for (int j = 0; j < 1; j++) grain 2 over (a) { } }",
 ];
 
-const NO_HEADS: &[(u32, &str)] = &[
+static NO_HEADS: &[(u32, &str)] = &[
     (2, "cilk_for (int i = 0; j < 1; i++) { }"),
     (2, "cilk_for (int i = 0; i < 1; j++) { }"),
     (2, "cilk_for (int i = 0; j < 1; j++) { }"),
@@ -207,7 +207,7 @@ fn loops_have_heads(rt: HostRuntime) {
     bodies_break(&rt, rt.alloc(), NO_HEADS);
 }
 
-const LINES: &[(u32, &str)] = &[
+static LINES: &[(u32, &str)] = &[
     // several, in order and in no order
     (2, "int main() {\nint x = y;\nint x = z;\nreturn 0; }"),
     (

@@ -38,7 +38,7 @@ region t { region u { region t { y = f(a, m); } } }
 return y; }";
 
 // Its function `main`.
-const LOCALS_SLOTS: &[&str] = &[
+static LOCALS_SLOTS: &[&str] = &[
     // the first integer behind the parameter, and its slot again behind its block
     "slot: 1 }, Number(7)",
     "slot: 1 }, Number(9)",
@@ -59,7 +59,7 @@ const LOCALS_SLOTS: &[&str] = &[
 ];
 
 // How many integers and arrays of its two functions are known at once.
-const LOCALS_KNOWN: [(u32, u32); 2] = [(1, 1), (2, 2)];
+static LOCALS_KNOWN: [(u32, u32); 2] = [(1, 1), (2, 2)];
 
 #[test]
 fn names_have_their_indices(rt: HostRuntime) -> Result<(), Fail> {
@@ -89,7 +89,7 @@ cut a at m as l, r { int z = 4; l[0] = 3; r[1] = z; }
 return k; }";
 
 // Its function `main`.
-const LOOPS_SLOTS: &[&str] = &[
+static LOOPS_SLOTS: &[&str] = &[
     // m, k, y, i and j at once; a, l and r at once
     "ints: 5, arrays: 3",
     "slot: 4 }, Number(11)",

@@ -77,16 +77,28 @@ fn add_sites(alloc: Global, code: &mut Code, sites: &[(CallKind, u32)]) -> Resul
     Ok(())
 }
 
+fn add_slots(alloc: Global, passed: &mut Vec<Vec<u32>>, list: &[u32]) -> Result<(), AllocError> {
+    let slots = Vec::from_slice(alloc, list)?;
+    passed.push(slots)?;
+    Ok(())
+}
+
 fn add_passed(alloc: Global, code: &mut Code, lists: &[&[u32]]) -> Result<(), AllocError> {
     for list in lists {
-        code.passed.push(Vec::from_slice(alloc, *list)?)?;
+        add_slots(alloc, &mut code.passed, *list)?;
     }
+    Ok(())
+}
+
+fn add_loans(alloc: Global, lent: &mut Vec<Vec<Loan>>, list: &[Loan]) -> Result<(), AllocError> {
+    let loans = Vec::from_slice(alloc, list)?;
+    lent.push(loans)?;
     Ok(())
 }
 
 fn add_lent(alloc: Global, code: &mut Code, lists: &[&[Loan]]) -> Result<(), AllocError> {
     for list in lists {
-        code.lent.push(Vec::from_slice(alloc, *list)?)?;
+        add_loans(alloc, &mut code.lent, *list)?;
     }
     Ok(())
 }
