@@ -1,0 +1,83 @@
+#!/usr/bin/env python3
+"""What the gate takes, crate by crate: runs `rt ci` and tells the processor time of its checks.
+
+    budget.py [NAME..]    rt ci, or rt ci NAME.., from the top of the repository; then a table: seconds of a processor that
+                          each crate's proof, its tests and its must-fail edits took (the proof before them in it), and sums
+
+What an earlier run on this machine passed is not proved again, and has no time: --anew as the only word proves all. The
+times are those of checks beside other checks, as the gate runs them: one that runs alone takes half to two thirds of
+that. Reads /proc every two seconds, so what is over sooner is left out. Ends with the status of `rt ci`.
+"""
+import os
+import pathlib
+import subprocess
+import sys
+import time
+
+TOP = pathlib.Path(__file__).resolve().parent.parent
+TICKS = os.sysconf("SC_CLK_TCK")
+KINDS = ["proof", "tests", "edits"]
+
+
+def ancestors(process):
+    """The numbers of a process and of those above it."""
+    while process > 1:
+        yield process
+        try:
+            stat = pathlib.Path(f"/proc/{process}/stat").read_text()
+        except OSError:
+            return
+        process = int(stat.rpartition(")")[2].split()[1])
+
+
+def check_of(process):
+    """The crate, the kind and the seconds of a processor of a check that runs, if this process is one."""
+    at = pathlib.Path(f"/proc/{process}")
+    words = (at / "cmdline").read_bytes().decode(errors="replace").split("\0")
+    if not words[0].endswith("/rattle") or "--crate-name" not in words:
+        return None
+    folder = os.readlink(at / "cwd")
+    kind = "edits" if "/rt-edit-" in folder else "tests" if "--test" in words else "proof"
+    used = (at / "stat").read_text().rpartition(")")[2].split()[11:15]
+    return words[words.index("--crate-name") + 1], kind, sum(map(int, used)) / TICKS
+
+
+def look(top, found):
+    """Notes what each check below this process has taken so far."""
+    for name in filter(str.isdigit, os.listdir("/proc")):
+        try:
+            check = check_of(int(name))
+            if check and top in ancestors(int(name)):
+                found[int(name), check[:2]] = check[2]
+        except OSError:
+            pass  # it has ended meanwhile
+
+
+def table(found):
+    """The table, with the crates that took most first."""
+    taken = {}
+    for (_, (crate, kind)), seconds in found.items():
+        row = taken.setdefault(crate, dict.fromkeys(KINDS, 0))
+        row[kind] += seconds
+    print("| crate | " + " | ".join(KINDS) + " |\n|---|" + "---|" * len(KINDS))
+    for crate, row in sorted(taken.items(), key=lambda it: -sum(it[1].values())):
+        print(f"| `{crate}` | " + " | ".join(f"{row[it]:.0f}" if row[it] else "" for it in KINDS) + " |")
+    sums = [sum(row[it] for row in taken.values()) / 60 for it in KINDS]
+    print(f"\nMinutes of a processor: {', '.join(f'{it} {much:.0f}' for it, much in zip(KINDS, sums))}; {sum(sums):.0f} in all.")
+
+
+def main(words):
+    found, begun = {}, time.time()
+    ran = subprocess.Popen(["rt", "ci", *words], cwd=TOP)
+    while ran.poll() is None:
+        look(ran.pid, found)
+        time.sleep(2)
+    table(found)
+    print(f"{(time.time() - begun) / 60:.0f} minutes by the clock.")
+    return ran.returncode
+
+
+if __name__ == "__main__":
+    if "--help" in sys.argv or "-h" in sys.argv:
+        sys.exit(__doc__)
+    sys.exit(main(sys.argv[1:]))
