@@ -83,12 +83,18 @@ static WORDS: &[(&str, Kind)] = &[
     ),
 ];
 
+// Whether a word is one token of this kind.
+fn is_token(alloc: Global, text: &str, kind: Kind) -> bool {
+    match u32::try_from(text.len()) {
+        Ok(end) => has_tokens(alloc, text.as_bytes(), &[(kind, 0, end, 1)]),
+        Err(_) => false,
+    }
+}
+
 #[test]
 fn words_are_keywords_or_names(rt: HostRuntime) {
     for (text, kind) in WORDS {
-        let whole = [(*kind, 0, text.len() as u32, 1)];
-        let holds = has_tokens(rt.alloc(), text.as_bytes(), &whole);
-        assert!(rt; holds, "{text}");
+        assert!(rt; is_token(rt.alloc(), text, *kind), "{text}");
     }
 }
 
