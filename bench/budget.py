@@ -5,8 +5,8 @@
                           each crate's proof, its tests and its must-fail edits took (the proof before them in it), and sums
 
 What an earlier run on this machine passed is not proved again, and has no time: --anew as the only word proves all. The
-times are those of checks beside other checks, as the gate runs them: one that runs alone takes half to two thirds of
-that. Reads /proc every two seconds, so what is over sooner is left out. Ends with the status of `rt ci`.
+times are those of checks beside other checks, as the gate runs them; one that runs alone takes less. Reads /proc every
+two seconds, so what is over sooner is left out. Ends with the status of `rt ci`.
 """
 import os
 import pathlib
@@ -19,36 +19,47 @@ TICKS = os.sysconf("SC_CLK_TCK")
 KINDS = ["proof", "tests", "edits"]
 
 
-def ancestors(process):
-    """The numbers of a process and of those above it."""
+def stat_of(process):
+    """What the system tells of a process, behind its name: its state, its parent, and further numbers."""
+    return pathlib.Path(f"/proc/{process}/stat").read_text().rpartition(")")[2].split()
+
+
+def words_of(process):
+    """The command line of a process."""
+    return pathlib.Path(f"/proc/{process}/cmdline").read_bytes().decode(errors="replace").split("\0")
+
+
+def is_check(words):
+    """Whether this is the command line of a check."""
+    return words[0].endswith("/rattle") and "--crate-name" in words
+
+
+def is_below(process, top):
+    """Whether a process is one that another started, by itself or by others, with no check among these."""
     while process > 1:
-        yield process
-        try:
-            stat = pathlib.Path(f"/proc/{process}/stat").read_text()
-        except OSError:
-            return
-        process = int(stat.rpartition(")")[2].split()[1])
+        process = int(stat_of(process)[1])
+        if process == top or is_check(words_of(process)):
+            return process == top
+    return False
 
 
-def check_of(process):
-    """The crate, the kind and the seconds of a processor of a check that runs, if this process is one."""
-    at = pathlib.Path(f"/proc/{process}")
-    words = (at / "cmdline").read_bytes().decode(errors="replace").split("\0")
-    if not words[0].endswith("/rattle") or "--crate-name" not in words:
+def check_of(process, top):
+    """The crate, the kind and the seconds of a processor, copies of itself included, of a check that runs, if this process
+    is one and `top` is above it."""
+    words = words_of(process)
+    if not is_check(words) or not is_below(process, top):
         return None
-    folder = os.readlink(at / "cwd")
+    folder = os.readlink(f"/proc/{process}/cwd")
     kind = "edits" if "/rt-edit-" in folder else "tests" if "--test" in words else "proof"
-    used = (at / "stat").read_text().rpartition(")")[2].split()[11:15]
-    return words[words.index("--crate-name") + 1], kind, sum(map(int, used)) / TICKS
+    return words[words.index("--crate-name") + 1], kind, sum(map(int, stat_of(process)[11:15])) / TICKS
 
 
 def look(top, found):
     """Notes what each check below this process has taken so far."""
-    for name in filter(str.isdigit, os.listdir("/proc")):
+    for process in map(int, filter(str.isdigit, os.listdir("/proc"))):
         try:
-            check = check_of(int(name))
-            if check and top in ancestors(int(name)):
-                found[int(name), check[:2]] = check[2]
+            if check := check_of(process, top):
+                found[process, check[:2]] = check[2]
         except OSError:
             pass  # it has ended meanwhile
 
