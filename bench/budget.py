@@ -6,10 +6,12 @@
 
 What an earlier run on this machine passed is not proved again, and has no time: --anew as the only word proves all. The
 times are those of checks beside other checks, as the gate runs them; one that runs alone takes less. Reads /proc every
-two seconds, so what is over sooner is left out. Ends with the status of `rt ci`.
+two seconds, so what is over sooner is left out. Ends with the status of `rt ci`; where it is interrupted, it ends `rt ci`
+and tells what was taken so far.
 """
 import os
 import pathlib
+import signal
 import subprocess
 import sys
 import time
@@ -80,9 +82,13 @@ def table(found):
 def main(words):
     found, begun = {}, time.time()
     ran = subprocess.Popen(["rt", "ci", *words], cwd=TOP)
-    while ran.poll() is None:
-        look(ran.pid, found)
-        time.sleep(2)
+    try:
+        while ran.poll() is None:
+            look(ran.pid, found)
+            time.sleep(2)
+    except KeyboardInterrupt:
+        ran.terminate()
+        ran.wait()
     table(found)
     print(f"{(time.time() - begun) / 60:.0f} minutes by the clock.")
     return ran.returncode
@@ -91,4 +97,6 @@ def main(words):
 if __name__ == "__main__":
     if "--help" in sys.argv or "-h" in sys.argv:
         sys.exit(__doc__)
+    for each in (signal.SIGINT, signal.SIGTERM):
+        signal.signal(each, signal.default_int_handler)
     sys.exit(main(sys.argv[1:]))
