@@ -67,17 +67,17 @@ def alike(piece, other):
 
 
 def bare_copy(folder):
-    """Copies the crate with its definitions and examples alone: its laws and tests would only take time."""
+    """Copies the crate with its definitions and examples alone: its laws would only take time."""
     for part in ("src", "specs", "proofs/examples"):
         shutil.copytree(os.path.join(CRATE, part), os.path.join(folder, part))
     shutil.rmtree(folder + "/specs/lemmas")
-    for name in ("src/laws.rt", "src/tests.rt", "specs/lemmas.antt"):
+    for name in ("src/laws.rt", "specs/lemmas.antt"):
         os.remove(os.path.join(folder, name))
     for name in ("src/lib.rt", "specs/Lib.antt"):
         with open(os.path.join(folder, name), encoding="utf-8") as file:
             lines = file.readlines()
         with open(os.path.join(folder, name), "w", encoding="utf-8") as file:
-            file.writelines(it for it in lines if not re.search(r"mod (laws|tests|lemmas)|cfg\(test\)", it))
+            file.writelines(it for it in lines if not re.search(r"mod (laws|lemmas)", it))
 
 
 def check(folder, theorems=()):
