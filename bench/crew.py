@@ -9,6 +9,12 @@
     crew.py PROGRAM deep                   rests out at each depth, past the cells of a worker and down to the greatest depth
     crew.py PROGRAM refusals               each single allocation refused in turn with 1, 2 and 4 workers: the answer, or
                                            `memory` with nothing written; wants gcc, which compiles bench/refuse.c
+    crew.py PROGRAM given_up [ROUNDS]      seven programs that trap or pass their limit, with 2, 4, 16 and 64 workers in three
+                                           modes: the answer of one worker, and beside what one worker takes in the same mode
+                                           at most twice its seconds by the clock (2.5 times in `run`) and 50 ms, 4 times its
+                                           seconds of a processor and 0.1 s, and twice its memory and 1 MB a worker: the
+                                           least of so many rounds (3), of memory the most. With GRIND=1 in the environment
+                                           answers alone, under valgrind: no byte may be left
     crew.py PROGRAM speed [ROUNDS]         seconds with 1, 2, 4 and 64 workers, the median (and the least) of so many
                                            interleaved rounds (9), and one worker's as multiples of the others'; and how long
                                            four runs with one worker each take at once, which share nothing: what the machine
@@ -19,10 +25,16 @@
                                            1, 2 and 4 workers, the median of so many interleaved rounds (9) less that of the
                                            same run without a spawn, and their ratio, which is to be about 1, since no element
                                            is copied at a spawn
+    crew.py PROGRAM pieces                 memory of stolen rests: a program of 65,001 call statements whose `main` is a loop of 60
+                                           and of 400 spawns of a function of 4.5 million instructions, in the modes run and
+                                           sites with 2, 4 and 64 workers: the answer of one worker, and the most memory at
+                                           once, which is to be at most 40 MB more than with one; then the same where the rests
+                                           call statements far apart from each other
 
 Random programs are those of bench/reference. Each run has a minute; one that takes longer is told as wrong.
 """
 import concurrent.futures
+import os
 import pathlib
 import re
 import statistics
@@ -55,6 +67,31 @@ x = cilk_spawn sum(a, from, m); y = sum(a, m, to); cilk_sync; return x + y; }
 int main() { int a[5]; int x = 0; a[0] = 2; a[4] = 7; x = cilk_spawn sum(a, 0, 5); print(len(a)); cilk_sync; a[0] = x; return a[0]; }"""
 SMALL = [("fib", FIB, ["7"]), ("chain", CHAIN, ["20"]), ("arrays", ARRAYS, []), ("loop", LOOP, []), ("trap", TRAP, ["0"]), ("lines", LINES, []), ("reads", READS, [])]
 
+# programs that trap or pass their limit, with their words: without a base case; a fork without one; a limit that is passed
+# late; a trap behind a loop in a rest, which another worker may have, and a loop in the call beside it; a limit within a
+# loop whose turns are calls; a trap while 300 rests are out and 64 regions are open, rests that have no end themselves
+NO_BASE = FIB.replace("if (n < 2) { return n; } ", "")
+FORK = "void f() { cilk_spawn f(); f(); } int main() { f(); return 0; }"
+BEHIND = """int loop(int n) { int i = 0; while (i < n) { i = i + 1; } return i; }
+int main(int n) { int x = 0; int y = 0; x = cilk_spawn loop(n); y = loop(n); y = y / (n - y); cilk_sync; return x + y; }"""
+TURNS = "reducer sum s; int main(int n) { cilk_for (int i = 0; i < n; i++) grain 1 { s += i; } return n; }"
+RESTS = """void endless() { int k = 0; while (k >= 0) { k = 1 - k; } }
+int f(int n) { int a[8]; int x = 0; if (n < 1) { return 1 / n; } x = cilk_spawn f(n - 1); endless(); a[1] = n; cilk_sync; return x + a[1]; }
+int main(int n) { int r = 0; r = f(n); return r; }"""
+REGIONS = """void endless() { int k = 0; while (k >= 0) { k = 1 - k; } }
+int f(int n) { int x = 0; if (n < 1) { return 1 / n; } region inner { x = cilk_spawn f(n - 1); endless(); cilk_sync; } return x; }
+int main(int n) { int r = 0; r = f(n); return r; }"""
+GIVEN_UP = [
+    ("no_base", NO_BASE, ["30"]),
+    ("fork", FORK, []),
+    ("limit", FIB, ["60", "--limit", "100000000"]),
+    ("behind", BEHIND, ["10000000"]),
+    ("turns", TURNS, ["1000000", "--limit", "20000000"]),
+    ("rests", RESTS, ["300"]),
+    ("regions", REGIONS, ["64"]),
+]
+GRIND = ["valgrind", "-q", "--leak-check=full", "--show-leak-kinds=all", "--errors-for-leak-kinds=all", "--error-exitcode=99"]
+
 # programs whose speed is asked, with their arguments, and what one worker's time by four workers' is to be at least
 SPEED = [("mergesort_parallel", ["400000"], 3.3), ("matrix_large", ["160"], 3.3), ("factors", ["160"], 3.3), ("fib_cutoff", ["32"], 3.3), ("fib", ["29"], 1.8)]
 MATRIX = """// rows of a product, each by itself
@@ -67,6 +104,12 @@ int main(int n) { int c[n * n]; product(n, 0, n, c); return c[n * n - 1]; }
 # how often programs/shares.cilk spawns, by how many workers, the numbers in a row of its matrices, and what a run beside the
 # greater ones may take at most of that beside the smaller ones
 SPAWNS, SHARERS, SIDES, MOST_RATIO = "100000", (1, 2, 4), ("1000", "2"), 1.25
+
+# call statements beside those of the spawned function and of `main`, spawns, workers, and how many MB more than one worker
+# these may take
+STATEMENTS, PIECES, HOLDERS, MOST_MORE = 65000, ("60", "400"), (2, 4, 64), 40
+WORK = "void work() { int i = 0; while (i < 500000) { i = i + 1; } }"
+ROUND = "int main(int n) { int i = 0; while (i < n) { cilk_spawn work(); CALLS i = i + 1; } cilk_sync; return i; }"
 
 
 def asked(program, words, environment=None):
@@ -206,6 +249,60 @@ def speed(program, rounds="9"):
     return short
 
 
+def measured(words):
+    """What a run answers, with its seconds by the clock and of a processor, and its memory in bytes."""
+    with tempfile.TemporaryDirectory() as folder:
+        told, used = pathlib.Path(folder) / "told", pathlib.Path(folder) / "used"
+        with told.open("wb") as out:
+            began = time.perf_counter()
+            # a small process between, since the memory of who starts a program counts as that program's
+            status = subprocess.run(["/usr/bin/time", "-q", "-o", str(used), "-f", "%U %S %M", "timeout", "60", *words], stdout=out, stderr=subprocess.STDOUT).returncode
+            took = time.perf_counter() - began
+        user, system, kilobytes = used.read_text().split()
+        return (status, told.read_bytes()), took, float(user) + float(system), 1024 * int(kilobytes)
+
+
+def least(words, rounds):
+    """The answers of so many runs, and the least of their seconds, by the clock and of a processor, and the most memory."""
+    found = [measured(words) for _ in range(rounds)]
+    return {it[0] for it in found}, min(it[1] for it in found), min(it[2] for it in found), max(it[3] for it in found)
+
+
+def grinds(program, path, words):
+    """How many runs of a program leave a byte or answer otherwise under valgrind."""
+    wrong = 0
+    wanted = asked(program, ["run", path, *words, "--workers", "1"])
+    for workers in ("2", "4", "16"):
+        found = asked("valgrind", [*GRIND[1:], program, "run", path, *words, "--workers", workers])
+        print("BAD" if found != wanted else "ok ", "valgrind", pathlib.Path(path).stem, "with", workers, "workers", found if found != wanted else "", flush=True)
+        wrong += found != wanted
+    return wrong
+
+
+def given_up(program, rounds="3"):
+    wrong = 0
+    with tempfile.TemporaryDirectory() as folder:
+        for name, source, words in GIVEN_UP:
+            path = pathlib.Path(folder) / f"{name}.cilk"
+            path.write_text(source)
+            if "GRIND" in os.environ:
+                # valgrind takes its time: a hundredth of what is long
+                wrong += grinds(program, str(path), [str(int(it) // 100) if it.isdigit() and int(it) > 99999 else it for it in words])
+                continue
+            for mode, times in (("run", 2.5), ("scale", 2), ("sites", 2)):
+                asking = [program, mode, str(path), *words, "--workers"]
+                answer, clock, processor, memory = least([*asking, "1"], int(rounds))
+                told = [f"1: {clock:.3f} s {processor:.3f} s {memory / 1e6:.1f} MB"]
+                for workers in (2, 4, 16, 64):
+                    found, *used = least([*asking, str(workers)], int(rounds))
+                    most = times * clock + 0.05, 4 * processor + 0.1, 2 * memory + 1e6 * workers
+                    bad = ["answer"] * (found != answer) + [it for it, have, may in zip(("clock", "processor", "memory"), used, most) if have > may]
+                    wrong += bool(bad)
+                    told.append(f"{workers}: {used[0]:.3f} s {used[1]:.3f} s {used[2] / 1e6:.1f} MB" + "".join(f" BAD {it}" for it in bad))
+                print(f"{name} {mode}: " + "  ".join(told), flush=True)
+    return wrong
+
+
 def shares(program, rounds="9"):
     path, wrong = str(HERE / "programs" / "shares.cilk"), 0
     for workers in map(str, SHARERS):
@@ -225,8 +322,44 @@ def shares(program, rounds="9"):
     return wrong
 
 
+def of_many_statements(calls):
+    """A program of 65,001 call statements: functions of 64 calls each, and a loop of spawns that calls some of these."""
+    empty = [f"void f{first}() {{ {'none(); ' * min(64, STATEMENTS - len(calls) - first)}}}" for first in range(0, STATEMENTS - len(calls), 64)]
+    return "\n".join(["void none() { }", *empty, WORK, ROUND.replace("CALLS", " ".join(f"f{64 * it}();" for it in calls))]) + "\n"
+
+
+def memory(program, words):
+    """Status, both streams and the most memory at once, in MB, of one run."""
+    with tempfile.TemporaryFile() as out, tempfile.TemporaryFile() as said:
+        running = subprocess.Popen(["timeout", "60", program, *words], stdout=out, stderr=said)
+        _, status, used = os.wait4(running.pid, 0)
+        running.returncode = os.waitstatus_to_exitcode(status)
+        out.seek(0)
+        said.seek(0)
+        return (running.returncode, out.read(), said.read()), used.ru_maxrss / 1024
+
+
+def pieces(program):
+    wrong = 0
+    with tempfile.TemporaryDirectory() as folder:
+        for name, calls in (("near", []), ("far", range(0, 1000, 250))):
+            path = pathlib.Path(folder) / f"{name}.cilk"
+            path.write_text(of_many_statements(calls))
+            for mode in ("run", "sites"):
+                for count in PIECES:
+                    words = [mode, str(path), count, "--limit", "100000000000", "--workers"]
+                    wanted, alone = memory(program, [*words, "1"])
+                    told = [f"1: {alone:.0f} MB"]
+                    for workers in HOLDERS:
+                        found, used = memory(program, [*words, str(workers)])
+                        wrong += found != wanted or used > alone + MOST_MORE
+                        told.append(f"{workers}: {used:.0f} MB" + ("" if found == wanted else " BAD"))
+                    print(f"{name}, {mode}, {count} spawns, workers {'  '.join(told)} (at most {MOST_MORE} MB more than one)", flush=True)
+    return wrong
+
+
 if __name__ == "__main__":
-    parts = {"same": same, "limits": limits, "deep": deep, "refusals": refusals, "speed": speed, "shares": shares}
+    parts = {"same": same, "limits": limits, "deep": deep, "refusals": refusals, "given_up": given_up, "speed": speed, "shares": shares, "pieces": pieces}
     if len(sys.argv) < 3 or sys.argv[2] not in parts:
         sys.exit(__doc__)
     bad = parts[sys.argv[2]](str(pathlib.Path(sys.argv[1]).resolve()), *sys.argv[3:])

@@ -1,12 +1,17 @@
 #!/usr/bin/env python3
-"""The gate: a sample of what guards the definitions, then `rt ci`, then a sample of random programs on what it built.
+"""The gate: a sample of what guards the definitions and ./build, then `rt ci`, then what it built beside what ./build made.
 
     gate.py
 
-The sample before `rt ci` takes under two minutes: the reports of examples/ against the other implementation, that one
-against answers worked out by hand, the random programs of the walks of worlds, and some turned clauses. It wants python3 and the kit alone. Where one of them differs
-from what stands there, nothing else is run. The last line is that of `rt ci`, `N passed, M failed`, with one more failed
-where the program answers a random source otherwise than the other implementation.
+The sample before `rt ci` takes some two minutes: the reports of examples/ against the other implementation, that one
+against answers worked out by hand, the random programs of the walks of worlds, whether each wrong body can be made, and
+some turned clauses; and beside them ./build with its install into a temporary folder. It wants python3 and the kit alone.
+Where one of them differs from what stands there, nothing else is run. After `rt ci` the program that it built is held to
+the one that ./build made and to random programs, and the wrong bodies of one crate are tried over the libraries that it
+left. The last line is that of `rt ci`, `N passed, M failed`; where one of these differs, it says how many failed.
+
+Its first line says how long it expects to take, by the table in docs/DEVELOPING.md; each line of `rt ci` on a crate begins
+with the minutes since.
 
 `rt ci` gets a lane for each processor, four at most, unless RT_JOBS says how many: of itself it begins a crate only where
 the memory that it reckons with is free, and reckons so much for the crate at the head of the longest chain that this one
@@ -18,18 +23,56 @@ import shutil
 import subprocess
 import sys
 import tempfile
+import time
 
+BEGUN = time.monotonic()
 TOP = os.path.normpath(os.path.join(os.path.dirname(os.path.abspath(__file__)), ".."))
 PROGRAM = os.path.join(TOP, "crates", "cilkwork", "out", "cilkwork")
+BUILT = os.path.join(TOP, "bin", "cilkwork")
 BEFORE = [
     ["bench/reference/examples.py", "--check"],
     ["bench/reference/check.py"],
     ["bench/reference/walks.py", "--check"],
+    ["bench/wrong/wrong.py"],
     ["bench/turned/turn.py", "--every", "100", "--jobs", "4"],
 ]
-AFTER = "bench/reference/fuzz.py"
-LANES = str(min(len(os.sched_getaffinity(0)), 4))
+LANES = min(len(os.sched_getaffinity(0)), 4)
 SEEDS = ["1", "40", "consts"]
+WRONG = ["bench/wrong/wrong.py", "--turn", "--jobs", str(min(LANES, 2))]
+# what the samples take beside `rt ci`, in seconds of a processor
+SAMPLES = 700
+# and a crate with no row of its own in the table
+SMALL = [60, 0, 0]
+INSTALLED = ["bin/cilkwork"] + ["share/doc/cilkwork/" + it for it in ("GUIDE.md", "LANGUAGE.md", "examples/fib.cilk")]
+WORDED = ["man/man1/cilkwork.1", "bash-completion/completions/cilkwork", "zsh/site-functions/_cilkwork", "fish/vendor_completions.d/cilkwork.fish"]
+
+
+def taken():
+    """What each crate's proof, tests and edits take by the table in docs/DEVELOPING.md, in seconds of a processor."""
+    with open(os.path.join(TOP, "docs", "DEVELOPING.md"), encoding="utf-8") as file:
+        rows = re.findall(r"^\| `(\w+)` \|(.*)\|(.*)\|(.*)\|$", file.read(), re.M)
+    return {name: [int((re.findall(r"\d+", it) or ["0"])[0]) for it in cells] for name, *cells in rows}
+
+
+def expectation():
+    """How long the gate takes from nothing: its lanes are full, or it waits for the longest chain of crates."""
+    with open(os.path.join(TOP, "crates.txt"), encoding="utf-8") as file:
+        lines = [line.partition("#")[0].partition(":") for line in file]
+    each, proved, chain, total = taken(), {}, 0, 0
+    for head, _, uses in lines:
+        if head.strip():
+            name = head.split()[0]
+            proof, *others = each.get(name, SMALL)
+            proved[name] = proof + max((proved.get(it, 0) for it in uses.split()), default=0)
+            chain, total = max(chain, proved[name] + max(others)), total + proof + sum(others)
+    clock = max(total / LANES, chain) + SAMPLES / LANES
+    said = "expected: %d minutes on %d processors, where nothing is kept from an earlier run here (%d minutes of a processor; longest chain %d)"
+    return said % (clock / 60, LANES, (total + SAMPLES) / 60, chain / 60)
+
+
+def stamped(line):
+    """A line of `rt ci`, with the minutes since the gate began where it says what came of a crate."""
+    return "%3d min %s" % ((time.monotonic() - BEGUN) / 60, line) if line.startswith("rt: ") else line
 
 
 def passes(words):
@@ -39,40 +82,82 @@ def passes(words):
     return ran.returncode == 0
 
 
+def said(*words):
+    """What a command writes to standard output."""
+    return subprocess.run(words, capture_output=True, text=True, check=True).stdout
+
+
+def unnamed(prefix):
+    """What is installed lacks: files, and commands and options of the program that a page or a completion does not name."""
+    program = os.path.join(prefix, "bin", "cilkwork")
+    commands = re.findall(r"^  (\w+)  ", said(program, "--help").split("Commands:")[1].split("\n\n")[0], re.M)
+    options = {it for verb in commands if verb != "help" for it in re.findall(r"--(\w+) <", said(program, verb, "--help"))}
+    lacks = [it for it in INSTALLED if not os.path.isfile(os.path.join(prefix, it))]
+    for name in WORDED:
+        with open(os.path.join(prefix, "share", name), encoding="utf-8") as it:
+            text = it.read().replace("\\", "")
+        lacks += ["%s: %s" % (name, it) for it in sorted({*commands, *options}) if not re.search(r"\b%s\b" % it, text)]
+    return lacks if commands and options else ["no command, or no option"]
+
+
+def build_passes(ran, log, prefix):
+    """Waits for ./build, shows what it told, and says whether it made and installed what it should."""
+    status = ran.wait()
+    print("== ./build --install FOLDER", flush=True)
+    log.seek(0)
+    print(log.read(), end="", flush=True)
+    lacks = [] if status else unnamed(prefix)
+    for it in lacks:
+        print("not installed: " + it)
+    return not status and not lacks
+
+
+def sample():
+    """The names of what does not pass of the sample and ./build, which runs beside it."""
+    with tempfile.TemporaryDirectory() as prefix, tempfile.TemporaryFile("w+") as log:
+        ran = subprocess.Popen([sys.executable, "-B", "build", "--install", prefix], cwd=TOP, stdout=log, stderr=subprocess.STDOUT)
+        failed = [words[0] for words in BEFORE if not passes(words)]
+        return failed + ([] if build_passes(ran, log, prefix) else ["build"])
+
+
 def program_passes():
-    """Tries random programs on the program that `rt ci` built, on a copy that may be run."""
+    """Holds the program that `rt ci` built to what ./build made and to random programs, on a copy that may be run."""
     if not os.path.isfile(PROGRAM):
-        print("rt ci left no program: random programs are not tried")
-        return True
+        print("rt ci left no program")
+        return False
     with tempfile.TemporaryDirectory() as folder:
         copy = os.path.join(folder, "cilkwork")
         shutil.copyfile(PROGRAM, copy)
         os.chmod(copy, 0o755)
-        return passes([AFTER, copy] + SEEDS)
+        tried = [["building/answers.py", copy, BUILT], ["bench/reference/fuzz.py", copy] + SEEDS]
+        return all([passes(words) for words in tried])
 
 
 def run_ci():
     """Runs `rt ci` and shows what it writes but for its last line, which is given with its status."""
     held = ""
-    env = {"RT_JOBS": LANES, **os.environ, "PYTHONUNBUFFERED": "1"}
+    env = {"RT_JOBS": str(LANES), **os.environ, "PYTHONUNBUFFERED": "1"}
     how = {"cwd": TOP, "env": env, "text": True, "errors": "replace"}
     with subprocess.Popen(["rt", "ci"], stdout=subprocess.PIPE, **how) as ran:
         for line in ran.stdout:
-            print(held, end="", flush=True)
+            print(stamped(held), end="", flush=True)
             held = line
     return held, ran.returncode
 
 
 def main():
-    failed = [words[0] for words in BEFORE if not passes(words)]
+    print(expectation(), flush=True)
+    failed = sample()
     if failed:
         print("FAILED: " + " ".join(failed))
         print("0 passed, %d failed" % len(failed))
         return 1
     last, status = run_ci()
-    if status == 0 and not program_passes():
-        print("FAILED: " + AFTER)
-        last, status = re.sub(r"\d+ failed", "1 failed", last), 1
+    if status == 0:
+        failed = ["the program that rt ci built"] * (not program_passes()) + [WRONG[0]] * (not passes(WRONG))
+    if failed:
+        print("FAILED: " + " ".join(failed))
+        last, status = re.sub(r"\d+ failed", "%d failed" % len(failed), last), 1
     print(last, end="")
     return status
 

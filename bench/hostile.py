@@ -8,6 +8,8 @@
     python3 bench/hostile.py PROGRAM arrays    an array of 16,777,216 elements declared in each turn of a loop: never two at once
     python3 bench/hostile.py PROGRAM paths     runs whose paths would be long: spawns without a join, long paths under many joins
     python3 bench/hostile.py PROGRAM memory    the same programs with less and less memory: an answer, or `memory`
+    python3 bench/hostile.py PROGRAM explain   sources on which an explanation has most to do, and a search over shapes for worse ones: time,
+                                               memory and length of `check --explain` beside `check`
     python3 bench/hostile.py PROGRAM refusals  the same programs and more with each single allocation refused in turn: the answer,
                                                or `memory` with nothing written; wants gcc, which compiles bench/refuse.c
 
@@ -17,6 +19,7 @@ docs/LANGUAGE.md.
 
 import os
 import pathlib
+import random
 import resource
 import subprocess
 import sys
@@ -364,8 +367,140 @@ def refusals(program):
     return wrong
 
 
+# what an explanation may take: so many times the seconds of the processor of the check alone, and so many more; so many
+# times its memory; bytes of text
+EXPLAIN_TIMES, EXPLAIN_SECONDS, EXPLAIN_MEMORY, EXPLAIN_BYTES = 3.0, 0.02, 1.5, 4096
+# shapes that the search tries
+EXPLAIN_TRIES = 80
+# how blocks begin, and how a spawn takes names: in the function's parameter, and what is passed
+BLOCKS = ["if(1){", "while(1){", "cilk_scope{", "region t{", "if(1){}else{"]
+TAKEN_BY = {"const": "const int {}[]", "array": "int {}[]", "int": "int {}"}
+TAILS = ["if(1){}", "while(1){}", "if(1){}else{}", "cilk_scope{}", "region t{}", "x=1;", "cilk_sync;"]
+
+
+def held(depth, block, names, taken, width, tail, count, sync=False, fault="y=cilk_spawn g();y=1;"):
+    """Blocks inside one another, each with spawns that take all names by so many, then a statement again and again, all in line 2;
+    and a fault in line 3."""
+    if taken == "int":
+        declared = "".join(f"int a{i}=0;" for i in range(names))
+        spawns = "".join(f"a{i}=cilk_spawn g();" for i in range(names))
+        head = ""
+    else:
+        declared = "".join(f"int a{i}[1];" for i in range(names))
+        parts = [range(i, min(i + width, names)) for i in range(0, names, width)]
+        spawns = "".join(f"cilk_spawn f{len(part)}({','.join(f'a{i}' for i in part)});" for part in parts)
+        head = "".join(
+            f"void f{n}({','.join(TAKEN_BY[taken].format(f'p{i}') for i in range(n))}){{}} " for n in sorted({len(part) for part in parts})
+        )
+    inside = spawns + ("cilk_sync;" if sync else "")
+    return (
+        head + "int g(){return 1;}\nint main(){int x=0;int y=0;" + declared
+        + (block + inside) * depth + "}" * depth + tail * count + "\n" + fault + "return y;}\n"
+    )
+
+
+def filled(make, size):
+    """The source of this many bytes, about, by how often its statement stands there again."""
+    one = len(make(1)) - len(make(0))
+    return make(max(0, (size - len(make(0))) // one))
+
+
+def tried(rng):
+    """A shape by chance, with its name."""
+    depth, names, width = rng.choice([1, 7, 29, 57]), rng.choice([1, 16, 120, 240]), rng.choice([1, 4, 16])
+    block, taken, tail = rng.choice(BLOCKS), rng.choice(sorted(TAKEN_BY)), rng.choice(TAILS)
+    size, sync = rng.choice([20_000, 200_000, 1_040_000]), rng.random() < 0.3
+    per_block = names * 18 if taken == "int" else names * 6
+    while depth * per_block > 900_000:
+        depth //= 2
+    source = filled(lambda count: held(depth, block, names, taken, width, tail, count, sync), size)
+    return f"{depth} of {block} by {names} {taken} by {width}, {tail}, {len(source)} bytes" + (", joined" if sync else ""), source
+
+
+def explained():
+    """Sources that were slow once, each with the words of the command."""
+    plain = ["check", "--explain"]
+    tags = "int main(){" + "".join(f"region t{i:x}{{}}" for i in range(70_000)) + "return 0;}"
+    body = "x=x*3+1;\n" * 116_000
+    return [
+        ("58 blocks that read 240 arrays, 11 branches", held(58, "if(1){", 240, "const", 16, "if(1){}", 11), plain),
+        ("58 blocks that read 240 arrays, branches up to 1 MiB", filled(lambda n: held(58, "if(1){", 240, "const", 16, "if(1){}", n), 1_040_000), plain),
+        ("58 loops that take 100 arrays", held(57, "while(1){", 100, "array", 16, "if(1){}", 0), plain),
+        ("29 loops that read 240 arrays", held(29, "while(1){", 240, "const", 16, "while(1){}", 0), plain),
+        ("29 loops that read 240 arrays, up to 1 MiB", filled(lambda n: held(29, "while(1){", 240, "const", 16, "while(1){}", n), 1_040_000), plain),
+        ("a syntax fault at the end of 1 MiB", "int main(int x){\n" + body + "return x 1;}", plain),
+        ("the same in one line", "int main(int x){" + body.replace("\n", " ") + "return x 1;}", plain),
+        ("a bracket that is open at the end of 1 MiB", "int main(int x){\n" + body + "return x;", plain),
+        ("70,000 different tags", tags, plain),
+        ("a number of 1 MB", "int main(){return " + "1" * 1_000_000 + ";}", plain),
+        ("a name of 1 MB", "int main(){return " + "n" * 1_000_000 + ";}", plain),
+        ("a line of 1 MB of control characters", "int main(){return 1 2;}//" + "\x1b" * 1_000_000, plain),
+        ("an unknown name at the end of 1 MiB", "int main(int x){\n" + body + "return z;}", plain),
+        ("a return that is missing at the end of 1 MiB", "int main(int x){\n" + body + "}", plain),
+    ]
+
+
+def fastest(program, words, source):
+    """The status, standard error, and the least seconds of the processor and bytes of memory of three runs."""
+    with tempfile.NamedTemporaryFile("w", suffix=".cilk") as file:
+        file.write(source)
+        file.flush()
+        least, most = None, None
+        for _ in range(3):
+            with tempfile.TemporaryFile() as err:
+                child = subprocess.Popen([program, words[0], file.name, *words[1:]], stdin=subprocess.DEVNULL, stdout=subprocess.DEVNULL, stderr=err)
+                _, ended, used = os.wait4(child.pid, 0)
+                child.returncode = os.waitstatus_to_exitcode(ended)
+                err.seek(0)
+                said = err.read()
+            seconds = used.ru_utime + used.ru_stime
+            least = seconds if least is None else min(least, seconds)
+            most = used.ru_maxrss if most is None else min(most, used.ru_maxrss)
+        return child.returncode, said, least, most << 10
+
+
+def weighed(program, name, source, words):
+    """Whether an explanation keeps its bounds, and by how much of its time it does."""
+    alone = fastest(program, ["check"], source)
+    more = fastest(program, words, source)
+    within = EXPLAIN_TIMES * alone[2] + EXPLAIN_SECONDS
+    text = more[1][len(alone[1]):]
+    plain = all(byte == 10 or 32 <= byte <= 126 for byte in text)
+    fine = (
+        (alone[0], more[0]) == (2, 2)
+        and more[1].startswith(alone[1])
+        and more[2] <= within
+        and more[3] <= EXPLAIN_MEMORY * alone[3]
+        and 0 < len(text) <= EXPLAIN_BYTES
+        and plain
+    )
+    told = f"{alone[2]:.3f} s and {alone[3] >> 20} MiB, explained {more[2]:.3f} s and {more[3] >> 20} MiB, {len(text)} bytes"
+    return fine, more[2] / within, f"{'ok ' if fine else 'BAD'} {name}: {told}"
+
+
+def explain(program):
+    wrong = 0
+    for name, source, words in explained():
+        fine, _, line = weighed(program, name, source, words)
+        wrong += not fine
+        print(line)
+    many = answer(program, ["check", *["--explain"] * 100_000], "int main() { return x; }")
+    fine = many[0] == 2 and many[3] <= 1.0
+    wrong += not fine
+    print(f"{'ok ' if fine else 'BAD'} --explain 100,000 times: {many[3]:.2f} s")
+    rng = random.Random(57)
+    found = []
+    for _ in range(EXPLAIN_TRIES):
+        name, source = tried(rng)
+        found.append(weighed(program, name, source, ["check", "--explain"]))
+    wrong += sum(not fine for fine, _, _ in found)
+    for fine, part, line in sorted(found, key=lambda it: (it[0], -it[1]))[:5]:
+        print(f"{line}; {part:.2f} of what it may take")
+    return wrong
+
+
 if __name__ == "__main__":
-    parts = {"rows": rows, "limits": limits, "sources": sources, "verifier": verifier, "cuts": cuts, "arrays": arrays, "paths": paths, "memory": memory, "refusals": refusals}
+    parts = {"rows": rows, "limits": limits, "sources": sources, "verifier": verifier, "cuts": cuts, "arrays": arrays, "paths": paths, "memory": memory, "explain": explain, "refusals": refusals}
     if len(sys.argv) != 3 or sys.argv[2] not in parts:
         sys.exit(__doc__)
     bad = parts[sys.argv[2]](str(pathlib.Path(sys.argv[1]).resolve()))

@@ -1,5 +1,6 @@
 #!/usr/bin/env python3
 """Holds the other implementation to answers that were worked out by hand: check.py prints how many hold."""
+import os
 import sys
 
 import ref
@@ -52,12 +53,30 @@ READ = ("int get(const int a[], int i) { return a[i]; } int main() { int a[2]; i
         "x = cilk_spawn get(a, 1); print(a[1]); cilk_sync; a[0] = x; return a[0]; }")
 CALLS = "int f(){return 0;}int main(){" + 65535 * "f();" + "return 0;}"
 
+NEAR_TIE = ("void f() { print(1); print(2); print(3); print(4); } void g() { print(1); print(2); } "
+            "int main() { cilk_spawn f(); g(); return 0; }")
+HALVES = """
+void h(int n) { if (0 < n) { cilk_spawn h(n - 1); h(n - 1); } }
+int main(int n) { h(n); return 0; }
+"""
+LOOP_IN_REGION = ("void p() { } int main() { region t { cilk_for (int i = 0; i < 2; i++) grain 1 { p(); } } return 0; }")
+SAME_OWN_SPAN = "void f() { print(1); } void g() { print(2); } int main() { g(); f(); return 0; }"
+
 SCALE = "tag,work,span,parallelism,burdened_span,burdened_parallelism\n"
 SITES = "site,kind,line,callee,calls,own_work,own_span,work,span\n"
+GAIN = "function,line,calls,own_work,own_span,span_if_free,parallelism_if_free,burdened_span_if_free\n"
 BILLION = 1000000000
 BOTH_10, BOTH_100, BOTH_15000 = (Burden(charge, "both") for charge in (10, 100, 15000))
 
-# source, arguments, mode, limit, burden (a number is charged on continuation edges alone), and the answer
+
+def example(name):
+    """The source of a program of examples/."""
+    with open(os.path.join(os.path.dirname(os.path.abspath(__file__)), "..", "..", "examples", name + ".cilk")) as file:
+        return file.read()
+
+
+# source, arguments, mode (of gains with the number of functions where it is not 10), limit, burden (a number is charged on
+# continuation edges alone), and the answer
 CASES = [
     (FIB, [0], "run", BILLION, 0, "return 0\n"),
     (FIB, [0], "scale", BILLION, 15000, SCALE + ",12,12,1.000,12,1.000\n"),
@@ -131,6 +150,23 @@ CASES = [
     (CALLS, [], "run", 196606, 0, (4, "", "over limit\n")),
     (READ, [], "run", BILLION, 0, "5\nreturn 5\n"),
     (READ, [], "scale", BILLION, 0, SCALE + ",22,19,1.157,19,1.157\n"),
+    (NEAR_TIE, [], "gain", BILLION, 10, GAIN + ",0,0,18,11,11,1.636,19\nf,1,1,9,9,9,2.000,19\n"
+     "main,1,1,4,2,9,2.000,15\n"),
+    (HALVES, [2], "gain", BILLION, 10, GAIN + ",0,0,63,35,35,1.800,55\nh,2,7,59,31,4,15.750,24\n"
+     "main,3,1,4,4,31,2.032,51\n"),
+    (LOOP_IN_REGION, [], "gain", BILLION, 10, GAIN + ",0,0,82,55,55,1.490,65\nmain,1,1,80,54,1,82.000,11\n"
+     "p,1,2,2,1,54,1.518,64\n"),
+    (SAME_OWN_SPAN, [], "gain", BILLION, 0, GAIN + ",0,0,10,10,10,1.000,10\nmain,1,1,4,4,6,1.666,6\n"
+     "f,1,1,3,3,7,1.428,7\ng,1,1,3,3,7,1.428,7\n"),
+    (SAME_OWN_SPAN, [], "gain 2", 10, 0, GAIN + ",0,0,10,10,10,1.000,10\nmain,1,1,4,4,6,1.666,6\n"
+     "f,1,1,3,3,7,1.428,7\n"),
+    (SAME_OWN_SPAN, [], "gain", 9, 0, (4, "", "over limit\n")),
+    (BAD % "print(7);", [0], "gain", BILLION, 0, (3, "", "trap 2 line 1\n")),
+    (example("fib"), [10], "gain", BILLION, 15000, GAIN + ",0,0,2388,169,169,14.130,75117\n"
+     "fib,6,177,2382,163,6,398.000,75006\nmain,18,1,6,6,163,14.650,75111\n"),
+    (example("mergesort"), [400], "gain", BILLION, 15000, GAIN + ",0,0,194975,47944,47944,4.066,182837\n"
+     "merge,8,399,175764,39737,8210,23.748,143210\nmain,52,1,8030,8030,39914,4.884,174807\n"
+     "sort,38,799,11181,177,47767,4.081,182657\n"),
 ]
 
 SPAWN = "int f(int v) { return v; } int main() { int x = 0; %s return x; }"
@@ -243,7 +279,8 @@ def check():
     held = 0
     for source, arguments, mode, limit, burden, wanted in CASES:
         charged = burden if isinstance(burden, Burden) else Burden(burden)
-        answer = report(mode, Run(Program(source), arguments, limit), charged)
+        words = mode.split()
+        answer = report(words[0], Run(Program(source), arguments, limit), charged, top=int((words + ["10"])[1]))
         wanted = wanted if isinstance(wanted, tuple) else (0, wanted, "")
         held += answer == wanted
         if answer != wanted:

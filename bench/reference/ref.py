@@ -2,6 +2,7 @@
 """Another implementation of the profile: meaning, costs, strand tree and reports, for expected values.
 
     ref.py run|scale|sites FILE [ARGS..] [--limit N] [--burden B] [--edges spawn|both]
+    ref.py gain FILE [ARGS..] [--limit N] [--burden B] [--edges spawn|both] [--top N]
     ref.py greedy P FILE [ARGS..] [--limit N]
 
 It takes programs that `cilkwork check` accepts, and writes and answers what `cilkwork` should.
@@ -13,7 +14,7 @@ import threading
 sys.path.insert(0, os.path.dirname(os.path.abspath(__file__)))
 from syntax import Program
 from greedy import greedy_length
-from trees import Block, Burden, Mark, Rows, Tree, burdened_span
+from trees import Block, Burden, Mark, Rows, Tree, burdened_span, freed
 
 LEAST, GREATEST = -2**63, 2**63 - 1
 OVERFLOW, ZERO_DIVISOR, OUT_OF_BOUNDS, BAD_LENGTH, TOO_MANY_TURNS, TOO_DEEP = range(1, 7)
@@ -413,31 +414,55 @@ def sites_text(run):
     return text
 
 
+def gain_text(run, burden, top):
+    """The functions with the greatest own spans, at most so many, with the spans if all their sites were free."""
+    def line(name, counts, tree):
+        fields = (name, *counts, tree.span, parallelism(run.tree.work, tree.span), burdened_span(burden, tree))
+        return "%s,%d,%d,%d,%d,%d,%s,%d\n" % fields
+
+    callees = ["main"] + [site.callee for site in run.program.sites]
+    rows = Rows(burden, run.tree, len(callees), run.program.tags).sites
+    counted = []
+    for name, function in run.program.functions.items():
+        own = [row for callee, row in zip(callees, rows) if callee == name]
+        sums = [sum(getattr(row, field) for row in own) for field in ("calls", "own_work", "own_span")]
+        counted.append((name, [function.line] + sums))
+    told = sorted((it for it in counted if it[1][3] > 0), key=lambda it: -it[1][3])[:top]
+    text = "function,line,calls,own_work,own_span,span_if_free,parallelism_if_free,burdened_span_if_free\n"
+    text += line("", [0, 0, run.tree.work, run.tree.span], run.tree)
+    for name, counts in told:
+        frees = {number for number, callee in enumerate(callees) if callee == name}
+        text += line(name, counts, freed(run.tree, frees))
+    return text
+
+
 def greedy_text(run, processors):
     fields = (processors, run.tree.work, run.tree.span, greedy_length(run.tree, processors))
     return "processors,work,span,greedy\n%d,%d,%d,%d\n" % fields
 
 
-def text_of(mode, run, burden, processors):
+def text_of(mode, run, burden, processors, top):
     """What is written of a run that ended."""
     if mode == "run":
         return run_text(run)
     if mode == "scale":
         return scale_text(run, burden)
+    if mode == "gain":
+        return gain_text(run, burden, top)
     return sites_text(run) if mode == "sites" else greedy_text(run, processors)
 
 
-def report(mode, run, burden, processors=1):
+def report(mode, run, burden, processors=1, top=10):
     """The exit status, standard output and standard error of this run. That its strands are too many is not told."""
     if run.is_over:
         return 4, "", "over limit\n"
     if run.trap:
         return 3, run_text(run) if mode == "run" else "", "trap %d line %d\n" % (run.trap.code, run.trap.line)
-    return 0, text_of(mode, run, burden, processors), ""
+    return 0, text_of(mode, run, burden, processors, top), ""
 
 
 def main():
-    words, limit, charge, edges, positions = sys.argv[1:], 1000000000, 15000, "spawn", []
+    words, limit, charge, edges, top, positions = sys.argv[1:], 1000000000, 15000, "spawn", 10, []
     while words:
         word = words.pop(0)
         if word == "--limit":
@@ -446,6 +471,8 @@ def main():
             charge = int(words.pop(0))
         elif word == "--edges":
             edges = words.pop(0)
+        elif word == "--top":
+            top = int(words.pop(0))
         else:
             positions.append(word)
     mode = positions.pop(0)
@@ -453,7 +480,7 @@ def main():
     path, *arguments = positions
     with open(path) as file:
         run = Run(Program(file.read()), [int(word) for word in arguments], limit)
-    status, out, err = report(mode, run, Burden(charge, edges), processors)
+    status, out, err = report(mode, run, Burden(charge, edges), processors, top)
     sys.stdout.write(out)
     sys.stderr.write(err)
     return status

@@ -1,4 +1,5 @@
-"""Strand trees in normal form, and what is read off them: work, span, burdened span, rows of sites and of tags.
+"""Strand trees in normal form, and what is read off them: work, span, burdened span, rows of sites and of tags, and the
+tree in which what some sites do is free.
 
 A tree is a list of parts, one after another: a number is a strand of so many instructions, a `Fork` a child beside the
 rest of its block, a `Mark` an invocation of a site or an execution of a tag. No two strands are neighbours, and none is
@@ -80,6 +81,20 @@ def burdened_span(burden, tree):
         else:
             total += burdened_span(burden, part.inner)
     return total
+
+
+def freed(tree, frees, site=0):
+    """The tree in which the strands of these sites weigh nothing; those outside of each invocation are of this site."""
+    block = Block()
+    for part in tree.parts:
+        if isinstance(part, int):
+            block.add(0 if site in frees else part)
+        elif isinstance(part, Fork):
+            block.add(Fork(freed(part.child, frees, site), freed(part.rest, frees, site)))
+        else:
+            inner = part.key if isinstance(part.key, int) else site
+            block.add(Mark(part.key, freed(part.inner, frees, inner)))
+    return block.tree()
 
 
 class SiteRow:

@@ -34,7 +34,15 @@ MOST_MEMORY = 16 << 30
 LIKELY = {
     "Typing": "names_and_types", "Names": "names_and_types", "Ownership": "ownership", "Lines": "refusals",
     "Sizes": "sizes", "Sites": "sizes", "Limits": "limits", "Rows": "rows_and_texts", "Report": "rows_and_texts",
-    "Burdens": "rows_and_texts", "Expressions": "values", "Ints": "values", "Trees": "strand_trees",
+    "Burdens": "rows_and_texts", "Freed": "gains", "Expressions": "values", "Ints": "values", "Trees": "strand_trees",
+}
+# names that turns are written with where their file does not import them
+BESIDE = {
+    "Rattle.std.specs.Prelude": ["not", "take", "drop", "length", "filter", "int_lt", "int_le", "◌-◌", "◌-ℤ◌"],
+    "Rattle.std.specs.Int": ["int_max"],
+    "Rattle.cw_model.specs.declared.syntax.Reduction.TheVariants": ["Sum", "Max"],
+    "Rattle.cw_model.specs.Typing": ["same_reduction"],
+    "Rattle.cw_model.specs.Ints": ["natural"],
 }
 
 
@@ -60,6 +68,16 @@ def turned(text, stands, instead):
     # what both have in common keeps its own lines
     made = pieces[:head] + others[head : len(others) - tail] + pieces[len(pieces) - tail :]
     return text[: found[0].start()] + "".join(made) + text[found[0].end() :]
+
+
+def importing(text, before):
+    """The text with imports of the names that it has and the text before its turn has not."""
+    words, known = set(re.findall(r"[\w-]+", text)), set(re.findall(r"[\w-]+", before))
+    for module, names in BESIDE.items():
+        missing = [it for it in names if it.strip("◌") in words - known]
+        if missing:
+            text = text.replace("use ", "use %s.{%s}\nuse " % (module, ", ".join(missing)), 1)
+    return text
 
 
 def alike(piece, other):
@@ -128,11 +146,12 @@ def try_turn(row, base):
         shutil.copytree(base, folder)
         path = os.path.join(folder, definition_file(row["file"]))
         with open(path, encoding="utf-8") as file:
-            text = turned(file.read(), row["stands"], row["turned"])
+            before = file.read()
+        text = turned(before, row["stands"], row["turned"])
         if text is None:
             return ["unread"]
         with open(path, "w", encoding="utf-8") as file:
-            file.write(text)
+            file.write(importing(text, before))
         named = set(re.findall(r"(?<![\w.])(\w+)\.\w", row["refused_by"]))
         found = answer(check(folder, named or {LIKELY.get(row["file"], "statements")}), folder, row["file"])
         return answer(check(folder), folder, row["file"]) if found == ["none"] else found

@@ -22,7 +22,7 @@ without_explain (word ∷ words) =
 -- the one word asks for the version
 abbrev pub asks_version : List Text → Bool
 asks_version [] = false
-asks_version (word ∷ []) = bytes_eq word (codes "--version")
+asks_version (word ∷ []) = if bytes_eq word (codes "--version") then true else bytes_eq word (codes "-V")
 asks_version (word ∷ other ∷ words) = false
 
 -- the name of the program with its version, unless memory ran out

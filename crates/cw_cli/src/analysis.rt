@@ -10,7 +10,7 @@ ghost use Rattle.cw_cli.specs.Told.{HasTables};
 
 use crate::asked::{Mode, Options};
 use crate::compiling::compile;
-use crate::reporting::{are_words, values_of, write_tables, write_values};
+use crate::reporting::{are_words, write_tables, write_values};
 use cw_machine::alone::run_alone;
 use cw_machine::values::values_alone;
 use cw_model::limits::MOST_BURDEN;
@@ -153,7 +153,7 @@ fn run_plain_with<
 {
     let code = Arc::new(alloc, code)?;
     let share = Arc::try_clone(&code)?;
-    let ended = cw_pool::run::run(
+    let values = cw_pool::run::values(
         rt,
         alloc,
         share,
@@ -163,7 +163,7 @@ fn run_plain_with<
         crew,
         gate,
     );
-    write_values(alloc, &code, args, options, values_of(ended), out)
+    write_values(alloc, &code, args, options, values, out)
 }
 
 // Runs code with a crew, and writes what is counted of the run.

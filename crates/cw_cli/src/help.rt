@@ -5,9 +5,11 @@ pub const OF_PROGRAM: &str = "\
 A program is written in a small profile of Cilk: cilk_spawn, cilk_sync, cilk_for
 and cilk_scope over integers and arrays. 'region NAME { .. }' in it gives a part
 of the run, under its tag NAME, a row of its own in the report of scale.
-The language stands in docs/LANGUAGE.md, how to read a report in docs/GUIDE.md,
-and programs to begin with in examples/. 'cilkwork COMMAND --help' tells of one
-command. Without a command the source on standard input is run, without ARGS.
+The language stands in LANGUAGE.md, how to read a report in GUIDE.md, programs
+to begin with in examples/: of a program that is installed in PREFIX/bin, in
+PREFIX/share/doc/cilkwork, and in the repository in docs/ and examples/.
+'cilkwork COMMAND --help' tells of one command. Without a command the source on
+standard input is run, without ARGS.
 
 What is written to standard output:
   check  'ok', where the source compiles
@@ -19,10 +21,10 @@ In a table commas stand between fields, and the first line names the columns.
 Work, span, limit and burden are counted in instructions.
 
 Every command takes these words too, anywhere among the others:
-  --explain  where the source is refused or the run traps, the line on standard
-             error is followed by the reason in words and the lines that matter
-  --help     this text
-As the only word: --version writes the name and the version of the program.
+  --explain   where the source is refused or the run traps, the line on standard
+              error is followed by the reason in words and the lines that matter
+  -h, --help  tells of the command
+As the only word: -V or --version writes the program's name and its version.
 
 A number is one or more decimal digits; zeros in front are allowed:
   P         from 1 to 1000000
@@ -89,7 +91,7 @@ never ran; what is counted of it are its executions that lie in no other of it.
                         behind which it goes on; by --edges both at each spawn
                         that it runs through, on either side
   burdened_parallelism  work by burdened span, in the same way
-How to read them: docs/GUIDE.md.
+How to read them: GUIDE.md, which lies where 'cilkwork --help' tells.
 
 --explain tells why a source is refused or a run traps. What ARGS and numbers
 may be, and the exit statuses: 'cilkwork --help'.";
@@ -111,7 +113,7 @@ each call in the source has a line, by its place, also where it never ran.
 In work and span a call inside another one of the same site is not counted
 again. The own work of all sites adds up to the work of the run, and their own
 span to its span. --burden and --edges change nothing here.
-How to read them: docs/GUIDE.md.
+How to read them: GUIDE.md, which lies where 'cilkwork --help' tells.
 
 --explain tells why a source is refused or a run traps. What ARGS and numbers
 may be, and the exit statuses: 'cilkwork --help'.";
@@ -130,7 +132,7 @@ first P ready strands, in the order of a serial run, do one instruction each;
 where there are fewer, all of them. The steps are no fewer than work by P, and
 no fewer than the span; P times the steps are at most the work and P - 1 times
 the span. A run has too many strands where they are more than 1000000.
-How to read it: docs/GUIDE.md.
+How to read it: GUIDE.md, which lies where 'cilkwork --help' tells.
 
 --explain tells why a source is refused or a run traps. What P, ARGS and
 numbers may be, and the exit statuses: 'cilkwork --help'.";

@@ -62,21 +62,6 @@ pub(crate) fn write_tables<W: Sink>(
     Ok(())
 }
 
-// The values of a run of which all was counted.
-pub(crate) fn values_of(ended: Result<Ended, Fault>) -> Result<Values, Fault>
-    ensures { (code : Code) (args : List ℤ) (n : ℕ) (burden : Burden) → RunsAsCode code args n burden ended
-        → GivesAsCode code args n burden result }
-{
-    match ended {
-        Ok(ended) => Ok(Values {
-            value: ended.value,
-            lines: ended.lines,
-            totals: ended.totals,
-        }),
-        Err(fault) => Err(fault),
-    }
-}
-
 // Reads each argument: it is a word of 64 bits.
 pub(crate) fn are_words(args: &[i64])
     ensures { list_all fits args.now ≡ true }

@@ -1,14 +1,6 @@
-pub mod Calls
-pub mod Disowned
-pub mod Doings
-pub mod Held
-pub mod Laws
 pub mod Limits
 pub mod Lines
-pub mod Loops
-pub mod Moments
 pub mod Names
-pub mod Owners
 pub mod Parts
 pub mod Places
 pub mod Reasons
@@ -16,6 +8,5 @@ pub mod Regions
 pub mod Rules
 pub mod Standing
 pub mod Told
-pub mod Touched
 pub mod Unread
 pub mod Uses

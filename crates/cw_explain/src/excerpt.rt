@@ -3,11 +3,11 @@
 ghost use Rattle.std.specs.Prelude.{◌≡◌};
 ghost use Rattle.cw_explain.specs.Lines.{after_line, first_line, line_text};
 
-use crate::word::Word;
+use crate::word::Shown;
 use std::alloc::AllocError;
 
-/// The most bytes of a line that are shown.
-const MOST_SHOWN: usize = 160;
+/// The most columns of a line, with its number in front and `..` behind it.
+const MOST_COLUMNS: usize = 160;
 
 /// The text of a line of a source, counted from 1, without its line feed; empty where there is no such line.
 pub fn line_of(source: &[u8], line: u32) -> &[u8]
@@ -44,15 +44,20 @@ fn after_line(text: &[u8]) -> &[u8]
     &[]
 }
 
-// The text without white space at its end, and no more of it than is shown.
+// The text without white space at its end.
 fn trimmed(text: &[u8]) -> &[u8] {
     let mut kept: &[u8] = &[];
     for i in 0..text.len() {
-        if i < MOST_SHOWN && text[i] > b' ' {
+        if !is_space(text[i]) {
             kept = &text[..i + 1];
         }
     }
     kept
+}
+
+// Whether a byte is white space.
+fn is_space(byte: u8) -> bool {
+    byte == b' ' || byte == b'\t' || byte == b'\r'
 }
 
 // How many digits a number has.
@@ -95,12 +100,10 @@ fn add_line(out: &mut String, source: &[u8], line: u32, columns: usize) -> Resul
     for _ in digits(line)..columns {
         out.push(' ')?;
     }
-    let cut = text.len() == MOST_SHOWN;
-    let text = Word { text };
-    write!(out, "  {line} | {text}")?;
-    if cut {
-        out.push_str(" ..")?;
-    }
-    out.push('\n')?;
+    let shown = Shown {
+        text,
+        columns: MOST_COLUMNS.saturating_sub(columns).saturating_sub(7),
+    };
+    write!(out, "  {line} | {shown}\n")?;
     Ok(())
 }

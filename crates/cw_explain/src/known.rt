@@ -2,7 +2,6 @@
 
 ghost use Rattle.std.specs.Prelude.{
   ◌≡◌,
-  ◌≤◌,
   Contains,
   IfOk,
   IfSome,
@@ -24,7 +23,6 @@ ghost use Rattle.cw_explain.specs.Names.{
   local_view,
   locals_of,
   names_of,
-  param_names,
 };
 ghost use Rattle.cw_explain.specs.Places.{
   after_stmt,
@@ -82,22 +80,6 @@ impl<'a> Known<'a> {
         Ok(known)
     }
 
-    /// The parameters of a function, at the line of its head, the first one first.
-    pub fn in_order(alloc: Global, function: &'a Function) -> Result<Known<'a>, AllocError>
-        ensures { IfOk result (λ known.
-            known_names (names_of known) ≡ param_names (map param_of function.now.params.items)) }
-    {
-        let mut locals = Vec::new(alloc);
-        for param in function.params.as_slice() {
-            locals.push(Local {
-                name: Word::of(&param.name),
-                kind: param.kind,
-                line: function.line,
-            })?;
-        }
-        Ok(Known { locals })
-    }
-
     /// How many names are known.
     pub fn len(&self) -> usize
         ensures { result ≡ length (locals_of self.now) }
@@ -152,16 +134,6 @@ impl<'a> Known<'a> {
             (λ local. newest name.now (locals_of self.now) ≡ Some (local_view local)) }
     {
         newest_of(self.locals.as_slice(), name)
-    }
-
-    /// Whether one of the oldest names, this many, is spelled so.
-    pub fn is_among_first(&self, count: usize, name: &[u8]) -> bool
-        ensures { result
-            ≡ is_among name.now (known_names (kinds (oldest count (locals_of self.now)))) }
-    {
-        let newer = self.locals.len().saturating_sub(count);
-        let first = &self.locals[newer..];
-        newest_of(first, name).is_some()
     }
 }
 

@@ -4,9 +4,12 @@ ghost use Rattle.std.specs.Prelude.{◌≡◌, ◌≤◌, IfSome, is_some, lengt
 ghost use Rattle.cw_explain.specs.Unread.{HasUnread, IsNotAscii, IsUnread, is_ascii};
 ghost use Rattle.cw_model.specs.Pieces.{is_digit, is_letter, is_separator, is_word_byte, one_byte};
 
-use crate::word::{Word, shown};
+use crate::word::{Shown, Word, is_printable};
 use cw_model::limits::{MOST_NAME_BYTES, MOST_NUMBER, MOST_SOURCE_BYTES};
 use std::fmt;
+
+/// The most digits of a number that are shown.
+const MOST_DIGITS: usize = 24;
 
 /// What is wrong with the text of a line.
 #[derive(Clone, Copy, Debug)]
@@ -36,21 +39,13 @@ impl fmt::Display for Unreadable<'_> {
                 f,
                 "the byte {byte} is above 127: a source is ASCII, its comments too"
             ),
-            Unreadable::NoToken(byte) => {
-                let mark = char::from(shown(*byte));
-                write!(f, "the byte {byte} ('{mark}') starts no token")?;
-                match byte {
-                    b'&' | b'|' => write!(
-                        f,
-                        ": there is no && and no ||; an if inside an if, or * and + of values that are 0 or 1"
-                    ),
-                    b'#' => write!(f, ": there are no directives"),
-                    b'"' | b'\'' => write!(f, ": there is no text, only integers"),
-                    _ => Ok(()),
-                }
-            }
+            Unreadable::NoToken(byte) => write_no_token(f, *byte),
             Unreadable::LargeNumber(number) => {
-                write!(f, "the number {number} is above {MOST_NUMBER}")
+                let digits = Shown {
+                    text: number.text,
+                    columns: MOST_DIGITS,
+                };
+                write!(f, "the number {digits} is above {MOST_NUMBER}")
             }
             Unreadable::LongName(name) => {
                 let bytes = name.text.len();
@@ -60,6 +55,25 @@ impl fmt::Display for Unreadable<'_> {
                 )
             }
         }
+    }
+}
+
+// A byte that starts no token.
+fn write_no_token<W: fmt::Write>(f: &mut fmt::Formatter<W>, byte: u8) -> fmt::Result {
+    write!(f, "the byte {byte} ")?;
+    if is_printable(byte) {
+        let mark = char::from(byte);
+        write!(f, "('{mark}') ")?;
+    }
+    write!(f, "starts no token")?;
+    match byte {
+        b'&' | b'|' => write!(
+            f,
+            ": there is no && and no ||; an if inside an if, or * and + of values that are 0 or 1"
+        ),
+        b'#' => write!(f, ": there are no directives"),
+        b'"' | b'\'' => write!(f, ": there is no text, only integers"),
+        _ => Ok(()),
     }
 }
 

@@ -3,16 +3,10 @@
 
 mod excerpt;
 mod known;
-pub mod laws;
 mod lexical;
 mod limits;
-mod owning;
-mod reading;
 mod rules;
-mod shared;
 mod statements;
-mod taken;
-mod touched;
 mod traps;
 mod typing;
 mod word;
@@ -20,8 +14,6 @@ mod word;
 pub use excerpt::{add_lines, line_of};
 pub use lexical::{Unreadable, no_token, not_ascii};
 pub use limits::{TooLarge, passed_by_code, passed_by_parts, passed_by_tokens};
-pub use owning::{At, Disowned};
-pub use reading::broken_ownership;
 pub use rules::broken_rule;
 pub use traps::Trapped;
 pub use typing::IllTyped;

@@ -1,11 +1,12 @@
-//! Names as they are shown.
+//! Bytes of a source as they are shown.
 
-ghost use Rattle.std.specs.Prelude.{◌≡◌, ◌≤◌, bytes_eq};
+ghost use Rattle.std.specs.Prelude.{◌≡◌, bytes_eq};
 
+use cw_model::limits::MOST_NAME_BYTES;
 use cw_tree::syntax::Name;
 use std::fmt;
 
-/// A name of a source, by its bytes.
+/// A name or another word of a source, by its bytes.
 #[derive(Clone, Copy, Debug)]
 pub struct Word<'a> {
     pub text: &'a [u8],
@@ -29,24 +30,59 @@ impl<'a> Word<'a> {
     }
 }
 
+/// As much of it as a name may have bytes.
 impl fmt::Display for Word<'_> {
     fn fmt<W: fmt::Write>(&self, f: &mut fmt::Formatter<W>) -> fmt::Result {
+        let shown = Shown {
+            text: self.text,
+            columns: MOST_NAME_BYTES,
+        };
+        write!(f, "{shown}")
+    }
+}
+
+/// Bytes of a source, as far as they take no more than so many columns; `..` stands for the rest.
+#[derive(Clone, Copy, Debug)]
+pub struct Shown<'a> {
+    pub text: &'a [u8],
+    pub columns: usize,
+}
+
+impl fmt::Display for Shown<'_> {
+    fn fmt<W: fmt::Write>(&self, f: &mut fmt::Formatter<W>) -> fmt::Result {
+        let mut columns: usize = 0;
         for byte in self.text {
-            let shown = char::from(shown(*byte));
-            write!(f, "{shown}")?;
+            columns = columns.saturating_add(width(*byte));
+            if columns > self.columns {
+                return write!(f, "..");
+            }
+            write_byte(f, *byte)?;
         }
         Ok(())
     }
 }
 
-/// A byte as it is shown in one column: what is not printable ASCII is shown as '?', a tab as a space.
-pub fn shown(byte: u8) -> u8
-    ensures least { 32 ≤ result }
-    ensures most { result ≤ 126 }
-{
+/// Whether a byte is shown as the character that it is.
+pub fn is_printable(byte: u8) -> bool {
+    matches!(byte, 32..=126)
+}
+
+// How many columns a byte takes.
+fn width(byte: u8) -> usize {
+    if byte == b'\t' || is_printable(byte) {
+        return 1;
+    }
+    4
+}
+
+// Shows a byte: a tab as a space, and what is not printable ASCII by its code.
+fn write_byte<W: fmt::Write>(f: &mut fmt::Formatter<W>, byte: u8) -> fmt::Result {
     match byte {
-        b'\t' => b' ',
-        32..=126 => byte,
-        _ => b'?',
+        b'\t' => write!(f, " "),
+        32..=126 => {
+            let shown = char::from(byte);
+            write!(f, "{shown}")
+        }
+        _ => write!(f, "\\x{byte:02x}"),
     }
 }

@@ -25,12 +25,39 @@ static TOKENS: &[(&str, &str)] = &[
     ),
     (
         "int main() {\n  return n0123456789012345678901234567890123456789012345678901234567890123;\n}",
-        "refused 5 line 2\nthe name n0123456789012345678901234567890123456789012345678901234567890123 has 65 bytes: at most 64\n  2 |   return n0123456789012345678901234567890123456789012345678901234567890123;\n",
+        "refused 5 line 2\nthe name n012345678901234567890123456789012345678901234567890123456789012.. has 65 bytes: at most 64\n  2 |   return n0123456789012345678901234567890123456789012345678901234567890123;\n",
     ),
-    // a byte above 127 is shown as a question mark
+    // a byte above 127 is shown by its code
     (
         "int main() {\n  // caf\u{80}\n  return 0;\n}",
-        "refused 1 line 2\nthe byte 194 is above 127: a source is ASCII, its comments too\n  2 |   // caf??\n",
+        "refused 1 line 2\nthe byte 194 is above 127: a source is ASCII, its comments too\n  2 |   // caf\\xc2\\x80\n",
+    ),
+    // bytes that a terminal would act on are shown by their codes, a tab as a space; a CR at the end is not shown
+    (
+        "int main() {\n\tint x = \u{1b}[2J;\r\n  return 0;\n}",
+        "refused 1 line 2\nthe byte 27 starts no token\n  2 |  int x = \\x1b[2J;\n",
+    ),
+    (
+        "int main() {\r\n  return \r\u{7}1 2; // \u{7f}\r\n}",
+        "refused 1 line 2\nthe byte 7 starts no token\n  2 |   return \\x0d\\x071 2; // \\x7f\n",
+    ),
+    (
+        "int main() {\n  return 0;\n}\u{0}",
+        "refused 1 line 3\nthe byte 0 starts no token\n  3 | }\\x00\n",
+    ),
+    // a line is shown whole that takes 158 columns with its number, and as much of a longer one
+    (
+        "int main() {\n  return @; // 01234567890123456789012345678901234567890123456789012345678901234567890123456789012345678901234567890123456789012345678901234567890123456\n}",
+        "refused 1 line 2\nthe byte 64 ('@') starts no token\n  2 |   return @; // 01234567890123456789012345678901234567890123456789012345678901234567890123456789012345678901234567890123456789012345678901234567890123456\n",
+    ),
+    (
+        "int main() {\n  return @; // 012345678901234567890123456789012345678901234567890123456789012345678901234567890123456789012345678901234567890123456789012345678901234567\n}",
+        "refused 1 line 2\nthe byte 64 ('@') starts no token\n  2 |   return @; // 01234567890123456789012345678901234567890123456789012345678901234567890123456789012345678901234567890123456789012345678901234567890123456..\n",
+    ),
+    // of a number at most 24 digits
+    (
+        "int main() {\n  return 1234567890123456789012345;\n}",
+        "refused 1 line 2\nthe number 123456789012345678901234.. is above 9223372036854775807\n  2 |   return 1234567890123456789012345;\n",
     ),
 ];
 
@@ -76,6 +103,28 @@ static GRAMMAR: &[(&str, &str)] = &[
     (
         "int main(int n) {\n  if (n) { } else if (n) { }\n  return 0;\n}",
         "refused 2 line 2\nif cannot stand here; here can stand {\n  2 |   if (n) { } else if (n) { }\n",
+    ),
+    // an else behind an if that is complete, behind another statement, and twice
+    (
+        "int main(int n) {\n  if (n) { n = 1; } else { n = 2; } else { }\n  return n;\n}",
+        "refused 2 line 2\nelse cannot stand here: else is a word of the language, and no name; here can stand a name, int, if, while, return, print, cut, region, cilk_spawn, cilk_sync, cilk_scope, cilk_for or }\n  2 |   if (n) { n = 1; } else { n = 2; } else { }\n",
+    ),
+    (
+        "int main(int n) {\n  while (n) { n = 0; } else { }\n  return n;\n}",
+        "refused 2 line 2\nelse cannot stand here: else is a word of the language, and no name; here can stand a name, int, if, while, return, print, cut, region, cilk_spawn, cilk_sync, cilk_scope, cilk_for or }\n  2 |   while (n) { n = 0; } else { }\n",
+    ),
+    (
+        "int main(int n) {\n  if (n) { n = 1; } )\n  return n;\n}",
+        "refused 2 line 2\n) cannot stand here; here can stand a name, int, if, else, while, return, print, cut, region, cilk_spawn, cilk_sync, cilk_scope, cilk_for or }\n  2 |   if (n) { n = 1; } )\n",
+    ),
+    // in the head of a loop, in blocks of each kind
+    (
+        "int main(int n) {\n  cilk_scope { region r { while (n) { if (n) { } else { cilk_for (int i = 0; i <= n; i++) { } } } } }\n  return n;\n}",
+        "refused 2 line 2\n<= cannot stand here\n  2 |   cilk_scope { region r { while (n) { if (n) { } else { cilk_for (int i = 0; i <= n; i++) { } } } } }\n",
+    ),
+    (
+        "int main(int n) {\n  int a[n];\n  cut a at 1 as l, r { cilk_for (int i = 0; i < 1; i++) grain 2 over (l) { l[i] = 1; } l[0] 1; }\n  return n;\n}",
+        "refused 2 line 3\n1 cannot stand here; here can stand =\n  3 |   cut a at 1 as l, r { cilk_for (int i = 0; i < 1; i++) grain 2 over (l) { l[i] = 1; } l[0] 1; }\n",
     ),
     // what can stand behind an operand
     (

@@ -65,6 +65,44 @@ static TAKEN: &[(&str, &str)] = &[
     ),
 ];
 
+// Which of several spawns is told.
+static TAKERS: &[(&str, &str)] = &[
+    // one branch joins its own, so the other's is told
+    (
+        "int f() { return 1; }\nint main(int n) {\n  int x = 0;\n  if (n) {\n    x = cilk_spawn f();\n  } else {\n    x = cilk_spawn f();\n    cilk_sync;\n  }\n  print(x);\n  cilk_sync;\n  return x;\n}",
+        "refused 4 line 10\nx is read in line 10, and the call spawned in line 5 gives its result at the next cilk_sync\n   5 |     x = cilk_spawn f();\n  10 |   print(x);\n",
+    ),
+    (
+        "int f() { return 1; }\nint main(int n) {\n  int x = 0;\n  if (n) {\n    x = cilk_spawn f();\n    cilk_sync;\n  } else {\n    x = cilk_spawn f();\n  }\n  print(x);\n  cilk_sync;\n  return x;\n}",
+        "refused 4 line 10\nx is read in line 10, and the call spawned in line 8 gives its result at the next cilk_sync\n   8 |     x = cilk_spawn f();\n  10 |   print(x);\n",
+    ),
+    // one that was joined is not told, nor one behind the while
+    (
+        "int f() { return 1; }\nint main(int n) {\n  int x = 0;\n  x = cilk_spawn f();\n  cilk_sync;\n  while (n > 0) {\n    print(x);\n    x = cilk_spawn f();\n    n = n - 1;\n  }\n  cilk_sync;\n  x = cilk_spawn f();\n  cilk_sync;\n  return x;\n}",
+        "refused 4 line 7\nx is read in line 7, and the call spawned in line 8 gives its result at the next cilk_sync; a turn of the while before spawned it\n  7 |     print(x);\n  8 |     x = cilk_spawn f();\n",
+    ),
+    // names of two blocks, one behind the other
+    (
+        "int f() { return 1; }\nint main(int n) {\n  if (n) {\n    int x = 0;\n    x = cilk_spawn f();\n    cilk_sync;\n  }\n  if (n) {\n    int y = 0;\n    y = cilk_spawn f();\n    y = 1;\n    cilk_sync;\n  }\n  return 0;\n}",
+        "refused 4 line 11\ny is written in line 11, and the call spawned in line 10 gives its result at the next cilk_sync\n  10 |     y = cilk_spawn f();\n  11 |     y = 1;\n",
+    ),
+    // a spawn outside of the block, in which another sync joins nothing of it
+    (
+        "int f() { return 1; }\nint main() {\n  int x = 0;\n  int y = 0;\n  x = cilk_spawn f();\n  cilk_scope {\n    y = cilk_spawn f();\n    cilk_sync;\n    print(y);\n    print(x);\n  }\n  cilk_sync;\n  return x;\n}",
+        "refused 4 line 10\nx is read in line 10, and the call spawned in line 5 gives its result at the next cilk_sync\n   5 |   x = cilk_spawn f();\n  10 |     print(x);\n",
+    ),
+    // a cut inside of another, and an array that a spawn of the inner one has
+    (
+        "void f(int a[]) { }\nint main() {\n  int a[8];\n  cut a at 4 as l, r {\n    cut l at 2 as ll, lr {\n      cilk_spawn f(ll);\n      f(lr);\n      f(l);\n    }\n  }\n  return 0;\n}",
+        "refused 4 line 8\nl is passed in line 8, and the cut in line 5 has it until its block ends: name its parts there\n  5 |     cut l at 2 as ll, lr {\n  8 |       f(l);\n",
+    ),
+    // what reads an array in one branch and has it in the other
+    (
+        "void f(int a[]) { }\nint get(const int a[]) { return a[0]; }\nint main(int n) {\n  int a[2];\n  if (n) {\n    cilk_spawn get(a);\n  } else {\n    cilk_spawn f(a);\n  }\n  print(a[0]);\n  cilk_sync;\n  return 0;\n}",
+        "refused 4 line 10\na is read in line 10, and the call spawned in line 8 has it until the next cilk_sync\n   8 |     cilk_spawn f(a);\n  10 |   print(a[0]);\n",
+    ),
+];
+
 static TWICE: &[(&str, &str)] = &[
     (
         "void f(int a[], int b[]) { }\nint main() {\n  int a[4];\n  f(a, a);\n  return 0;\n}",
@@ -107,6 +145,7 @@ static LOOPS: &[(&str, &str)] = &[
 #[test]
 fn rules_of_ownership(rt: HostRuntime) {
     all_told(&rt, rt.alloc(), TAKEN);
+    all_told(&rt, rt.alloc(), TAKERS);
     all_told(&rt, rt.alloc(), TWICE);
     all_told(&rt, rt.alloc(), LOOPS);
 }

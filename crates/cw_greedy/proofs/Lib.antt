@@ -5,6 +5,7 @@ mod Like
 mod Jumping
 mod Edges
 mod Blocks
+mod Counts
 mod Slots
 mod Progress
 mod Rounds

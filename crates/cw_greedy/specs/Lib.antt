@@ -8,5 +8,6 @@ pub mod RecordLaws
 pub mod Records
 pub mod Edges
 pub mod Blocks
+pub mod Counts
 pub mod Slots
 pub mod Rounds

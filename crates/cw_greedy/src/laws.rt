@@ -4,6 +4,7 @@ ghost use Rattle.std.specs.Prelude.{ℕ, ◌≤◌, ◌≡◌};
 ghost use Rattle.cw_model.specs.Trees.{Tree};
 ghost use Rattle.cw_greedy.specs.Bounds.{GreedyIsBounded};
 ghost use Rattle.cw_greedy.specs.Blocks.{RecordsCount, RecordsJoin, TreesByJumps};
+ghost use Rattle.cw_greedy.specs.Counts.{StrandsAreCounted};
 ghost use Rattle.cw_greedy.specs.Edges.{IsLeaf, StepsByEdges};
 ghost use Rattle.cw_model.specs.Dag.{Place};
 ghost use Rattle.cw_greedy.specs.Greedy.{greedy_length};
@@ -53,6 +54,12 @@ pub fn records_join()
 /// A run that has joined has as many strands by its record as by its tree.
 pub fn records_count_strands()
     ensures { RecordsCount }
+{}
+
+/// A run has one strand, two more for each call of a call statement, two for each spawn and one for each join before
+/// which something was spawned.
+pub fn strands_are_counted()
+    ensures { StrandsAreCounted }
 {}
 
 /// A jump needs no more of a state than the list of its strands, with what is left of the ready ones.

@@ -25,7 +25,7 @@ pub record HasShown (code : Code) (shown : Shown) (t : Trace) (count : ℕ) : Ty
   pub lines : shown.lines.items ≡ t.lines
   pub totals : HoldsTotals code shown.totals.items t.updates
 
--- an effect tells one of the definitions
+-- an effect tells one of the definitions: that a job was given up says no more than that memory was wanting
 abbrev pub Tells : (code : Code) → jobs.Job → Rest → Effect → jobs.Effect → Type 0
 Tells code j r (effect.Ended value shown) (jobs.Ended x arrays t cost) =
     (j.extent ≡ jobs.WholeCall) × (value ≡ x) × HasShown code shown t cost
@@ -35,6 +35,7 @@ Tells code j r (effect.Trapped c l lines n back) (jobs.TrapIn trap line lines' c
     (c ≡ trap) × (l ≡ line) × (lines.items ≡ lines') × (n ≡ cost)
 Tells code j r (effect.OverLimit back) jobs.OverLimit = Unit {0}
 Tells code j r (effect.Memory back) jobs.Memory = Unit {0}
+Tells code j r (effect.GivenUp back) jobs.Memory = Unit {0}
 Tells code j r _ _ = ⊥
 
 -- the meter of an effect tells of what the effect shows: that of a whole run with the call of main as its one event,
@@ -55,6 +56,7 @@ ComeHome v ok j r (effect.Joined back replaced shown) =
 ComeHome v ok j r (effect.Trapped c l lines n back) = KeepsHomes r.slices.items back.items []
 ComeHome v ok j r (effect.OverLimit back) = KeepsHomes r.slices.items back.items []
 ComeHome v ok j r (effect.Memory back) = Unit {0}
+ComeHome v ok j r (effect.GivenUp back) = KeepsHomes r.slices.items back.items []
 
 -- an effect of the definitions means the job, and this one tells it, with its measures, and gives the job's arrays back
 pub record MeansIt (v : Verified) (ok : Ok v) (p : Parts) (e : Effect) (j : jobs.Job) : Type 0 where

@@ -47,8 +47,12 @@ pub enum Effect {
     OverLimit {
         back: Vec<Slice>,
     },
-    /// Memory was wanting.
+    /// Memory was wanting: nothing is known of it any more, nor of the arrays.
     Memory {
+        back: Vec<Slice>,
+    },
+    /// It was given up, where it stood or before it began: nothing else counts but that the arrays are back.
+    GivenUp {
         back: Vec<Slice>,
     },
 }

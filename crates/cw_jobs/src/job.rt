@@ -60,7 +60,7 @@ impl Job {
         Ok(Job { parts })
     }
 
-    /// It is not run, for want of memory. Takes none itself.
+    /// It is given up, and not run. Takes no memory.
     pub fn give_up(self) -> Effect
         ensures { IsMeaningOf self result }
     {
@@ -80,6 +80,6 @@ impl Job {
             cells: _,
             slices,
         } = rest;
-        Effect::Memory { back: slices }
+        Effect::GivenUp { back: slices }
     }
 }

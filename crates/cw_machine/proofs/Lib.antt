@@ -68,5 +68,7 @@ pub mod BurstingIn
 pub mod GoingOn
 pub mod BurstRuns
 pub mod BurstSteps
-pub mod BurstRecords
+pub mod Listened
+pub mod EndsAs
+pub mod Freeings
 pub mod MainRuns

@@ -1,5 +1,5 @@
 -- What a spawn lends, its caller has, and keeps up to a join.
-use Rattle.std.proofs.Common.{◌≡◌, ℕ, zero, suc, ◌+◌, ◌-◌, ◌≤◌, ℤ, Bool, true, false, nat_lt, if◌then◌else◌, Option, Some, None, List, [], ◌∷◌, length, refl, sym, ap, ◌∙◌, subst, arith, inl}
+use Rattle.std.proofs.Common.{◌≡◌, ℕ, zero, suc, ◌+◌, ℤ, Bool, true, false, nat_lt, if◌then◌else◌, Option, Some, None, List, [], ◌∷◌, refl, sym, ap, ◌∙◌, subst, arith, inl}
 use Rattle.std.specs.Prelude.{nat_eq, map, slice_get, slice_set}
 use Rattle.std.proofs.lemmas.List.{length-map}
 use Rattle.cw_model.specs.declared.limits.TheConstants.{MOST_DEPTH}
@@ -14,10 +14,10 @@ use Rattle.cw_code.specs.declared.code.Loan.TheVariants.{Array, Reader}
 use Rattle.cw_code.specs.declared.code.Instr.{Instr}
 use Rattle.cw_code.specs.declared.code.Instr.TheVariants.{Call}
 use Rattle.cw_code.specs.Code.{code_view}
-use Rattle.cw_code.specs.Run.{Slots, Readers, Taken, Whole, slot_taken, Waiting, Around, Caller, State, Transition, On, Stops, Stuck, is_full, and_array, loaned, reader, lent_in, moved_out, arrays_in, on_arrays, Entering, may_begin, begun, begins, call_of, enter, passed_by, lent_by, act, step}
+use Rattle.cw_code.specs.Run.{Slots, Readers, Taken, Whole, slot_taken, Waiting, Around, Caller, State, On, Stops, Stuck, is_full, and_array, reader, lent_in, moved_out, arrays_in, on_arrays, may_begin, begun, begins, call_of, enter, passed_by, lent_by, act, step}
 use Rattle.cw_code.specs.Fits.{Row, Outer, is_full_in, slots_lent, with_gone, leaves, nexts, Covers, FlowsIntoEach}
 use Rattle.cw_code.specs.Good.{Seat, GoodState}
-use Rattle.cw_strands.specs.Strands.{Turn, Goes, HandsOut, turn_of}
+use Rattle.cw_strands.specs.Strands.{Goes, HandsOut, turn_of}
 use Rattle.cw_jobs.specs.Jobs.{IsFrozenBy}
 use Rattle.cw_verify.specs.declared.verified.Verified.{Verified}
 use Rattle.cw_machine.specs.Arrays.{IsFit, is_among, slots_lent_by, KeepsLent}

@@ -1,5 +1,5 @@
 -- What a run was given as shares stays, whatever changes beside it.
-use Rattle.std.proofs.Common.{◌≡◌, ◌≢◌, ℕ, ◌+◌, ◌<◌, ◌≤◌, ℤ, true, Some, None, List, [], ◌∷◌, ◌++◌, length, refl, ap, ◌∙◌, arith}
+use Rattle.std.proofs.Common.{◌≡◌, ◌≢◌, ℕ, ◌+◌, ◌<◌, ℤ, true, Some, None, List, [], ◌∷◌, length, refl, ap, ◌∙◌, arith}
 use Rattle.std.specs.Prelude.{slice_get, slice_set}
 use Rattle.cw_slices.specs.Placed.{Placed}
 use Rattle.cw_code.specs.Run.{Slots, Results, Readers, Around, Caller, Block, is_full, moved_out, settled}

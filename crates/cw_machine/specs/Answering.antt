@@ -32,3 +32,4 @@ IsAnswerOf (effect.Joined frame replaced shown) r = ⊥
 IsAnswerOf (effect.Trapped trap line lines cost back) r = r ≡ Err (fault.Trap trap line lines)
 IsAnswerOf (effect.OverLimit back) r = r ≡ Err fault.OverLimit
 IsAnswerOf (effect.Memory back) r = r ≡ Err fault.Memory
+IsAnswerOf (effect.GivenUp back) r = r ≡ Err fault.Memory

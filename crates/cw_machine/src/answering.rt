@@ -19,7 +19,8 @@ use std::alloc::Global;
 /// What a run of this code answers whose job, that of the whole run, came to this effect: as `run_alone` answers, whoever
 /// ran the job, on however many workers.
 ///
-/// The error is `OverLimit` or `Trap`, as the effect tells, and `Memory` where memory was wanting, in the run or here.
+/// The error is `OverLimit` or `Trap`, as the effect tells, and `Memory` where memory was wanting, in the run or here, or
+/// where the run was given up.
 pub fn answer(alloc: Global, code: &Verified, effect: Effect) -> Result<Ended, Fault>
     requires whole { ∥ IsOfWhole code.now effect ∥₁ }
     ensures tells { IsAnswerOf effect result }
@@ -45,6 +46,7 @@ pub fn answer(alloc: Global, code: &Verified, effect: Effect) -> Result<Ended, F
         }),
         Effect::OverLimit { back: _ } => Err(Fault::OverLimit),
         Effect::Memory { back: _ } => Err(Fault::Memory),
+        Effect::GivenUp { back: _ } => Err(Fault::Memory),
         Effect::Joined {
             frame: _,
             replaced: _,

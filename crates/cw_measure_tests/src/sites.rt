@@ -84,7 +84,7 @@ struct Run {
 }
 
 fn join_piece(alloc: Global, table: &mut SiteTable, piece: &Piece) -> Result<(), AllocError> {
-    let mut apart = SiteTable::new(alloc, piece.here);
+    let mut apart = SiteTable::apart(alloc, piece.here);
     tell_all(&mut apart, piece.told)?;
     table.join_piece(apart, piece.first)
 }
@@ -98,7 +98,16 @@ fn tell_run(alloc: Global, table: &mut SiteTable, run: &Run) -> Result<(), Alloc
 }
 
 fn wrong_row_of(alloc: Global, run: &Run) -> Result<Option<u32>, AllocError> {
-    let mut table = SiteTable::new(alloc, 0);
+    wrong_row_in(alloc, SiteTable::new(alloc, 0), run)
+}
+
+/// The same of a run that is itself a piece of another one, whose rows lie in pages, too.
+fn wrong_row_apart(alloc: Global, run: &Run) -> Result<Option<u32>, AllocError> {
+    wrong_row_in(alloc, SiteTable::apart(alloc, 0), run)
+}
+
+fn wrong_row_in(alloc: Global, table: SiteTable, run: &Run) -> Result<Option<u32>, AllocError> {
+    let mut table = table;
     tell_run(alloc, &mut table, run)?;
     Ok(wrong_row(&table, run.rows))
 }
@@ -354,6 +363,89 @@ static JOINED_RUNS: [Run; 4] = [
     },
 ];
 
+/// Runs with sites on both sides of the borders of pages (64 sites) and of their shelves (2,048), up to the greatest number,
+/// in a piece whose first sites come to be more.
+static PAGED_RUNS: [Run; 2] = [
+    Run {
+        // Calls one after another, some of them of sites that were called before: the row of site 100 lies in a page at
+        // its first call, and among the first ones from the second on.
+        name: "calls across borders",
+        before: &[Enter(0, 0), Enter(1, 320), Leave(9, 0), Note(10)],
+        piece: Some(Piece {
+            here: 0,
+            told: &[
+                Enter(0, 100),
+                Leave(1, 0),
+                Enter(1, 255),
+                Leave(2, 0),
+                Enter(2, 256),
+                Leave(4, 0),
+                Enter(4, 319),
+                Leave(7, 0),
+                Enter(7, 320),
+                Leave(11, 0),
+                Enter(11, 2_047),
+                Leave(16, 0),
+                Enter(16, 2_048),
+                Leave(22, 0),
+                Enter(22, 65_535),
+                Leave(29, 0),
+                Enter(29, 100),
+                Leave(31, 0),
+            ],
+            first: true,
+        }),
+        after: &[Enter(41, 256), Leave(43, 0), Leave(44, 0)],
+        rows: &[
+            (0, [1, 3, 3, 44, 44]),
+            (99, [0, 0, 0, 0, 0]),
+            (100, [2, 3, 3, 3, 3]),
+            (101, [0, 0, 0, 0, 0]),
+            (254, [0, 0, 0, 0, 0]),
+            (255, [1, 1, 1, 1, 1]),
+            (256, [2, 4, 4, 4, 4]),
+            (257, [0, 0, 0, 0, 0]),
+            (318, [0, 0, 0, 0, 0]),
+            (319, [1, 3, 3, 3, 3]),
+            (320, [2, 12, 12, 12, 12]),
+            (321, [0, 0, 0, 0, 0]),
+            (384, [0, 0, 0, 0, 0]),
+            (2_046, [0, 0, 0, 0, 0]),
+            (2_047, [1, 5, 5, 5, 5]),
+            (2_048, [1, 6, 6, 6, 6]),
+            (2_049, [0, 0, 0, 0, 0]),
+            (65_534, [0, 0, 0, 0, 0]),
+            (65_535, [1, 7, 7, 7, 7]),
+        ],
+    },
+    Run {
+        // A piece inside of an invocation of site 2,048 calls it again, and spawns a call of 64,000 that is longer than
+        // the rest beside it.
+        name: "a spawn across borders",
+        before: &[Enter(0, 0), Enter(2, 2_048), Note(5)],
+        piece: Some(Piece {
+            here: 2_048,
+            told: &[
+                Enter(1, 2_048),
+                Leave(3, 2_048),
+                Spawn(4, 64_000, true),
+                Enter(5, 2_047),
+                Leave(9, 64_000),
+                EndChild(10, 2_048),
+                Note(12),
+            ],
+            first: true,
+        }),
+        after: &[Join(18), Leave(19, 0), Leave(20, 0)],
+        rows: &[
+            (0, [1, 3, 3, 20, 17]),
+            (2_047, [1, 4, 4, 4, 4]),
+            (2_048, [2, 11, 8, 17, 14]),
+            (64_000, [1, 2, 2, 6, 6]),
+        ],
+    },
+];
+
 #[test]
 fn whole_runs(rt: HostRuntime) -> Result<(), AllocError> {
     for run in &WHOLE_RUNS {
@@ -374,6 +466,20 @@ fn long_runs(rt: HostRuntime) -> Result<(), AllocError> {
 fn joined_runs(rt: HostRuntime) -> Result<(), AllocError> {
     for run in &JOINED_RUNS {
         assert_eq!(rt; wrong_row_of(rt.alloc(), run)?, None, "{}", run.name);
+    }
+    Ok(())
+}
+
+#[test]
+fn rows_in_pages(rt: HostRuntime) -> Result<(), AllocError> {
+    for run in &PAGED_RUNS {
+        assert_eq!(rt; wrong_row_of(rt.alloc(), run)?, None, "{}", run.name);
+        assert_eq!(rt;
+            wrong_row_apart(rt.alloc(), run)?,
+            None,
+            "{}, in a piece",
+            run.name
+        );
     }
     Ok(())
 }

@@ -54,7 +54,7 @@ impl Tables {
         ensures { StartsTablesOfRest burden site result }
     {
         Tables {
-            sites: SiteTable::new(alloc, site),
+            sites: SiteTable::apart(alloc, site),
             path: BurdenedPath::new(alloc),
             regions: RegionTable::new(alloc),
             burden,

@@ -6,3 +6,4 @@ mod Halves
 mod LoopTrees
 pub mod Spending
 mod Numbering
+mod FreedSpans

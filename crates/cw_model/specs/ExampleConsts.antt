@@ -2,15 +2,17 @@
 use Rattle.std.specs.Prelude.{◌≡◌, ℕ, List, [], ◌∷◌, ◌++◌, codes}
 use Rattle.cw_model.specs.declared.limits.TheConstants.{USUAL_LIMIT}
 use Rattle.cw_model.specs.Syntax.{Variable, Element, Length, Stmt, Declare, DeclareArray, Assign, AssignElement, Sync}
-use Rattle.cw_model.specs.Syntax.{If, IfElse, While, For, Scope, Cut, Print, Block, End, Then, Program}
+use Rattle.cw_model.specs.Syntax.{If, IfElse, While, For, Scope, Cut, Region, Print, Name, Block, End, Then, Program}
 use Rattle.cw_model.specs.Sizes.{static_size}
 use Rattle.cw_model.specs.Examples.{IsAccepted, BreaksTypes, BreaksOwnership, Writes, Scales}
-use Rattle.cw_model.specs.ExamplePrograms.{a, b, f, g, h, i, l, n, p, q, r, v, x, y, z, main, number, plus, int_param}
-use Rattle.cw_model.specs.ExamplePrograms.{array_param, const_param, int_function, void_function, of_functions}
-use Rattle.cw_model.specs.ExamplePrograms.{on_line, block, give, call, call_into, spawn, spawn_into, main_of}
+use Rattle.cw_model.specs.ExamplePrograms.{a, b, f, g, h, i, j, l, n, p, q, r, s, t, v, x, y, z, main, number, plus}
+use Rattle.cw_model.specs.ExamplePrograms.{int_param, array_param, const_param, int_function, void_function}
+use Rattle.cw_model.specs.ExamplePrograms.{of_functions, on_line, block, give, call, call_into, spawn, spawn_into}
+use Rattle.cw_model.specs.ExamplePrograms.{main_of, followed_by}
 
 -- int f(const int a[]) { return len(a); } int g(int a[]) { return 0; } void h(int a[], const int b[]) { }
--- void p(const int b[], int a[]) { } int q(const int a[], const int b[]) { return a[0] + b[0]; } before main
+-- void p(const int b[], int a[]) { } int q(const int a[], const int b[]) { return a[0] + b[0]; }
+-- int n(const int a[], int v) { return a[v]; } void s(int a[], int b[], const int i[], const int j[]) { } before main
 abbrev pub with_readers : Block → Program
 with_readers body = of_functions (
     int_function f 1 (const_param a ∷ []) (block (give (Length a) ∷ []))
@@ -19,6 +21,8 @@ with_readers body = of_functions (
     ∷ void_function p (const_param b ∷ array_param a ∷ []) End
     ∷ int_function q 1 (const_param a ∷ const_param b ∷ [])
     (block (give (plus (Element a (number 0)) (Element b (number 0))) ∷ []))
+    ∷ int_function n 1 (const_param a ∷ int_param v ∷ []) (block (give (Element a (Variable v)) ∷ []))
+    ∷ void_function s (array_param a ∷ array_param b ∷ const_param i ∷ const_param j ∷ []) End
     ∷ int_function main 1 [] body ∷ [])
 
 -- a statement on line 2 of int n(const int a[], int x), behind the others
@@ -49,6 +53,9 @@ pub record ConstTypeExamples : Type 0 where
   pub given_away_by_a_spawn : IsMistyped (spawn 1 g (Variable a ∷ []))
   pub cut : IsMistyped (Cut a (number 0) l r End)
   pub looped_over : IsMistyped (For i i i (number 0) (number 1) 64 (a ∷ []) End)
+  pub looped_over_behind_another :
+      IsMistyped (Scope (on_line 2
+      (DeclareArray z (number 1) ∷ For i i i (number 0) (number 1) 64 (z ∷ a ∷ []) End ∷ [])))
   pub read_alone : IsMistyped (Print (Variable a))
   pub assigned : IsMistyped (Assign a (number 1))
   pub target : IsMistyped (call_into a 1 f (Variable a ∷ []))
@@ -107,6 +114,16 @@ reads_its_own = on_line 2 (DeclareArray z (number 1) ∷ spawn 1 f (Variable z �
 abbrev pub in_loop : Stmt → Program
 in_loop st = with_names (Then 2 (For i i i (number 0) (number 2) 64 (a ∷ []) (Then 3 st End)) (joined_at 4))
 
+-- a block with an array of its own, and this statement, on line 3
+abbrev pub beside_own : Stmt → Stmt
+beside_own st = Scope (on_line 3 (DeclareArray z (number 1) ∷ st ∷ []))
+
+-- a call on line 2 that is given a and b, and reads two arrays; there is an array z
+abbrev pub given_two : (first second : Name) → Program
+given_two first second =
+    with_names (Then 2 (Scope (on_line 2 (DeclareArray z (number 1)
+    ∷ call 1 s (Variable a ∷ Variable b ∷ Variable first ∷ Variable second ∷ []) ∷ []))) (joined_at 3))
+
 -- what is frozen is read by all, and changed by nobody
 pub record FrozenExamples : Type 0 where
   pub element_read : IsFine (Print (Element a (number 1)))
@@ -128,6 +145,8 @@ pub record FrozenExamples : Type 0 where
   pub spawn_takes_its_target :
       BreaksOwnership (with_names (Then 2 (spawn_into x 1 f (Variable a ∷ [])) (Then 3 (Print (Variable x)) (joined_at 4))))
       (3 ∷ [])
+  pub first_argument_frozen :
+      BreaksOwnership (before_write (spawn 1 q (Variable a ∷ Variable b ∷ []))) (3 ∷ [])
   pub second_argument_frozen :
       BreaksOwnership (before_write (spawn 1 q (Variable b ∷ Variable a ∷ []))) (3 ∷ [])
   pub second_argument_read : IsAccepted (before_read (spawn 1 q (Variable b ∷ Variable a ∷ [])))
@@ -139,6 +158,13 @@ pub record FrozenExamples : Type 0 where
   pub twice_the_second_given_away :
       BreaksOwnership (with_names (Then 2 (call 1 p (Variable a ∷ Variable a ∷ [])) (joined_at 3))) (2 ∷ [])
   pub two_arrays : IsAccepted (with_names (Then 2 (call 1 p (Variable a ∷ Variable b ∷ [])) (joined_at 3)))
+  pub second_given_away_read : BreaksOwnership (given_two b b) (2 ∷ [])
+  pub second_given_away_read_behind_another : BreaksOwnership (given_two z b) (2 ∷ [])
+  pub another_read_twice : IsAccepted (given_two z z)
+  -- an integer that is passed is a copy
+  pub integer_argument_written :
+      IsAccepted (with_names (Then 2 (spawn 1 n (Variable a ∷ Variable x ∷ []))
+      (Then 3 (Assign x (number 1)) (joined_at 4))))
   -- a join of its own block frees what was frozen
   pub sync :
       IsAccepted (with_names (Then 2 (spawn 1 f (Variable a ∷ []))
@@ -182,7 +208,47 @@ pub record FrozenExamples : Type 0 where
       (3 ∷ [])
   pub array_of_a_loop_passed : BreaksOwnership (in_loop (call 1 f (Variable a ∷ []))) (3 ∷ [])
   pub outer_array_passed : BreaksOwnership (in_loop (call 1 f (Variable b ∷ []))) (3 ∷ [])
+  pub outer_array_passed_before_an_own :
+      BreaksOwnership (in_loop (beside_own (call 1 q (Variable b ∷ Variable z ∷ [])))) (3 ∷ [])
+  pub outer_array_passed_behind_an_own :
+      BreaksOwnership (in_loop (beside_own (call 1 q (Variable z ∷ Variable b ∷ [])))) (3 ∷ [])
+  pub outer_integer_passed : IsAccepted (in_loop (beside_own (call 1 n (Variable z ∷ Variable x ∷ []))))
   pub own_array_of_a_turn : IsAccepted (in_loop (Scope reads_its_own))
+
+-- a spawn reads a, then comes a statement on line 2, and a write to a on line 3
+abbrev pub between : Stmt → Program
+between st =
+    with_names (Then 2 (spawn 1 f (Variable a ∷ []))
+    (Then 2 st (Then 3 (AssignElement a (number 0) (number 1)) (joined_at 4))))
+
+-- it is refused
+abbrev pub StaysFrozen : Stmt → Type 0
+StaysFrozen st = BreaksOwnership (between st) (3 ∷ [])
+
+-- a sync alone, and a return alone
+abbrev pub syncs : Block
+syncs = on_line 2 (Sync ∷ [])
+
+abbrev pub returns : Block
+returns = on_line 2 (give (number 0) ∷ [])
+
+-- a block thaws what its own spawns froze, as it ends or returns, and nothing that was frozen around it
+pub record ThawedExamples : Type 0 where
+  pub by_a_region : IsAccepted (before_write (Region t reads_a))
+  pub by_a_cut_of_another : IsAccepted (before_write (Cut b (number 0) l r reads_a))
+  pub by_a_return :
+      IsAccepted (with_names (Then 1 (If (number 1) (followed_by reads_its_own returns)) (joined_at 3)))
+  pub by_both_branches : IsAccepted (between (IfElse (number 1) syncs syncs))
+  pub not_by_a_scope : StaysFrozen (Scope syncs)
+  pub not_by_a_region : StaysFrozen (Region t syncs)
+  pub not_by_a_cut : StaysFrozen (Cut b (number 0) l r syncs)
+  pub not_by_a_loop : StaysFrozen (For i i i (number 0) (number 1) 64 [] syncs)
+  pub not_by_an_if_that_joins : StaysFrozen (If (number 1) syncs)
+  pub not_by_an_if_that_returns : StaysFrozen (If (number 1) returns)
+  pub not_by_one_branch : StaysFrozen (IfElse (number 1) syncs End)
+  pub not_by_the_other_branch : StaysFrozen (IfElse (number 1) End syncs)
+  pub not_by_a_while_that_joins : StaysFrozen (While (number 0) syncs)
+  pub not_by_a_while_that_returns : StaysFrozen (While (number 0) returns)
 
 -- int g(const int a[], int v) { return a[v]; } int main() { int a[2]; int x = 0; a[1] = 5; x = cilk_spawn g(a, 1); .. }
 -- with statements before the sync, and after it a[0] = x; return a[0];

@@ -2,7 +2,7 @@
 use Rattle.std.specs.Prelude.{◌≡◌, ℕ, zero, suc, ◌*◌, ◌^◌, ℤ, pos, List, [], ◌∷◌, ◌++◌, Some, None, flat_map}
 use Rattle.std.specs.Prelude.{replicate, codes}
 use Rattle.cw_model.specs.declared.limits.TheConstants.{MOST_SOURCE_BYTES, MOST_NAME_BYTES, MOST_NUMBER, MOST_LIMIT}
-use Rattle.cw_model.specs.declared.limits.TheConstants.{MOST_BURDEN, USUAL_LIMIT, USUAL_BURDEN}
+use Rattle.cw_model.specs.declared.limits.TheConstants.{MOST_BURDEN, MOST_TOP, USUAL_LIMIT, USUAL_BURDEN, USUAL_TOP}
 use Rattle.cw_model.specs.declared.trap.Trap.{Trap}
 use Rattle.cw_model.specs.declared.trap.Trap.TheVariants as trap
 use Rattle.cw_model.specs.declared.token.Token.{Token}
@@ -299,6 +299,8 @@ pub record LimitExamples : Type 0 where
   pub greatest_limit : MOST_LIMIT ≡ 2 ^ 62
   pub greatest_burden : MOST_BURDEN ≡ 10 ^ 9
   pub limit_that_is_usual : USUAL_LIMIT ≡ 10 ^ 9
+  pub most_functions_told : MOST_TOP ≡ 2 ^ 6
+  pub functions_told_as_usual : USUAL_TOP ≡ 5 * 2
 
 -- strand trees
 pub record TreeExamples : Type 0 where

@@ -21,6 +21,8 @@ pub mod Answers
 pub mod Rows
 pub mod TreeLaws
 pub mod Sites
+pub mod Freed
+pub mod FreedLaws
 pub mod Report
 pub mod SiteLaw
 pub mod Typing
@@ -32,8 +34,10 @@ pub mod Examples
 pub mod ExampleTypes
 pub mod ExampleOwners
 pub mod ExampleConsts
+pub mod ExampleReducers
 pub mod ExampleSizes
 pub mod ExampleValues
 pub mod ExampleStatements
 pub mod ExampleRows
+pub mod ExampleGains
 pub mod lemmas

@@ -1,6 +1,6 @@
 -- The texts that are reported, byte by byte.
 use Rattle.std.specs.Prelude.{ℕ, ◌+◌, ◌*◌, ◌/◌, ◌%◌, zero, suc, ◌==◌, ◌||◌, Bool, if◌then◌else◌, ℤ, List, [], ◌∷◌}
-use Rattle.std.specs.Prelude.{◌++◌, Option, Some, None, flat_map, codes, decimal}
+use Rattle.std.specs.Prelude.{◌++◌, Some, None, flat_map, codes, decimal}
 use Rattle.std.specs.List.{list_any}
 use Rattle.std.specs.Fmt.{signed_decimal}
 use Rattle.cw_model.specs.declared.burden.Burden.{Burden}
@@ -14,7 +14,8 @@ use Rattle.cw_model.specs.Syntax.{Program}
 use Rattle.cw_model.specs.Names.{new_names}
 use Rattle.cw_model.specs.Trees.{Tree, work, span, burdened_span}
 use Rattle.cw_model.specs.Rows.{site_row, region_row}
-use Rattle.cw_model.specs.Sites.{SiteKind, Root, Of, CallSite, call_sites, root_site}
+use Rattle.cw_model.specs.Sites.{SiteKind, Root, Of, CallSite, Head, sites_of, heads_of}
+use Rattle.cw_model.specs.Freed.{FunctionRow, span_if_free, burdened_if_free, is_site_of, worth_telling}
 use Rattle.cw_model.specs.Answers.{Answer, Ended, TrappedAt, OverLimit}
 
 -- what is asked for
@@ -23,6 +24,7 @@ pub data Mode : Type 0 where
   Run : Mode
   Scale : Mode
   Sites : Mode
+  Gain : (top : ℕ) → Mode
 
 -- LF
 abbrev pub end_of_line : List ℕ
@@ -157,9 +159,43 @@ site_line t s =
 -- the root, and then each call statement
 abbrev pub sites_text : Program → Answer → List ℕ
 sites_text program (Ended v lines totals t) =
-    sites_header ++ flat_map (site_line t) (root_site program ∷ call_sites program)
+    sites_header ++ flat_map (site_line t) (sites_of program)
 sites_text program (TrappedAt trap line lines) = []
 sites_text program OverLimit = []
+
+-- the names of the columns
+abbrev pub gain_header : List ℕ
+gain_header =
+    codes "function,line,calls,own_work,own_span,span_if_free,parallelism_if_free,burdened_span_if_free" ++ end_of_line
+
+-- a row of the gain report: what is counted, and the spans of the run if that were free
+abbrev pub gain_line : FunctionRow → (work free burdened_free : ℕ) → List ℕ
+gain_line told work free burdened_free =
+    csv_line (told.name ∷ decimal told.line ∷ decimal told.calls ∷ decimal told.own_work ∷ decimal told.own_span
+    ∷ decimal free ∷ parallelism work free ∷ decimal burdened_free ∷ [])
+
+-- the whole run as a row, without a name
+abbrev pub whole_row : Tree → FunctionRow
+whole_row t = record { name = []; line = 0; calls = 0; own_work = work t; own_span = span t }
+
+-- the line of a function: what the spans would be if all its sites were free
+abbrev pub free_line : List CallSite → Burden → Tree → FunctionRow → List ℕ
+free_line sites burden t row =
+    let frees = is_site_of sites row.name in
+    gain_line row (work t) (span_if_free frees t) (burdened_if_free burden frees t)
+
+-- the whole run, in which nothing is free, and then each function that is worth telling
+abbrev pub gains_text : (top : ℕ) → List Head → List CallSite → Burden → Tree → List ℕ
+gains_text top heads sites burden t =
+    gain_header
+    ++ (gain_line (whole_row t) (work t) (span t) (burdened_span burden t)
+    ++ flat_map (free_line sites burden t) (worth_telling top heads sites t))
+
+-- the same of a program, with at most so many functions
+abbrev pub gain_text : (top : ℕ) → Program → Burden → Answer → List ℕ
+gain_text top program burden (Ended v lines totals t) = gains_text top (heads_of program) (sites_of program) burden t
+gain_text top program burden (TrappedAt trap line lines) = []
+gain_text top program burden OverLimit = []
 
 -- the text of a report
 abbrev pub report_text : Mode → Program → Burden → Answer → List ℕ
@@ -167,3 +203,4 @@ report_text Check program burden answer = check_text
 report_text Run program burden answer = run_text program answer
 report_text Scale program burden answer = scale_text program burden answer
 report_text Sites program burden answer = sites_text program answer
+report_text (Gain top) program burden answer = gain_text top program burden answer

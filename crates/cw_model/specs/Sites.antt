@@ -1,5 +1,5 @@
 -- Call sites: where the invocations of a run are made, each with its number.
-use Rattle.std.specs.Prelude.{ℕ, suc, Bool, true, ◌&&◌, nat_eq, List, [], ◌∷◌, ◌++◌, flat_map}
+use Rattle.std.specs.Prelude.{ℕ, suc, Bool, true, ◌&&◌, nat_eq, List, [], ◌∷◌, ◌++◌, flat_map, map}
 use Rattle.cw_model.specs.declared.syntax.CallKind.{CallKind}
 use Rattle.cw_model.specs.Syntax.{Name, Stmt, Call, If, IfElse, While, For, Scope, Cut, Region, Block, End, Then}
 use Rattle.cw_model.specs.Syntax.{Program}
@@ -50,3 +50,16 @@ root_site program =
 abbrev pub are_numbered : ℕ → List CallSite → Bool
 are_numbered n [] = true
 are_numbered n (s ∷ sites) = nat_eq s.number (suc n) && are_numbered (suc n) sites
+
+-- all sites of a program
+abbrev pub sites_of : Program → List CallSite
+sites_of program = root_site program ∷ call_sites program
+
+-- the head of a function: its name, and the line where that stands
+pub record Head : Type 0 where
+  pub name : Name
+  pub line : ℕ
+
+-- the heads of a program's functions, by place
+abbrev pub heads_of : Program → List Head
+heads_of program = map (λ f. record { name = f.name; line = f.line }) program.functions

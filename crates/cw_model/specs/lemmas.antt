@@ -4,3 +4,4 @@ pub mod Lowest
 pub mod Parts
 pub mod Regrouping
 pub mod Fits
+pub mod Freed

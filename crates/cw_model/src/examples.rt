@@ -3,11 +3,13 @@
 ghost use Rattle.cw_model.specs.Examples.{CallExamples, ArrayExamples, DeepExamples, ChainExamples, FaultExamples, LimitExamples, TreeExamples, SizeExamples};
 ghost use Rattle.cw_model.specs.ExampleTypes.{ExpressionTypeExamples, WriteTypeExamples, CallTypeExamples, HeadTypeExamples, BlockTypeExamples, GlobalTypeExamples};
 ghost use Rattle.cw_model.specs.ExampleOwners.{TakenExamples, FreedExamples, LoopOwnerExamples};
-ghost use Rattle.cw_model.specs.ExampleConsts.{ConstTypeExamples, FrozenExamples, ReadRunExamples};
+ghost use Rattle.cw_model.specs.ExampleConsts.{ConstTypeExamples, FrozenExamples, ThawedExamples, ReadRunExamples};
+ghost use Rattle.cw_model.specs.ExampleReducers.{TotalExamples, ToldExamples};
 ghost use Rattle.cw_model.specs.ExampleSizes.{TokenSizeExamples, DeclarationSizeExamples, InstructionSizeExamples};
 ghost use Rattle.cw_model.specs.ExampleValues.{OperatorExamples, TrapExamples};
 ghost use Rattle.cw_model.specs.ExampleStatements.{EffectExamples, CostExamples, JoinExamples, LoweredExamples, LoopExamples, CaptureExamples};
 ghost use Rattle.cw_model.specs.ExampleRows.{RowExamples, TextExamples};
+ghost use Rattle.cw_model.specs.ExampleGains.{GainExamples};
 
 /// Calls, spawns, prints, sums, operators and regions: texts, costs, traps and limits.
 pub fn calls_and_sums()
@@ -70,7 +72,14 @@ pub fn ownership()
 pub fn read_together()
     ensures types { ConstTypeExamples }
     ensures frozen { FrozenExamples }
+    ensures thawed { ThawedExamples }
     ensures runs { ReadRunExamples }
+{}
+
+/// Reducers of both kinds: what they come to, and what they may be told.
+pub fn reducers()
+    ensures totals { TotalExamples }
+    ensures told { ToldExamples }
 {}
 
 /// Limits and sizes, the last place within and the first past each.
@@ -100,4 +109,9 @@ pub fn statements()
 pub fn rows_and_texts()
     ensures rows { RowExamples }
     ensures texts { TextExamples }
+{}
+
+/// What functions would bring if they were free.
+pub fn gains()
+    ensures { GainExamples }
 {}

@@ -3,6 +3,7 @@
 ghost use Rattle.std.specs.Prelude.{◌<◌, ◌≡◌, true, ℕ};
 ghost use Rattle.cw_model.specs.declared.burden.Burden.{Burden};
 ghost use Rattle.cw_model.specs.Dag.{IsBurdenedSpan, IsSpan};
+ghost use Rattle.cw_model.specs.FreedLaws.{AllFreedLeavesNothing, FallsByOwnSpanAtMost, FreedByItsSites, FreedIsNeverAbove, FreedIsRegrouped, NothingFreedIsTheSame};
 ghost use Rattle.cw_model.specs.SiteLaw.{SitesAreNumbered};
 ghost use Rattle.cw_model.specs.LoopLaws.{ForsAreByHalves, ForsHaveBodies, LoopsRunAsPlain, LoopsTrapAsPlain, LoopWorkAddsUp, LoopsAreDeepEnough};
 ghost use Rattle.cw_model.specs.Rows.{sites_below};
@@ -34,6 +35,26 @@ pub fn normal_form_is_one()
 /// work, and their own span to the whole span.
 pub fn sites_add_up()
     ensures { (count : ℕ) (t : Tree) → 0 < count → sites_below count t ≡ true → SitesAddUp count t }
+{}
+
+/// If sites were free, no burdened span would be greater than it is, at any burden; nor the span, which is one. If the
+/// sites of a function were free, the span would fall by no more than their own span.
+pub fn freed_spans_are_bounded()
+    ensures above { FreedIsNeverAbove }
+    ensures below { FallsByOwnSpanAtMost }
+{}
+
+/// If no site were free, the tree would be as it is; if all were, no span would be left.
+pub fn nothing_and_all_freed()
+    ensures nothing { NothingFreedIsTheSame }
+    ensures all { AllFreedLeavesNothing }
+{}
+
+/// Trees that differ only in grouping would differ only so if sites were free, so that a tree and its normal form would
+/// read the same; and sites that are not in a tree say nothing.
+pub fn freed_trees_are_alike()
+    ensures grouped { FreedIsRegrouped }
+    ensures sites { FreedByItsSites }
 {}
 
 /// What is taken after a `while` is the least set that holds what was taken before it and what a turn leaves

@@ -65,3 +65,9 @@ pub const USUAL_LIMIT: u64 = 1_000_000_000;
 
 /// Instructions that a spawn is burdened with where no burden is given.
 pub const USUAL_BURDEN: u64 = 15_000;
+
+/// Functions that a report of gains may be asked to tell.
+pub const MOST_TOP: u64 = 64;
+
+/// Functions that it tells at most where no number is given.
+pub const USUAL_TOP: u64 = 10;

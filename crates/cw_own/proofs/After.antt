@@ -20,7 +20,7 @@ use Rattle.cw_tree.specs.lemmas.NamedSlots.{turned}
 use Rattle.cw_own.specs.Sets.{Slots, with_slot, Row, no_local, either_row, both_rows}
 use Rattle.cw_own.specs.Taken.{Held, none_held, taking_int, taking_array, freezing, either_held, held_within, with_target, with_arrays, known_after, after, after_all, gain, cuts_after, cuts_after_all}
 use Rattle.cw_own.proofs.Words.{and_none, or_turn}
-use Rattle.cw_own.proofs.Laws.{same_rows, same_held, turn_law, cuts_stay, no_more, no_more_all}
+use Rattle.cw_own.proofs.Keeping.{same_rows, same_held, turn_law, cuts_stay, no_more, no_more_all}
 use Rattle.cw_own.proofs.Holding.{held, held_without}
 use Rattle.cw_own.proofs.Holding as holding
 use Rattle.cw_own.proofs.Showing.{shows_as, shows_row, shows_none, known_row}

@@ -12,7 +12,7 @@ use Rattle.cw_tree.specs.lemmas.NamedSlots.{among_push, slot_in, slot_out}
 use Rattle.cw_own.specs.Sets.{no_local, with_int, with_array}
 use Rattle.cw_own.specs.Taken.{with_params}
 use Rattle.cw_own.proofs.Words.{if_or, or_none, or_all, or_turn}
-use Rattle.cw_own.proofs.Laws.{same_rows}
+use Rattle.cw_own.proofs.Keeping.{same_rows}
 use Rattle.cw_own.proofs.Showing.{Shows, known_row}
 use Rattle.cw_own.proofs.Knowing.{Knows, Fresh, knows_int, knows_array, knows_const, known_int, known_array, below_is, above_is}
 use Rattle.cw_model.specs.declared.syntax.NameKind.{NameKind}

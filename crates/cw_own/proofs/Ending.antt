@@ -11,7 +11,7 @@ use Rattle.cw_model.specs.lemmas.Kept.{both_right, left_none, right_none, kept}
 use Rattle.cw_tree.specs.Resolved.{Locals}
 use Rattle.cw_tree.specs.Resolved as spec
 use Rattle.cw_own.specs.Sets.{Row, both_rows}
-use Rattle.cw_own.proofs.Laws.{same_rows}
+use Rattle.cw_own.proofs.Keeping.{same_rows}
 use Rattle.cw_own.proofs.Showing.{Shows, shows_as, shows_row, known_row}
 use Rattle.cw_own.proofs.Knowing.{Knows, fresh_name, knows_int, knows_array, shows_drop_int, shows_drop_array}
 

@@ -10,7 +10,7 @@ use Rattle.cw_tree.specs.lemmas.NamedSlots.{turned, one_slot}
 use Rattle.cw_own.specs.Sets.{Slots, with_slot, without_slot, either, Row, with_int, with_array, either_row}
 use Rattle.cw_own.specs.Taken.{Held, none_held, taking_int, taking_array, freezing, either_held}
 use Rattle.cw_own.proofs.Words.{or_none, and_all, and_none, or_group, four_or}
-use Rattle.cw_own.proofs.Laws.{same_rows}
+use Rattle.cw_own.proofs.Keeping.{same_rows}
 use Rattle.cw_own.proofs.Holding.{held, is_cut, but_spawn, but_cut, held_append, held_freed, uncut_test, held_uncut, held_same}
 use Rattle.cw_own.proofs.Showing.{Shows, shows_as, shows_row, shows_either, shows_int, shows_array, shows_push_int, shows_push_array}
 

@@ -10,7 +10,7 @@ use Rattle.cw_tree.specs.Resolved as spec
 use Rattle.cw_tree.specs.lemmas.NamedSlots.{among_push, slot_in, slot_out}
 use Rattle.cw_own.specs.Sets.{Row, with_int, with_array, both_rows}
 use Rattle.cw_own.proofs.Words.{or_none, or_all}
-use Rattle.cw_own.proofs.Laws.{same_rows}
+use Rattle.cw_own.proofs.Keeping.{same_rows}
 use Rattle.cw_own.proofs.Showing.{known_row, Shows, slot_kept}
 use Rattle.cw_model.specs.declared.syntax.NameKind.TheVariants as name_kind
 

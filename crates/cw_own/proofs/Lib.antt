@@ -1,7 +1,7 @@
 pub mod Rows
 pub mod Small
 pub mod Words
-pub mod Laws
+pub mod Keeping
 pub mod Ownership
 pub mod Showing
 pub mod Knowing
@@ -17,3 +17,5 @@ pub mod Holding
 pub mod Branches
 pub mod Fitting
 pub mod Turns
+pub mod Telling
+pub mod Refusing

@@ -23,7 +23,7 @@ use Rattle.cw_own.specs.Taken.{Held, none_held, either_held, int_taken, array_he
 use Rattle.cw_own.specs.Rules as rules
 use Rattle.cw_own.specs.Rules.{Loop, with_uses, keeps, left_line, left_lines, left_at_end, seen_by, lines_within, lines_in}
 use Rattle.cw_own.proofs.Words.{if_or, or_none, or_all, four_or}
-use Rattle.cw_own.proofs.Laws.{same_rows, no_more}
+use Rattle.cw_own.proofs.Keeping.{same_rows, no_more}
 use Rattle.cw_own.proofs.Holding.{held, any_holder, no_reader, taken_is, held_is}
 use Rattle.cw_own.proofs.Showing.{Shows, shows_as, shows_row, shows_none, shows_int, shows_array, shows_push_int, shows_push_array, int_shown, array_shown, known_row, slot_kept}
 use Rattle.cw_own.proofs.Knowing.{Knows, Fresh, fresh_name, array_apart, knows_int, knows_array, known_int, known_array}

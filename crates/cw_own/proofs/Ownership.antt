@@ -24,7 +24,7 @@ use Rattle.cw_own.proofs.Following as following
 use Rattle.cw_model.specs.Ownership.{Holder, SpawnIn, ReaderIn, CutOf}
 use Rattle.cw_model.specs.lemmas.Kept.{both_left, both_right, left_none, right_none, kept}
 use Rattle.cw_tree.specs.lemmas.Looked.{body_is, all_right}
-use Rattle.cw_own.proofs.Laws.{same_rows}
+use Rattle.cw_own.proofs.Keeping.{same_rows}
 
 -- a function
 function_by_slot : (program : Program) (lists : Lists) → lists.callees ≡ program.functions → (f : Function) → is_right_function lists f ≡ true → faults_of program (plain_function f) ≡ [] → Same (owner_faults_of program.functions (plain_function f)) (function_lines f)

@@ -9,7 +9,7 @@ use Rattle.cw_tree.specs.Resolved as spec
 use Rattle.cw_own.specs.Sets.{Row}
 use Rattle.cw_own.specs.Taken.{Held, none_held, either_held, held_within, after, after_all, known_after}
 use Rattle.cw_own.proofs.Words.{and_none}
-use Rattle.cw_own.proofs.Laws.{same_held}
+use Rattle.cw_own.proofs.Keeping.{same_held}
 
 pub none_known : (known : Row) → held_within known none_held ≡ none_held
 none_known known = same_held (held_within known none_held) none_held (λ k. and_none (known.ints k)) (λ k. and_none (known.arrays k)) (λ k. and_none (known.arrays k))

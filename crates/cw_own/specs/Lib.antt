@@ -5,3 +5,5 @@ pub mod Rules
 pub mod Bounds
 pub mod Faults
 pub mod Views
+pub mod Reasons
+pub mod Laws

@@ -8,8 +8,7 @@ use Rattle.cw_tree.specs.Resolved.{Array, Shared, Stmt, Declare, DeclareArray, A
 use Rattle.cw_tree.specs.Resolved.{Sync, If}
 use Rattle.cw_tree.specs.Resolved.{IfElse, While, For, Scope, Cut, Region, Print, Return, Head, Block, End, Then}
 use Rattle.cw_tree.specs.Resolved.{Function}
-use Rattle.cw_own.specs.declared.around.Loop as code
-use Rattle.cw_own.specs.Sets.{Slots, no_slot, with_slot, slots_of, Row, no_local, with_int, row_of}
+use Rattle.cw_own.specs.Sets.{Slots, no_slot, with_slot, Row, no_local, with_int}
 use Rattle.cw_own.specs.Taken.{either_held, Taken, nothing, int_taken, array_taken, array_held, inside, inside_cut}
 use Rattle.cw_own.specs.Taken.{joined, with_parts}
 use Rattle.cw_own.specs.Taken.{known_after, taken_after, taken_after_all, gain, with_params}
@@ -20,10 +19,6 @@ pub record Loop : Type 0 where
   pub outer : Row
   pub variable : ℕ
   pub over : Slots
-
--- what the code holds of a loop
-abbrev pub loop_of : code.Loop → Loop
-loop_of l = record { outer = row_of l.outer; variable = l.variable; over = slots_of l.over.words }
 
 -- the arrays of a loop, more than these
 abbrev pub with_uses : List Use → Slots → Slots

@@ -1,29 +1,31 @@
 -- The definitions over what the code holds: its rows, its loop, its lines and its statements.
-use Rattle.std.specs.Prelude.{◌≡◌, ℕ, Bool, List, ◌∷◌, Option, map, option_map, flat_map, length, drop}
-use Rattle.std.specs.List.{list_all}
-use Rattle.cw_model.specs.declared.syntax.CallKind.{CallKind}
-use Rattle.cw_model.specs.Lines.{lowest}
+use Rattle.std.specs.Prelude.{◌≡◌, ℕ, List, ◌∷◌, Option, map, option_map, flat_map, length, drop}
 use Rattle.cw_model.specs.Ownership.{Joins, Leaves}
-use Rattle.cw_text.specs.declared.least.LeastLine.{LeastLine}
 use Rattle.cw_tree.specs.declared.resolved.Use as code_use
 use Rattle.cw_tree.specs.declared.resolved.Expr as code_expr
-use Rattle.cw_tree.specs.declared.resolved.Argument as code_argument
+use Rattle.cw_tree.specs.declared.resolved.Call as code_call
 use Rattle.cw_tree.specs.declared.resolved.Stmt as code_stmt
 use Rattle.cw_tree.specs.declared.resolved.Line as code_line
 use Rattle.cw_tree.specs.declared.resolved.Function as code_function
 use Rattle.cw_tree.specs.Resolved.{Use, Expr, Block, Scope}
-use Rattle.cw_tree.specs.ResolvedView.{use_of, expr_of, argument_of, stmt_of, block_of, function_of}
+use Rattle.cw_tree.specs.ResolvedView.{use_of, listed_of, expr_of, argument_of, stmt_of, block_of, function_of}
 use Rattle.cw_own.specs.declared.bits.Bits as code_bits
 use Rattle.cw_own.specs.declared.row.Row as code_row
 use Rattle.cw_own.specs.declared.held.Held as code_held
 use Rattle.cw_own.specs.declared.taken.Taken as code_taken
 use Rattle.cw_own.specs.declared.around.Loop as code_loop
+use Rattle.cw_own.specs.declared.reason.At as code_at
+use Rattle.cw_own.specs.declared.reason.Disowned as code_reason
+use Rattle.cw_own.specs.declared.reason.Disowned.TheVariants as reason
+use Rattle.cw_own.specs.declared.told.Told as code_told
 use Rattle.cw_own.specs.Sets.{Slots, slots_of, with_slot, without_slot, row_of}
-use Rattle.cw_own.specs.Taken.{Held, held_within, held_of, Taken, taken_of, inside_cut, taken_by_call, other_of}
+use Rattle.cw_own.specs.Taken.{Held, held_within, held_of, Taken, taken_of, inside, inside_cut, taken_by_call, other_of}
 use Rattle.cw_own.specs.Taken.{after_all, gain, turns, turns_in}
 use Rattle.cw_own.specs.Taken.{turns_within, cuts_after_all, left_by, taken_after_all}
-use Rattle.cw_own.specs.Rules.{Loop, loop_of, may_give, may_pass, seen_by, left_lines, lines_within, lines_in}
-use Rattle.cw_own.specs.Rules.{block_lines, function_lines}
+use Rattle.cw_own.specs.Rules.{seen_by}
+use Rattle.cw_own.specs.Reasons.{Reason, Held as IsHeld, EndsHeld, GivenTwice, GivenAndRead, OverTwice, OuterWritten}
+use Rattle.cw_own.specs.Reasons.{OuterArray, OtherElement, Turn, why_call, left_reasons, reasons_within, reasons_in}
+use Rattle.cw_own.specs.Reasons.{block_reasons, function_reasons, first_of}
 
 -- the set of slots that the code holds
 abbrev pub set_of : code_bits.Bits → Slots
@@ -33,9 +35,42 @@ set_of bits = slots_of bits.words
 abbrev pub rows_of : List code_held.Held → List Held
 rows_of rows = map held_of rows
 
--- the loop around that the code holds, if it holds one
-abbrev pub around_of : Option code_loop.Loop → Option Loop
-around_of around = option_map loop_of around
+-- a rule that the code tells
+abbrev pub reason_of : code_reason.Disowned → Reason
+reason_of (reason.Held u how holder since) = IsHeld (use_of u.now) how holder
+reason_of (reason.EndsHeld u holder since) = EndsHeld (use_of u.now) holder
+reason_of (reason.GivenTwice u callee) = GivenTwice (use_of u.now) (listed_of callee.now)
+reason_of (reason.GivenAndRead u callee) = GivenAndRead (use_of u.now) (listed_of callee.now)
+reason_of (reason.OverTwice u) = OverTwice (use_of u.now)
+reason_of (reason.OuterWritten u line) = OuterWritten (use_of u.now) line
+reason_of (reason.OuterArray u line) = OuterArray (use_of u.now) line
+reason_of (reason.OtherElement u variable line) = OtherElement (use_of u.now) (use_of variable.now) line
+
+-- one, if it tells one
+abbrev pub told_of : Option code_reason.Disowned → Option Reason
+told_of found = option_map reason_of found
+
+-- one with its line
+abbrev pub line_and_reason : code_at.At → ℕ × Reason
+line_and_reason at = (at.line, reason_of at.reason)
+
+-- the first line so far that breaks a rule, with that
+abbrev pub first_told : code_told.Told → Option (ℕ × Reason)
+first_told told = option_map line_and_reason told.first
+
+-- the turn of a loop that the code holds
+abbrev pub turn_of : code_loop.Loop → Turn
+turn_of l = record {
+  outer = row_of l.outer;
+  variable = use_of l.variable.now;
+  over = slots_of l.over.words;
+  in_head = l.in_head;
+  head = l.line;
+}
+
+-- the turn of the loop around, if there is one
+abbrev pub around_of : Option code_loop.Loop → Option Turn
+around_of around = option_map turn_of around
 
 -- the use that the code holds, if it holds one
 abbrev pub used : Option code_use.Use → Option Use
@@ -50,8 +85,15 @@ abbrev pub other_block : code_stmt.Stmt → Block
 other_block stmt = other_of (stmt_of stmt)
 
 -- what the spawns of a sync block hold after a call
-abbrev pub after_call : CallKind → Option code_use.Use → List code_argument.Argument → code_held.Held → Held
-after_call kind target es here = taken_by_call kind (used target) (map argument_of es) (held_of here)
+abbrev pub after_call : code_call.Call → code_held.Held → Held
+after_call call here =
+    taken_by_call call.kind (used call.target) (map argument_of call.arguments.items) (held_of here)
+
+-- which rule a call breaks
+abbrev pub why_of_call : Option code_loop.Loop → code_taken.Taken → code_call.Call → Option Reason
+why_of_call around taken call =
+    why_call (around_of around) (taken_of taken) (used call.target) (listed_of call.callee)
+    (map argument_of call.arguments.items)
 
 -- the same after these lines, without the locals that end with them
 abbrev pub after_lines : (known : code_row.Row) → List code_line.Line → code_held.Held → Held
@@ -60,15 +102,6 @@ after_lines known lines here = held_within (row_of known) (after_all (row_of kno
 -- the same after what a statement does where its test does not hold
 abbrev pub after_other : (known : code_row.Row) → code_stmt.Stmt → code_held.Held → Held
 after_other known stmt here = held_within (row_of known) (after_all (row_of known) (other_block stmt) (held_of here))
-
--- each of these arguments may be read, or passed
-abbrev pub may_give_all : Option code_loop.Loop → code_taken.Taken → List code_argument.Argument → Bool
-may_give_all around taken es = list_all (may_give (around_of around) (taken_of taken)) (map argument_of es)
-
--- each of these arrays may be passed
-abbrev pub may_pass_all : Option code_loop.Loop → code_taken.Taken → List code_use.Use → Bool
-may_pass_all around taken us =
-    list_all (λ (u : Use). may_pass (around_of around) (taken_of taken) u.slot) (map use_of us)
 
 -- what the test and the blocks of a statement see as taken
 abbrev pub sees : (known : code_row.Row) → code_taken.Taken → code_stmt.Stmt → Taken
@@ -124,56 +157,60 @@ turns_of_while known lines = gain (row_of known) (block_of lines) ∷ turns_of_l
 abbrev pub Past : List Held → (before after : List code_held.Held) → Type 0
 Past first before after = rows_of after ≡ drop (length first) (rows_of before)
 
--- the lines of declarations whose names are taken as these lines end
-abbrev pub still_taken : code_taken.Taken → List code_line.Line → List ℕ
-still_taken taken lines = left_lines (taken_of taken) (block_of lines)
+-- the declarations whose names are held as these lines end
+abbrev pub still_taken : code_taken.Taken → List code_line.Line → List (ℕ × Reason)
+still_taken taken lines = left_reasons (taken_of taken) (block_of lines)
 
 -- the lines that break a rule, of these
-abbrev pub lines_among : Option code_loop.Loop → (known : code_row.Row) → code_taken.Taken → List code_line.Line →
-    List ℕ
-lines_among around known taken lines = lines_in (around_of around) (row_of known) (taken_of taken) (block_of lines)
+abbrev pub reasons_among : Option code_loop.Loop → (known : code_row.Row) → code_taken.Taken → List code_line.Line →
+    List (ℕ × Reason)
+reasons_among around known taken lines =
+    reasons_in (around_of around) (row_of known) (taken_of taken) (block_of lines)
 
 -- the same, of a block that joins no spawn at its end
-abbrev pub lines_leaving : Option code_loop.Loop → (known : code_row.Row) → code_taken.Taken → List code_line.Line →
-    List ℕ
-lines_leaving around known taken lines =
-    block_lines (around_of around) (row_of known) (taken_of taken) Leaves (block_of lines)
+abbrev pub reasons_leaving : Option code_loop.Loop → (known : code_row.Row) → code_taken.Taken → List code_line.Line →
+    List (ℕ × Reason)
+reasons_leaving around known taken lines =
+    block_reasons (around_of around) (row_of known) (taken_of taken) Leaves (block_of lines)
 
 -- the same, of a sync block
-abbrev pub lines_joining : Option code_loop.Loop → (known : code_row.Row) → code_taken.Taken → List code_line.Line →
-    List ℕ
-lines_joining around known taken lines =
-    block_lines (around_of around) (row_of known) (taken_of taken) Joins (block_of lines)
+abbrev pub reasons_joining : Option code_loop.Loop → (known : code_row.Row) → code_taken.Taken → List code_line.Line →
+    List (ℕ × Reason)
+reasons_joining around known taken lines =
+    block_reasons (around_of around) (row_of known) (taken_of taken) Joins (block_of lines)
 
 -- the same, of what a statement does where its test does not hold
-abbrev pub lines_of_other : Option code_loop.Loop → (known : code_row.Row) → code_taken.Taken → code_stmt.Stmt → List ℕ
-lines_of_other around known taken stmt =
-    block_lines (around_of around) (row_of known) (taken_of taken) Leaves (other_block stmt)
+abbrev pub reasons_of_other : Option code_loop.Loop → (known : code_row.Row) → code_taken.Taken → code_stmt.Stmt →
+    List (ℕ × Reason)
+reasons_of_other around known taken stmt =
+    block_reasons (around_of around) (row_of known) (taken_of taken) Leaves (other_block stmt)
 
--- the same, in the blocks of a statement
-abbrev pub lines_inside : Option code_loop.Loop → (known : code_row.Row) → code_taken.Taken → code_stmt.Stmt → List ℕ
-lines_inside around known taken stmt = lines_within (around_of around) (row_of known) (taken_of taken) (stmt_of stmt)
+-- the same, in the blocks of a statement of this line
+abbrev pub reasons_inside : Option code_loop.Loop → (known : code_row.Row) → code_taken.Taken → (line : ℕ) →
+    code_stmt.Stmt → List (ℕ × Reason)
+reasons_inside around known taken line stmt =
+    reasons_within (around_of around) (row_of known) (taken_of taken) line (stmt_of stmt)
 
 -- the same, of a sync block inside another
-abbrev pub lines_of_scope : Option code_loop.Loop → (known : code_row.Row) → code_taken.Taken → List code_line.Line →
-    List ℕ
-lines_of_scope around known taken lines =
-    lines_within (around_of around) (row_of known) (taken_of taken) (Scope (block_of lines))
+abbrev pub reasons_of_scope : Option code_loop.Loop → (known : code_row.Row) → code_taken.Taken →
+    List code_line.Line → List (ℕ × Reason)
+reasons_of_scope around known taken lines =
+    block_reasons (around_of around) (row_of known) (inside (taken_of taken)) Joins (block_of lines)
 
 -- the same, of the block of a cut of this array
-abbrev pub lines_of_cut : Option code_loop.Loop → (known : code_row.Row) → (array : ℕ) → code_taken.Taken →
-    List code_line.Line → List ℕ
-lines_of_cut around known array taken lines =
-    block_lines (around_of around) (row_of known) (inside_cut array (taken_of taken)) Joins (block_of lines)
+abbrev pub reasons_of_cut : Option code_loop.Loop → (known : code_row.Row) → (array : ℕ) → code_taken.Taken →
+    List code_line.Line → List (ℕ × Reason)
+reasons_of_cut around known array taken lines =
+    block_reasons (around_of around) (row_of known) (inside_cut array (taken_of taken)) Joins (block_of lines)
 
 -- the same, of a function
-abbrev pub lines_of : code_function.Function → List ℕ
-lines_of f = function_lines (function_of f)
+abbrev pub reasons_of : code_function.Function → List (ℕ × Reason)
+reasons_of f = function_reasons (function_of f)
 
 -- the same, of all functions
-abbrev pub lines_of_all : List code_function.Function → List ℕ
-lines_of_all fs = flat_map function_lines (map function_of fs)
+abbrev pub reasons_of_all : List code_function.Function → List (ℕ × Reason)
+reasons_of_all fs = flat_map function_reasons (map function_of fs)
 
--- the least line is kept of those so far and of these
-abbrev pub Noted : (before after : LeastLine) → List ℕ → Type 0
-Noted before after lines = after.line ≡ lowest before.line lines
+-- the first line is kept of those so far and of these
+abbrev pub Noted : (before after : code_told.Told) → List (ℕ × Reason) → Type 0
+Noted before after reasons = first_told after ≡ first_of (first_told before) reasons

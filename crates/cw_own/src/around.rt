@@ -1,40 +1,52 @@
 //! The innermost loop around a statement.
 
-ghost use Rattle.std.specs.Prelude.{◌≡◌, map, true};
+ghost use Rattle.std.specs.Prelude.{◌≡◌, map, option_map, true};
 ghost use Rattle.std.specs.List.{list_all};
 ghost use Rattle.cw_tree.specs.ResolvedView.{use_of, head_of};
 ghost use Rattle.cw_own.specs.Bounds.{is_small};
 ghost use Rattle.cw_own.specs.Sets.{row_of};
-ghost use Rattle.cw_own.specs.Rules.{loop_of, loop_in, with_uses, for_head};
-ghost use Rattle.cw_own.specs.Rules.{is_outer_int, is_outer_array};
-ghost use Rattle.cw_own.specs.Views.{set_of, around_of};
+ghost use Rattle.cw_own.specs.Rules.{with_uses};
+ghost use Rattle.cw_own.specs.Reasons.{named, turn_in, head_in};
+ghost use Rattle.cw_own.specs.Views.{set_of, turn_of, around_of};
 
 use crate::bits::Bits;
 use crate::row::Row;
 use cw_tree::resolved::{Head, Use};
 
-/// A loop: the locals from outside its body and its variable, the slot of that, and the arrays of the loop.
-#[derive(Clone, Copy, Debug)]
-pub struct Loop {
+/// A loop: the locals from outside its body and its variable, that variable, and the arrays of the loop, which the head of
+/// a further loop may not name; and the line of the loop's head.
+#[derive(Clone, Copy)]
+pub struct Loop<'a> {
     pub outer: Row,
-    pub variable: u32,
+    pub variable: &'a Use,
     pub over: Bits,
+    pub in_head: bool,
+    pub line: u32,
 }
 
-impl Loop {
-    /// The loop of a head, where these locals are known before it.
-    pub fn new(head: &Head, known: &Row) -> Loop
+impl<'a> Loop<'a> {
+    /// The loop of a head of this line, where these locals are known before it.
+    pub fn new(line: u32, head: &'a Head, known: &Row) -> Loop<'a>
         requires variable { is_small (use_of head.now.variable) ≡ true }
         requires over { list_all is_small (map use_of head.now.over.items) ≡ true }
-        ensures { loop_of result ≡ loop_in (head_of head.now) (row_of known.now) }
+        ensures { turn_of result ≡ turn_in line (head_of head.now) (row_of known.now) }
     {
         let mut outer = *known;
         outer.add_int(head.variable.slot);
         Loop {
             outer,
-            variable: head.variable.slot,
+            variable: &head.variable,
             over: with_uses(Bits::none(), &head.over),
+            in_head: false,
+            line,
         }
+    }
+
+    /// Whether an array is one of the loop's that may be named here.
+    pub fn may_name(&self, slot: u32) -> bool
+        ensures { result ≡ named (turn_of self.now) slot }
+    {
+        !self.in_head && self.over.has(slot)
     }
 }
 
@@ -51,35 +63,14 @@ fn with_uses(set: Bits, uses: &[Use]) -> Bits
 }
 
 /// What the head of a further loop sees of the loop around: it names none of its arrays.
-pub fn for_head(around: &Option<Loop>) -> Option<Loop>
-    ensures { around_of result ≡ for_head (around_of around.now) }
+pub fn for_head<'a>(around: &Option<Loop<'a>>) -> Option<Loop<'a>>
+    ensures { around_of result ≡ option_map head_in (around_of around.now) }
 {
     match around {
         None => None,
         Some(outer) => Some(Loop {
-            outer: outer.outer,
-            variable: outer.variable,
-            over: Bits::none(),
+            in_head: true,
+            ..*outer
         }),
-    }
-}
-
-/// Whether an integer is from outside the loop.
-pub fn is_outer_int(around: &Option<Loop>, slot: u32) -> bool
-    ensures { result ≡ is_outer_int (around_of around.now) slot }
-{
-    match around {
-        None => false,
-        Some(outer) => outer.outer.ints.has(slot),
-    }
-}
-
-/// Whether an array is from outside the loop.
-pub fn is_outer_array(around: &Option<Loop>, slot: u32) -> bool
-    ensures { result ≡ is_outer_array (around_of around.now) slot }
-{
-    match around {
-        None => false,
-        Some(outer) => outer.outer.arrays.has(slot),
     }
 }

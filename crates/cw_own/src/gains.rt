@@ -17,24 +17,25 @@ ghost use Rattle.cw_own.specs.Views.{turns_of_other, turns_of_while};
 
 use crate::held::Held;
 use crate::row::Row;
+use crate::told::{Local, Watch};
 use cw_model::syntax::CallKind;
-use cw_tree::resolved::{Argument, Line, Stmt, Use};
+use cw_tree::resolved::{Argument, Call, Line, Stmt, Use};
 use std::alloc::Global;
 
 // With the integer that a result goes to, if there is one.
-fn with_target(held: Held, target: &Option<Use>) -> Held
+fn with_target(held: Held, target: &Option<Use>, watch: &Watch) -> Held
     requires { small_target (used target.now) ≡ true }
     ensures { held_of result ≡ with_target (used target.now) (held_of held) }
 {
     let mut held = held;
     if let Some(used) = target {
-        held.taken.add_int(used.slot);
+        held.take_int(used.slot, watch);
     }
     held
 }
 
 // With the arrays that are given away, and those that are only read.
-fn with_arrays(held: Held, es: &[Argument]) -> Held
+fn with_arrays(held: Held, es: &[Argument], watch: &Watch) -> Held
     requires { list_all small_argument (map argument_of es.now) ≡ true }
     ensures { held_of result ≡ with_arrays (map argument_of es.now) (held_of held) }
 {
@@ -42,8 +43,8 @@ fn with_arrays(held: Held, es: &[Argument]) -> Held
     for e in es {
         match e {
             Argument::Int(_) => {}
-            Argument::Array(used) => held.taken.add_array(used.slot),
-            Argument::Shared(used) => held.frozen.add(used.slot),
+            Argument::Array(used) => held.take_array(used.slot, watch),
+            Argument::Shared(used) => held.freeze(used.slot, watch),
         }
     }
     held
@@ -51,14 +52,17 @@ fn with_arrays(held: Held, es: &[Argument]) -> Held
 
 /// What the spawns of a sync block hold after a call: a spawn takes its target and the arrays that are given away, and
 /// freezes those that it only reads.
-pub fn after_call(here: Held, kind: CallKind, target: &Option<Use>, es: &[Argument]) -> Held
-    requires target { small_target (used target.now) ≡ true }
-    requires arguments { list_all small_argument (map argument_of es.now) ≡ true }
-    ensures { held_of result ≡ after_call kind target.now es.now here }
+pub fn after_call(here: Held, call: &Call, watch: &Watch) -> Held
+    requires target { small_target (used call.now.target) ≡ true }
+    requires arguments { list_all small_argument (map argument_of call.now.arguments.items) ≡ true }
+    ensures { held_of result ≡ after_call call.now here }
 {
-    match kind {
+    match call.kind {
         CallKind::Plain => here,
-        CallKind::Spawned => with_arrays(with_target(here, target), es),
+        CallKind::Spawned => {
+            let taken = with_target(here, &call.target, watch);
+            with_arrays(taken, &call.arguments, watch)
+        }
     }
 }
 
@@ -76,23 +80,25 @@ pub fn known_after(known: Row, stmt: &Stmt) -> Row
     known
 }
 
-/// What one turn of each `while` holds, in order, as far as there was memory for it.
+/// What one turn of each `while` holds, in order, as far as there was memory for it; and what is watched.
 #[derive(Drop)]
 pub struct Gains {
     pub rows: Vec<Held>,
     /// There was memory for each.
     pub complete: bool,
+    pub watch: Watch,
 }
 
 impl Gains {
-    /// None so far.
-    pub fn new(alloc: Global) -> Gains
+    /// None so far, where this local is watched.
+    pub fn new(alloc: Global, local: Option<Local>) -> Gains
         ensures complete { result.complete ≡ true }
         ensures rows { result.rows.items ≡ [] }
     {
         Gains {
             rows: Vec::new(alloc),
             complete: true,
+            watch: Watch::new(local),
         }
     }
 
@@ -130,6 +136,7 @@ fn after_all(known: Row, lines: &[Line], here: Held, gains: &mut Gains) -> Held
     let mut here = here;
     for line in lines {
         let next = known_after(known, &line.stmt);
+        gains.watch.line = line.line;
         here = after(&known, &line.stmt, here, gains);
         known = next;
     }
@@ -144,7 +151,7 @@ fn after_block(known: &Row, lines: &[Line], here: Held, gains: &mut Gains) -> He
     ensures gains { Grown gains.old gains.new (turns_in (row_of known.now) (block_of lines.now)) }
 {
     let held = after_all(*known, lines, here, gains);
-    held.within(known)
+    held.within(known, &gains.watch)
 }
 
 // The same of a statement.
@@ -155,7 +162,7 @@ fn after(known: &Row, stmt: &Stmt, here: Held, gains: &mut Gains) -> Held
     ensures gains { Grown gains.old gains.new (turns (row_of known.now) (stmt_of stmt.now)) }
 {
     match stmt {
-        Stmt::Call(call) => after_call(here, call.kind, &call.target, &call.arguments),
+        Stmt::Call(call) => after_call(here, call, &gains.watch),
         Stmt::Sync => Held::none(),
         Stmt::Return(_) => Held::none(),
         Stmt::If(_, block) => {
@@ -220,7 +227,7 @@ fn after_other(known: &Row, stmt: &Stmt, here: Held, gains: &mut Gains) -> Held
         | Stmt::Cut(_, _)
         | Stmt::Region(_, _)
         | Stmt::Print(_)
-        | Stmt::Return(_) => here.within(known),
+        | Stmt::Return(_) => here.within(known, &gains.watch),
     }
 }
 

@@ -1,18 +1,28 @@
 //! What the spawns of a sync block hold.
 
-ghost use Rattle.std.specs.Prelude.{◌≡◌};
+ghost use Rattle.std.specs.Prelude.{◌≡◌, ◌<◌};
+ghost use Rattle.cw_model.specs.declared.limits.TheConstants.{MOST_DECLARED};
 ghost use Rattle.cw_own.specs.Sets.{row_of};
-ghost use Rattle.cw_own.specs.Taken.{none_held, either_held, held_within, held_of};
+ghost use Rattle.cw_own.specs.Taken.{none_held, taking_int, taking_array, freezing, either_held, held_within, held_of};
 
 use crate::bits::Bits;
 use crate::row::Row;
+use crate::told::Watch;
+
+/// Since which line the local that is watched is taken, and frozen.
+#[derive(Clone, Copy, Debug)]
+pub struct Since {
+    pub taken: Option<u32>,
+    pub frozen: Option<u32>,
+}
 
 /// What spawns hold: the locals that they took, and beside them the arrays that they froze, which are only read until the
-/// join.
+/// join; and since which line they hold the local that is watched.
 #[derive(Clone, Copy, Debug)]
 pub struct Held {
     pub taken: Row,
     pub frozen: Bits,
+    pub since: Since,
 }
 
 impl Held {
@@ -23,6 +33,43 @@ impl Held {
         Held {
             taken: Row::none(),
             frozen: Bits::none(),
+            since: Since {
+                taken: None,
+                frozen: None,
+            },
+        }
+    }
+
+    /// An integer more is taken.
+    pub fn take_int(&mut self, slot: u32, watch: &Watch)
+        requires { slot < MOST_DECLARED }
+        ensures { held_of self.new ≡ taking_int slot (held_of self.old) }
+    {
+        self.taken.add_int(slot);
+        if watch.is_int(slot) {
+            self.since.taken = self.since.taken.or(Some(watch.line));
+        }
+    }
+
+    /// An array more is taken.
+    pub fn take_array(&mut self, slot: u32, watch: &Watch)
+        requires { slot < MOST_DECLARED }
+        ensures { held_of self.new ≡ taking_array slot (held_of self.old) }
+    {
+        self.taken.add_array(slot);
+        if watch.is_array(slot) {
+            self.since.taken = self.since.taken.or(Some(watch.line));
+        }
+    }
+
+    /// An array more is frozen.
+    pub fn freeze(&mut self, slot: u32, watch: &Watch)
+        requires { slot < MOST_DECLARED }
+        ensures { held_of self.new ≡ freezing slot (held_of self.old) }
+    {
+        self.frozen.add(slot);
+        if watch.is_array(slot) {
+            self.since.frozen = self.since.frozen.or(Some(watch.line));
         }
     }
 
@@ -33,16 +80,34 @@ impl Held {
         Held {
             taken: self.taken.either(&other.taken),
             frozen: self.frozen.either(&other.frozen),
+            since: Since {
+                taken: self.since.taken.or(other.since.taken),
+                frozen: self.since.frozen.or(other.since.frozen),
+            },
         }
     }
 
     /// What is held of these locals.
-    pub fn within(&self, known: &Row) -> Held
+    pub fn within(&self, known: &Row, watch: &Watch) -> Held
         ensures { held_of result ≡ held_within (row_of known.now) (held_of self.now) }
     {
         Held {
             taken: known.both(&self.taken),
             frozen: known.arrays.both(&self.frozen),
+            since: self.since.within(known, watch),
+        }
+    }
+}
+
+impl Since {
+    // The same, if what is watched is one of these locals.
+    fn within(&self, known: &Row, watch: &Watch) -> Since {
+        if watch.is_in(known) {
+            return *self;
+        }
+        Since {
+            taken: None,
+            frozen: None,
         }
     }
 }

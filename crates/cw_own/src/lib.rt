@@ -1,16 +1,20 @@
-//! Ownership: which sources touch what a spawn or a cut has taken.
+//! Ownership: which sources touch what a spawn or a cut has taken, and by which rule.
 #![tactic(auto)]
 
 mod around;
 mod bits;
 mod gains;
 mod held;
+pub mod laws;
 mod owned;
 mod owning;
 mod reading;
+mod reason;
 mod row;
 mod rules;
 mod taken;
+mod told;
 
 pub use owned::Owned;
-pub use owning::own;
+pub use owning::{disowned, own};
+pub use reason::{At, Disowned, Holder, Touch};

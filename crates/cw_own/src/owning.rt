@@ -1,22 +1,25 @@
 //! The test of ownership.
 
-ghost use Rattle.std.specs.Prelude.{◌≡◌, ◌≤◌, length, map, true, MatchResult, OnOk};
+ghost use Rattle.std.specs.Prelude.{◌≡◌, ◌≤◌, IfOk, MatchOption, MatchResult, OnOk, length, map, true};
 ghost use Rattle.std.specs.List.{list_all};
 ghost use Rattle.cw_model.specs.declared.limits.TheConstants.{MOST_PARAMETERS};
-ghost use Rattle.cw_tree.specs.ResolvedView.{program_of, param_of, function_of};
+ghost use Rattle.cw_model.specs.Ownership.{KeepsOwnership};
+ghost use Rattle.cw_tree.specs.ResolvedView.{program_of, resolved_of, param_of, function_of};
 ghost use Rattle.cw_own.specs.Bounds.{small_function};
-ghost use Rattle.cw_own.specs.Faults.{BreaksOwnership};
+ghost use Rattle.cw_own.specs.Faults.{BreaksOwnership, IsTold};
 ghost use Rattle.cw_own.specs.Sets.{row_of, no_local};
 ghost use Rattle.cw_own.specs.Taken.{with_params};
-ghost use Rattle.cw_own.specs.Views.{lines_of, lines_of_all, Noted};
+ghost use Rattle.cw_own.specs.Views.{reasons_of, reasons_of_all, Noted};
 
 use crate::gains::{Gains, turns};
 use crate::owned::Owned;
+use crate::reason::{At, Disowned, Holder};
 use crate::row::Row;
 use crate::rules::{Turns, note_sync_block};
 use crate::taken::Taken;
+use crate::told::{Local, Told};
 use cw_model::syntax::NameKind;
-use cw_text::{Fault, LeastLine, Place};
+use cw_text::{Fault, Place};
 use cw_tree::Typed;
 use cw_tree::resolved::{Function, Param};
 use std::alloc::{AllocError, Global};
@@ -26,46 +29,97 @@ use std::alloc::{AllocError, Global};
 /// Answers `Ownership` at the least line that breaks a rule of ownership: of a statement that touches what a spawn or a
 /// cut has taken, changes what a spawn has frozen, passes an array twice where it is not only read or names an outer
 /// local of its loop otherwise than to read it, or of a declaration whose name is still held as its block ends. Answers
-/// `Memory` where there is none for a row of 96 bytes for each `while` of one function. The tree is let go then.
+/// `Memory` where there is none for a row of 112 bytes for each `while` of one function. The tree is let go then.
 pub fn own(alloc: Global, typed: Typed) -> Result<Owned, Fault>
     ensures { MatchResult result (λ owned. owned.typed.tree ≡ typed.tree)
         (BreaksOwnership (program_of typed.tree)) }
 {
-    let mut least = LeastLine::new();
-    note_functions(alloc, &typed.tree.functions, &mut least)?;
-    match least.line {
-        Some(line) => Err(Fault::Ownership(Place { line })),
+    let told = first_broken(alloc, &typed, None)?;
+    match told {
+        Some(first) => Err(Fault::Ownership(Place { line: first.line })),
         None => Ok(Owned { typed }),
     }
 }
 
-// Notes each line of these functions that breaks a rule.
-#[tactic(auto, using(crate::proofs::Small::lowest_append))]
-fn note_functions(
+/// The least line that breaks a rule of ownership, with the first rule that it breaks and the names that it breaks it
+/// for; none where the tree keeps ownership. Where a name is held, since which line it is. An error where memory is
+/// refused, as in `own`.
+pub fn disowned(alloc: Global, typed: &Typed) -> Result<Option<At<'_>>, AllocError>
+    ensures { IfOk result (λ told. MatchOption told (KeepsOwnership (program_of typed.now.tree))
+        (IsTold typed.now.tree)) }
+{
+    let told = first_broken(alloc, typed, None)?;
+    match held_local(&told) {
+        None => Ok(told),
+        Some(local) => {
+            let told = first_broken(alloc, typed, Some(local))?;
+            Ok(told)
+        }
+    }
+}
+
+// The local that the reason says is held, if it says so of one.
+fn held_local(told: &Option<At<'_>>) -> Option<Local> {
+    let Some(first) = told else {
+        return None;
+    };
+    match first.reason {
+        Disowned::Held(used, _, holder, _) | Disowned::EndsHeld(used, holder, _) => {
+            Some(local_of(used.slot, holder))
+        }
+        _ => None,
+    }
+}
+
+// The local of a slot that this holds.
+fn local_of(slot: u32, holder: Holder) -> Local {
+    match holder {
+        Holder::Result => Local::Int(slot),
+        Holder::Argument | Holder::Reader | Holder::Cut => Local::Array(slot),
+    }
+}
+
+// The first line that breaks a rule, where this local is watched.
+fn first_broken(
     alloc: Global,
-    functions: &[Function],
-    least: &mut LeastLine,
+    typed: &Typed,
+    watched: Option<Local>,
+) -> Result<Option<At<'_>>, AllocError>
+    ensures { IfOk result (λ told. MatchOption told (KeepsOwnership (program_of typed.now.tree))
+        (IsTold typed.now.tree)) }
+{
+    let mut told = Told::new(watched);
+    note_functions(alloc, &typed.tree.functions, &mut told)?;
+    Ok(told.first)
+}
+
+// Notes each line of these functions that breaks a rule.
+#[tactic(auto, using(crate::proofs::Small::first_append))]
+fn note_functions<'a>(
+    alloc: Global,
+    functions: &'a [Function],
+    told: &mut Told<'a>,
 ) -> Result<(), AllocError>
     requires { list_all small_function (map function_of functions.now) ≡ true }
-    ensures { OnOk result (Noted least.old least.new (lines_of_all functions.now)) }
+    ensures { OnOk result (Noted told.old told.new (reasons_of_all functions.now)) }
 {
     for function in functions {
-        note_function(alloc, function, least)?;
+        note_function(alloc, function, told)?;
     }
     Ok(())
 }
 
 // Notes each line of a function that breaks a rule.
-fn note_function(
+fn note_function<'a>(
     alloc: Global,
-    function: &Function,
-    least: &mut LeastLine,
+    function: &'a Function,
+    told: &mut Told<'a>,
 ) -> Result<(), AllocError>
     requires { small_function (function_of function.now) ≡ true }
-    ensures { OnOk result (Noted least.old least.new (lines_of function.now)) }
+    ensures { OnOk result (Noted told.old told.new (reasons_of function.now)) }
 {
     let known = with_params(&function.params);
-    let mut gains = Gains::new(alloc);
+    let mut gains = Gains::new(alloc, told.watch.local);
     turns(known, &function.body, &mut gains);
     if !gains.complete {
         return Err(AllocError);
@@ -74,7 +128,7 @@ fn note_function(
         left: gains.rows.as_slice(),
     };
     let nothing = Taken::nothing();
-    note_sync_block(&None, known, nothing, &function.body, &mut rest, least);
+    note_sync_block(&None, known, nothing, &function.body, &mut rest, told);
     Ok(())
 }
 

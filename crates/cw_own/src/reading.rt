@@ -1,20 +1,39 @@
-//! What a statement may read, write and pass.
+//! Which rule a statement breaks by what it reads, writes and passes.
 
-ghost use Rattle.std.specs.Prelude.{◌≡◌, map, true};
+ghost use Rattle.std.specs.Prelude.{◌≡◌, map, option_map, true};
 ghost use Rattle.std.specs.List.{list_all};
-ghost use Rattle.cw_tree.specs.ResolvedView.{use_of, expr_of, argument_of, head_of, stmt_of};
+ghost use Rattle.cw_tree.specs.ResolvedView.{use_of, listed_of, expr_of, argument_of, parts_of, head_of, stmt_of};
 ghost use Rattle.cw_own.specs.Bounds.{is_small, small_argument, small_stmt};
 ghost use Rattle.cw_own.specs.Sets.{no_slot};
 ghost use Rattle.cw_own.specs.Taken.{taken_of};
-ghost use Rattle.cw_own.specs.Rules.{is_variable, may_index, may_read, may_write, may_pass, may_lend};
-ghost use Rattle.cw_own.specs.Rules.{may_target, may_return, passed_once, given_away, none_read, named_once};
-ghost use Rattle.cw_own.specs.Rules.{head_keeps, keeps};
-ghost use Rattle.cw_own.specs.Views.{set_of, around_of, used, returned, may_give_all, may_pass_all};
+ghost use Rattle.cw_own.specs.Rules.{is_variable, given_away};
+ghost use Rattle.cw_own.specs.Reasons.{held_by, outside, why_index, why_outer_int, why_outer_array, why_int};
+ghost use Rattle.cw_own.specs.Reasons.{why_taken, why_read, why_write, why_whole, why_lend, why_target, why_argument};
+ghost use Rattle.cw_own.specs.Reasons.{why_arguments, why_return, why_twice, why_read_too, why_over_twice, why_over};
+ghost use Rattle.cw_own.specs.Reasons.{why_head, why_cut, why_element, why};
+ghost use Rattle.cw_own.specs.Views.{set_of, turn_of, around_of, used, returned, reason_of, told_of, why_of_call};
+ghost use Rattle.cw_own.specs.declared.reason.Touch.TheVariants as touch;
 
-use crate::around::{Loop, for_head, is_outer_array, is_outer_int};
+use crate::around::{Loop, for_head};
 use crate::bits::Bits;
+use crate::reason::{Disowned, Holder, Touch};
 use crate::taken::Taken;
-use cw_tree::resolved::{Argument, Expr, Head, Stmt, Use};
+use cw_tree::resolved::{Argument, Call, Cut, Expr, Head, Listed, Stmt, Use};
+
+// A name is touched while this holds it.
+fn of_holder<'a>(
+    taken: &Taken,
+    used: &'a Use,
+    touch: Touch,
+    holder: Option<Holder>,
+) -> Option<Disowned<'a>>
+    ensures { told_of result ≡ held_by (use_of used.now) touch holder }
+{
+    match holder {
+        None => None,
+        Some(holder) => Some(Disowned::Held(used, touch, holder, taken.since(holder))),
+    }
+}
 
 // Whether an expression is this integer alone.
 fn is_variable(slot: u32, e: &Expr) -> bool
@@ -26,111 +45,198 @@ fn is_variable(slot: u32, e: &Expr) -> bool
     }
 }
 
-// Whether an array may be indexed so: an outer one only where the loop is over it, and by the loop's variable.
-fn may_index(around: &Option<Loop>, slot: u32, e: &Expr) -> bool
-    ensures { result ≡ may_index (around_of around.now) slot (expr_of e.now) }
+// An array from outside the loop is named in another way than it may be.
+fn outside<'a>(outer: &Loop<'a>, used: &'a Use) -> Disowned<'a>
+    ensures { reason_of result ≡ outside (turn_of outer.now) (use_of used.now) }
+{
+    if outer.over.has(used.slot) {
+        return Disowned::OtherElement(used, outer.variable, outer.line);
+    }
+    Disowned::OuterArray(used, outer.line)
+}
+
+// An array is indexed: one from outside may be where the loop is over it, by the loop's variable.
+fn of_index<'a>(around: &Option<Loop<'a>>, used: &'a Use, e: &Expr) -> Option<Disowned<'a>>
+    ensures { told_of result ≡ why_index (around_of around.now) (use_of used.now) (expr_of e.now) }
 {
     match around {
-        None => true,
+        None => None,
         Some(outer) => {
-            !outer.outer.arrays.has(slot)
-                || (outer.over.has(slot) && is_variable(outer.variable, e))
+            let own = outer.may_name(used.slot) && is_variable(outer.variable.slot, e);
+            if own || !outer.outer.arrays.has(used.slot) {
+                return None;
+            }
+            Some(outside(outer, used))
         }
     }
 }
 
-// Whether an expression names nothing taken, and keeps the rule of the loop around.
-fn may_read(around: &Option<Loop>, taken: &Taken, e: &Expr) -> bool
-    ensures { result ≡ may_read (around_of around.now) (taken_of taken.now) (expr_of e.now) }
+// An array from outside the loop is named as a whole.
+fn of_outer_array<'a>(around: &Option<Loop<'a>>, used: &'a Use) -> Option<Disowned<'a>>
+    ensures { told_of result ≡ why_outer_array (around_of around.now) (use_of used.now) }
+{
+    match around {
+        None => None,
+        Some(outer) => {
+            if outer.outer.arrays.has(used.slot) {
+                return Some(outside(outer, used));
+            }
+            None
+        }
+    }
+}
+
+// An integer from outside the loop is written.
+fn of_outer_int<'a>(around: &Option<Loop<'a>>, used: &'a Use) -> Option<Disowned<'a>>
+    ensures { told_of result ≡ why_outer_int (around_of around.now) (use_of used.now) }
+{
+    match around {
+        None => None,
+        Some(outer) => {
+            if outer.outer.ints.has(used.slot) {
+                return Some(Disowned::OuterWritten(used, outer.line));
+            }
+            None
+        }
+    }
+}
+
+// An expression names what is taken, or breaks the rule of the loop around.
+fn of_expr<'a>(around: &Option<Loop<'a>>, taken: &Taken, e: &'a Expr) -> Option<Disowned<'a>>
+    ensures { told_of result ≡ why_read (around_of around.now) (taken_of taken.now) (expr_of e.now) }
 {
     match e {
-        Expr::Number(_) => true,
-        Expr::Variable(used) => !taken.has_int(used.slot),
-        Expr::Element(used, e) => {
-            !taken.has_array(used.slot)
-                && may_index(around, used.slot, e)
-                && may_read(around, taken, e)
-        }
-        Expr::Length(used) => !taken.has_array(used.slot) && !is_outer_array(around, used.slot),
-        Expr::Negative(e) => may_read(around, taken, e),
-        Expr::Not(e) => may_read(around, taken, e),
-        Expr::Binary(_, d, e) => may_read(around, taken, d) && may_read(around, taken, e),
+        Expr::Number(_) => None,
+        Expr::Variable(used) => of_read(taken, used),
+        Expr::Element(used, e) => of_taken(taken, used)
+            .or(of_expr(around, taken, e))
+            .or(of_index(around, used, e)),
+        Expr::Length(used) => of_lent(around, taken, used),
+        Expr::Negative(e) => of_expr(around, taken, e),
+        Expr::Not(e) => of_expr(around, taken, e),
+        Expr::Binary(_, d, e) => of_expr(around, taken, d).or(of_expr(around, taken, e)),
     }
 }
 
-// Whether an integer that is written is neither taken nor from outside the loop.
-fn may_write(around: &Option<Loop>, taken: &Taken, slot: u32) -> bool
-    ensures { result ≡ may_write (around_of around.now) (taken_of taken.now) slot }
+// An integer that is read is taken.
+fn of_read<'a>(taken: &Taken, used: &'a Use) -> Option<Disowned<'a>>
+    ensures { told_of result ≡ why_int (taken_of taken.now) touch.Read (use_of used.now) }
 {
-    !taken.has_int(slot) && !is_outer_int(around, slot)
+    of_holder(taken, used, Touch::Read, taken.int_holder(used.slot))
 }
 
-// Whether an array that is given away or cut is neither held nor from outside the loop.
-fn may_pass(around: &Option<Loop>, taken: &Taken, slot: u32) -> bool
-    ensures { result ≡ may_pass (around_of around.now) (taken_of taken.now) slot }
+// An array that is read is taken.
+fn of_taken<'a>(taken: &Taken, used: &'a Use) -> Option<Disowned<'a>>
+    ensures { told_of result ≡ why_taken (taken_of taken.now) (use_of used.now) }
 {
-    !taken.holds_array(slot) && !is_outer_array(around, slot)
+    of_holder(taken, used, Touch::Read, taken.array_taker(used.slot))
 }
 
-// Whether an array that a call only reads is neither taken nor from outside the loop.
-fn may_lend(around: &Option<Loop>, taken: &Taken, slot: u32) -> bool
-    ensures { result ≡ may_lend (around_of around.now) (taken_of taken.now) slot }
+// An array that is read as a whole is taken, or from outside the loop.
+fn of_lent<'a>(around: &Option<Loop<'a>>, taken: &Taken, used: &'a Use) -> Option<Disowned<'a>>
+    ensures { told_of result ≡ why_lend (around_of around.now) (taken_of taken.now) (use_of used.now) }
 {
-    !taken.has_array(slot) && !is_outer_array(around, slot)
+    of_taken(taken, used).or(of_outer_array(around, used))
 }
 
-// Whether the integer that a result goes to may be written, if there is one.
-fn may_target(around: &Option<Loop>, taken: &Taken, target: &Option<Use>) -> bool
-    ensures { result ≡ may_target (around_of around.now) (taken_of taken.now) (used target.now) }
+// An integer that is written is taken, or from outside the loop.
+fn of_write<'a>(around: &Option<Loop<'a>>, taken: &Taken, used: &'a Use) -> Option<Disowned<'a>>
+    ensures { told_of result ≡ why_write (around_of around.now) (taken_of taken.now) (use_of used.now) }
+{
+    let held = of_holder(taken, used, Touch::Written, taken.int_holder(used.slot));
+    held.or(of_outer_int(around, used))
+}
+
+// An array that is given away, cut or named in the head of a loop is held, or from outside the loop around.
+fn of_whole<'a>(
+    around: &Option<Loop<'a>>,
+    taken: &Taken,
+    touch: Touch,
+    used: &'a Use,
+) -> Option<Disowned<'a>>
+    ensures { told_of result
+        ≡ why_whole (around_of around.now) (taken_of taken.now) touch (use_of used.now) }
+{
+    let held = of_holder(taken, used, touch, taken.array_holder(used.slot));
+    held.or(of_outer_array(around, used))
+}
+
+// The integer that a result goes to may not be written, if there is one.
+fn of_target<'a>(
+    around: &Option<Loop<'a>>,
+    taken: &Taken,
+    target: &'a Option<Use>,
+) -> Option<Disowned<'a>>
+    ensures { told_of result ≡ why_target (around_of around.now) (taken_of taken.now) (used target.now) }
 {
     match target {
-        None => true,
-        Some(used) => may_write(around, taken, used.slot),
+        None => None,
+        Some(used) => of_write(around, taken, used),
     }
 }
 
-// Whether each argument may be read, or passed.
-fn may_give(around: &Option<Loop>, taken: &Taken, es: &[Argument]) -> bool
-    ensures { result ≡ may_give_all around.now taken.now es.now }
-{
-    for e in es {
-        let may = match e {
-            Argument::Int(e) => may_read(around, taken, e),
-            Argument::Array(used) => may_pass(around, taken, used.slot),
-            Argument::Shared(used) => may_lend(around, taken, used.slot),
-        };
-        if !may {
-            return false;
-        }
-    }
-    true
-}
-
-// Whether what is returned may be read, if anything is returned.
-fn may_return(around: &Option<Loop>, taken: &Taken, e: &Option<Expr>) -> bool
-    ensures { result ≡ may_return (around_of around.now) (taken_of taken.now) (returned e.now) }
+// An argument may not be read, or passed.
+fn of_argument<'a>(
+    around: &Option<Loop<'a>>,
+    taken: &Taken,
+    e: &'a Argument,
+) -> Option<Disowned<'a>>
+    ensures { told_of result ≡ why_argument (around_of around.now) (taken_of taken.now) (argument_of e.now) }
 {
     match e {
-        None => true,
-        Some(e) => may_read(around, taken, e),
+        Argument::Int(e) => of_expr(around, taken, e),
+        Argument::Array(used) => of_whole(around, taken, Touch::Passed, used),
+        Argument::Shared(used) => of_lent(around, taken, used),
     }
 }
 
-// Whether no array is given away twice.
-fn passed_once(es: &[Argument]) -> bool
+// The first argument that may not be.
+fn of_arguments<'a>(
+    around: &Option<Loop<'a>>,
+    taken: &Taken,
+    es: &'a [Argument],
+) -> Option<Disowned<'a>>
+    ensures { told_of result
+        ≡ why_arguments (around_of around.now) (taken_of taken.now) (map argument_of es.now) }
+{
+    for e in es {
+        let found = of_argument(around, taken, e);
+        if found.is_some() {
+            return found;
+        }
+    }
+    None
+}
+
+// What is returned may not be read, if anything is returned.
+fn of_return<'a>(
+    around: &Option<Loop<'a>>,
+    taken: &Taken,
+    e: &'a Option<Expr>,
+) -> Option<Disowned<'a>>
+    ensures { told_of result ≡ why_return (around_of around.now) (taken_of taken.now) (returned e.now) }
+{
+    match e {
+        None => None,
+        Some(e) => of_expr(around, taken, e),
+    }
+}
+
+// An array is given away twice.
+fn given_twice<'a>(callee: &'a Listed, es: &'a [Argument]) -> Option<Disowned<'a>>
     requires { list_all small_argument (map argument_of es.now) ≡ true }
-    ensures { result ≡ passed_once no_slot (map argument_of es.now) }
+    ensures { told_of result ≡ why_twice (listed_of callee.now) no_slot (map argument_of es.now) }
 {
     let mut seen = Bits::none();
     for e in es {
         if let Argument::Array(used) = e {
             if seen.has(used.slot) {
-                return false;
+                return Some(Disowned::GivenTwice(used, callee));
             }
             seen.add(used.slot);
         }
     }
-    true
+    None
 }
 
 // The arrays that are given away.
@@ -147,94 +253,118 @@ fn given_away(es: &[Argument]) -> Bits
     given
 }
 
-// Whether none of these arrays is only read.
-fn none_read(given: &Bits, es: &[Argument]) -> bool
-    ensures { result ≡ none_read (set_of given.now) (map argument_of es.now) }
+// One of the arrays that are given away is read besides.
+fn read_too<'a>(callee: &'a Listed, given: &Bits, es: &'a [Argument]) -> Option<Disowned<'a>>
+    ensures { told_of result ≡ why_read_too (listed_of callee.now) (set_of given.now) (map argument_of es.now) }
 {
     for e in es {
         if let Argument::Shared(used) = e {
             if given.has(used.slot) {
-                return false;
+                return Some(Disowned::GivenAndRead(used, callee));
             }
         }
     }
-    true
+    None
 }
 
-// Whether no array is named twice.
-fn named_once(uses: &[Use]) -> bool
+// A call breaks a rule.
+fn of_call<'a>(around: &Option<Loop<'a>>, taken: &Taken, call: &'a Call) -> Option<Disowned<'a>>
+    requires { list_all small_argument (map argument_of call.now.arguments.items) ≡ true }
+    ensures { told_of result ≡ why_of_call around.now taken.now call.now }
+{
+    let given = given_away(&call.arguments);
+    of_arguments(around, taken, &call.arguments)
+        .or(of_target(around, taken, &call.target))
+        .or(given_twice(&call.callee, &call.arguments))
+        .or(read_too(&call.callee, &given, &call.arguments))
+}
+
+// A loop is over an array twice.
+fn over_twice<'a>(uses: &'a [Use]) -> Option<Disowned<'a>>
     requires { list_all is_small (map use_of uses.now) ≡ true }
-    ensures { result ≡ named_once no_slot (map use_of uses.now) }
+    ensures { told_of result ≡ why_over_twice no_slot (map use_of uses.now) }
 {
     let mut seen = Bits::none();
     for used in uses {
         if seen.has(used.slot) {
-            return false;
+            return Some(Disowned::OverTwice(used));
         }
         seen.add(used.slot);
     }
-    true
+    None
 }
 
-// Whether each array of a loop may be passed.
-fn may_pass_all(around: &Option<Loop>, taken: &Taken, uses: &[Use]) -> bool
-    ensures { result ≡ may_pass_all around.now taken.now uses.now }
+// The first array of a loop that may not be named in its head.
+fn of_over<'a>(around: &Option<Loop<'a>>, taken: &Taken, uses: &'a [Use]) -> Option<Disowned<'a>>
+    ensures { told_of result ≡ why_over (around_of around.now) (taken_of taken.now) (map use_of uses.now) }
 {
     for used in uses {
-        if !may_pass(around, taken, used.slot) {
-            return false;
+        let found = of_whole(around, taken, Touch::NamedInOver, used);
+        if found.is_some() {
+            return found;
         }
     }
-    true
+    None
 }
 
-// Whether the head of a loop keeps the rules.
-fn head_keeps(around: &Option<Loop>, taken: &Taken, head: &Head) -> bool
+// The head of a loop breaks a rule.
+fn of_head<'a>(around: &Option<Loop<'a>>, taken: &Taken, head: &'a Head) -> Option<Disowned<'a>>
     requires { list_all is_small (map use_of head.now.over.items) ≡ true }
-    ensures { result ≡ head_keeps (around_of around.now) (taken_of taken.now) (head_of head.now) }
+    ensures { told_of result ≡ why_head (around_of around.now) (taken_of taken.now) (head_of head.now) }
 {
     let inner = for_head(around);
-    may_read(&inner, taken, &head.from)
-        && may_read(&inner, taken, &head.to)
-        && may_pass_all(around, taken, &head.over)
-        && named_once(&head.over)
+    of_expr(&inner, taken, &head.from)
+        .or(of_expr(&inner, taken, &head.to))
+        .or(of_over(&inner, taken, &head.over))
+        .or(over_twice(&head.over))
 }
 
-/// Whether a statement keeps the rules, but for what stands in its blocks.
-pub fn keeps(around: &Option<Loop>, taken: &Taken, stmt: &Stmt) -> bool
+// A cut breaks a rule.
+fn of_cut<'a>(around: &Option<Loop<'a>>, taken: &Taken, cut: &'a Cut) -> Option<Disowned<'a>>
+    ensures { told_of result ≡ why_cut (around_of around.now) (taken_of taken.now) (parts_of cut.now) }
+{
+    of_expr(around, taken, &cut.at).or(of_whole(around, taken, Touch::Cut, &cut.array))
+}
+
+// An assignment to an element breaks a rule.
+fn of_element<'a>(
+    around: &Option<Loop<'a>>,
+    taken: &Taken,
+    used: &'a Use,
+    i: &'a Expr,
+    e: &'a Expr,
+) -> Option<Disowned<'a>>
+    ensures { told_of result
+        ≡ why_element (around_of around.now) (taken_of taken.now) (use_of used.now) (expr_of i.now) (expr_of e.now) }
+{
+    let held = of_holder(taken, used, Touch::Written, taken.array_holder(used.slot));
+    of_expr(around, taken, i)
+        .or(of_expr(around, taken, e))
+        .or(held)
+        .or(of_index(around, used, i))
+}
+
+/// The first rule that a statement breaks, but for what stands in its blocks.
+pub fn of_stmt<'a>(around: &Option<Loop<'a>>, taken: &Taken, stmt: &'a Stmt) -> Option<Disowned<'a>>
     requires { small_stmt (stmt_of stmt.now) ≡ true }
-    ensures { result ≡ keeps (around_of around.now) (taken_of taken.now) (stmt_of stmt.now) }
+    ensures { told_of result ≡ why (around_of around.now) (taken_of taken.now) (stmt_of stmt.now) }
 {
     match stmt {
-        Stmt::Declare(_, e) => may_read(around, taken, e),
-        Stmt::DeclareArray(_, e) => may_read(around, taken, e),
-        Stmt::Assign(used, e) => {
-            may_read(around, taken, e) && may_write(around, taken, used.slot)
-        }
-        Stmt::AssignElement(used, i, e) => {
-            may_read(around, taken, i)
-                && may_read(around, taken, e)
-                && !taken.holds_array(used.slot)
-                && may_index(around, used.slot, i)
-        }
-        Stmt::Reduce(_, _, e) => may_read(around, taken, e),
-        Stmt::Call(call) => {
-            may_give(around, taken, &call.arguments)
-                && may_target(around, taken, &call.target)
-                && passed_once(&call.arguments)
-                && none_read(&given_away(&call.arguments), &call.arguments)
-        }
-        Stmt::Sync => true,
-        Stmt::If(e, _) => may_read(around, taken, e),
-        Stmt::IfElse(e, _, _) => may_read(around, taken, e),
-        Stmt::While(e, _) => may_read(around, taken, e),
-        Stmt::For(head, _) => head_keeps(around, taken, head),
-        Stmt::Scope(_) => true,
-        Stmt::Cut(cut, _) => {
-            may_read(around, taken, &cut.at) && may_pass(around, taken, cut.array.slot)
-        }
-        Stmt::Region(_, _) => true,
-        Stmt::Print(e) => may_read(around, taken, e),
-        Stmt::Return(e) => may_return(around, taken, e),
+        Stmt::Declare(_, e) => of_expr(around, taken, e),
+        Stmt::DeclareArray(_, e) => of_expr(around, taken, e),
+        Stmt::Assign(used, e) => of_expr(around, taken, e).or(of_write(around, taken, used)),
+        Stmt::AssignElement(used, i, e) => of_element(around, taken, used, i, e),
+        Stmt::Reduce(_, _, e) => of_expr(around, taken, e),
+        Stmt::Call(call) => of_call(around, taken, call),
+        Stmt::Sync => None,
+        Stmt::If(e, _) => of_expr(around, taken, e),
+        Stmt::IfElse(e, _, _) => of_expr(around, taken, e),
+        Stmt::While(e, _) => of_expr(around, taken, e),
+        Stmt::For(head, _) => of_head(around, taken, head),
+        Stmt::Scope(_) => None,
+        Stmt::Cut(cut, _) => of_cut(around, taken, cut),
+        Stmt::Region(_, _) => None,
+        Stmt::Print(e) => of_expr(around, taken, e),
+        Stmt::Return(e) => of_return(around, taken, e),
     }
 }

@@ -3,12 +3,14 @@
 ghost use Rattle.std.specs.Prelude.{◌≡◌, ◌<◌};
 ghost use Rattle.cw_model.specs.declared.limits.TheConstants.{MOST_DECLARED};
 ghost use Rattle.cw_own.specs.Sets.{row_of};
-ghost use Rattle.cw_own.specs.Taken.{nothing, int_taken, array_taken, array_held, inside, inside_cut};
-ghost use Rattle.cw_own.specs.Taken.{joined, after_branches, taken_of};
+ghost use Rattle.cw_own.specs.Taken.{nothing, inside, inside_cut, joined, after_branches, taken_of};
+ghost use Rattle.cw_own.specs.Reasons.{int_holder, array_taker, array_reader, array_holder};
 
 use crate::bits::Bits;
 use crate::held::Held;
+use crate::reason::Holder;
 use crate::row::Row;
+use crate::told::Watch;
 
 /// What is held: by spawns of the sync blocks around the innermost one, by the spawns of that one, and the arrays that
 /// are cut.
@@ -20,6 +22,8 @@ pub struct Taken {
     pub outer: Held,
     pub here: Held,
     pub cuts: Bits,
+    /// Since which line the local that is watched is cut.
+    pub cut_since: Option<u32>,
 }
 
 impl Taken {
@@ -31,28 +35,57 @@ impl Taken {
             outer: Held::none(),
             here: Held::none(),
             cuts: Bits::none(),
+            cut_since: None,
         }
     }
 
-    /// Whether an integer is taken.
-    pub fn has_int(&self, slot: u32) -> bool
-        ensures { result ≡ int_taken (taken_of self.now) slot }
+    /// What took an integer, if something did.
+    pub fn int_holder(&self, slot: u32) -> Option<Holder>
+        ensures { result ≡ int_holder (taken_of self.now) slot }
     {
-        self.outer.taken.ints.has(slot) || self.here.taken.ints.has(slot)
+        if self.outer.taken.ints.has(slot) || self.here.taken.ints.has(slot) {
+            return Some(Holder::Result);
+        }
+        None
     }
 
-    /// Whether an array is taken.
-    pub fn has_array(&self, slot: u32) -> bool
-        ensures { result ≡ array_taken (taken_of self.now) slot }
+    /// What took an array, if something did: what only reads it did not.
+    pub fn array_taker(&self, slot: u32) -> Option<Holder>
+        ensures { result ≡ array_taker (taken_of self.now) slot }
     {
-        self.outer.taken.arrays.has(slot) || self.here.taken.arrays.has(slot) || self.cuts.has(slot)
+        if self.outer.taken.arrays.has(slot) || self.here.taken.arrays.has(slot) {
+            return Some(Holder::Argument);
+        }
+        if self.cuts.has(slot) {
+            return Some(Holder::Cut);
+        }
+        None
     }
 
-    /// Whether an array is taken or frozen.
-    pub fn holds_array(&self, slot: u32) -> bool
-        ensures { result ≡ array_held (taken_of self.now) slot }
+    // What only reads an array, if something does.
+    fn array_reader(&self, slot: u32) -> Option<Holder>
+        ensures { result ≡ array_reader (taken_of self.now) slot }
     {
-        self.has_array(slot) || self.outer.frozen.has(slot) || self.here.frozen.has(slot)
+        if self.outer.frozen.has(slot) || self.here.frozen.has(slot) {
+            return Some(Holder::Reader);
+        }
+        None
+    }
+
+    /// What holds an array, if something does.
+    pub fn array_holder(&self, slot: u32) -> Option<Holder>
+        ensures { result ≡ array_holder (taken_of self.now) slot }
+    {
+        self.array_taker(slot).or(self.array_reader(slot))
+    }
+
+    /// Since which line this holds the local that is watched.
+    pub fn since(&self, holder: Holder) -> Option<u32> {
+        match holder {
+            Holder::Result | Holder::Argument => self.outer.since.taken.or(self.here.since.taken),
+            Holder::Reader => self.outer.since.frozen.or(self.here.since.frozen),
+            Holder::Cut => self.cut_since,
+        }
     }
 
     /// What is held as a sync block begins.
@@ -62,7 +95,7 @@ impl Taken {
         Taken {
             outer: self.outer.either(&self.here),
             here: Held::none(),
-            cuts: self.cuts,
+            ..*self
         }
     }
 
@@ -77,29 +110,28 @@ impl Taken {
     }
 
     /// What is held after two branches: what one of them leaves held, of the locals that are known.
-    pub fn after_branches(known: &Row, branch: &Taken, other: &Taken) -> Taken
+    pub fn after_branches(known: &Row, branch: &Taken, other: &Taken, watch: &Watch) -> Taken
         ensures { taken_of result
             ≡ after_branches (row_of known.now) (taken_of branch.now) (taken_of other.now) }
     {
-        let left = branch.here.within(known);
+        let left = branch.here.within(known, watch);
         Taken {
-            outer: branch.outer,
-            here: left.either(&other.here.within(known)),
+            here: left.either(&other.here.within(known, watch)),
             cuts: branch.cuts.either(&other.cuts),
+            ..*branch
         }
     }
 
     /// What is held as the block of a cut of this array begins.
-    pub fn inside_cut(&self, array: u32) -> Taken
+    pub fn inside_cut(&self, array: u32, watch: &Watch) -> Taken
         requires { array < MOST_DECLARED }
         ensures { taken_of result ≡ inside_cut array (taken_of self.now) }
     {
-        let mut cuts = self.cuts;
-        cuts.add(array);
-        Taken {
-            outer: self.outer.either(&self.here),
-            here: Held::none(),
-            cuts,
+        let mut inside = self.inside();
+        inside.cuts.add(array);
+        if watch.is_array(array) {
+            inside.cut_since = Some(watch.line);
         }
+        inside
     }
 }

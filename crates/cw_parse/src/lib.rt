@@ -15,4 +15,4 @@ mod simple;
 mod stmt;
 mod stop;
 
-pub use parser::parse;
+pub use parser::{first_refused, parse};

@@ -1,10 +1,10 @@
 //! The tree of a whole source.
 
-ghost use Rattle.std.specs.Prelude.{◌≡◌, ◌-◌, ◌≤◌, length, drop, MatchResult};
+ghost use Rattle.std.specs.Prelude.{◌≡◌, ◌-◌, ◌≤◌, length, drop, IfOk, IfSome, MatchResult};
 ghost use Rattle.cw_model.specs.declared.limits.TheConstants.{MOST_SOURCE_BYTES};
 ghost use Rattle.cw_model.specs.Text.{end_line};
 ghost use Rattle.cw_model.specs.Tokens.{IsTokenCut};
-ghost use Rattle.cw_model.specs.Grammar.{Derives, first_line};
+ghost use Rattle.cw_model.specs.Grammar.{Derives, HasSyntaxFault, first_line};
 ghost use Rattle.cw_tree.specs.SyntaxView.{program_of};
 ghost use Rattle.cw_parse.specs.Parsed.{HasNoTree, IsParsed, IsUnparsed};
 
@@ -16,7 +16,7 @@ use crate::stop::Stop;
 use cw_model::token::Token;
 use cw_text::{Fault, Place, Source};
 use cw_tree::syntax::Ast;
-use std::alloc::Global;
+use std::alloc::{AllocError, Global};
 
 // The line of a text's end.
 fn end_line(text: &[u8]) -> u32
@@ -90,5 +90,31 @@ fn tree_with(alloc: Global, source: &Source, names: &Names, tokens: &[Token]) ->
             let line = line_of(text, tokens, left);
             Err(Fault::Syntax(Place { line }))
         }
+    }
+}
+
+/// The place of the first of these tokens that can continue no source, or their count where the source ends too early;
+/// none where they are a source, apart from limits. An error where memory is refused for the tree.
+pub fn first_refused(
+    alloc: Global,
+    source: &Source,
+    tokens: &[Token],
+) -> Result<Option<usize>, AllocError>
+    requires { IsTokenCut source.now tokens.now }
+    ensures { IfOk result (λ found. IfSome found (λ place.
+        HasSyntaxFault source.now tokens.now (first_line source.now (drop place tokens.now)))) }
+{
+    let text = source.bytes();
+    let names = Names::of(alloc, text, tokens)?;
+    let reading = Reading {
+        alloc,
+        text,
+        names: &names,
+        limit: tokens.len(),
+    };
+    match whole(reading, tokens) {
+        Ok(_) => Ok(None),
+        Err(Stop::Memory) => Err(AllocError),
+        Err(Stop::At(left)) => Ok(Some(tokens.len().saturating_sub(left))),
     }
 }

@@ -5,18 +5,19 @@ ghost use Rattle.cw_yard.specs.Seated.{IsSeated};
 ghost use Rattle.cw_pool.specs.Seatings.{IsSeated-prop};
 
 use crate::gate::Gate;
+use crate::sign::Tally;
 use crate::work::help;
 use cw_yard::seat::{Seat, Yard};
 use std::alloc::Global;
 use std::sync::{Arc, Wait};
 
-/// A worker's seat, with shares of the yard and of the gate.
+/// A worker's seat, with shares of the yard, of the gate and of the sign that the run is given up.
 #[derive(Drop)]
 pub struct Helper<G> {
     pub(crate) yard: Arc<Yard>,
     pub(crate) seat: Seat,
     pub(crate) gate: Arc<G>,
-    pub(crate) me: usize,
+    pub(crate) tally: Tally,
     pub(crate) alloc: Global,
     ghost seated: { IsSeated (arc_value yard) seat } by { IsSeated-prop (arc_value yard) seat },
 }
@@ -29,10 +30,10 @@ impl<G: Gate + Drop> Helper<G> {
             yard,
             mut seat,
             gate,
-            me,
+            mut tally,
             alloc,
         } = self;
-        help(rt, alloc, &yard, &mut seat, &*gate, me);
+        help(rt, alloc, &yard, &mut seat, &*gate, &mut tally);
     }
 }
 

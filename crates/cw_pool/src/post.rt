@@ -3,11 +3,13 @@
 ghost use Rattle.std.specs.Prelude.{◌≡◌, ◌≢◌, ◌≤◌, ◌+◌, ◌∷◌, [], length, Some, vec_capacity, MatchResult};
 ghost use Rattle.cw_strand.specs.Holds.{its_job, outs, IsAtSync, IsRunning};
 ghost use Rattle.cw_yard.specs.Seats.{IsSeatOf, IsTicketOf};
+ghost use Rattle.cw_yard.specs.declared.seat.Yard.{Yard};
 ghost use Rattle.cw_yard.specs.Tickets.{ticket_job};
 ghost use Rattle.cw_jobs.specs.Means.{IsMeaningOf};
 ghost use Rattle.cw_pool.specs.Posts.{Begins, Ends, IsNewest, Lacks, TurnsTo, Works};
 
 use crate::gate::{Gate, Moment};
+use crate::sign::Tally;
 use cw_jobs::effect::Effect;
 use cw_jobs::job::Job;
 use cw_strand::strand::{End, Event, Strand};
@@ -15,6 +17,9 @@ use cw_yard::seat::{Seat, Yard};
 use cw_yard::ticket::Ticket;
 use cw_yard::yard::{Collected, Retaken};
 use std::alloc::Global;
+
+/// A strand goes on by at most so many instructions before it is looked whether the run is given up.
+const QUANTUM: u64 = 262_144;
 
 /// A job that a strand has out.
 pub enum Kept {
@@ -57,10 +62,13 @@ fn take_in(strand: &mut Strand, rest: Job)
 }
 
 impl Post {
-    /// Begins a job. The error is want of memory, and gives the job back as it was.
-    pub(crate) fn start(alloc: Global, job: Job) -> Result<Post, Job>
+    /// Begins a job. The error gives the job back as it was: where the run is given up, or for want of memory.
+    pub(crate) fn start(alloc: Global, tally: &Tally, job: Job) -> Result<Post, Job>
         ensures { MatchResult result (Begins job) (λ back. back ≡ job) }
     {
+        if tally.is_up() {
+            return Err(job);
+        }
         match Strand::start(alloc, job) {
             Ok(strand) => Ok(Post {
                 strand,
@@ -145,13 +153,38 @@ impl Post {
         }
     }
 
-    /// On to the next spawn, join or end.
+    /// Stops where the run is given up.
+    #[inline(always)]
+    pub(crate) fn heed(&mut self, tally: &Tally)
+        ensures of { self.new.strand.of ≡ self.old.strand.of }
+        ensures works { (y : Yard) → Works y self.old → Works y self.new }
+    {
+        if tally.is_up() {
+            self.strand.give_up();
+        }
+    }
+
+    // What the strand did since it had done so many instructions is counted.
+    #[inline(always)]
+    fn count(&self, tally: &mut Tally, before: u64) {
+        tally.count(self.strand.done().wrapping_sub(before));
+    }
+
+    // Where the strand trapped or passed the limit the run is given up.
+    #[inline(always)]
+    fn warn(&self, tally: &Tally) {
+        if self.strand.halted() {
+            tally.raise();
+        }
+    }
+
+    /// On to the next spawn, join or end, or by a quantum.
     pub(crate) fn turn<G: Gate>(
         &mut self,
         yard: &Yard,
         seat: &mut Seat,
         gate: &G,
-        me: usize,
+        tally: &mut Tally,
     ) -> Turn
         requires seat { IsSeatOf yard.now seat.old }
         requires works { Works yard.now self.old }
@@ -159,20 +192,32 @@ impl Post {
         ensures of { self.new.strand.of ≡ self.old.strand.of }
         ensures turn { TurnsTo yard.now self.new result }
     {
-        match self.strand.next_event() {
+        let before = self.strand.done();
+        match self.strand.next_event(QUANTUM) {
             Event::Spawned(rest) => {
-                self.keep(yard, seat, gate, me, rest);
+                self.count(tally, before);
+                self.keep(yard, seat, gate, tally.me, rest);
                 Turn::Went
             }
             Event::AtSync => {
-                gate.turn(me, Moment::AtJoin);
+                self.count(tally, before);
+                gate.turn(tally.me, Moment::AtJoin);
+                self.warn(tally);
                 if self.join(yard, seat) {
                     Turn::Went
                 } else {
                     Turn::Waits
                 }
             }
-            Event::AtEnd(end) => Turn::Ends(end),
+            Event::AtEnd(end) => {
+                self.count(tally, before);
+                self.warn(tally);
+                Turn::Ends(end)
+            }
+            Event::Ran => {
+                self.count(tally, before);
+                Turn::Went
+            }
         }
     }
 

@@ -5,15 +5,17 @@ ghost use Rattle.std.specs.Arc.{arc_value};
 ghost use Rattle.cw_code.specs.Code.{code_view};
 ghost use Rattle.cw_yard.specs.Seats.{IsSeatOf};
 ghost use Rattle.cw_pool.specs.Driven.{AreSeatsFor, IsDriven, IsNotDriven};
-ghost use Rattle.cw_pool.specs.Crews.{RunsByCrew};
+ghost use Rattle.cw_pool.specs.Crews.{GivesByCrew, HasNoOutcome, IsOutcome, RunsByCrew};
 
 use crate::crew::{Body, Helper};
 use crate::gate::Gate;
+use crate::outcome::{Outcome, ended_by, values_by};
+use crate::sign::{Sign, Tally};
 use crate::work::work;
 use cw_jobs::effect::Effect;
 use cw_jobs::job::Job;
 use cw_machine::alone::Ended;
-use cw_machine::answering::answer;
+use cw_machine::values::Values;
 use cw_model::burden::Burden;
 use cw_text::Fault;
 use cw_verify::verified::Verified;
@@ -36,6 +38,7 @@ fn start<G: Gate + Drop + Send + Sync + 'static, B: Body<G> + Send + Drop + 'sta
     yard: &Arc<Yard>,
     seat: Seat,
     gate: &Arc<G>,
+    sign: &Arc<Sign>,
     me: usize,
     body: B,
 ) -> Option<JoinHandle<()>>
@@ -47,11 +50,14 @@ fn start<G: Gate + Drop + Send + Sync + 'static, B: Body<G> + Send + Drop + 'sta
     let Ok(gate) = Arc::try_clone(gate) else {
         return None;
     };
+    let Ok(sign) = Arc::try_clone(sign) else {
+        return None;
+    };
     let helper = Helper {
         yard,
         seat,
         gate,
-        me,
+        tally: Tally::new(sign, me),
         alloc,
     };
     match thread::spawn(rt, move || body.begin(helper)) {
@@ -71,6 +77,7 @@ fn start_all<
     yard: &Arc<Yard>,
     mut seats: Vec<Seat>,
     gate: &Arc<G>,
+    sign: &Arc<Sign>,
     mut crew: Vec<B>,
     handles: &mut Vec<JoinHandle<()>>,
 )
@@ -83,7 +90,7 @@ fn start_all<
         let Some(seat) = seats.pop() else {
             unreachable!()
         };
-        if let Some(handle) = start(rt, alloc, yard, seat, gate, me, body) {
+        if let Some(handle) = start(rt, alloc, yard, seat, gate, sign, me, body) {
             handles.push_reserved(handle);
         }
         me += 1;
@@ -106,7 +113,14 @@ pub(crate) fn drive<
     G: Gate + Drop + Send + Sync + 'static,
     B: Body<G> + Send + Drop + 'static,
     R: Threads + Wait,
->(rt: &R, alloc: Global, root: Job, crew: Vec<B>, gate: Arc<G>) -> Result<Effect, Fault>
+>(
+    rt: &R,
+    alloc: Global,
+    root: Job,
+    crew: Vec<B>,
+    gate: Arc<G>,
+    sign: &Arc<Sign>,
+) -> Result<Effect, Fault>
     ensures { MatchResult result (IsDriven (length crew.items) root)
         (IsNotDriven (length crew.items)) }
 {
@@ -120,17 +134,57 @@ pub(crate) fn drive<
     };
     let yard = Arc::new(alloc, yard)?;
     let mut handles = Vec::with_capacity(alloc, bodies)?;
-    start_all(rt, alloc, &yard, seats, &gate, crew, &mut handles);
-    let effect = work(rt, alloc, &*yard, &mut seat, &*gate, 0, root);
+    let mut tally = Tally::new(Arc::try_clone(sign)?, 0);
+    start_all(rt, alloc, &yard, seats, &gate, sign, crew, &mut handles);
+    let effect = work(rt, alloc, &*yard, &mut seat, &*gate, &mut tally, root);
     yard.end(&mut seat);
     join_all(rt, handles);
     Ok(effect)
+}
+
+// What a run of code by a crew came to: the effect of its root, and whether it was given up.
+fn outcome_of<
+    G: Gate + Drop + Send + Sync + 'static,
+    B: Body<G> + Send + Drop + 'static,
+    R: Threads + Wait,
+>(
+    rt: &R,
+    alloc: Global,
+    code: Arc<Verified>,
+    args: &[i64],
+    n: u64,
+    burden: Burden,
+    crew: Vec<B>,
+    gate: Arc<G>,
+) -> Result<Outcome, Fault>
+    ensures { MatchResult result (IsOutcome (length crew.items) code.value args.now n burden)
+        (HasNoOutcome (length crew.items) (code_view code.value.code) args.now n burden) }
+{
+    if crew.len() > MOST_BODIES {
+        return Err(Fault::Arguments);
+    }
+    let root = Job::root(alloc, code, args, n, burden)?;
+    let share = Arc::try_clone(&root.parts.code)?;
+    let sign = Sign::new(alloc, crew.len() + 1, n)?;
+    let sign = Arc::new(alloc, sign)?;
+    let effect = drive(rt, alloc, root, crew, gate, &sign)?;
+    let is_given_up = sign.is_up();
+    Ok(Outcome {
+        code: share,
+        effect,
+        is_given_up,
+    })
 }
 
 /// Runs code on these arguments within `n` instructions, with the caller's thread as worker 0 and a thread for each
 /// body: what `run_alone` gives, whatever the bodies and the gate do, and in whatever order workers come to steal.
 /// `burden` is what each spawn is charged, by which the burdened spans alone are told. Returns once each thread has
 /// ended.
+///
+/// As soon as a strand has trapped or passed the limit, or all workers together have done more than `n` instructions, the
+/// run is given up: no worker begins a job any more, each stops at its next spawn, join or end, or after 262,144
+/// instructions, and where the answer is not known by then the caller's thread runs the code alone, of which the gate is
+/// told nothing.
 ///
 /// The error is `Arguments` exactly where the crew has more than 63 bodies, before anything is made, or as `run_alone`
 /// has it; otherwise that of `run_alone`: `Memory` where memory runs out, in any worker.
@@ -150,12 +204,29 @@ pub fn run<
 ) -> Result<Ended, Fault>
     ensures { RunsByCrew (length crew.items) (code_view code.value.code) args.now n burden result }
 {
-    if crew.len() > MOST_BODIES {
-        return Err(Fault::Arguments);
-    }
-    let root = Job::root(alloc, code, args, n, burden)?;
-    let share = Arc::try_clone(&root.parts.code)?;
-    let effect = drive(rt, alloc, root, crew, gate)?;
-    let ended = answer(alloc, &share, effect)?;
+    let outcome = outcome_of(rt, alloc, code, args, n, burden, crew, gate)?;
+    let ended = ended_by(alloc, outcome, args, n, burden)?;
     Ok(ended)
+}
+
+/// The same run, of which nothing but the values is told: what `values_alone` gives, with the errors of `run`.
+pub fn values<
+    G: Gate + Drop + Send + Sync + 'static,
+    B: Body<G> + Send + Drop + 'static,
+    R: Threads + Wait,
+>(
+    rt: &R,
+    alloc: Global,
+    code: Arc<Verified>,
+    args: &[i64],
+    n: u64,
+    burden: Burden,
+    crew: Vec<B>,
+    gate: Arc<G>,
+) -> Result<Values, Fault>
+    ensures { GivesByCrew (length crew.items) (code_view code.value.code) args.now n burden result }
+{
+    let outcome = outcome_of(rt, alloc, code, args, n, burden, crew, gate)?;
+    let values = values_by(alloc, outcome, args, n, burden)?;
+    Ok(values)
 }

@@ -8,6 +8,7 @@ ghost use Rattle.cw_pool.specs.Posts.{IsFound, Settles};
 
 use crate::gate::{Gate, Moment};
 use crate::post::{Post, Turn};
+use crate::sign::Tally;
 use cw_jobs::effect::Effect;
 use cw_jobs::job::Job;
 use cw_yard::seat::{Seat, Yard};
@@ -144,7 +145,7 @@ fn run_above<G: Gate>(
     yard: &Yard,
     seat: &mut Seat,
     gate: &G,
-    me: usize,
+    tally: &Tally,
     post: &mut Post,
     below: &mut Vec<Below>,
     search: &mut Search,
@@ -157,12 +158,13 @@ fn run_above<G: Gate>(
         search.idle();
         return;
     }
+    let me = tally.me;
     let Some((stolen, duty)) = search.look(yard, seat, me) else {
         search.idle();
         return;
     };
     gate.turn(me, Moment::Stolen);
-    match Post::start(alloc, stolen) {
+    match Post::start(alloc, tally, stolen) {
         Ok(above) => {
             let waiting = mem::replace(post, above);
             below.push_reserved(Below {
@@ -184,28 +186,29 @@ pub(crate) fn work<G: Gate, R: Wait>(
     yard: &Yard,
     seat: &mut Seat,
     gate: &G,
-    me: usize,
+    tally: &mut Tally,
     job: Job,
 ) -> Effect
     requires { IsSeatOf yard.now seat.old }
     ensures seat { IsSeatOf yard.now seat.new }
     ensures means { IsMeaningOf job result }
 {
-    let mut post = match Post::start(alloc, job) {
+    let mut post = match Post::start(alloc, tally, job) {
         Ok(post) => post,
         Err(job) => return job.give_up(),
     };
     let mut below: Vec<Below> = Vec::new(alloc);
-    let mut search = Search::new(me);
+    let mut search = Search::new(tally.me);
     for _ in rt.forever() {
-        match post.turn(yard, seat, gate, me) {
+        post.heed(tally);
+        match post.turn(yard, seat, gate, tally) {
             Turn::Went => {}
             Turn::Waits => run_above(
                 alloc,
                 yard,
                 seat,
                 gate,
-                me,
+                tally,
                 &mut post,
                 &mut below,
                 &mut search,
@@ -220,7 +223,7 @@ pub(crate) fn work<G: Gate, R: Wait>(
                     let mut ended = mem::replace(&mut post, waiting);
                     let effect = ended.effect(end);
                     ended.finish();
-                    settle(yard, seat, gate, me, duty, effect);
+                    settle(yard, seat, gate, tally.me, duty, effect);
                 }
                 None => {
                     let effect = post.effect(end);
@@ -241,11 +244,12 @@ pub(crate) fn help<G: Gate, R: Wait>(
     yard: &Yard,
     seat: &mut Seat,
     gate: &G,
-    me: usize,
+    tally: &mut Tally,
 )
     requires { IsSeatOf yard.now seat.old }
     ensures { IsSeatOf yard.now seat.new }
 {
+    let me = tally.me;
     let mut search = Search::new(me);
     for _ in rt.forever() {
         if yard.ended(seat) {
@@ -254,7 +258,7 @@ pub(crate) fn help<G: Gate, R: Wait>(
         match search.find(rt, yard, seat, me) {
             Some((job, duty)) => {
                 gate.turn(me, Moment::Stolen);
-                let effect = work(rt, alloc, yard, seat, gate, me, job);
+                let effect = work(rt, alloc, yard, seat, gate, tally, job);
                 settle(yard, seat, gate, me, duty, effect);
             }
             None => {}

@@ -23,10 +23,10 @@ const BURDEN: Burden = Burden {
 };
 
 // A program on its argument, within so many instructions.
-struct Run<'a> {
-    source: &'a [u8],
-    arg: i64,
-    n: u64,
+pub struct Run<'a> {
+    pub source: &'a [u8],
+    pub arg: i64,
+    pub n: u64,
 }
 
 // Runs that end, that trap and that pass their limit.
@@ -64,7 +64,7 @@ const RUNS: &[Run] = &[
 ];
 
 // Whether two runs ended alike, with the same counts everywhere, or failed alike.
-fn is_same(one: &Result<Ended, Fault>, other: &Result<Ended, Fault>) -> bool {
+pub fn is_same(one: &Result<Ended, Fault>, other: &Result<Ended, Fault>) -> bool {
     match (one, other) {
         (Ok(a), Ok(b)) => {
             a.value == b.value
@@ -88,7 +88,7 @@ fn value_of(run: &Result<Ended, Fault>) -> Option<i64> {
 }
 
 // The number of the fault of one that failed: 7 is its limit, 8 a trap.
-fn fault_of(run: &Result<Ended, Fault>) -> Option<u8> {
+pub fn fault_of(run: &Result<Ended, Fault>) -> Option<u8> {
     match run {
         Ok(_) => None,
         Err(fault) => Some(fault.number()),
@@ -96,13 +96,13 @@ fn fault_of(run: &Result<Ended, Fault>) -> Option<u8> {
 }
 
 // What one worker answers.
-fn alone(alloc: Global, run: &Run) -> Result<Result<Ended, Fault>, Fault> {
+pub fn alone(alloc: Global, run: &Run) -> Result<Result<Ended, Fault>, Fault> {
     let code = code_of(alloc, run.source)?;
     Ok(run_alone(alloc, code, &[run.arg], run.n, BURDEN))
 }
 
 // What a crew answers.
-fn together<
+pub fn together<
     G: Gate + Drop + Send + Sync + 'static,
     R: Threads + Wait + Copy + Send + Drop + 'static,
 >(
@@ -118,7 +118,7 @@ fn together<
 }
 
 // Whether a crew of so many bodies that serve answers this.
-fn answers<R: Threads + Wait + Copy + Send + Drop + 'static>(
+pub fn answers<R: Threads + Wait + Copy + Send + Drop + 'static>(
     rt: R,
     alloc: Global,
     run: &Run,
@@ -277,19 +277,19 @@ fn crews_of_too_many(rt: HostRuntime) -> Result<(), Fail> {
 
 // What came of a run by two workers, of which worker 0 is held.
 #[derive(Drop)]
-struct Held {
+pub struct Held {
     // Whether it answered what one worker does.
-    is_same: bool,
-    value: Option<i64>,
+    pub is_same: bool,
+    pub value: Option<i64>,
     // The holds that used up their turns.
-    used_up: u64,
+    pub used_up: u64,
     // What worker 1 settled, and what both offered.
-    settled: u64,
-    offered: u64,
+    pub settled: u64,
+    pub offered: u64,
 }
 
 // Worker 0 is held at its first offer, or at each.
-fn run_held<R: Threads + Wait + Copy + Send + Drop + 'static>(
+pub fn run_held<R: Threads + Wait + Copy + Send + Drop + 'static>(
     rt: R,
     alloc: Global,
     run: &Run,
@@ -354,7 +354,7 @@ fn each_rest_that_reads_is_run_by_the_other(rt: HostRuntime) -> Result<(), Fail>
 }
 
 // Whether a crew of so many bodies, each held at random, answers this, and was held at all.
-fn answers_held<R: Threads + Wait + Copy + Send + Drop + 'static>(
+pub fn answers_held<R: Threads + Wait + Copy + Send + Drop + 'static>(
     rt: R,
     alloc: Global,
     run: &Run,
@@ -401,7 +401,7 @@ fn all_runs_answer_held<R: Abort + Threads + Wait + Copy + Send + Drop + 'static
     Ok(())
 }
 
-const SEEDS: [u64; 3] = [1, 36, 2026];
+pub const SEEDS: [u64; 3] = [1, 36, 2026];
 
 // Whatever workers are held, and wherever, they answer what one worker does.
 #[test]

@@ -78,6 +78,52 @@ impl Gate for Holder {
     }
 }
 
+/// Holds worker 0 at its first offer, until another worker has stolen that job.
+#[derive(Drop)]
+pub struct Robbed {
+    offered: AtomicU64,
+    stolen: AtomicU64,
+}
+
+impl Robbed {
+    pub fn new() -> Robbed {
+        Robbed {
+            offered: AtomicU64::new(0),
+            stolen: AtomicU64::new(0),
+        }
+    }
+
+    /// What the others have stolen.
+    pub fn stolen(&self) -> u64 {
+        self.stolen.load(Ordering::SeqCst)
+    }
+
+    // Waits until something was stolen.
+    fn hold(&self) {
+        for _turn in 0..MOST_TURNS {
+            if self.stolen() > 0 {
+                return;
+            }
+        }
+    }
+}
+
+impl Gate for Robbed {
+    fn turn(&self, worker: usize, what: Moment) {
+        match what {
+            Moment::Offered => {
+                if worker == 0 && self.offered.fetch_add(1, Ordering::SeqCst) == 0 {
+                    self.hold();
+                }
+            }
+            Moment::Stolen => {
+                self.stolen.fetch_add(1, Ordering::SeqCst);
+            }
+            _ => {}
+        }
+    }
+}
+
 /// A worker stumbles at one of so many moments, and for fewer turns than this.
 const SELDOM: u64 = 4;
 

@@ -6,4 +6,6 @@ mod crews;
 #[cfg(test)]
 mod gates;
 #[cfg(test)]
+mod given_up;
+#[cfg(test)]
 mod programs;

@@ -114,6 +114,85 @@ int fib(int n) {
 int main(int n) { int r = 0; r = fib(n); return r; }
 ";
 
+/// As the Fibonacci numbers, but without the base case: calls lie ever deeper in one another.
+pub const NO_BASE: &[u8] = b"
+int fib(int n) {
+  int x = 0;
+  int y = 0;
+  x = cilk_spawn fib(n - 1);
+  y = fib(n - 2);
+  cilk_sync;
+  return x + y;
+}
+int main(int n) { int r = 0; r = fib(n); return r; }
+";
+
+/// Each call spawns one and makes another.
+pub const FORK: &[u8] = b"
+void f() { cilk_spawn f(); f(); }
+int main(int n) { f(); return n; }
+";
+
+/// A spawned call traps where n is 0, and the rest behind it, which may run beside it, has no end.
+pub const TRAP_BESIDE_ENDLESS: &[u8] = b"
+int inverse(int n) { return 1 / n; }
+void endless() { int k = 0; while (k >= 0) { k = 1 - k; } }
+int main(int n) { int r = 0; r = cilk_spawn inverse(n); endless(); cilk_sync; return r; }
+";
+
+/// A spawned call fills an array by halves and prints, and the rest behind it traps where n is 0, or else has no end.
+pub const LONG_BESIDE_TRAP: &[u8] = b"
+void fill(int a[], int v) {
+  int n = len(a);
+  if (n < 2) { if (n > 0) { a[0] = v; } return; }
+  cut a at n / 2 as l, r {
+    cilk_spawn fill(l, v);
+    fill(r, v + 1);
+  }
+}
+void long(int n) {
+  int a[512];
+  fill(a, n);
+  print(a[511]);
+}
+int main(int n) {
+  int k = 0;
+  cilk_spawn long(n);
+  if (n == 0) { k = 1 / n; }
+  while (n > k) { k = 1 - n; }
+  cilk_sync;
+  return k;
+}
+";
+
+/// A loop of 100,000 turns, each of them a call of its own.
+pub const TURNS: &[u8] = b"
+reducer sum s;
+int main(int n) {
+  cilk_for (int i = 0; i < 100000; i++) grain 1 { s += i; }
+  return n;
+}
+";
+
+/// Spawns n calls inside one another, each with an array that the rest beside it reads and in a region of its own, and
+/// traps in the last one.
+pub const DEEP_TRAP: &[u8] = b"
+int f(int n) {
+  int a[3];
+  int x = 0;
+  int y = 0;
+  if (n < 1) { return 1 / n; }
+  a[1] = n;
+  region inner {
+    x = cilk_spawn f(n - 1);
+    y = a[1];
+    cilk_sync;
+  }
+  return x + y;
+}
+int main(int n) { int r = 0; r = f(n); return r; }
+";
+
 /// The code of a program.
 pub fn code_of(alloc: Global, bytes: &[u8]) -> Result<Arc<Verified>, Fault> {
     derived_sites_are_numbered();

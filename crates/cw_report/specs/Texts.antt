@@ -6,10 +6,10 @@ use Rattle.indexmap.specs.IndexMap.{values}
 use Rattle.cw_model.specs.declared.total.Total.{Total}
 use Rattle.cw_model.specs.Syntax as Syntax
 use Rattle.cw_model.specs.Syntax.{Name}
-use Rattle.cw_model.specs.Answers.{main_name}
-use Rattle.cw_model.specs.Sites.{Root, CallSite}
+use Rattle.cw_model.specs.Sites.{CallSite}
+use Rattle.cw_model.specs.Freed.{FunctionRow}
 use Rattle.cw_model.specs.Report.{value_line, reduction_word, total_line, total_lines, csv_line, end_of_line}
-use Rattle.cw_model.specs.Report.{scale_header, scale_line, sites_header, site_kind_text}
+use Rattle.cw_model.specs.Report.{scale_header, scale_line, sites_header, site_kind_text, gain_header, gain_line}
 use Rattle.cw_code.specs.Code.{Code, code_view, site_view, told_sites}
 use Rattle.cw_code.specs.declared.code.Reducer.{Reducer}
 use Rattle.cw_code.specs.declared.code.Site.{Site}
@@ -18,7 +18,12 @@ use Rattle.cw_regions.specs.declared.table.RegionRow.{RegionRow}
 use Rattle.cw_verify.specs.declared.verified.Verified.{Verified}
 use Rattle.cw_machine.specs.declared.alone.Ended.{Ended}
 use Rattle.cw_machine.specs.declared.values.Values.{Values}
+use Rattle.cw_meter.specs.declared.meter.Readings.{Readings}
 use Rattle.cw_scheduled.specs.declared.schedules.Schedule.{Schedule}
+use Rattle.cw_gains.specs.Gains.{root_at}
+use Rattle.cw_gains.specs.declared.counts.Sums.{Sums}
+use Rattle.cw_gains.specs.declared.gains.FunctionGain.{FunctionGain}
+use Rattle.cw_gains.specs.declared.gains.Gains.{Gains}
 use Rattle.cw_text.specs.declared.fault.Fault.{Fault}
 use Rattle.cw_text.specs.declared.fault.Fault.TheVariants as fault
 
@@ -121,10 +126,6 @@ row_lines (site ∷ sites) (row ∷ rows) = row_line site row ++ row_lines sites
 abbrev pub site_lines : List Site → List SiteRow → List ℕ
 site_lines sites rows = row_lines (map (λ s. s.told) (map site_view sites)) rows
 
--- the call of main by the run itself, where the head of main stands in this line
-abbrev pub root_at : ℕ → CallSite
-root_at line = record { number = 0; kind = Root; line = line; callee = main_name }
-
 -- the lines of the call of main by the run itself and of each call site of code
 abbrev pub told_rows : Code → List SiteRow → List ℕ
 told_rows code rows = row_lines (root_at code.main_line ∷ told_sites code) rows
@@ -137,6 +138,42 @@ sites_text code ended = sites_header ++ told_rows code (values ended.sites)
 abbrev pub sites_of : Code → Result Ended Fault → List ℕ
 sites_of code (Ok ended) = sites_text code ended
 sites_of code (Err e) = []
+
+-- a line of the gain report, by what is counted and the spans if that were free
+abbrev pub sums_line : Name → (line : ℕ) → Sums → (work span burdened : ℕ) → List ℕ
+sums_line name line sums work span burdened =
+    let row : FunctionRow = record {
+      name = name;
+      line = line;
+      calls = sums.calls;
+      own_work = sums.own_work;
+      own_span = sums.own_span;
+    } in
+    gain_line row work span burdened
+
+-- that of the whole run, which has no name
+abbrev pub whole_line : Readings → List ℕ
+whole_line m =
+    sums_line [] 0 (record { calls = 0; own_work = m.work; own_span = m.span }) m.work m.span m.burdened
+
+-- that of a function, in a run of this work
+abbrev pub function_line : (work : ℕ) → FunctionGain → List ℕ
+function_line work g =
+    sums_line g.counted.name g.counted.line g.counted.sums work g.span_if_free g.burdened_if_free
+
+-- those of functions
+abbrev pub function_lines : (work : ℕ) → List FunctionGain → List ℕ
+function_lines work [] = []
+function_lines work (g ∷ gains) = function_line work g ++ function_lines work gains
+
+-- the run and its functions
+abbrev pub gain_text : Gains → List ℕ
+gain_text g = gain_header ++ (whole_line g.measure ++ function_lines g.measure.work g.functions.items)
+
+-- the same, of a run as it is handed on; of one that did not end there is none
+abbrev pub gain_report : Result Gains Fault → List ℕ
+gain_report (Ok g) = gain_text g
+gain_report (Err e) = []
 
 -- what is reported of a run of verified code
 abbrev pub run_report : Verified → Result Values Fault → List ℕ

@@ -3,13 +3,15 @@
 ghost use Rattle.std.specs.Prelude.{◌≡◌, [], ◌<◌, ◌-◌, ◌^◌};
 ghost use Rattle.cw_model.specs.Report.{check_text};
 ghost use Rattle.cw_report.specs.Sinks.{Writes};
-ghost use Rattle.cw_report.specs.Texts.{run_report, scale_report, schedule_report, sites_report};
+ghost use Rattle.cw_report.specs.Texts.{gain_report, run_report, scale_report, schedule_report, sites_report};
 ghost use Rattle.cw_report.specs.Answers.{AnswersText};
 
+use crate::gain_table::gain_text;
 use crate::sink::Sink;
 use crate::tables::{scale_text, schedule_text, sites_text};
 use crate::text::{ended_text, printed_text};
 use crate::writing::write_text;
+use cw_gains::gains::Gains;
 use cw_machine::alone::Ended;
 use cw_machine::values::Values;
 use cw_scheduled::schedules::Schedule;
@@ -131,6 +133,27 @@ pub fn schedule<W: Sink>(
     match schedule {
         Ok(schedule) => {
             let text = schedule_text(alloc, schedule)?;
+            write_text(to, text.as_slice())
+        }
+        Err(_) => Ok(()),
+    }
+}
+
+/// Writes what functions of a run would bring: the run itself on one line, without a name, and then each function that is
+/// told on one. Of a run that did not end nothing is written, and the sink is left alone.
+///
+/// The error is `Memory` where there is none for the text: nothing was written then. It is `Write` where a write failed
+/// or took no byte: the sink took a beginning of the text, and counts one more failed write.
+///
+/// It asks that fewer than 2^64 - 1 writes to the sink failed before.
+pub fn gain<W: Sink>(alloc: Global, gains: &Result<Gains, Fault>, to: &mut W) -> Result<(), Fault>
+    requires { (W.seen to.old).failures < 2 ^ 64 - 1 }
+    ensures idle { gain_report gains.now ≡ [] → to.new ≡ to.old }
+    ensures answers { AnswersText W.seen to.old to.new (gain_report gains.now) result }
+{
+    match gains {
+        Ok(gains) => {
+            let text = gain_text(alloc, gains)?;
             write_text(to, text.as_slice())
         }
         Err(_) => Ok(()),

@@ -5,6 +5,7 @@
 mod answering;
 mod counted;
 mod fields;
+mod gain_table;
 mod input;
 mod sink;
 mod table;
@@ -12,7 +13,7 @@ mod tables;
 mod text;
 mod writing;
 
-pub use answering::{answer, ok, scale, schedule, sites};
+pub use answering::{answer, gain, ok, scale, schedule, sites};
 pub use counted::Counted;
 pub use input::Input;
 pub use sink::Sink;

@@ -10,7 +10,7 @@ use Rattle.cw_sites.specs.StepSums.{upto, whole, if_site, Fits, CutsOut, IsCutOu
 use Rattle.cw_sites.specs.Compacting.{IsAddedUp}
 use Rattle.cw_sites.specs.StepLists.{part, seen, seen_blocks, strand_path, InOrder, LaidFrom, Laid, LaidWith, SaysTheSame, Extends, KeepsBlocks, Gathers}
 use Rattle.cw_sites.specs.StrandPaths.{SeenBlock, StrandPath, goes_on, is_longer, begins, again, takes, chooses, ends_at, ends, whole as all_of}
-use Rattle.cw_sites.specs.lemmas.ChosenPaths.{takes_first, takes_second}
+use Rattle.cw_sites.specs.lemmas.ChosenPaths.{takes_first}
 use Rattle.cw_sites.proofs.StepSumLaws.{upto-mono, upto-take}
 
 abbrev pub path_with : ℕ → ℕ → Path

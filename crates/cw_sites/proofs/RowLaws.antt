@@ -1,17 +1,17 @@
 -- Rows by site number: those of two pieces, joined.
-use Rattle.std.proofs.Common.{◌≡◌, ℕ, ◌+◌, ◌<◌, ◌≤◌, ◌==◌, Bool, true, false, if◌then◌else◌, length, refl, sym, ap, subst, ◌∙◌, inl, inr, arith}
+use Rattle.std.proofs.Common.{◌≡◌, ℕ, ◌+◌, ◌*◌, ◌<◌, ◌≤◌, ◌==◌, max, zero, suc, ◌∷◌, ◌++◌, Bool, true, false, if◌then◌else◌, List, [], length, get_or, set, refl, sym, ap, subst, ◌∙◌, inl, inr, arith}
 use Rattle.std.proofs.lemmas.Bool.{cases_lt}
 use Rattle.std.proofs.lemmas.Bool.Decides.{nat_tests}
-use Rattle.std.proofs.lemmas.List.{get_or_past}
+use Rattle.std.proofs.lemmas.List.{get_or_past, get_or-set_same, get_or-set_other, get_or_default}
 use borrow.Author.Tests.{eqb-true}
 use Rattle.cw_measure.specs.Outermost.{unless_at}
+use Rattle.cw_pages.specs.Items.{item, Gives, HasNoPage, HasNoPageFrom, HasNoShelfFrom}
+use Rattle.cw_pages.specs.declared.pages.Pages.{Pages}
+use Rattle.cw_pages.specs.lemmas.Places.{on_page, on_pages_from, on_shelves_from}
 use Rattle.cw_sites.specs.declared.rows.Rows.{Rows}
 use Rattle.cw_sites.specs.declared.rows.Row.{Row}
 use Rattle.cw_sites.specs.declared.rows.Kept.{Kept}
-use Rattle.cw_sites.specs.SiteRows.{row_of, zero_row, none_kept, summed, under, FitsRow, IsGiven, IsReadAs, AddsEach, JoinsRows}
-
-same_number : (n : ℕ) → (n == n) ≡ true
-same_number n = grind (arith, nat_tests)
+use Rattle.cw_sites.specs.SiteRows.{kept_of, further_of, row_of, zero_row, none_kept, summed, under, FitsRow, Becomes, OthersStay, IsReadAs, JoinsBelow, JoinsFurther, JoinsOn, JoinsRows}
 
 other_number : (n q : ℕ) → n < q → (n == q) ≡ false
 other_number n q h = grind (arith, nat_tests)
@@ -19,62 +19,12 @@ other_number n q h = grind (arith, nat_tests)
 below_other : (n q : ℕ) → q < n + 1 → (n == q) ≡ false → q < n
 below_other n q h e = grind (arith, nat_tests)
 
--- the rows below a place have been added, and the others not yet
-pub record Added (add : Row → Row → Row) (old shorter now : Rows) (place : ℕ) : Type 0 where
-  pub as_long : length now.by_site.items ≡ length old.by_site.items
-  pub below : (q : ℕ) → q < place → FitsRow (add (row_of old q) (row_of shorter q)) → row_of now q ≡ add (row_of old q) (row_of shorter q)
-  pub beyond : (q : ℕ) → place ≤ q → row_of now q ≡ row_of old q
+-- by a test of numbers
+by_true : {T : Type 0} (b : Bool) (v x : T) → b ≡ true → (if b then v else x) ≡ v
+by_true b v x e = ap (λ (y : Bool). if y then v else x) e
 
-pub none_added : (add : Row → Row → Row) (old shorter : Rows) → Added add old shorter old 0
-none_added add old shorter = record { as_long = refl; below = λ q h fits. absurd (omega arith); beyond = λ q h. refl }
-
-given_here : (now new : Rows) (place : ℕ) (sum : Row) → IsGiven now new place sum → row_of new place ≡ sum
-given_here now new place sum g = g place ∙ ap (λ (b : Bool). if b then sum else row_of now place) (same_number place)
-
-given_other : (now new : Rows) (place q : ℕ) (sum : Row) → IsGiven now new place sum → (place == q) ≡ false → row_of new q ≡ row_of now q
-given_other now new place q sum g e = g q ∙ ap (λ (b : Bool). if b then sum else row_of now q) e
-
-pub one_added : (add : Row → Row → Row) (old shorter now new : Rows) (place : ℕ) (current row sum : Row) → current ≡ row_of now place → row ≡ row_of shorter place → (FitsRow (add current row) → sum ≡ add current row) → IsGiven now new place sum → length new.by_site.items ≡ length now.by_site.items → Added add old shorter now place → Added add old shorter new (place + 1)
-one_added add old shorter now new place current row sum c r s g l h = record {
-  as_long = l ∙ h.as_long;
-  below = λ q less fits. by_place q less fits (place == q) refl;
-  beyond = λ q more. given_other now new place q sum g (other_number place q (omega arith)) ∙ h.beyond q (omega arith);
-}
-  where
-    by_place : (q : ℕ) → q < place + 1 → FitsRow (add (row_of old q) (row_of shorter q)) → (b : Bool) → (place == q) ≡ b → row_of new q ≡ add (row_of old q) (row_of shorter q)
-    by_place q less fits true e =
-        let same : place ≡ q = eqb-true place q e in
-        let N : ℕ → Type 0 = λ x. row_of new x ≡ sum in
-        let here : current ≡ row_of old q = c ∙ ap (row_of now) same ∙ h.beyond q (omega arith) in
-        let there : row ≡ row_of shorter q = r ∙ ap (row_of shorter) same in
-        let C : Row → Type 0 = λ x. FitsRow (add x row) → sum ≡ add x row in
-        let S : Row → Type 0 = λ x. FitsRow (add (row_of old q) x) → sum ≡ add (row_of old q) x in
-        subst N same (given_here now new place sum g) ∙ (subst S there (subst C here s)) fits
-    by_place q less fits false e = given_other now new place q sum g e ∙ h.below q (below_other place q less e) fits
-
-pub each_added : (add : Row → Row → Row) (old shorter now : Rows) (place : ℕ) → place ≡ length shorter.by_site.items → Added add old shorter now place → AddsEach add old shorter now
-each_added add old shorter now place e h = record {
-  within = λ q less fits. h.below q (omega arith) fits;
-  beyond = λ q more. h.beyond q (omega arith);
-}
-
--- rows that are the same are read alike
-read_same : (r s : Row) → r ≡ s → IsReadAs r s
-read_same r s e = record { calls = ap (λ (x : Row). x.calls) e; own = ap (λ (x : Row). x.own) e; work = ap (λ (x : Row). x.work) e; span = ap (λ (x : Row). x.span) e; active = ap (λ (x : Row). x.active) e; at_work = λ h. ap (λ (x : Row). x.at_work) e; at_path = λ h. ap (λ (x : Row). x.at_path) e }
-
--- a row of the piece alone
-read_alone : (ours piece row : Row) → ours ≡ zero_row → row ≡ piece → piece.active ≡ 0 → IsReadAs row (summed ours piece)
-read_alone ours piece row none e idle =
-    let P : Row → Type 0 = λ x. IsReadAs row (summed x piece) in
-    subst P (sym none) (record {
-      calls = let n = ap (λ (x : Row). x.calls) e in omega arith;
-      own = let n = ap (λ (x : Row). x.own) e in omega arith;
-      work = let n = ap (λ (x : Row). x.work) e in omega arith;
-      span = let n = ap (λ (x : Row). x.span) e in omega arith;
-      active = ap (λ (x : Row). x.active) e ∙ idle;
-      at_work = λ h. absurd (omega arith);
-      at_path = λ h. absurd (omega arith);
-    })
+by_false : {T : Type 0} (b : Bool) (v x : T) → b ≡ false → (if b then v else x) ≡ x
+by_false b v x e = ap (λ (y : Bool). if y then v else x) e
 
 -- nothing more, whatever is open
 nothing_at : (b : Bool) → unless_at b 0 ≡ 0
@@ -84,17 +34,146 @@ nothing_at false = refl
 summed_none : (r : Row) → summed r zero_row ≡ r
 summed_none r = let a : r.calls + 0 ≡ r.calls = omega arith in let b : r.own + 0 ≡ r.own = omega arith in let z = nothing_at (r.active == 0) in let c : r.work + unless_at (r.active == 0) 0 ≡ r.work = omega arith in let d : r.span + unless_at (r.active == 0) 0 ≡ r.span = omega arith in simp (a, b, c, d)
 
--- where ours are no fewer, and where they are fewer
-pub joined_into_ours : (old piece new : Rows) → AddsEach summed old piece new → JoinsRows old piece new
-joined_into_ours old piece new a = λ q fits alike.
-    elim (cases_lt q (length piece.by_site.items)) [
-      | inl h ↦ read_same (row_of new q) (summed (row_of old q) (row_of piece q)) (a.within q h fits)
-      | inr h ↦ read_same (row_of new q) (summed (row_of old q) (row_of piece q)) (a.beyond q h ∙ sym (summed_none (row_of old q)) ∙ ap (summed (row_of old q)) (sym (ap (λ (x : Kept). x.row) (get_or_past piece.by_site.items q none_kept h))))
+-- what is kept of a site beyond the first ones
+page_item : (further : Pages Kept) (q : ℕ) → further_of further q ≡ item none_kept further q
+unfolding further_of
+page_item further q = refl
+
+pub kept_further : (rows : Rows) (q : ℕ) → length rows.by_site.items ≤ q → kept_of rows q ≡ item none_kept rows.further q
+kept_further rows q past = get_or_past rows.by_site.items q (further_of rows.further q) past ∙ page_item rows.further q
+
+-- what is kept of each site stays, and so many are among the first ones
+pub record IsReached (old now : Rows) (count : ℕ) : Type 0 where
+  pub same : (q : ℕ) → kept_of now q ≡ kept_of old q
+  pub count_is : length now.by_site.items ≡ count
+
+-- one more comes to the first ones, as it was
+pub kept_pushed : (xs ys : List Kept) (x : Kept) (further : Pages Kept) → ys ≡ xs ++ x ∷ [] → x ≡ item none_kept further (length xs) → (q : ℕ) → get_or ys q (further_of further q) ≡ get_or xs q (further_of further q)
+kept_pushed xs ys x further is at q =
+    let start : length xs ≡ 0 + length xs = omega arith in
+    let number : 0 + q ≡ q = omega arith in
+    let P : ℕ → Type 0 = λ m. get_or (xs ++ x ∷ []) q (further_of further m) ≡ get_or xs q (further_of further m) in
+    ap (λ (zs : List Kept). get_or zs q (further_of further q)) is ∙ subst P number (pushed xs 0 q (at ∙ ap (item none_kept further) start))
+  where
+    pushed : (zs : List Kept) (n k : ℕ) → x ≡ item none_kept further (n + length zs) → get_or (zs ++ x ∷ []) k (further_of further (n + k)) ≡ get_or zs k (further_of further (n + k))
+    pushed [] n zero e = e ∙ sym (page_item further (n + 0))
+    pushed [] n (suc k) e = refl
+    pushed (z ∷ zs) n zero e = refl
+    pushed (z ∷ zs) n (suc k) e =
+        let s : n + suc k ≡ suc n + k = omega arith in
+        let l : n + suc (length zs) ≡ suc n + length zs = omega arith in
+        ap (λ (m : ℕ). get_or (zs ++ x ∷ []) k (further_of further m)) s ∙ pushed zs (suc n) k (e ∙ ap (item none_kept further) l) ∙ sym (ap (λ (m : ℕ). get_or zs k (further_of further m)) s)
+
+-- a site has something kept in its page, and among the first ones
+pub kept_in_page : (by_site : List Kept) (old new : Pages Kept) (place : ℕ) (kept : Kept) → length by_site ≤ place → Gives none_kept old new place kept → (q : ℕ) → get_or by_site q (further_of new q) ≡ (if place == q then kept else get_or by_site q (further_of old q))
+kept_in_page by_site old new place kept past g q = elim (cases_lt q (length by_site)) [
+  | inl less ↦ get_or_default by_site q (further_of new q) (further_of old q) less ∙ sym (by_false (place == q) kept (get_or by_site q (further_of old q)) (other q (omega arith)))
+  | inr beyond ↦ get_or_past by_site q (further_of new q) beyond ∙ page_item new q ∙ g q ∙ ap (λ (x : Kept). if place == q then kept else x) (sym (get_or_past by_site q (further_of old q) beyond ∙ page_item old q))
+]
+  where
+    other : (k : ℕ) → k < place → (place == k) ≡ false
+    other k less = grind (arith, nat_tests)
+
+pub kept_here : (xs : List Kept) (place : ℕ) (kept : Kept) (others : ℕ → Kept) → place < length xs → (q : ℕ) → get_or (set xs place kept) q (others q) ≡ (if place == q then kept else get_or xs q (others q))
+kept_here xs place kept others less q = elim (cases_lt place q) [
+  | inl l ↦ get_or-set_other xs place q kept (others q) (λ e. absurd (omega arith)) ∙ sym (by_false (place == q) kept (get_or xs q (others q)) (grind (arith, nat_tests)))
+  | inr m ↦ elim (cases_lt q place) [
+    | inl l ↦ get_or-set_other xs place q kept (others q) (λ e. absurd (omega arith)) ∙ sym (by_false (place == q) kept (get_or xs q (others q)) (grind (arith, nat_tests)))
+    | inr n ↦
+        (let same : place ≡ q = omega arith in
+        let P : ℕ → Type 0 = λ k. get_or (set xs place kept) k (others k) ≡ (if place == k then kept else get_or xs k (others k)) in
+        subst P same (get_or-set_same xs place kept (others place) less ∙ sym (by_true (place == place) kept (get_or xs place (others place)) (grind (arith, nat_tests)))))
+  ]
+]
+
+-- a site that is past the first rows, and that no page has
+free_row : (rows : Rows) (q : ℕ) → length rows.by_site.items ≤ q → item none_kept rows.further q ≡ none_kept → row_of rows q ≡ zero_row
+free_row rows q past none = ap (λ (x : Kept). x.row) (kept_further rows q past ∙ none)
+
+pub empty_rows : (by_site : List Kept) (further : Pages Kept) → by_site ≡ [] → ((k : ℕ) → item none_kept further k ≡ none_kept) → (q : ℕ) → (get_or by_site q (further_of further q)).row ≡ zero_row
+empty_rows by_site further e none q = let n = ap length e in ap (λ (x : Kept). x.row) (get_or_past by_site q (further_of further q) (omega arith) ∙ page_item further q ∙ none q)
+
+-- no row is added yet, and one more is
+pub none_joined : (piece ours : Rows) → JoinsBelow piece 0 ours ours
+none_joined piece ours = record { within = λ q less fits. absurd (omega arith); beyond = λ q more. refl }
+
+pub one_joined : (piece ours now new : Rows) (n : ℕ) (row : Row) → row ≡ row_of piece n → Becomes (under row) now new n → OthersStay now new n → JoinsBelow piece n ours now → JoinsBelow piece (n + 1) ours new
+one_joined piece ours now new n row is own others h = record {
+  within = λ q less fits. by_site q less fits (n == q) refl;
+  beyond = λ q more. others q (other_number n q (omega arith)) ∙ h.beyond q (omega arith);
+}
+  where
+    by_site : (q : ℕ) → q < n + 1 → FitsRow (summed (row_of ours q) (row_of piece q)) → (b : Bool) → (n == q) ≡ b → row_of new q ≡ summed (row_of ours q) (row_of piece q)
+    by_site q less fits true e =
+        let same : n ≡ q = eqb-true n q e in
+        let S : ℕ → Type 0 = λ x. FitsRow (summed (row_of ours x) (row_of piece x)) → row_of new x ≡ summed (row_of ours x) (row_of piece x) in
+        let R : Row → Type 0 = λ x. FitsRow (summed x row) → row_of new n ≡ summed x row in
+        let P : Row → Type 0 = λ x. FitsRow (summed (row_of ours n) x) → row_of new n ≡ summed (row_of ours n) x in
+        subst S same (subst P is (subst R (h.beyond n (omega arith)) own)) fits
+    by_site q less fits false e = others q e ∙ h.within q (below_other n q less e) fits
+
+-- rows of zeros need not be added
+rows_skipped : (piece ours now : Rows) (a b : ℕ) → a ≤ b → ((q : ℕ) → a ≤ q → q < b → row_of piece q ≡ zero_row) → JoinsBelow piece a ours now → JoinsBelow piece b ours now
+rows_skipped piece ours now a b order free h = record {
+  within = λ q less fits. elim (cases_lt q a) [
+    | inl l ↦ h.within q l fits
+    | inr l ↦ h.beyond q l ∙ sym (summed_none (row_of ours q)) ∙ ap (summed (row_of ours q)) (sym (free q l less))
+  ];
+  beyond = λ q more. h.beyond q (omega arith);
+}
+
+-- beside the piece's first rows, which were added
+pub on_none : (piece old : Rows) (a b : ℕ) → a ≡ b → JoinsOn piece a b old old
+on_none piece old a b e = λ ours h.
+    let B : ℕ → Type 0 = λ n. JoinsBelow piece (max (length piece.by_site.items) n) ours old in
+    subst B e h
+
+pub on_more : (piece old mid new : Rows) (a b c d e : ℕ) → b ≡ c → d ≡ e → JoinsOn piece a b old mid → JoinsOn piece c d mid new → JoinsOn piece a e old new
+on_more piece old mid new a b c d e bc de first second = λ ours h.
+    let M : ℕ → Type 0 = λ n. JoinsBelow piece (max (length piece.by_site.items) n) ours mid in
+    let N : ℕ → Type 0 = λ n. JoinsBelow piece (max (length piece.by_site.items) n) ours new in
+    subst N de (second ours (subst M bc (first ours h)))
+
+on_skip : (piece old : Rows) (a b : ℕ) → a ≤ b → ((q : ℕ) → length piece.by_site.items ≤ q → a ≤ q → q < b → row_of piece q ≡ zero_row) → JoinsOn piece a b old old
+on_skip piece old a b order free = λ ours h.
+    let l = length piece.by_site.items in
+    rows_skipped piece ours old (max l a) (max l b) (omega arith) (λ q from to. free q (omega arith) (omega arith) (omega arith)) h
+
+pub on_row : (piece old new : Rows) (n : ℕ) (row : Row) → length piece.by_site.items ≤ n → row ≡ row_of piece n → Becomes (under row) old new n → OthersStay old new n → JoinsOn piece n (n + 1) old new
+on_row piece old new n row past is own others = λ ours h.
+    let l = length piece.by_site.items in
+    let at : max l n ≡ n = omega arith in
+    let next : n + 1 ≡ max l (n + 1) = omega arith in
+    let O : ℕ → Type 0 = λ k. JoinsBelow piece k ours old in
+    let N : ℕ → Type 0 = λ k. JoinsBelow piece k ours new in
+    subst N next (one_joined piece ours old new n row is own others (subst O at h))
+
+pub on_first : (piece old : Rows) (n : ℕ) → n < length piece.by_site.items → JoinsOn piece n (n + 1) old old
+on_first piece old n within = on_skip piece old n (n + 1) (omega arith) (λ q past from to. absurd (omega arith))
+
+pub on_page_free : (piece old : Rows) (shelf page : ℕ) → page < 32 → HasNoPage piece.further shelf page → JoinsOn piece (shelf * 2048 + page * 64) (shelf * 2048 + page * 64 + 64) old old
+on_page_free piece old shelf page less none = on_skip piece old (shelf * 2048 + page * 64) (shelf * 2048 + page * 64 + 64) (omega arith)
+    (λ q past from to. let at = on_page shelf page q less from to in free_row piece q past (none none_kept q at.0 at.1))
+
+pub on_rest_free : (piece old : Rows) (shelf page : ℕ) → page ≤ 32 → HasNoPageFrom piece.further shelf page → JoinsOn piece (shelf * 2048 + page * 64) (shelf * 2048 + 2048) old old
+on_rest_free piece old shelf page less none = on_skip piece old (shelf * 2048 + page * 64) (shelf * 2048 + 2048) (omega arith)
+    (λ q past from to. let at = on_pages_from shelf page q from to in free_row piece q past (none none_kept q at.0 at.1))
+
+-- all shelves have been added
+pub all_joined : (piece old new : Rows) (shelf shelves : ℕ) → shelf ≡ shelves → HasNoShelfFrom piece.further shelves → JoinsOn piece 0 (shelf * 2048) old new → JoinsFurther piece old new
+all_joined piece old new shelf shelves is none on = λ ours h q fits.
+    let l = length piece.by_site.items in
+    let O : ℕ → Type 0 = λ k. JoinsBelow piece k ours old in
+    let start : l ≡ max l 0 = omega arith in
+    let j : JoinsBelow piece (max l (shelf * 2048)) ours new = on ours (subst O start h) in
+    elim (cases_lt q (max l (shelf * 2048))) [
+      | inl less ↦ j.within q less fits
+      | inr more ↦ j.beyond q more ∙ sym (summed_none (row_of ours q)) ∙ ap (summed (row_of ours q)) (sym (free_row piece q (omega arith) (none none_kept q (on_shelves_from shelves q (omega arith)))))
     ]
 
-pub joined_into_piece : (old piece new : Rows) → AddsEach under piece old new → JoinsRows old piece new
-joined_into_piece old piece new a = λ q fits alike.
-    elim (cases_lt q (length old.by_site.items)) [
-      | inl h ↦ read_same (row_of new q) (summed (row_of old q) (row_of piece q)) (a.within q h fits)
-      | inr h ↦ read_alone (row_of old q) (row_of piece q) (row_of new q) (ap (λ (x : Kept). x.row) (get_or_past old.by_site.items q none_kept h)) (a.beyond q h) alike
-    ]
+-- rows that are the same are read alike
+read_same : (r s : Row) → r ≡ s → IsReadAs r s
+read_same r s e = record { calls = ap (λ (x : Row). x.calls) e; own = ap (λ (x : Row). x.own) e; work = ap (λ (x : Row). x.work) e; span = ap (λ (x : Row). x.span) e; active = ap (λ (x : Row). x.active) e; at_work = λ h. ap (λ (x : Row). x.at_work) e; at_path = λ h. ap (λ (x : Row). x.at_path) e }
+
+pub rows_joined : (old piece mid new : Rows) → JoinsBelow piece (length piece.by_site.items) old mid → JoinsFurther piece mid new → JoinsRows old piece new
+rows_joined old piece mid new firsts further = λ q fits idle. read_same (row_of new q) (summed (row_of old q) (row_of piece q)) (further old firsts q fits)

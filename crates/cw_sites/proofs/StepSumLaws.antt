@@ -51,7 +51,7 @@ upto-drop q [] (suc b) n = refl
 upto-drop q (x ∷ xs) zero n = let z : n + 0 ≡ n = omega arith in let e = ap (upto q (x ∷ xs)) z in omega arith
 upto-drop q (x ∷ xs) (suc b) n = let i = upto-drop q xs b n in let z : n + suc b ≡ suc (n + b) = omega arith in let e = ap (upto q (x ∷ xs)) z in omega arith
 
-abbrev steps_if : Bool → ℕ → ℕ
+abbrev pub steps_if : Bool → ℕ → ℕ
 steps_if b k = if b then k else 0
 
 -- the last steps, and those before them

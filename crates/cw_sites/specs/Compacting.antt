@@ -1,5 +1,8 @@
 -- What adding up steps does to a list of steps and to the sums of sites.
-use Rattle.std.specs.Prelude.{◌≡◌, ℕ, ◌+◌, ◌-◌, ◌^◌, ◌<◌, ◌≤◌, List, length}
+use Rattle.std.specs.Prelude.{◌≡◌, ℕ, zero, suc, ◌+◌, ◌-◌, ◌^◌, ◌<◌, ◌≤◌, nat_lt, List, length, get_or}
+use Rattle.cw_measure.specs.Outermost.{one_if}
+use Rattle.cw_pages.specs.Items.{entry}
+use Rattle.cw_pages.specs.declared.table.Table.{Table}
 use Rattle.cw_sites.specs.declared.steps.Steps.{Steps}
 use Rattle.cw_sites.specs.StepSums.{added, sum_at, upto, whole, AllBelow, SumsUp}
 
@@ -34,15 +37,47 @@ AddsTo site count old new = (q : ℕ) → sum_at q new ≡ added q site count (s
 abbrev pub StaysWithin : (site : ℕ) → (old new : List ℕ) → Type 0
 StaysWithin site old new = (most : ℕ) → site < most → length old ≤ most → length new ≤ most
 
--- the sums are put in the place of as many steps, those of 0 left out: they end at `end`
-pub record PutsSums (from : ℕ) (old new : List Steps) (sums : List ℕ) (end : ℕ) : Type 0 where
+-- steps added up from a place on are no more than the sites that they can be of
+abbrev pub EndsWithinSites : (from : ℕ) → List Steps → (end : ℕ) → Type 0
+EndsWithinSites from steps end = (most : ℕ) → AllBelow most steps → end ≤ from + most
+
+-- how many sites below a number have a place below `to`
+abbrev pub placed : (to : ℕ) → Table ℕ → (most : ℕ) → ℕ
+placed to places zero = 0
+placed to places (suc n) = placed to places n + one_if (nat_lt (entry to places n) to)
+
+-- the step at a place is a site's, and one of those from a place up to another
+abbrev pub IsAt : (site : ℕ) → List Steps → (from end place : ℕ) → Type 0
+IsAt site steps from end place =
+    (from ≤ place) × (place < end) × ((d : Steps) → (get_or steps place d).site ≡ site)
+
+-- of the steps from one place up to another, those up to a place `i` are added up, and end at `end`; those of each of
+-- their sites lie at its place, and the sites that have one are as many as they
+pub record Gathered (from to : ℕ) (old now : List Steps) (i : ℕ) (places : Table ℕ) (end : ℕ) : Type 0 where
   pub from_is : from ≤ end
-  pub short : end ≤ from + length sums
+  pub end_is : end ≤ i
+  pub count_is : length now ≡ length old
+  pub below : (q n : ℕ) → n ≤ from → upto q now n ≡ upto q old n
+  pub same : (q : ℕ) → upto q old to - upto q old from < 2 ^ 64 → upto q now end ≡ upto q old i
+  pub behind : (q m n : ℕ) → i ≤ m → m ≤ n → upto q now n + upto q old m ≡ upto q old n + upto q now m
+  pub at : (site : ℕ) → entry to places site < to → IsAt site now from end (entry to places site)
+  pub sites : (most : ℕ) → AllBelow most old → end ≡ from + placed to places most
+  pub kept : (most : ℕ) → AllBelow most old → AllBelow most now
+
+-- one step more of them is added
+abbrev pub GathersOne :
+    (to : ℕ) → List Steps → Table ℕ → (i end : ℕ) → List Steps → Table ℕ → (next : ℕ) → Type 0
+GathersOne to now places i end new new_places next =
+    (from : ℕ) (old : List Steps) → Gathered from to old now i places end
+    → Gathered from to old new (i + 1) new_places next
+
+-- the steps from a place up to another are added up, and end at `end`; what lies behind them is as it was
+pub record IsGathered (from to : ℕ) (old new : List Steps) (end : ℕ) : Type 0 where
+  pub from_is : from ≤ end
+  pub end_is : end ≤ to
   pub count_is : length new ≡ length old
   pub below : (q n : ℕ) → n ≤ from → upto q new n ≡ upto q old n
-  pub all : (q : ℕ) → upto q new end ≡ upto q old from + sum_at q sums
-  pub behind : (q m n : ℕ) → from + length sums ≤ m → m ≤ n → upto q new n + upto q old m ≡ upto q old n + upto q new m
-
--- steps of sites below a number stay so, where there are no more sums than that
-abbrev pub StaysBelowBeside : List Steps → List Steps → (sums : List ℕ) → Type 0
-StaysBelowBeside old new sums = (most : ℕ) → length sums ≤ most → AllBelow most old → AllBelow most new
+  pub same : (q : ℕ) → upto q old to - upto q old from < 2 ^ 64 → upto q new end ≡ upto q old to
+  pub behind : (q : ℕ) → whole q new + upto q old to ≡ whole q old + upto q new to
+  pub sites : EndsWithinSites from old end
+  pub kept : (most : ℕ) → AllBelow most old → AllBelow most new

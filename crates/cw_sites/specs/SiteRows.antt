@@ -1,10 +1,12 @@
 -- What is counted of a site over a run so far.
 use Rattle.std.specs.Prelude.{◌≡◌, ℕ, ◌+◌, ◌-◌, ◌^◌, ◌<◌, ◌≤◌, ◌==◌, Bool, true, false, List, [], ◌∷◌, length}
-use Rattle.std.specs.Prelude.{if◌then◌else◌, slice_index_or}
+use Rattle.std.specs.Prelude.{if◌then◌else◌, max, slice_index_or}
 use Rattle.cw_model.specs.Trees.{Tree, Event, tree_of, work, span}
 use Rattle.cw_model.specs.Rows.{is_site, leaves, weight_of_site, calls_of}
 use Rattle.cw_measure.specs.OpenParts.{Open, work_in}
 use Rattle.cw_measure.specs.Outermost.{is_counted, one_if, unless_open, Tally, Counts}
+use Rattle.cw_pages.specs.Items.{item}
+use Rattle.cw_pages.specs.declared.pages.Pages.{Pages}
 use Rattle.cw_sites.specs.declared.rows.Row.{Row}
 use Rattle.cw_sites.specs.declared.rows.Kept.{Kept}
 use Rattle.cw_sites.specs.declared.rows.Rows.{Rows}
@@ -16,9 +18,16 @@ zero_row = record { calls = 0; own = 0; work = 0; span = 0; active = 0; at_work 
 abbrev pub none_kept : Kept
 none_kept = record { row = zero_row; place = 0 }
 
--- the row of a site; zeros where there is none
+-- what is kept of a site in pages
+unfoldable pub further_of : Pages Kept → ℕ → Kept
+further_of further site = item none_kept further site
+
+-- what is kept of a site, and its row; zeros where it was not met
+abbrev pub kept_of : Rows → ℕ → Kept
+kept_of rows site = slice_index_or rows.by_site.items site (further_of rows.further site)
+
 abbrev pub row_of : Rows → ℕ → Row
-row_of rows site = (slice_index_or rows.by_site.items site none_kept).row
+row_of rows site = (kept_of rows site).row
 
 -- so many of its own instructions more
 abbrev pub worked : ℕ → Row → Row
@@ -131,8 +140,13 @@ Becomes f old new site = FitsRow (f (row_of old site)) → row_of new site ≡ f
 abbrev pub OthersStay : Rows → Rows → (site : ℕ) → Type 0
 OthersStay old new site = (q : ℕ) → (site == q) ≡ false → row_of new q ≡ row_of old q
 
-abbrev pub IsGiven : Rows → Rows → (site : ℕ) → Row → Type 0
-IsGiven old new site row = (q : ℕ) → row_of new q ≡ (if site == q then row else row_of old q)
+-- what is kept of each site stays
+abbrev pub KeepTheSame : Rows → Rows → Type 0
+KeepTheSame old new = (q : ℕ) → kept_of new q ≡ kept_of old q
+
+-- a site has this kept, and the others what they had
+abbrev pub Keeps : Rows → Rows → (site : ℕ) → Kept → Type 0
+Keeps old new site kept = (q : ℕ) → kept_of new q ≡ (if site == q then kept else kept_of old q)
 
 -- each site has the row that it had
 abbrev pub SayTheSame : Rows → Rows → Type 0
@@ -156,11 +170,24 @@ summed a b =
 abbrev pub under : Row → Row → Row
 under piece ours = summed ours piece
 
--- each of the shorter rows is added so to the longer ones, and the further ones stay
-pub record AddsEach (add : Row → Row → Row) (longer shorter new : Rows) : Type 0 where
-  pub within : (q : ℕ) → q < length shorter.by_site.items → FitsRow (add (row_of longer q) (row_of shorter q))
-      → row_of new q ≡ add (row_of longer q) (row_of shorter q)
-  pub beyond : (q : ℕ) → length shorter.by_site.items ≤ q → row_of new q ≡ row_of longer q
+-- the rows of the sites below a number are ours with the piece's sums, where these fit, and the others are ours
+pub record JoinsBelow (piece : Rows) (end : ℕ) (ours new : Rows) : Type 0 where
+  pub within : (q : ℕ) → q < end → FitsRow (summed (row_of ours q) (row_of piece q))
+      → row_of new q ≡ summed (row_of ours q) (row_of piece q)
+  pub beyond : (q : ℕ) → end ≤ q → row_of new q ≡ row_of ours q
+
+-- where the piece's first rows and those below a number were added, those below another number are, too
+abbrev pub JoinsOn : (piece : Rows) → (from to : ℕ) → Rows → Rows → Type 0
+JoinsOn piece from to old new =
+    (ours : Rows) → JoinsBelow piece (max (length piece.by_site.items) from) ours old
+    → JoinsBelow piece (max (length piece.by_site.items) to) ours new
+
+-- where the piece's first rows were added, all are
+abbrev pub JoinsFurther : (piece : Rows) → Rows → Rows → Type 0
+JoinsFurther piece old new =
+    (ours : Rows) → JoinsBelow piece (length piece.by_site.items) ours old
+    → (q : ℕ) → FitsRow (summed (row_of ours q) (row_of piece q))
+    → row_of new q ≡ summed (row_of ours q) (row_of piece q)
 
 -- a row is read as another: the same sums, as many open and, where one is open, begun at the same readings
 pub record IsReadAs (row other : Row) : Type 0 where

@@ -1,33 +1,72 @@
 //! Steps of the same sites, added up, so that a path has at most as many steps as there are sites.
 
 ghost use Rattle.std.specs.Prelude.{◌≡◌, ◌+◌, ◌≤◌, ◌<◌, ◌^◌, ℕ, length, IfOk, OnOk};
-ghost use Rattle.cw_sites.specs.Compacting.{AddsTo, AddsUpWithin, CountsOn, NoMoreThanSites, PutsSums, StaysBelowBeside, StaysWithin, SumsUpWithin};
+ghost use Rattle.cw_sites.specs.Compacting.{AddsTo, AddsUpWithin, CountsOn, EndsWithinSites, GathersOne, IsGathered, NoMoreThanSites, StaysWithin, SumsUpWithin};
 ghost use Rattle.cw_sites.specs.StepSums.{sum_at, StaysBelow};
 
 use crate::steps::{Steps, take_out};
+use cw_pages::Table;
 use std::alloc::AllocError;
 
-/// Adds up, by site, the steps from a place up to another, where they are no fewer than the sites; gives the place where
-/// they end then. `sums` is room to work in.
-pub fn add_up(
-    steps: &mut Vec<Steps>,
-    from: usize,
-    to: usize,
-    sums: &mut Vec<u64>,
-) -> Result<usize, AllocError>
+/// Adds up, by site, the steps from a place up to another, or up to the end; gives the place where they end then. Takes
+/// memory for the sites that they are of, and lets it go.
+pub fn add_up(steps: &mut Vec<Steps>, from: usize, to: usize) -> Result<usize, AllocError>
     ensures all { IfOk result (λ end. AddsUpWithin from to steps.old.items steps.new.items end) }
-    ensures sums { OnOk result (NoMoreThanSites steps.old.items sums.new.items) }
-    ensures short { IfOk result (λ end. to ≤ length steps.old.items → end ≤ from + length sums.new.items) }
+    ensures short { IfOk result (λ end. EndsWithinSites from steps.old.items end) }
     ensures count { IfOk result (λ end. CountsOn to steps.old.items steps.new.items end) }
     ensures kept { OnOk result (StaysBelow steps.old.items steps.new.items) }
 {
-    sum_up(steps, from, to, sums)?;
-    if from > to || to > steps.len() || sums.len() > to - from {
-        return Ok(to);
+    let last = to.min(steps.len());
+    if from > last {
+        return Ok(last);
     }
-    let end = put_sums(steps, from, sums);
-    take_out(steps, end, to);
+    let end = gather(steps, from, last)?;
+    take_out(steps, end, last);
     Ok(end)
+}
+
+// Each site's steps from a place up to another come to be one, from that place on; gives the place where these end.
+fn gather(steps: &mut Vec<Steps>, from: usize, to: usize) -> Result<usize, AllocError>
+    requires order { from ≤ to }
+    requires within { to ≤ length steps.old.items }
+    ensures { IfOk result (λ end. IsGathered from to steps.old.items steps.new.items end) }
+{
+    let alloc = *steps.allocator();
+    let mut places = Table::new(alloc);
+    let mut end = from;
+    for i in from..to {
+        end = gather_one(steps, &mut places, to, i, end)?;
+    }
+    Ok(end)
+}
+
+// The step at a place `i` comes to those before it, which end at `end`: to the one of its site, whose place is kept in
+// `places`, or behind them all. Gives the place where they end.
+#[inline(always)]
+fn gather_one(
+    steps: &mut Vec<Steps>,
+    places: &mut Table<usize>,
+    to: usize,
+    i: usize,
+    end: usize,
+) -> Result<usize, AllocError>
+    requires order { end ≤ i }
+    requires before { i < to }
+    requires within { to ≤ length steps.old.items }
+    ensures { IfOk result (λ next. GathersOne to steps.old.items places.old i end steps.new.items places.new next) }
+{
+    let one = steps[i];
+    let at = places.get(one.site as usize, to);
+    if at < to {
+        steps[at] = Steps {
+            site: one.site,
+            count: steps[at].count.wrapping_add(one.count),
+        };
+        return Ok(end);
+    }
+    places.set(one.site as usize, end, to)?;
+    steps[end] = one;
+    Ok(end + 1)
 }
 
 /// The sum of each site over the steps from a place up to another.
@@ -73,25 +112,4 @@ fn reach(sums: &mut Vec<u64>, site: u32) -> Result<(), AllocError>
         sums.resize(needed, 0)?;
     }
     Ok(())
-}
-
-// The sums as steps, from a place on; gives the place where they end.
-fn put_sums(steps: &mut Vec<Steps>, from: usize, sums: &Vec<u64>) -> usize
-    requires words { length sums.now.items ≤ 2 ^ 32 }
-    requires room { from + length sums.now.items ≤ length steps.old.items }
-    ensures all { PutsSums from steps.old.items steps.new.items sums.now.items result }
-    ensures kept { StaysBelowBeside steps.old.items steps.new.items sums.now.items }
-{
-    let mut end = from;
-    for place in 0..sums.len() {
-        let count = sums[place];
-        if count > 0 {
-            steps[end] = Steps {
-                site: place as u32,
-                count,
-            };
-            end += 1;
-        }
-    }
-    end
 }

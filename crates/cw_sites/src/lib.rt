@@ -29,15 +29,15 @@
 //!
 //! # Pieces that run apart
 //!
-//! A piece that runs apart inside of open parts begins with a table of its own: `SiteTable::new(alloc, here)` with the
+//! A piece that runs apart inside of open parts begins with a table of its own: `SiteTable::apart(alloc, here)` with the
 //! site of the innermost open invocation, and is told of no other: what of it lies inside of open invocations is left
-//! out where it is joined. It counts its own instructions from 0. Where it has ended, and nothing of it is
+//! out where it is joined. Such a table takes memory for the sites that the piece meets, whatever their numbers. It counts its own instructions from 0. Where it has ended, and nothing of it is
 //! open, both tables are noted, and `join_piece(piece, first)` joins it, as the next events of the block that runs: it has
 //! no join, or the block has spawned nothing since its last join.
 //!
 //! `first` tells that the block has not spawned since its last join. Later counts go on from the count of both. The table
 //! then tells of all events in serial order, as if none had run apart (`laws::pieces_are_one`): ties too. A join takes one
-//! step for each row of the piece and for each step of its path, which is at most twice the sites and a constant.
+//! step for each row that the piece has and for each step of its path, which is at most twice the sites and a constant.
 //!
 //! What a machine states against the trace of the code's meaning: with the waiting calls of the state as open parts
 //! and the trace's events cut into `es ++ fs`, the table tells of `es`, and `fs` are `Since` its last call up to the

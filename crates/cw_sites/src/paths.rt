@@ -53,8 +53,6 @@ pub struct Paths {
     pub blocks: Vec<Block>,
     /// How many steps a path may have before those of the same sites are added up.
     pub limit: usize,
-    /// Room to add steps up in.
-    pub sums: Vec<u64>,
 }
 
 // How many steps a path may have at first, and beside twice the sites.
@@ -73,7 +71,6 @@ impl Paths {
             start: 0,
             blocks: Vec::new(alloc),
             limit: LEAST,
-            sums: Vec::new(alloc),
         }
     }
 
@@ -166,8 +163,8 @@ impl Paths {
         ensures rest { OnOk result (KeepsBlocks self.old self.new) }
         ensures room { OnOk result (self.new.blocks ≡ self.old.blocks) }
     {
-        let end = add_up(&mut self.steps, from, to, &mut self.sums)?;
-        let twice = self.sums.len().saturating_mul(2);
+        let end = add_up(&mut self.steps, from, to)?;
+        let twice = end.saturating_sub(from).saturating_mul(2);
         self.limit = self.limit.max(twice.saturating_add(LEAST));
         Ok(end)
     }

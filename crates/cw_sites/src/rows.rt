@@ -1,11 +1,12 @@
 //! What is counted of each site, kept by site number.
 
-ghost use Rattle.std.specs.Prelude.{◌≡◌, ℕ, ◌==◌, ◌<◌, ◌≤◌, true, false, length, OnOk, if◌then◌else◌};
+ghost use Rattle.std.specs.Prelude.{◌≡◌, ℕ, ◌+◌, ◌*◌, ◌^◌, ◌<◌, ◌≤◌, true, false, length, IfOk, OnOk};
 ghost use Rattle.cw_sites.specs.SiteRows as tallies;
-ghost use Rattle.cw_sites.specs.SiteRows.{row_of, zero_row, AddsEach, Becomes, IsGiven, IsWhereItFits, JoinsRows, OthersStay, SayTheSame};
+ghost use Rattle.cw_sites.specs.SiteRows.{kept_of, row_of, zero_row, Becomes, IsWhereItFits, OthersStay, SayTheSame};
+ghost use Rattle.cw_sites.specs.SiteRows.{JoinsBelow, JoinsFurther, JoinsOn, JoinsRows, KeepTheSame, Keeps};
 
+use cw_pages::{PAGE, Pages, SHELF};
 use std::alloc::{AllocError, Global};
-use std::mem;
 
 /// What is counted of a site so far.
 #[derive(Clone, Copy, Debug)]
@@ -33,11 +34,24 @@ pub struct Kept {
     pub place: usize,
 }
 
-/// The rows by site number. A site past the end has a row of zeros.
+/// The rows by site number. A site that was not met has a row of zeros.
+///
+/// The rows of the first sites lie one after another; those of the others lie in pages.
 #[derive(Debug, Drop)]
 pub struct Rows {
     pub by_site: Vec<Kept>,
+    /// A site below this number comes to lie among the first ones with all before it, where it is told of.
+    pub firsts: usize,
+    pub further: Pages<Kept>,
 }
+
+// How many sites may come to lie so in a piece at first, how many more for each time that another one was told of, and at
+// most: so a piece that is short takes a page for a site, and one that goes on finds it as fast as a whole run.
+const FIRSTS: usize = 64;
+
+const MORE: usize = 8;
+
+const MOST: usize = 1_024;
 
 const ZERO: Row = Row {
     calls: 0,
@@ -61,6 +75,30 @@ impl Row {
         ensures { IsWhereItFits (tallies.worked count self.old) self.new }
     {
         self.own = self.own.wrapping_add(count);
+    }
+
+    // An invocation of its site begins, at this work and on a path of this weight.
+    #[inline(always)]
+    fn enter(&mut self, count: u64, path: u64)
+        ensures { IsWhereItFits (tallies.entered count path self.old) self.new }
+    {
+        if self.active == 0 {
+            self.enter_first(count, path);
+            return;
+        }
+        self.enter_again();
+    }
+
+    // An invocation of its site ends, at this work and on a path of this weight.
+    #[inline(always)]
+    fn leave(&mut self, count: u64, path: u64)
+        ensures { IsWhereItFits (tallies.left count path self.old) self.new }
+    {
+        if self.active == 1 {
+            self.leave_last(count, path);
+            return;
+        }
+        self.leave_inner();
     }
 
     // An invocation of its site begins that lies in no other one, at this work and on a path of this weight.
@@ -103,12 +141,26 @@ impl Row {
 }
 
 impl Rows {
-    /// No rows. Takes no memory.
+    /// No rows of a whole run. Takes no memory.
     pub fn new(alloc: Global) -> Rows
         ensures { (q : ℕ) → row_of result q ≡ zero_row }
     {
         Rows {
             by_site: Vec::new(alloc),
+            firsts: usize::MAX,
+            further: Pages::new(alloc),
+        }
+    }
+
+    /// No rows of a piece that runs apart: it will take memory for the sites that it meets, and for few others. Takes no
+    /// memory.
+    pub fn apart(alloc: Global) -> Rows
+        ensures { (q : ℕ) → row_of result q ≡ zero_row }
+    {
+        Rows {
+            by_site: Vec::new(alloc),
+            firsts: FIRSTS,
+            further: Pages::new(alloc),
         }
     }
 
@@ -124,31 +176,66 @@ impl Rows {
     fn row_at(&self, place: usize) -> Row
         ensures { result ≡ row_of self.now place }
     {
-        if place < self.by_site.len() {
-            self.by_site[place].row
-        } else {
-            ZERO
-        }
+        self.kept_at(place).row
     }
 
-    // Room for the row of this site: rows that were missing are zeros.
+    // What is kept of a site.
+    #[inline(always)]
+    fn kept_at(&self, place: usize) -> Kept
+        ensures { result ≡ kept_of self.now place }
+    {
+        if place < self.by_site.len() {
+            return self.by_site[place];
+        }
+        self.further.get(place, NONE)
+    }
+
+    // Gives a site what is kept of it.
+    #[inline(always)]
+    fn keep(&mut self, place: usize, kept: Kept) -> Result<(), AllocError>
+        ensures { OnOk result (Keeps self.old self.new place kept) }
+    {
+        if place < self.by_site.len() {
+            self.by_site[place] = kept;
+            return Ok(());
+        }
+        self.keep_apart(place, kept)
+    }
+
+    // The same for a site that has no row among the first ones.
+    #[inline(always)]
+    fn keep_apart(&mut self, place: usize, kept: Kept) -> Result<(), AllocError>
+        requires { length self.old.by_site.items ≤ place }
+        ensures { OnOk result (Keeps self.old self.new place kept) }
+    {
+        if place < self.firsts {
+            self.reach(place)?;
+            self.by_site[place] = kept;
+            return Ok(());
+        }
+        self.firsts = self.firsts.saturating_add(MORE).min(MOST);
+        self.further.set(place, kept, NONE)?;
+        Ok(())
+    }
+
+    // A row for this site and all before it among the first ones.
     #[cold]
     #[inline(never)]
     fn reach(&mut self, place: usize) -> Result<(), AllocError>
-        ensures same { OnOk result (SayTheSame self.old self.new) }
+        ensures same { OnOk result (KeepTheSame self.old self.new) }
         ensures within { OnOk result (place < length self.new.by_site.items) }
     {
         // So many rows as no number can count are more than memory holds.
         let Some(needed) = place.checked_add(1) else {
             return Err(AllocError);
         };
-        if self.by_site.len() < needed {
-            self.by_site.resize(needed, NONE)?;
+        for site in self.by_site.len()..needed {
+            self.by_site.push(self.further.get(site, NONE))?;
         }
         Ok(())
     }
 
-    /// Whether a site has a row.
+    /// Whether a site has a row among the first ones.
     #[inline(always)]
     pub fn has(&self, site: u32) -> bool
         ensures { result ≡ true → site < length self.now.by_site.items }
@@ -156,21 +243,28 @@ impl Rows {
         (site as usize) < self.by_site.len()
     }
 
-    /// So many instructions of a site more. Gives the place where its steps were put last.
+    /// Where the steps of a site were put last; any other number where it was not met.
     #[inline(always)]
-    pub fn work(&mut self, site: u32, count: u64) -> Result<usize, AllocError>
+    pub fn place(&self, site: u32) -> usize {
+        self.kept_at(site as usize).place
+    }
+
+    /// So many instructions of any site more; its steps were put elsewhere, if a place is given.
+    #[inline(always)]
+    pub fn work(&mut self, site: u32, count: u64, at: Option<usize>) -> Result<(), AllocError>
         ensures own { OnOk result (Becomes (tallies.worked count) self.old self.new site) }
         ensures others { OnOk result (OthersStay self.old self.new site) }
     {
         let place = site as usize;
-        if place >= self.by_site.len() {
-            self.reach(place)?;
-        }
-        let at = self.work_here(site, count);
-        Ok(at)
+        let mut kept = self.kept_at(place);
+        kept.row.add_own(count);
+        kept.place = at.unwrap_or(kept.place);
+        self.keep(place, kept)?;
+        Ok(())
     }
 
-    /// The same for a site that has a row.
+    /// So many instructions more of a site that has a row among the first ones. Gives the place where its steps were put
+    /// last.
     #[inline(always)]
     pub fn work_here(&mut self, site: u32, count: u64) -> usize
         requires { site < length self.old.by_site.items }
@@ -183,24 +277,7 @@ impl Rows {
         kept.place
     }
 
-    /// The steps of a site were put elsewhere, if a place is given.
-    #[inline(always)]
-    pub fn tell(&mut self, site: u32, at: Option<usize>)
-        ensures { SayTheSame self.old self.new }
-    {
-        let Some(to) = at else {
-            return;
-        };
-        let place = site as usize;
-        if place < self.by_site.len() {
-            self.by_site[place] = Kept {
-                row: self.by_site[place].row,
-                place: to,
-            };
-        }
-    }
-
-    /// The same for a site that has a row.
+    /// The steps of such a site were put elsewhere, if a place is given.
     #[inline(always)]
     pub fn tell_here(&mut self, site: u32, at: Option<usize>)
         requires { site < length self.old.by_site.items }
@@ -220,27 +297,35 @@ impl Rows {
         ensures own { OnOk result (Becomes (tallies.entered count path) self.old self.new site) }
         ensures others { OnOk result (OthersStay self.old self.new site) }
     {
-        let place = site as usize;
-        if place >= self.by_site.len() {
-            self.reach(place)?;
+        if self.has(site) {
+            self.begin_here(site, count, path);
+            return Ok(());
         }
-        self.begin_here(site, count, path);
+        self.begin_apart(site, count, path)?;
         Ok(())
     }
 
-    /// The same for a site that has a row.
+    // The same in any case.
+    #[inline(never)]
+    fn begin_apart(&mut self, site: u32, count: u64, path: u64) -> Result<(), AllocError>
+        ensures own { OnOk result (Becomes (tallies.entered count path) self.old self.new site) }
+        ensures others { OnOk result (OthersStay self.old self.new site) }
+    {
+        let place = site as usize;
+        let mut kept = self.kept_at(place);
+        kept.row.enter(count, path);
+        self.keep(place, kept)?;
+        Ok(())
+    }
+
+    /// The same for a site that has a row among the first ones.
     #[inline(always)]
     pub fn begin_here(&mut self, site: u32, count: u64, path: u64)
         requires { site < length self.old.by_site.items }
         ensures own { Becomes (tallies.entered count path) self.old self.new site }
         ensures others { OthersStay self.old self.new site }
     {
-        let kept = &mut self.by_site[site as usize];
-        if kept.row.active == 0 {
-            kept.row.enter_first(count, path);
-            return;
-        }
-        kept.row.enter_again();
+        self.by_site[site as usize].row.enter(count, path);
     }
 
     /// An invocation of a site ends.
@@ -249,77 +334,134 @@ impl Rows {
         ensures own { OnOk result (Becomes (tallies.left count path) self.old self.new site) }
         ensures others { OnOk result (OthersStay self.old self.new site) }
     {
-        let place = site as usize;
-        if place >= self.by_site.len() {
-            self.reach(place)?;
+        if self.has(site) {
+            self.end_here(site, count, path);
+            return Ok(());
         }
-        self.end_here(site, count, path);
+        self.end_apart(site, count, path)?;
         Ok(())
     }
 
-    /// The same for a site that has a row.
+    // The same in any case.
+    #[inline(never)]
+    fn end_apart(&mut self, site: u32, count: u64, path: u64) -> Result<(), AllocError>
+        ensures own { OnOk result (Becomes (tallies.left count path) self.old self.new site) }
+        ensures others { OnOk result (OthersStay self.old self.new site) }
+    {
+        let place = site as usize;
+        let mut kept = self.kept_at(place);
+        kept.row.leave(count, path);
+        self.keep(place, kept)?;
+        Ok(())
+    }
+
+    /// The same for a site that has a row among the first ones.
     #[inline(always)]
     pub fn end_here(&mut self, site: u32, count: u64, path: u64)
         requires { site < length self.old.by_site.items }
         ensures own { Becomes (tallies.left count path) self.old self.new site }
         ensures others { OthersStay self.old self.new site }
     {
-        let kept = &mut self.by_site[site as usize];
-        if kept.row.active == 1 {
-            kept.row.leave_last(count, path);
-            return;
-        }
-        kept.row.leave_inner();
+        self.by_site[site as usize].row.leave(count, path);
     }
 
     /// Adds the sums of a piece that ran apart, of which no invocation is open. Where invocations of a site are open here,
     /// those of the piece lie in them: their work and span are left out.
-    /// Takes one step for each row of the shorter of the two, which are added to those of the longer one, and no memory.
-    pub fn join(&mut self, piece: Rows)
-        ensures { JoinsRows self.old piece self.new }
+    /// Takes one step for each of the piece's first rows and for each row of its pages. An error where memory runs out.
+    pub fn join(&mut self, piece: Rows) -> Result<(), AllocError>
+        ensures { OnOk result (JoinsRows self.old piece self.new) }
     {
-        if piece.by_site.len() <= self.by_site.len() {
-            self.add(&piece);
-        } else {
-            let ours = mem::replace(self, piece);
-            self.add_under(&ours);
-        }
+        self.join_firsts(&piece)?;
+        self.join_further(&piece)?;
+        Ok(())
     }
 
-    // Adds the sums of a piece whose rows are no more than ours.
-    fn add(&mut self, piece: &Rows)
-        requires { length piece.now.by_site.items ≤ length self.old.by_site.items }
-        ensures { AddsEach tallies.summed self.old piece.now self.new }
+    // Adds the sums of the piece's first rows.
+    fn join_firsts(&mut self, piece: &Rows) -> Result<(), AllocError>
+        ensures { OnOk result (JoinsBelow piece.now (length piece.now.by_site.items) self.old self.new) }
     {
         for place in 0..piece.by_site.len() {
-            let sum = summed(self.row_at(place), piece.row_at(place));
-            self.put(place, sum);
+            self.add(place, piece.row_at(place))?;
         }
+        Ok(())
     }
 
-    // These are a piece's rows, and ours are no more: adds ours to them, of which what is open stays open.
-    fn add_under(&mut self, ours: &Rows)
-        requires { length ours.now.by_site.items ≤ length self.old.by_site.items }
-        ensures { AddsEach tallies.under self.old ours.now self.new }
+    // Adds the sums of the rows of the piece's pages.
+    fn join_further(&mut self, piece: &Rows) -> Result<(), AllocError>
+        ensures { OnOk result (JoinsFurther piece.now self.old self.new) }
     {
-        for place in 0..ours.by_site.len() {
-            let sum = summed(ours.row_at(place), self.row_at(place));
-            self.put(place, sum);
+        for shelf in 0..piece.further.shelves() {
+            self.join_shelf(piece, shelf)?;
         }
+        Ok(())
     }
 
-    // Gives a site within the rows its row.
+    // Adds the sums of the rows of the pages of a shelf.
+    fn join_shelf(&mut self, piece: &Rows, shelf: usize) -> Result<(), AllocError>
+        ensures { OnOk result (JoinsOn piece.now (shelf * 2048) (shelf * 2048 + 2048) self.old self.new) }
+    {
+        for page in 0..piece.further.pages(shelf) {
+            self.join_page(piece, shelf, page)?;
+        }
+        Ok(())
+    }
+
+    // Adds the sums of the rows of a page, if it is there.
+    fn join_page(&mut self, piece: &Rows, shelf: usize, page: usize) -> Result<(), AllocError>
+        requires { page < 32 }
+        ensures { OnOk result (JoinsOn piece.now (shelf * 2048 + page * 64) (shelf * 2048 + page * 64 + 64) self.old self.new) }
+    {
+        if !piece.further.has_page(shelf, page) {
+            return Ok(());
+        }
+        let first = first_of(shelf, page)?;
+        for number in 0..PAGE {
+            self.join_beyond(piece, first + number)?;
+        }
+        Ok(())
+    }
+
+    // Adds the sums of the piece's row of a site, where it is none of its first rows, which were added before.
+    fn join_beyond(&mut self, piece: &Rows, place: usize) -> Result<(), AllocError>
+        ensures { OnOk result (JoinsOn piece.now place (place + 1) self.old self.new) }
+    {
+        if place < piece.by_site.len() {
+            return Ok(());
+        }
+        self.add(place, piece.row_at(place))?;
+        Ok(())
+    }
+
+    // Adds the sums of a piece's row.
     #[inline(always)]
-    fn put(&mut self, place: usize, row: Row)
-        requires { place < length self.old.by_site.items }
-        ensures given { IsGiven self.old self.new place row }
-        ensures as_long { length self.new.by_site.items ≡ length self.old.by_site.items }
+    fn add(&mut self, place: usize, piece: Row) -> Result<(), AllocError>
+        ensures own { OnOk result (Becomes (tallies.under piece) self.old self.new place) }
+        ensures others { OnOk result (OthersStay self.old self.new place) }
     {
-        self.by_site[place] = Kept {
-            row,
-            place: self.by_site[place].place,
-        };
+        let kept = self.kept_at(place);
+        let sum = summed(kept.row, piece);
+        self.keep(
+            place,
+            Kept {
+                row: sum,
+                place: kept.place,
+            },
+        )?;
+        Ok(())
     }
+}
+
+// The number of the first site of a page.
+fn first_of(shelf: usize, page: usize) -> Result<usize, AllocError>
+    requires { page < 32 }
+    ensures is { IfOk result (λ first. first ≡ shelf * 2048 + page * 64) }
+    ensures within { IfOk result (λ first. first + 64 < 2 ^ 64) }
+{
+    // As for rows: so many sites as no number can count are more than memory holds.
+    if shelf >= usize::MAX / SHELF {
+        return Err(AllocError);
+    }
+    Ok(shelf * SHELF + page * PAGE)
 }
 
 /// The row with the sums of a piece's row: work and span where no invocation is open.

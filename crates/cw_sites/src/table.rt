@@ -27,13 +27,26 @@ pub struct SiteTable {
 }
 
 impl SiteTable {
-    /// The table of a run that begins in an invocation of this site. Takes no memory.
+    /// The table of a whole run that begins in an invocation of this site. Takes no memory.
     pub fn new(alloc: Global, here: u32) -> SiteTable
         ensures told { Tells here (λ q. 0) [] [] result }
         ensures bounded { (most : ℕ) → here < most → IsBoundedTable most result }
     {
         SiteTable {
             rows: Rows::new(alloc),
+            paths: Paths::new(alloc),
+            noted: 0,
+            here,
+        }
+    }
+
+    /// The table of a piece that begins so and runs apart: it will take memory for the sites that it meets. Takes none now.
+    pub fn apart(alloc: Global, here: u32) -> SiteTable
+        ensures told { Tells here (λ q. 0) [] [] result }
+        ensures bounded { (most : ℕ) → here < most → IsBoundedTable most result }
+    {
+        SiteTable {
+            rows: Rows::apart(alloc),
             paths: Paths::new(alloc),
             noted: 0,
             here,
@@ -47,11 +60,43 @@ impl SiteTable {
         ensures bounded { OnOk result (FlushesBounded self.old self.new) }
         ensures short { OnOk result (IsShort self.new.paths) }
     {
+        if self.rows.has(self.here) {
+            self.flush_here(count)?;
+            return Ok(());
+        }
+        self.flush_apart(count)?;
+        Ok(())
+    }
+
+    // The same where that site has a row among the first ones.
+    #[inline(always)]
+    fn flush_here(&mut self, count: u64) -> Result<(), AllocError>
+        requires { self.old.here < length self.old.rows.by_site.items }
+        ensures flushed { OnOk result (Flushed self.old self.new count) }
+        ensures bounded { OnOk result (FlushesBounded self.old self.new) }
+        ensures short { OnOk result (IsShort self.new.paths) }
+    {
         let here = self.here;
         let since = count.wrapping_sub(self.noted);
-        let place = self.rows.work(here, since)?;
+        let place = self.rows.work_here(here, since);
         let at = self.paths.extend(place, here, since)?;
-        self.rows.tell(here, at);
+        self.rows.tell_here(here, at);
+        self.noted = count;
+        Ok(())
+    }
+
+    // The same in any case.
+    #[inline(never)]
+    fn flush_apart(&mut self, count: u64) -> Result<(), AllocError>
+        ensures flushed { OnOk result (Flushed self.old self.new count) }
+        ensures bounded { OnOk result (FlushesBounded self.old self.new) }
+        ensures short { OnOk result (IsShort self.new.paths) }
+    {
+        let here = self.here;
+        let since = count.wrapping_sub(self.noted);
+        let place = self.rows.place(here);
+        let at = self.paths.extend(place, here, since)?;
+        self.rows.work(here, since, at)?;
         self.noted = count;
         Ok(())
     }
@@ -281,12 +326,12 @@ impl SiteTable {
     /// Joins the table of a piece that ran apart inside of what is open, and of which nothing is open itself, as the next
     /// events of the block that runs: the piece has no join, or the block has not spawned since its last join, which
     /// `first` tells. The instructions so far of both are noted. Its table is one that began in the site that this one is
-    /// in (`new`), and knows of no other invocation that is open.
+    /// in (`apart`), and knows of no other invocation that is open. An error where memory runs out.
     pub fn join_piece(&mut self, piece: SiteTable, first: bool) -> Result<(), AllocError>
         ensures told { OnOk result (JoinsPiece self.old piece self.new first) }
         ensures bounded { OnOk result (StaysBoundedBeside piece self.old self.new) }
     {
-        self.rows.join(piece.rows);
+        self.rows.join(piece.rows)?;
         self.paths.append(piece.paths, first)?;
         self.noted = self.noted.saturating_add(piece.noted);
         Ok(())

@@ -1,25 +1,22 @@
 -- What an effect that means a job says of it.
-use Rattle.std.proofs.Common.{◌≡◌, ℕ, ◌+◌, ◌-◌, ◌<◌, ◌≤◌, ℤ, true, false, nat_lt, if◌then◌else◌, List, [], ◌∷◌, Option, length, refl, sym, ap, ◌∙◌, subst, arith}
+use Rattle.std.proofs.Common.{◌≡◌, ℕ, ◌+◌, ◌<◌, ◌≤◌, true, false, nat_lt, if◌then◌else◌, List, [], ◌∷◌, Option, refl, sym, ap, ◌∙◌, subst, arith}
 use Rattle.std.proofs.lemmas.Bool.Decides.{nat_tests}
-use Rattle.cw_model.specs.declared.trap.Trap.{Trap}
 use Rattle.cw_slices.specs.Placed.{Placed}
 use Rattle.cw_code.specs.Code.{Code, code_view}
 use Rattle.cw_code.specs.Run.{State}
-use Rattle.cw_model.specs.Outcome.{Trace}
 use Rattle.cw_strands.specs.Jobs as jobs
 use Rattle.cw_strands.specs.Jobs.{WholeCall, ToJoin, Standing, JobMeaning}
-use Rattle.cw_strands.specs.Strands.{Going, Waits, Halted, resumed, stopped_after, cost_of}
+use Rattle.cw_strands.specs.Strands.{Waits, Halted, cost_of}
 use Rattle.cw_strands.specs.Promises.{IsStrandOf}
 use Rattle.cw_strands.specs.Steps.{CallsKeep, give, given_to}
 use Rattle.cw_verify.specs.declared.verified.Verified.{Verified}
 use Rattle.cw_jobs.specs.declared.call.Parts.{Parts}
-use Rattle.cw_jobs.specs.declared.call.Rest.{Rest}
 use Rattle.cw_jobs.specs.declared.effect.Effect.{Effect}
 use Rattle.cw_jobs.specs.declared.effect.Effect.TheVariants as effect
 use Rattle.cw_jobs.specs.declared.effect.Shown.{Shown}
 use Rattle.cw_jobs.specs.declared.job.Job.{Job}
 use Rattle.cw_jobs.specs.Jobs.{code_of, IsJob, KeepsHomes}
-use Rattle.cw_jobs.specs.Means.{Tells, Counts, ComeHome, MeansIt, IsMeaningOf}
+use Rattle.cw_jobs.specs.Means.{Tells, MeansIt, IsMeaningOf}
 use Rattle.cw_machine.specs.Arrays.{IsFit}
 use Rattle.cw_strand.specs.Giving.{GivesBack}
 
@@ -50,12 +47,15 @@ module _ (v : Verified) (is : IsFit v) (q : Parts) (j : jobs.Job) where
       subst (KeepsHomes q.rest.slices.items back) g.1 (subst (λ x. KeepsHomes q.rest.slices.items x []) g.0 m.homes)
   homes_in (effect.OverLimit b) back replaced g m =
       subst (KeepsHomes q.rest.slices.items back) g.1 (subst (λ x. KeepsHomes q.rest.slices.items x []) g.0 m.homes)
+  homes_in (effect.GivenUp b) back replaced g m =
+      subst (KeepsHomes q.rest.slices.items back) g.1 (subst (λ x. KeepsHomes q.rest.slices.items x []) g.0 m.homes)
 
   -- the same of the effect of the definitions
   cost_told : (e : Effect) (cost : ℕ) (d : jobs.Effect) → CostsAs e cost → Tells (code_view v.code) j q.rest e d → cost_of d ≡ cost
   cost_told (effect.Ended value shown) cost d c t = absurd c
   cost_told (effect.Memory b) cost d c t = absurd c
   cost_told (effect.OverLimit b) cost d c t = absurd c
+  cost_told (effect.GivenUp b) cost d c t = absurd c
   cost_told (effect.Joined frame rep shown) cost (jobs.Ended x arrays u k) c t = absurd t
   cost_told (effect.Joined frame rep shown) cost (jobs.Joined f u k) c t = sym t.2.cost ∙ c
   cost_told (effect.Joined frame rep shown) cost (jobs.TrapIn trap line lines k) c t = absurd t
@@ -73,6 +73,7 @@ module _ (v : Verified) (is : IsFit v) (q : Parts) (j : jobs.Job) where
   over_told : (e : Effect) (d : jobs.Effect) → IsOver e → Tells (code_view v.code) j q.rest e d → d ≡ jobs.OverLimit
   over_told (effect.Ended value shown) d o t = absurd o
   over_told (effect.Memory b) d o t = absurd o
+  over_told (effect.GivenUp b) d o t = absurd o
   over_told (effect.Joined frame rep shown) d o t = absurd o
   over_told (effect.Trapped a l ls n b) d o t = absurd o
   over_told (effect.OverLimit b) (jobs.Ended x arrays u k) o t = absurd t

@@ -93,11 +93,24 @@ module _ (self : Strand) (is : IsFit (its_code self)) (j : jobs.Job) where
     remains = stands_still g none h.1;
   }
 
+  up_held : (g : Ground (its_code self) is (its_parts self) j) (d : strands.Strand) → outs self ≡ [] → IsStrandOf code j d → HeldIn self is j g mode.GivenUp d → IsHalted jobs.Memory
+  up_held g (Going s count out) none is_of h = absurd h
+  up_held g (Waits s count out) none is_of h = absurd h
+  up_held g (Halted e out) none is_of h = record {
+    ground = g;
+    out = out;
+    is_of = subst (λ x. IsStrandOf code j (Halted x out)) h.0 is_of;
+    remains = stands_still g none h.1;
+  }
+
   pub trap_of : (trap : Trap) (line : ℕ) → self.mode ≡ mode.Trapped trap line → outs self ≡ [] → Holds self is j → IsHalted (jobs.TrapIn trap line self.run.machine.lines.items self.count)
   trap_of trap line e none d = trap_held d.ground trap line d.strand none d.is_of (subst (λ m. HeldIn self is j d.ground m d.strand) e d.held)
 
   pub over_of : self.mode ≡ mode.Over → outs self ≡ [] → Holds self is j → IsHalted jobs.OverLimit
   over_of e none d = over_held d.ground d.strand none d.is_of (subst (λ m. HeldIn self is j d.ground m d.strand) e d.held)
+
+  pub up_of : self.mode ≡ mode.GivenUp → outs self ≡ [] → Holds self is j → IsHalted jobs.Memory
+  up_of e none d = up_held d.ground d.strand none d.is_of (subst (λ m. HeldIn self is j d.ground m d.strand) e d.held)
 
   module _ (kept : RestsAreKept) (e : jobs.Effect) (h : IsHalted e) where
     pub given : KeepsGiven (its_parts self).rest.slices.items self.run.machine
@@ -145,6 +158,10 @@ module _ (keep : (code : Code) → CallsKeep code) (kept : RestsAreKept) (self :
   may_over e = subst (MayGiveUp self.run.machine) as_many (may_up self.run.machine (length (its_parts self).rest.slices.items) (∥∥₁_elim (sound_of self) (hlevel) (λ s. ∥∥₁_map (running.holds s.ok s.job s.is) (λ d.
       may self s.ok s.job kept jobs.OverLimit (over_of self s.ok s.job e none d)))))
 
+  pub may_give_up : self.mode ≡ mode.GivenUp → MayGiveUp self.run.machine n
+  may_give_up e = subst (MayGiveUp self.run.machine) as_many (may_up self.run.machine (length (its_parts self).rest.slices.items) (∥∥₁_elim (sound_of self) (hlevel) (λ s. ∥∥₁_map (running.holds s.ok s.job s.is) (λ d.
+      may self s.ok s.job kept jobs.Memory (up_of self s.ok s.job e none d)))))
+
   -- an effect tells the trap, or that the limit was passed, and gives the arrays back
   abbrev pub TellsTrap : Trap → (line : ℕ) → Effect → Type 0
   TellsTrap trap line (effect.Trapped c l lines cost back) =
@@ -155,11 +172,17 @@ module _ (keep : (code : Code) → CallsKeep code) (kept : RestsAreKept) (self :
   TellsOver (effect.OverLimit back) = GivesUp self.run.machine (length self.parts.value.rest.slices.items) back.items
   TellsOver _ = ⊥
 
+  -- or that the job was given up
+  abbrev pub TellsUp : Effect → Type 0
+  TellsUp (effect.GivenUp back) = GivesUp self.run.machine (length self.parts.value.rest.slices.items) back.items
+  TellsUp _ = ⊥
+
   trap_it : (trap : Trap) (line : ℕ) (e : Effect) → TellsTrap trap line e → (is : IsFit (its_code self)) (j : jobs.Job) → IsHalted self is j (jobs.TrapIn trap line self.run.machine.lines.items self.count) → MeansIt (its_code self) is (its_parts self) e j
   trap_it trap line (effect.Ended value shown) t is j h = absurd t
   trap_it trap line (effect.Joined frame replaced shown) t is j h = absurd t
   trap_it trap line (effect.OverLimit back) t is j h = absurd t
   trap_it trap line (effect.Memory back) t is j h = absurd t
+  trap_it trap line (effect.GivenUp back) t is j h = absurd t
   trap_it trap line (effect.Trapped c l lines cost back) t is j h = record {
     effect = jobs.TrapIn trap line self.run.machine.lines.items self.count;
     means = halted (code_view (its_code self).code) (keep (code_view (its_code self).code)) j (jobs.TrapIn trap line self.run.machine.lines.items self.count) h.out h.is_of;
@@ -173,12 +196,27 @@ module _ (keep : (code : Code) → CallsKeep code) (kept : RestsAreKept) (self :
   over_it (effect.Joined frame replaced shown) t is j h = absurd t
   over_it (effect.Trapped c l lines cost back) t is j h = absurd t
   over_it (effect.Memory back) t is j h = absurd t
+  over_it (effect.GivenUp back) t is j h = absurd t
   over_it (effect.OverLimit back) t is j h = record {
     effect = jobs.OverLimit;
     means = halted (code_view (its_code self).code) (keep (code_view (its_code self).code)) j jobs.OverLimit h.out h.is_of;
     tells = tt;
     counts = tt;
     homes = t (its_parts self).rest.slices.items as_many (given self is j kept jobs.OverLimit h);
+  }
+
+  up_it : (e : Effect) → TellsUp e → (is : IsFit (its_code self)) (j : jobs.Job) → IsHalted self is j jobs.Memory → MeansIt (its_code self) is (its_parts self) e j
+  up_it (effect.Ended value shown) t is j h = absurd t
+  up_it (effect.Joined frame replaced shown) t is j h = absurd t
+  up_it (effect.Trapped c l lines cost back) t is j h = absurd t
+  up_it (effect.OverLimit back) t is j h = absurd t
+  up_it (effect.Memory back) t is j h = absurd t
+  up_it (effect.GivenUp back) t is j h = record {
+    effect = Memory;
+    means = Short refl;
+    tells = tt;
+    counts = tt;
+    homes = t (its_parts self).rest.slices.items as_many (given self is j kept jobs.Memory h);
   }
 
   pub trap_means : (trap : Trap) (line : ℕ) (e : Effect) → self.mode ≡ mode.Trapped trap line → TellsTrap trap line e → IsMeaningOf (its_job self) e
@@ -188,6 +226,10 @@ module _ (keep : (code : Code) → CallsKeep code) (kept : RestsAreKept) (self :
   pub over_means : (e : Effect) → self.mode ≡ mode.Over → TellsOver e → IsMeaningOf (its_job self) e
   unfolding IsMeaningOf
   over_means e at t = λ is j job. ∥∥₁_map (running.holds is j job) (λ d. over_it e t is j (over_of self is j at none d))
+
+  pub up_means : (e : Effect) → self.mode ≡ mode.GivenUp → TellsUp e → IsMeaningOf (its_job self) e
+  unfolding IsMeaningOf
+  up_means e at t = λ is j job. ∥∥₁_map (running.holds is j job) (λ d. up_it e t is j (up_of self is j at none d))
 
 -- want of memory means any job
 abbrev pub IsMemory : Effect → Type 0
@@ -199,6 +241,7 @@ memory_it v is p j (effect.Ended value shown) t = absurd t
 memory_it v is p j (effect.Joined frame replaced shown) t = absurd t
 memory_it v is p j (effect.Trapped c l lines cost back) t = absurd t
 memory_it v is p j (effect.OverLimit back) t = absurd t
+memory_it v is p j (effect.GivenUp back) t = absurd t
 memory_it v is p j (effect.Memory back) t = record { effect = Memory; means = Short refl; tells = tt; counts = tt; homes = tt }
 
 pub memory_means : (job : Job) (e : Effect) → IsMemory e → IsMeaningOf job e

@@ -1,61 +1,40 @@
 -- The effect of the newest job out was given to a strand.
-use Rattle.std.proofs.Common.{◌≡◌, ◌≢◌, ℕ, suc, ◌+◌, ◌-◌, ◌<◌, ◌≤◌, ℤ, Bool, true, false, nat_lt, Option, Some, None, List, [], ◌∷◌, ◌++◌, length, refl, sym, ap, ap₂, ◌∙◌, subst, arith}
+use Rattle.std.proofs.Common.{◌≡◌, ◌≢◌, ℕ, ◌+◌, ◌-◌, ◌<◌, ◌≤◌, true, false, nat_lt, Option, Some, List, ◌∷◌, refl, sym, ap, ◌∙◌, subst, arith}
 use Rattle.std.proofs.lemmas.Bool.Decides.{nat_tests}
-use Rattle.std.specs.Prelude.{map, reverse, slice_get}
+use Rattle.std.specs.Prelude.{reverse, slice_get}
 use Rattle.std.proofs.Math.Logic.{∥∥₁_elim, ∥∥₁_map}
 use mathlib.Core.HLevel.{⊥_prop}
-use Rattle.cw_model.specs.declared.trap.Trap.{Trap}
-use Rattle.cw_model.specs.declared.limits.TheConstants.{MOST_LIMIT}
-use Rattle.cw_model.specs.Outcome.{Trace, quiet}
 use Rattle.cw_slices.specs.Placed.{Placed}
 use Rattle.cw_code.specs.Code.{Code, code_view}
-use Rattle.cw_code.specs.Fits.{Fits}
-use Rattle.cw_code.specs.Run.{State}
-use Rattle.cw_code.specs.Good.{FitSettles}
-use Rattle.cw_code.specs.Staying.{SeatsLie}
-use Rattle.cw_meter.specs.declared.meter.Meter.{Meter}
-use Rattle.cw_metered.specs.Strands.{CallsKeepMeters, TellsAll, site_at, MeansMeasured}
 use Rattle.cw_strands.specs.Jobs as jobs
 use Rattle.cw_strands.specs.Jobs.{ToJoin, Standing, JobMeaning}
 use Rattle.cw_strands.specs.Over.{under}
-use Rattle.cw_strands.specs.Strands as strands
-use Rattle.cw_strands.specs.Strands.{Going, Waits, Halted, outs_of, rest_of, resumed, cost_of}
+use Rattle.cw_strands.specs.Strands.{Halted, outs_of, rest_of}
 use Rattle.cw_strands.specs.Promises.{IsStrandOf}
-use Rattle.cw_strands.specs.Staying.{RestsStayInside}
 use Rattle.cw_strands.specs.Steps.{CallsKeep}
 use Rattle.cw_verify.specs.declared.verified.Verified.{Verified}
-use Rattle.cw_jobs.specs.declared.call.Extent.TheVariants as extent
 use Rattle.cw_jobs.specs.declared.call.Parts.{Parts}
-use Rattle.cw_jobs.specs.declared.call.Rest.{Rest}
 use Rattle.cw_jobs.specs.declared.effect.Effect.{Effect}
 use Rattle.cw_jobs.specs.declared.effect.Effect.TheVariants as effect
 use Rattle.cw_jobs.specs.declared.effect.Shown.{Shown}
 use Rattle.cw_jobs.specs.declared.job.Job.{Job}
-use Rattle.cw_jobs.specs.Jobs.{code_of, extent_of, origin_of, IsJob, KeepsHomes}
-use Rattle.cw_jobs.specs.Means.{Tells, Counts, ComeHome, MeansIt, IsMeaningOf}
-use Rattle.cw_machine.specs.declared.machine.Machine.{Machine}
-use Rattle.cw_machine.specs.declared.run.Run.{Run}
-use Rattle.cw_machine.specs.Arrays.{Out, IsFit}
-use Rattle.cw_machine.specs.Shows.{Remains, Shows}
+use Rattle.cw_jobs.specs.Jobs.{code_of, extent_of, IsJob, KeepsHomes}
+use Rattle.cw_jobs.specs.Means.{MeansIt, IsMeaningOf}
+use Rattle.cw_machine.specs.Arrays.{IsFit}
 use Rattle.cw_machine.specs.Unwinding.{ShownRemain}
-use Rattle.cw_machine.specs.Gives.{MayGive, went_on}
-use Rattle.cw_machine.specs.lemmas.Joins.{waits_under, went_under}
-use Rattle.cw_strand.specs.declared.strand.Lent.{Lent}
 use Rattle.cw_strand.specs.declared.strand.Mode.{Mode}
 use Rattle.cw_strand.specs.declared.strand.Mode.TheVariants as mode
 use Rattle.cw_strand.specs.declared.strand.Strand.{Strand}
 use Rattle.cw_strand.specs.Levels.{levels_of}
-use Rattle.cw_strand.specs.Holds.{its_parts, its_code, lent_parts, Ground, setting_of, ok_with, Lends, rests_at, Stands, HeldIn, Holds, IsRunning, IsWaiting, HasStopped, stops, is_lost}
+use Rattle.cw_strand.specs.Holds.{its_parts, its_code, lent_parts, Ground, ok_with, Stands, HeldIn, Holds, IsRunning, IsWaiting, HasStopped, stops, is_lost}
 use Rattle.cw_strand.specs.Moves.{MayPopHome, MayReach, HasPoppedHome, HasLost}
-use Rattle.cw_strand.specs.Giving.{passes_limit, IsOfRest, GivesBack, HasTaken, HasJoined}
+use Rattle.cw_strand.specs.Giving.{passes_limit, IsOfRest, GivesBack}
 use Rattle.cw_strand.proofs.Course.{wants}
 use Rattle.cw_strand.proofs.RunsOn.{sound_of, IsHeldBack, waiting_of}
 use Rattle.cw_strand.proofs.Same.{spare_as, Newest}
-use Rattle.cw_strand.proofs.TakenBack.{Split, split}
 use Rattle.cw_strand.proofs.Homes.{rest_slices, newly, may_home, stands_on, stands_in, goes_so, stops_on, came_home}
-use Rattle.cw_strand.proofs.Given.{out, rests, out_is, waits, giving}
-use Rattle.cw_strand.proofs.Effects.{CostsAs, IsOver, meant, homes_in, cost_in, over_in, never_ends, gave_over, gave_limit, gave_within}
-use Rattle.cw_strand.proofs.Taken.{shows_joined, lines_shown}
+use Rattle.cw_strand.proofs.Given.{out, rests, out_is, waits}
+use Rattle.cw_strand.proofs.Effects.{CostsAs, IsOver, meant, homes_in, cost_in, over_in, never_ends, gave_over, gave_limit}
 
 pub passes_is : (room cost : ℕ) → nat_lt room cost ≡ true → room < cost
 passes_is room cost e = grind (arith, nat_tests)
@@ -208,6 +187,7 @@ of_rest self job others newest running (effect.Joined f r s) means = tt
 of_rest self job others newest running (effect.Trapped c l ls n b) means = tt
 of_rest self job others newest running (effect.OverLimit b) means = tt
 of_rest self job others newest running (effect.Memory b) means = tt
+of_rest self job others newest running (effect.GivenUp b) means = tt
 
 -- a strand at a join that does not wait has stopped
 pub else_stopped : (m : Mode) → m ≢ mode.Going → m ≢ mode.Waiting → stops m ≡ true
@@ -216,3 +196,4 @@ else_stopped mode.Waiting g w = absurd (w refl)
 else_stopped (mode.Trapped c l) g w = refl
 else_stopped mode.Over g w = refl
 else_stopped mode.Memory g w = refl
+else_stopped mode.GivenUp g w = refl

@@ -1,27 +1,21 @@
 -- The effect of a rest that came to its join was given to a strand that waits for it.
-use Rattle.std.proofs.Common.{◌≡◌, ℕ, suc, ◌+◌, ◌-◌, ◌<◌, ◌≤◌, ℤ, Bool, true, false, nat_lt, Option, Some, None, List, [], ◌∷◌, ◌++◌, length, refl, sym, ap, ap₂, ◌∙◌, subst, arith}
-use Rattle.std.proofs.lemmas.Bool.Decides.{nat_tests}
-use Rattle.std.specs.Prelude.{map, reverse, slice_get}
+use Rattle.std.proofs.Common.{◌≡◌, ℕ, ◌+◌, ◌-◌, ◌≤◌, false, Option, List, [], ◌∷◌, sym, ap, ap₂, ◌∙◌, subst, arith}
+use Rattle.std.specs.Prelude.{reverse}
 use Rattle.std.proofs.Math.Logic.{∥∥₁_elim, ∥∥₁_map}
-use mathlib.Core.HLevel.{⊥_prop}
-use Rattle.cw_model.specs.declared.trap.Trap.{Trap}
 use Rattle.cw_model.specs.declared.limits.TheConstants.{MOST_LIMIT}
-use Rattle.cw_model.specs.Outcome.{Trace, quiet}
+use Rattle.cw_model.specs.Outcome.{Trace}
 use Rattle.cw_slices.specs.Placed.{Placed}
 use Rattle.cw_code.specs.Code.{Code, code_view}
 use Rattle.cw_code.specs.Fits.{Fits, slots_lent}
 use Rattle.cw_code.specs.Run.{State}
 use Rattle.cw_code.specs.Good.{FitSettles}
 use Rattle.cw_code.specs.Staying.{SeatsLie}
-use Rattle.cw_meter.specs.declared.meter.Meter.{Meter}
 use Rattle.cw_metered.specs.Strands.{CallsKeepMeters, CountsEffect, TellsAll, site_at, MeansMeasured}
 use Rattle.cw_meter.specs.Meters.{Rests}
 use Rattle.cw_strands.specs.Jobs as jobs
 use Rattle.cw_strands.specs.Jobs.{ToJoin, Standing, JobMeaning}
 use Rattle.cw_strands.specs.Over.{under}
-use Rattle.cw_strands.specs.Strands as strands
-use Rattle.cw_strands.specs.Strands.{Going, Waits, Halted, outs_of, rest_of, resumed, cost_of}
-use Rattle.cw_strands.specs.Promises.{IsStrandOf}
+use Rattle.cw_strands.specs.Strands.{Going, Waits, resumed}
 use Rattle.cw_strands.specs.Staying.{RestsStayInside}
 use Rattle.cw_strands.specs.Steps.{CallsKeep}
 use Rattle.cw_verify.specs.declared.verified.Verified.{Verified}
@@ -31,33 +25,27 @@ use Rattle.cw_jobs.specs.declared.effect.Effect.{Effect}
 use Rattle.cw_jobs.specs.declared.effect.Effect.TheVariants as effect
 use Rattle.cw_jobs.specs.declared.effect.Shown.{Shown}
 use Rattle.cw_jobs.specs.declared.job.Job.{Job}
-use Rattle.cw_jobs.specs.Jobs.{code_of, extent_of, origin_of, IsJob, KeepsHomes, KeepsEmpty, KeepsFixed}
+use Rattle.cw_jobs.specs.Jobs.{origin_of, KeepsHomes, KeepsEmpty, KeepsFixed}
 use Rattle.cw_jobs.specs.Calls.{HoldsFrame}
 use Rattle.cw_jobs.specs.Means.{HasShown, Tells, Counts, MeansIt, IsMeaningOf}
-use Rattle.cw_machine.specs.declared.machine.Machine.{Machine}
 use Rattle.cw_machine.specs.declared.run.Run.{Run}
-use Rattle.cw_machine.specs.Arrays.{Out, IsFit}
+use Rattle.cw_machine.specs.Arrays.{IsFit}
 use Rattle.cw_machine.specs.Calls.{loans_of}
-use Rattle.cw_machine.specs.Shows.{Remains, Shows}
-use Rattle.cw_machine.specs.Unwinding.{ShownRemain}
-use Rattle.cw_machine.specs.Gives.{IsGiving, went_on}
+use Rattle.cw_machine.specs.Shows.{Shows}
+use Rattle.cw_machine.specs.Gives.{IsGiving}
 use Rattle.cw_machine.specs.lemmas.Joins.{waits_under, went_under}
-use Rattle.cw_strand.specs.declared.strand.Lent.{Lent}
-use Rattle.cw_strand.specs.declared.strand.Mode.{Mode}
 use Rattle.cw_strand.specs.declared.strand.Mode.TheVariants as mode
 use Rattle.cw_strand.specs.declared.strand.Strand.{Strand}
 use Rattle.cw_strand.specs.Levels.{levels_of}
-use Rattle.cw_strand.specs.Holds.{its_parts, its_code, lent_parts, Ground, setting_of, ok_with, Lends, rests_at, Stands, HeldIn, Holds, IsRunning, IsWaiting, HasStopped, is_lost}
-use Rattle.cw_strand.specs.Moves.{MayPopHome, HasPoppedHome, HasLost}
-use Rattle.cw_strand.specs.Giving.{passes_limit, IsOfRest, GivesBack, HasTaken, HasJoined, MayJoin}
-use Rattle.cw_strand.proofs.Course.{wants}
+use Rattle.cw_strand.specs.Holds.{its_parts, its_code, lent_parts, Ground, ok_with, Lends, rests_at, HeldIn, Holds, IsRunning, IsWaiting}
+use Rattle.cw_strand.specs.Giving.{passes_limit, HasTaken, HasJoined, MayJoin}
 use Rattle.cw_strand.proofs.RunsOn.{sound_of, IsHeldBack, waiting_of}
 use Rattle.cw_strand.proofs.Same.{Newest}
 use Rattle.cw_strand.proofs.TakenBack.{Split, split}
-use Rattle.cw_strand.proofs.Homes.{rest_slices, newly, may_home, stands_on, stands_in, goes_so, stops_on}
+use Rattle.cw_strand.proofs.Homes.{goes_so}
 use Rattle.cw_strand.proofs.Given.{out, rests, out_is, waits, frozen, reads, giving}
-use Rattle.cw_strand.proofs.Effects.{CostsAs, IsOver, meant, homes_in, cost_in, over_in, never_ends, gave_over, gave_limit, gave_within}
-use Rattle.cw_strand.proofs.Taken.{shows_joined, lines_shown}
+use Rattle.cw_strand.proofs.Effects.{gave_within}
+use Rattle.cw_strand.proofs.Taken.{shows_joined}
 use Rattle.cw_strand.proofs.Gave.{keeps_within, meant_in}
 
 -- an effect is the frame and what was shown at a join
@@ -83,6 +71,7 @@ came_of v is q j (effect.Ended value x) back replaced shown i m = absurd i
 came_of v is q j (effect.Trapped c l ls n b) back replaced shown i m = absurd i
 came_of v is q j (effect.OverLimit b) back replaced shown i m = absurd i
 came_of v is q j (effect.Memory b) back replaced shown i m = absurd i
+came_of v is q j (effect.GivenUp b) back replaced shown i m = absurd i
 came_of v is q j (effect.Joined f r x) back replaced shown i m =
     subst (λ z. Came v is q j back replaced z) i.2 (subst (λ z. Came v is q j back z x) i.1 (subst (λ z. Came v is q j z r.items x) i.0 (at m.effect m.means m.tells m.counts)))
   where

@@ -1,60 +1,36 @@
 -- The effect of a rest that trapped was given to a strand that waits for it.
-use Rattle.std.proofs.Common.{◌≡◌, ℕ, suc, ◌+◌, ◌-◌, ◌<◌, ◌≤◌, ℤ, Bool, true, false, nat_lt, Option, Some, None, List, [], ◌∷◌, ◌++◌, length, refl, sym, ap, ap₂, ◌∙◌, subst, arith}
-use Rattle.std.proofs.lemmas.Bool.Decides.{nat_tests}
-use Rattle.std.specs.Prelude.{map, reverse, slice_get}
-use Rattle.std.proofs.Math.Logic.{∥∥₁_elim, ∥∥₁_map}
-use mathlib.Core.HLevel.{⊥_prop}
+use Rattle.std.proofs.Common.{◌≡◌, ℕ, ◌+◌, ◌-◌, ◌≤◌, ℤ, false, List, [], ◌++◌, refl, sym, ap, ◌∙◌, subst, arith}
+use Rattle.std.specs.Prelude.{reverse}
+use Rattle.std.proofs.Math.Logic.{∥∥₁_map}
 use Rattle.cw_model.specs.declared.trap.Trap.{Trap}
-use Rattle.cw_model.specs.declared.limits.TheConstants.{MOST_LIMIT}
-use Rattle.cw_model.specs.Outcome.{Trace, quiet}
 use Rattle.cw_slices.specs.Placed.{Placed}
 use Rattle.cw_code.specs.Code.{Code, code_view}
-use Rattle.cw_code.specs.Fits.{Fits}
-use Rattle.cw_code.specs.Run.{State}
-use Rattle.cw_code.specs.Good.{FitSettles}
-use Rattle.cw_code.specs.Staying.{SeatsLie}
-use Rattle.cw_meter.specs.declared.meter.Meter.{Meter}
-use Rattle.cw_metered.specs.Strands.{CallsKeepMeters, TellsAll, site_at, MeansMeasured}
 use Rattle.cw_strands.specs.Jobs as jobs
 use Rattle.cw_strands.specs.Jobs.{ToJoin, Standing, JobMeaning}
-use Rattle.cw_strands.specs.Over.{under}
-use Rattle.cw_strands.specs.Strands as strands
-use Rattle.cw_strands.specs.Strands.{Going, Waits, Halted, outs_of, rest_of, resumed, cost_of}
-use Rattle.cw_strands.specs.Promises.{IsStrandOf}
-use Rattle.cw_strands.specs.Staying.{RestsStayInside}
+use Rattle.cw_strands.specs.Strands.{Halted}
 use Rattle.cw_strands.specs.Steps.{CallsKeep}
 use Rattle.cw_verify.specs.declared.verified.Verified.{Verified}
 use Rattle.cw_jobs.specs.declared.call.Parts.{Parts}
-use Rattle.cw_jobs.specs.declared.call.Rest.{Rest}
 use Rattle.cw_jobs.specs.declared.effect.Effect.{Effect}
 use Rattle.cw_jobs.specs.declared.effect.Effect.TheVariants as effect
-use Rattle.cw_jobs.specs.declared.effect.Shown.{Shown}
 use Rattle.cw_jobs.specs.declared.job.Job.{Job}
-use Rattle.cw_jobs.specs.Jobs.{code_of, extent_of, origin_of, IsJob, KeepsHomes}
-use Rattle.cw_jobs.specs.Means.{Tells, Counts, ComeHome, MeansIt, IsMeaningOf}
-use Rattle.cw_machine.specs.declared.machine.Machine.{Machine}
+use Rattle.cw_jobs.specs.Jobs.{extent_of}
+use Rattle.cw_jobs.specs.Means.{Tells, IsMeaningOf}
 use Rattle.cw_machine.specs.declared.run.Run.{Run}
-use Rattle.cw_machine.specs.Arrays.{Out, IsFit}
-use Rattle.cw_machine.specs.Shows.{Remains, Shows}
+use Rattle.cw_machine.specs.Arrays.{IsFit}
+use Rattle.cw_machine.specs.Shows.{Remains}
 use Rattle.cw_machine.specs.Unwinding.{ShownRemain}
-use Rattle.cw_machine.specs.Gives.{MayGive, went_on}
-use Rattle.cw_machine.specs.lemmas.Joins.{waits_under, went_under}
-use Rattle.cw_strand.specs.declared.strand.Lent.{Lent}
-use Rattle.cw_strand.specs.declared.strand.Mode.{Mode}
 use Rattle.cw_strand.specs.declared.strand.Mode.TheVariants as mode
 use Rattle.cw_strand.specs.declared.strand.Strand.{Strand}
-use Rattle.cw_strand.specs.Levels.{levels_of}
-use Rattle.cw_strand.specs.Holds.{its_parts, its_code, lent_parts, Ground, setting_of, ok_with, Lends, rests_at, Stands, HeldIn, Holds, IsRunning, IsWaiting, HasStopped, is_lost}
-use Rattle.cw_strand.specs.Moves.{MayPopHome, Reaches, HasPoppedHome, HasLost}
-use Rattle.cw_strand.specs.Giving.{passes_limit, IsOfRest, GivesBack, HasTaken, HasJoined}
-use Rattle.cw_strand.proofs.Course.{wants}
-use Rattle.cw_strand.proofs.RunsOn.{sound_of, IsHeldBack, waiting_of}
+use Rattle.cw_strand.specs.Holds.{its_parts, its_code, lent_parts, ok_with, HeldIn, IsRunning, IsWaiting, is_lost}
+use Rattle.cw_strand.specs.Moves.{MayPopHome, Reaches, HasPoppedHome}
+use Rattle.cw_strand.specs.Giving.{passes_limit, GivesBack}
+use Rattle.cw_strand.proofs.RunsOn.{waiting_of}
 use Rattle.cw_strand.proofs.Same.{Newest}
-use Rattle.cw_strand.proofs.TakenBack.{Split, split}
-use Rattle.cw_strand.proofs.Homes.{rest_slices, newly, may_home, stands_on, stands_in, goes_so, stops_on}
-use Rattle.cw_strand.proofs.Given.{out, rests, out_is, waits, giving}
-use Rattle.cw_strand.proofs.Effects.{CostsAs, IsOver, meant, homes_in, cost_in, over_in, never_ends, gave_over, gave_limit, gave_within}
-use Rattle.cw_strand.proofs.Taken.{shows_joined, lines_shown}
+use Rattle.cw_strand.proofs.Homes.{stands_on, goes_so}
+use Rattle.cw_strand.proofs.Given.{out, rests, out_is, waits}
+use Rattle.cw_strand.proofs.Effects.{homes_in, gave_within}
+use Rattle.cw_strand.proofs.Taken.{lines_shown}
 use Rattle.cw_strand.proofs.Gave.{keeps_within, meant_in, may_waits, stands_waits}
 
 abbrev pub IsTrap : Effect → Trap → (line : ℕ) → (lines : List ℤ) → (cost : ℕ) → List Placed → Type 0
@@ -66,6 +42,7 @@ trap_told v is q j (effect.Ended value shown) trap line lines cost back d i t = 
 trap_told v is q j (effect.Joined f r s) trap line lines cost back d i t = absurd i
 trap_told v is q j (effect.OverLimit b) trap line lines cost back d i t = absurd i
 trap_told v is q j (effect.Memory b) trap line lines cost back d i t = absurd i
+trap_told v is q j (effect.GivenUp b) trap line lines cost back d i t = absurd i
 trap_told v is q j (effect.Trapped c l ls n b) trap line lines cost back (jobs.Ended x arrays u k) i t = absurd t
 trap_told v is q j (effect.Trapped c l ls n b) trap line lines cost back (jobs.Joined f u k) i t = absurd t
 trap_told v is q j (effect.Trapped c l ls n b) trap line lines cost back jobs.OverLimit i t = absurd t
@@ -79,6 +56,7 @@ trap_back (effect.Ended value shown) trap line lines cost back i = absurd i
 trap_back (effect.Joined f r s) trap line lines cost back i = absurd i
 trap_back (effect.OverLimit b) trap line lines cost back i = absurd i
 trap_back (effect.Memory b) trap line lines cost back i = absurd i
+trap_back (effect.GivenUp b) trap line lines cost back i = absurd i
 trap_back (effect.Trapped c l ls n b) trap line lines cost back i = (i.4, refl)
 
 -- the strand with these lines printed, too

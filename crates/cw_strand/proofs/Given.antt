@@ -1,13 +1,13 @@
 -- What is known where the rest of a block comes back to the strand that waits for it.
-use Rattle.std.proofs.Common.{◌≡◌, ◌≢◌, ℕ, zero, suc, ◌+◌, ◌-◌, ◌<◌, ◌≤◌, ℤ, true, false, Option, Some, None, List, [], ◌∷◌, ◌++◌, length, refl, sym, ap, ◌∙◌, subst, arith}
-use Rattle.std.specs.Prelude.{map, reverse, slice_get}
+use Rattle.std.proofs.Common.{◌≡◌, ℕ, ◌-◌, ◌≤◌, ℤ, true, Option, Some, None, List, [], ◌∷◌, ◌++◌, length, refl, sym, ap, ◌∙◌, subst, arith}
+use Rattle.std.specs.Prelude.{slice_get}
 use Rattle.cw_model.specs.Outcome.{Trace, quiet}
 use Rattle.cw_slices.specs.Placed.{Placed}
 use Rattle.cw_code.specs.declared.code.Func.{Func}
 use Rattle.cw_code.specs.Code.{Code, code_view}
 use Rattle.cw_code.specs.Fits.{Fits, Shape, slots_lent}
-use Rattle.cw_code.specs.Run.{Slots, Results, Waiting, Around, Caller, Block, State, is_full}
-use Rattle.cw_code.specs.Good.{IsNotAmong, slots_in, ints_round, all_of, Seat, Good, GoodState, FitSettles}
+use Rattle.cw_code.specs.Run.{Results, Waiting, Around, Caller, Block, State, is_full}
+use Rattle.cw_code.specs.Good.{IsNotAmong, slots_in, ints_round, all_of, Good, GoodState, FitSettles}
 use Rattle.cw_code.specs.Staying.{SeatsLie, IsInside, outermost}
 use Rattle.cw_strands.specs.Jobs as jobs
 use Rattle.cw_strands.specs.Jobs.{ToJoin, Standing, Came, Arrives, Returns, Falls, Beyond, Lost, travel, course, IsOf, Same, Passed, Short, job_start, JobMeaning, Joined}
@@ -20,20 +20,18 @@ use Rattle.cw_verify.specs.declared.verified.Verified.{Verified}
 use Rattle.cw_jobs.specs.declared.call.Parts.{Parts}
 use Rattle.cw_jobs.specs.declared.call.Rest.{Rest}
 use Rattle.cw_jobs.specs.declared.job.Job.{Job}
-use Rattle.cw_jobs.specs.Calls.{cell, placed, HasArrays, HoldsFrame}
-use Rattle.cw_jobs.specs.Jobs.{AreBlocks, IsJob, KeepsHomes, KeepsEmpty, KeepsFixed, IsOwnIn}
-use Rattle.cw_machine.specs.declared.machine.Machine.{Machine}
-use Rattle.cw_machine.specs.Arrays.{Out, IsFit, Ok}
+use Rattle.cw_jobs.specs.Calls.{placed, HasArrays, HoldsFrame}
+use Rattle.cw_jobs.specs.Jobs.{AreBlocks, IsJob, KeepsHomes, KeepsEmpty, KeepsFixed}
+use Rattle.cw_machine.specs.Arrays.{IsFit}
 use Rattle.cw_machine.specs.Calls.{loans_of}
 use Rattle.cw_machine.specs.Shows.{Comes, Shows, SharesFrozen}
 use Rattle.cw_machine.specs.Rests.{lending}
-use Rattle.cw_machine.specs.Gives.{went_on, ComesBut, RoundComesBut, AreTogether, KeepsSlots, IsGiving}
+use Rattle.cw_machine.specs.Gives.{went_on, ComesBut, AreTogether, IsGiving}
 use Rattle.cw_machine.specs.Hands.{ComesRound}
 use Rattle.cw_machine.specs.lemmas.Joins.{waits_under, went_under, comes_back, comes_back_round}
-use Rattle.cw_strand.specs.declared.strand.Lent.{Lent}
 use Rattle.cw_strand.specs.declared.strand.Strand.{Strand}
-use Rattle.cw_strand.specs.Levels.{Level, levels_of, ResultWaits, IsBackAt, waiting_over}
-use Rattle.cw_strand.specs.Holds.{its_parts, its_code, lent_parts, Ground, ok_with, IsLent, Lends, rests_at}
+use Rattle.cw_strand.specs.Levels.{Level, levels_of, ResultWaits, waiting_over}
+use Rattle.cw_strand.specs.Holds.{its_parts, its_code, lent_parts, Ground, ok_with, rests_at}
 use Rattle.cw_strand.proofs.Levels.{round_many}
 use Rattle.cw_strand.proofs.RestReads.{frozen_arrives, same_readers}
 use Rattle.cw_strand.proofs.RunsOn.{IsHeldBack}

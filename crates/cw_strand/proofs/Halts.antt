@@ -1,5 +1,5 @@
 -- A strand whose run came to a stop that hands nothing out: it waits, or it has stopped.
-use Rattle.std.proofs.Common.{◌≡◌, ℕ, ◌+◌, ◌-◌, ◌≤◌, false, List, refl, sym, ap, ◌∙◌, subst, arith}
+use Rattle.std.proofs.Common.{◌≡◌, ◌≢◌, ℕ, ◌+◌, ◌-◌, ◌≤◌, false, List, ◌∷◌, refl, sym, ap, ◌∙◌, subst, arith}
 use Rattle.std.specs.Prelude.{reverse, Some, slice_get}
 use Rattle.std.proofs.Math.Logic.{∥∥₁_map}
 use Rattle.cw_model.specs.declared.trap.Trap.{Trap}
@@ -7,6 +7,7 @@ use Rattle.cw_code.specs.Code.{Code, code_view}
 use Rattle.cw_strands.specs.Jobs as jobs
 use Rattle.cw_strands.specs.Jobs.{has_come}
 use Rattle.cw_strands.specs.Over.{under}
+use Rattle.cw_strands.specs.Strands as strands
 use Rattle.cw_strands.specs.Strands.{Going, Waits, Halted, ComesBack, outs_of}
 use Rattle.cw_strands.specs.Steps.{CallsKeep}
 use Rattle.cw_verify.specs.declared.verified.Verified.{Verified}
@@ -21,7 +22,8 @@ use Rattle.cw_strand.specs.declared.strand.Mode.{Mode}
 use Rattle.cw_strand.specs.declared.strand.Mode.TheVariants as mode
 use Rattle.cw_strand.specs.declared.strand.Strand.{Strand}
 use Rattle.cw_strand.specs.Levels.{levels_of}
-use Rattle.cw_strand.specs.Holds.{its_parts, its_code, IsRest, ok_with, Lends, rests_at, Holds, KeepsJob, IsRunning}
+use Rattle.cw_strand.specs.Holds.{given_up as up_of}
+use Rattle.cw_strand.specs.Holds.{its_parts, its_code, Ground, IsRest, ok_with, Lends, rests_at, Stands, HeldIn, Holds, KeepsJob, IsRunning, stops}
 use Rattle.cw_strand.specs.Moves.{CameTo, HasCome, HasSpared}
 use Rattle.cw_strand.proofs.Levels.{HasReturned, LevelsAfter, levels_move}
 use Rattle.cw_strand.proofs.Same.{same_strand}
@@ -170,6 +172,53 @@ fails keep self h = record {
     strand = Halted jobs.Memory (outs_of d.strand);
     is_of = wants (code_view (its_code self).code) (keep (code_view (its_code self).code)) j d.strand d.is_of;
     held = refl;
+  });
+}
+
+-- one that goes on or waits: its arrays are known, and where each is to come home
+stands_before : ShownRemain → (self : Strand) (is : IsFit (its_code self)) (j : jobs.Job) (g : Ground (its_code self) is (its_parts self) j) (m : Mode) (d : strands.Strand) → stops m ≡ false → HeldIn self is j g m d
+    → Stands (record self { mode = mode.GivenUp }) is j g
+stands_before remain self is j g mode.Going (Going s count out) goes h = record {
+  levels = levels_of s.around;
+  outs = h.outs;
+  lends = h.lends;
+  remains = remain (its_code self) (ok_with g h.outs) self.run.machine (under g.base s) h.shows.shows;
+}
+stands_before remain self is j g mode.Going (Waits s count out) goes h = absurd h
+stands_before remain self is j g mode.Going (Halted e out) goes h = absurd h
+stands_before remain self is j g mode.Waiting (Waits s count out) goes h = record {
+  levels = h.level ∷ levels_of s.around;
+  outs = h.runs.outs;
+  lends = h.runs.lends;
+  remains = remain (its_code self) (ok_with g h.runs.outs) self.run.machine (under g.base s) h.runs.shows.shows;
+}
+stands_before remain self is j g mode.Waiting (Going s count out) goes h = absurd h
+stands_before remain self is j g mode.Waiting (Halted e out) goes h = absurd h
+stands_before remain self is j g (mode.Trapped trap line) d goes h = cc
+stands_before remain self is j g mode.Over d goes h = cc
+stands_before remain self is j g mode.Memory d goes h = cc
+stands_before remain self is j g mode.GivenUp d goes h = cc
+
+-- one that has stopped stays as it is
+pub stays_up : (m : Mode) → m ≢ mode.Going → m ≢ mode.Waiting → m ≡ up_of m
+stays_up mode.Going g w = absurd (g refl)
+stays_up mode.Waiting g w = absurd (w refl)
+stays_up (mode.Trapped trap line) g w = refl
+stays_up mode.Over g w = refl
+stays_up mode.Memory g w = refl
+stays_up mode.GivenUp g w = refl
+
+-- it is given up
+pub gives_up : ((code : Code) → CallsKeep code) → ShownRemain → (self : Strand) → stops self.mode ≡ false → IsRunning self → IsRunning (record self { mode = mode.GivenUp })
+gives_up keep remain self goes h = record {
+  keeps = keeps_as self mode.GivenUp h.keeps;
+  spares = h.spares;
+  rests = h.rests;
+  holds = λ is j job. ∥∥₁_map (h.holds is j job) (λ d. record {
+    ground = d.ground;
+    strand = Halted jobs.Memory (outs_of d.strand);
+    is_of = wants (code_view (its_code self).code) (keep (code_view (its_code self).code)) j d.strand d.is_of;
+    held = (refl, stands_before remain self is j d.ground self.mode d.strand goes d.held);
   });
 }
 

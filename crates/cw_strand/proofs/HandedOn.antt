@@ -14,7 +14,7 @@ use Rattle.cw_strands.specs.Promises.{IsStrandOf}
 use Rattle.cw_strands.specs.Steps.{CallsKeep}
 use Rattle.cw_verify.specs.declared.verified.Verified.{Verified}
 use Rattle.cw_jobs.specs.declared.call.Parts.{Parts}
-use Rattle.cw_jobs.specs.Jobs.{origin_of, code_of}
+use Rattle.cw_jobs.specs.Jobs.{origin_of}
 use Rattle.cw_machine.specs.declared.hands.Lender.{Lender}
 use Rattle.cw_machine.specs.declared.run.Spawn.{Spawn}
 use Rattle.cw_machine.specs.declared.run.Stop.TheVariants as stop

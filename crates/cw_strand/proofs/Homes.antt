@@ -1,5 +1,5 @@
 -- Slices come home to the newest job out of a strand that goes no further.
-use Rattle.std.proofs.Common.{◌≡◌, ℕ, suc, ◌+◌, ◌≤◌, true, false, Option, Some, List, [], ◌∷◌, length, refl, sym, ap, ◌∙◌, subst}
+use Rattle.std.proofs.Common.{◌≡◌, ℕ, suc, ◌+◌, ◌≤◌, true, false, Option, Some, List, [], ◌∷◌, refl, sym, ap, ◌∙◌, subst}
 use Rattle.std.specs.Prelude.{reverse, slice_get}
 use Rattle.std.proofs.Math.Logic.{∥∥₁_elim, ∥∥₁_map}
 use Rattle.cw_code.specs.Fits.{slots_lent}
@@ -11,7 +11,7 @@ use Rattle.cw_strands.specs.Strands.{Going, Waits, Halted}
 use Rattle.cw_verify.specs.declared.verified.Verified.{Verified}
 use Rattle.cw_jobs.specs.declared.call.Parts.{Parts}
 use Rattle.cw_jobs.specs.declared.job.Job.{Job}
-use Rattle.cw_jobs.specs.Jobs.{IsJob, KeepsHomes}
+use Rattle.cw_jobs.specs.Jobs.{KeepsHomes}
 use Rattle.cw_machine.specs.declared.machine.Machine.{Machine}
 use Rattle.cw_machine.specs.declared.run.Run.{Run}
 use Rattle.cw_machine.specs.Calls.{loans_of}
@@ -23,7 +23,7 @@ use Rattle.cw_strand.specs.declared.strand.Mode.{Mode}
 use Rattle.cw_strand.specs.declared.strand.Mode.TheVariants as mode
 use Rattle.cw_strand.specs.declared.strand.Strand.{Strand}
 use Rattle.cw_strand.specs.Levels.{Level}
-use Rattle.cw_strand.specs.Holds.{its_parts, its_code, lent_parts, Ground, ok_with, IsLent, Lends, Stands, HeldIn, Holds, AreSpare, KeepsJob, IsRunning, stops, is_lost, HasStopped}
+use Rattle.cw_strand.specs.Holds.{its_parts, its_code, lent_parts, Ground, ok_with, IsLent, Lends, Stands, HeldIn, Holds, AreSpare, IsRunning, stops, is_lost, HasStopped}
 use Rattle.cw_strand.specs.Moves.{HasPoppedHome, HasSpared, MayReach, Reaches}
 use Rattle.cw_strand.proofs.RunsOn.{sound_of}
 use Rattle.cw_strand.proofs.Same.{same_strand, spare_as, Newest}
@@ -110,6 +110,9 @@ module _ (self : Strand) (job : Job) (others : List Job) (newest : Newest self j
   stands_in is j g mode.Over (Going t count out) s l h = absurd h
   stands_in is j g mode.Over (Waits t count out) s l h = absurd h
   stands_in is j g mode.Over (Halted e out) s l h = h.1
+  stands_in is j g mode.GivenUp (Going t count out) s l h = absurd h
+  stands_in is j g mode.GivenUp (Waits t count out) s l h = absurd h
+  stands_in is j g mode.GivenUp (Halted e out) s l h = h.1
 
   -- a strand that has stopped holds what it held
   held_on : (is : IsFit (its_code self)) (j : jobs.Job) (g : Ground (its_code self) is (its_parts self) j) (a : Mode) (d : strands.Strand) (new : Strand) → new.count ≡ self.count → new.run.machine.lines.items ≡ self.run.machine.lines.items → stops a ≡ true
@@ -123,6 +126,9 @@ module _ (self : Strand) (job : Job) (others : List Job) (newest : Newest self j
   held_on is j g mode.Over (Going t k out) new count lines s home h = absurd h
   held_on is j g mode.Over (Waits t k out) new count lines s home h = absurd h
   held_on is j g mode.Over (Halted e out) new count lines s home h = (h.0, home refl)
+  held_on is j g mode.GivenUp (Going t k out) new count lines s home h = absurd h
+  held_on is j g mode.GivenUp (Waits t k out) new count lines s home h = absurd h
+  held_on is j g mode.GivenUp (Halted e out) new count lines s home h = (h.0, home refl)
   held_on is j g mode.Memory (Going t k out) new count lines s home h = absurd h
   held_on is j g mode.Memory (Waits t k out) new count lines s home h = absurd h
   held_on is j g mode.Memory (Halted e out) new count lines s home h = h

@@ -92,6 +92,7 @@ module _ (keep : (code : Code) → CallsKeep code) (self : Strand) (limit : ℕ)
     end_it (effect.Trapped a l lines cost back) t is j c = absurd t
     end_it (effect.OverLimit back) t is j c = absurd t
     end_it (effect.Memory back) t is j c = absurd t
+    end_it (effect.GivenUp back) t is j c = absurd t
     end_it (effect.Ended value shown) t is j c =
         let at = c.at.1 in
         let alone = ends_alone code c.state x at.arrays at.trace at.steps in
@@ -218,6 +219,7 @@ module _ (keep : (code : Code) → CallsKeep code) (self : Strand) (limit : ℕ)
       join_it r m l u (effect.Trapped a n lines cost back) t is j c = absurd t
       join_it r m l u (effect.OverLimit back) t is j c = absurd t
       join_it r m l u (effect.Memory back) t is j c = absurd t
+      join_it r m l u (effect.GivenUp back) t is j c = absurd t
       join_it r m l u (effect.Joined frame replaced shown) t is j c =
           let at = c.at.1 in
           let ends = t.0 v is j p.rest c.state (has_come_to stay seats is j c) refl in

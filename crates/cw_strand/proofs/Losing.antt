@@ -9,21 +9,22 @@ use Rattle.cw_strand.specs.declared.strand.Event.TheVariants as event
 use Rattle.cw_strand.specs.declared.strand.Mode.{Mode}
 use Rattle.cw_strand.specs.declared.strand.Mode.TheVariants as mode
 use Rattle.cw_strand.specs.declared.strand.Strand.{Strand}
-use Rattle.cw_strand.specs.Holds.{stops, is_lost, IsGoing, IsLost}
-use Rattle.cw_strand.specs.Losing.{MayLack, StandsAs, ComesFrom, LeavesAt, GoesOn}
+use Rattle.cw_strand.specs.Giving.{IsMemory}
+use Rattle.cw_strand.specs.Holds.{stops, has_failed, IsGoing}
+use Rattle.cw_strand.specs.Losing.{MayLack, StandsAs, ComesFrom, LeavesAt, GoesOn, TellsFailure}
 
 never : true ≡ false → ⊥
 never e = cc
 
 -- one that has stopped for something else lacks none
-pub lacks_not : (m : Mode) → stops m ≡ true → is_lost m ≡ false → (m ≡ mode.Going) ⊎ (is_lost m ≡ true) → ⊥
+pub lacks_not : (m : Mode) → stops m ≡ true → has_failed m ≡ false → (m ≡ mode.Going) ⊎ (has_failed m ≡ true) → ⊥
 lacks_not m s known (inl going) = never (sym s ∙ ap stops going)
 lacks_not m s known (inr lost) = never (sym lost ∙ known)
 
 -- one that has stopped lacks memory only if it has stopped for that, and does not wait
-pub lost_before : (m m' : Mode) → m' ≡ m → stops m ≡ true → (m' ≡ mode.Going) ⊎ (is_lost m' ≡ true) → is_lost m ≡ true
+pub lost_before : (m m' : Mode) → m' ≡ m → stops m ≡ true → (m' ≡ mode.Going) ⊎ (has_failed m' ≡ true) → has_failed m ≡ true
 lost_before m m' same s (inl going) = absurd (never (sym s ∙ ap stops (sym same ∙ going)))
-lost_before m m' same s (inr lost) = ap is_lost (sym same) ∙ lost
+lost_before m m' same s (inr lost) = ap has_failed (sym same) ∙ lost
 
 pub waits_not : (m : Mode) → stops m ≡ true → m ≡ mode.Waiting → ⊥
 waits_not m s waits = never (sym s ∙ ap stops waits)
@@ -31,12 +32,22 @@ waits_not m s waits = never (sym s ∙ ap stops waits)
 pub goes_not_waits : mode.Going ≡ mode.Waiting → ⊥
 goes_not_waits e = cc
 
-pub stopped_lost : (m : Mode) → stops m ≡ true → ((trap : Trap) (line : ℕ) → m ≢ mode.Trapped trap line) → m ≢ mode.Over → is_lost m ≡ true
+pub stopped_lost : (m : Mode) → stops m ≡ true → ((trap : Trap) (line : ℕ) → m ≢ mode.Trapped trap line) → m ≢ mode.Over → has_failed m ≡ true
 stopped_lost mode.Going s t o = absurd (never (sym s))
 stopped_lost mode.Waiting s t o = absurd (never (sym s))
 stopped_lost (mode.Trapped trap line) s t o = absurd (t trap line refl)
 stopped_lost mode.Over s t o = absurd (o refl)
 stopped_lost mode.Memory s t o = refl
+stopped_lost mode.GivenUp s t o = refl
+
+-- memory that was wanting is a failure
+pub memory_fails : (e : Effect) → IsMemory e → TellsFailure e
+memory_fails (effect.Ended value shown) m = absurd m
+memory_fails (effect.Joined frame replaced shown) m = absurd m
+memory_fails (effect.Trapped trap line lines cost back) m = absurd m
+memory_fails (effect.OverLimit back) m = absurd m
+memory_fails (effect.Memory back) m = tt
+memory_fails (effect.GivenUp back) m = absurd m
 
 went_before : (old mid : Strand) → StandsAs old mid → IsGoing mid → IsGoing old
 went_before old mid (inl going) g = going
@@ -45,7 +56,7 @@ went_before old mid (inr same) g = sym same ∙ g
 lacked_before : (old mid : Strand) → StandsAs old mid → MayLack mid → MayLack old
 lacked_before old mid (inl going) l = inl going
 lacked_before old mid (inr same) (inl g) = inl (sym same ∙ g)
-lacked_before old mid (inr same) (inr lost) = inr (ap is_lost (sym same) ∙ lost)
+lacked_before old mid (inr same) (inr lost) = inr (ap has_failed (sym same) ∙ lost)
 
 -- an effect, told of the strand as it stood before
 pub comes_from : (e : Effect) (old mid : Strand) → StandsAs old mid → ComesFrom e mid → ComesFrom e old
@@ -54,9 +65,11 @@ comes_from (effect.Joined frame replaced shown) old mid s c = tt
 comes_from (effect.Trapped trap line lines cost back) old mid s c = tt
 comes_from (effect.OverLimit back) old mid s c = tt
 comes_from (effect.Memory back) old mid s c = lacked_before old mid s c
+comes_from (effect.GivenUp back) old mid s c = lacked_before old mid s c
 
 -- an event of one that went on
 pub leaves_going : (e : Event) (old new : Strand) → IsGoing old → GoesOn e new → LeavesAt e old new
 leaves_going (event.Spawned job) old new going on = on
 leaves_going event.AtSync old new going on = inl going
 leaves_going (event.AtEnd end) old new going on = inl going
+leaves_going event.Ran old new going on = (going, on)

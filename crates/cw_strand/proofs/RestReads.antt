@@ -3,7 +3,7 @@
 use Rattle.std.proofs.Common.{◌≡◌, ℕ, zero, suc, ◌+◌, ◌-◌, ◌<◌, ◌≤◌, ℤ, Bool, true, false, ◌&&◌, Option, Some, None, List, [], ◌∷◌, length, refl, sym, ap, ◌∙◌, subst, arith}
 use Rattle.std.specs.Prelude.{slice_get}
 use Rattle.cw_model.specs.Outcome.{Trace}
-use Rattle.cw_slices.specs.Placed.{Placed, IsOwn}
+use Rattle.cw_slices.specs.Placed.{Placed}
 use Rattle.cw_code.specs.declared.code.Instr.{Instr}
 use Rattle.cw_code.specs.declared.code.Instr.TheVariants as instr
 use Rattle.cw_code.specs.Code.{Code}
@@ -12,13 +12,13 @@ use Rattle.cw_code.specs.Run.{Readers, Around, State, Transition, On, Ends, Stop
 use Rattle.cw_code.specs.Good.{GoodState, FitSteps, FitSettles}
 use Rattle.cw_code.specs.Frozen.{is_join, IsFrozenAt, JoinsInside, FrozenStay, outermost_arrays}
 use Rattle.cw_code.specs.Staying.{outermost}
-use Rattle.cw_strands.specs.Jobs.{ToJoin, joins, is_first, has_come, Standing, standing, Came, Arrives, Returns, Falls, Beyond, Lost, moved, travel}
+use Rattle.cw_strands.specs.Jobs.{ToJoin, joins, is_first, has_come, Standing, standing, Came, Arrives, Beyond, moved, travel}
 use Rattle.cw_strands.specs.Over.{beneath, under, transition_under}
 use Rattle.cw_strands.specs.lemmas.Budgets.{come_at, none_left, go_one}
 use Rattle.cw_strands.specs.lemmas.JobsFit.{Upon, LiftedTransition, lifted_step}
 use Rattle.cw_strands.specs.lemmas.Under.{act_under}
-use Rattle.cw_jobs.specs.Calls.{placed, reader_slice, IsShare, HasReaders}
-use Rattle.cw_jobs.specs.Jobs.{own_or, home_of, IsOwnIn, NewAreOwn, KeepsShares, KeepsHomes}
+use Rattle.cw_jobs.specs.Calls.{placed, IsShare, HasReaders}
+use Rattle.cw_jobs.specs.Jobs.{own_or, KeepsHomes}
 use Rattle.cw_strand.proofs.Levels.{round_many}
 
 -- the code's own word for a join is that of the strands

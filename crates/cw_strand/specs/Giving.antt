@@ -1,5 +1,5 @@
 -- The effect of the newest job out is given.
-use Rattle.std.specs.Prelude.{◌≡◌, ◌≢◌, ℕ, ◌+◌, ◌-◌, ℤ, Bool, nat_lt, List, [], ◌∷◌, ◌++◌, length, Option, Some, None}
+use Rattle.std.specs.Prelude.{◌≡◌, ◌≢◌, ℕ, ◌-◌, ℤ, Bool, nat_lt, List, [], ◌∷◌, ◌++◌, length, Option, Some}
 use Rattle.std.specs.Prelude.{slice_get}
 use Rattle.cw_model.specs.declared.total.Total.{Total}
 use Rattle.cw_slices.specs.Placed.{Placed}
@@ -18,7 +18,6 @@ use Rattle.cw_machine.specs.Gives.{Gives, MayGive}
 use Rattle.cw_machine.specs.Calls.{loans_of}
 use Rattle.cw_code.specs.Fits.{slots_lent}
 use Rattle.cw_strand.specs.declared.strand.Home.{Home}
-use Rattle.cw_strand.specs.declared.strand.Lent.{Lent}
 use Rattle.cw_strand.specs.declared.strand.Strand.{Strand}
 use Rattle.cw_strand.specs.Holds.{its_parts, outs}
 
@@ -47,6 +46,7 @@ abbrev pub GivesBack : Effect → List Placed → List (Option Placed) → Type 
 GivesBack (effect.Joined frame rep shown) back replaced = (frame.slices.items ≡ back) × (rep.items ≡ replaced)
 GivesBack (effect.Trapped c l lines cost b) back replaced = (b.items ≡ back) × ([] ≡ replaced)
 GivesBack (effect.OverLimit b) back replaced = (b.items ≡ back) × ([] ≡ replaced)
+GivesBack (effect.GivenUp b) back replaced = (b.items ≡ back) × ([] ≡ replaced)
 GivesBack _ back replaced = ⊥
 
 -- memory was wanting, and it gives none back

@@ -150,6 +150,7 @@ HeldIn self is j g (mode.Trapped c l) (Halted e jobs_out) =
     (e ≡ jobs.TrapIn c l self.run.machine.lines.items self.count) × Stands self is j g
 HeldIn self is j g mode.Over (Halted e jobs_out) = (e ≡ jobs.OverLimit) × Stands self is j g
 HeldIn self is j g mode.Memory (Halted e jobs_out) = e ≡ jobs.Memory
+HeldIn self is j g mode.GivenUp (Halted e jobs_out) = (e ≡ jobs.Memory) × Stands self is j g
 HeldIn self is j g _ _ = ⊥
 
 -- A STRAND HOLDS A STRAND OF THE DEFINITIONS, which is one of its job
@@ -192,8 +193,8 @@ pub record IsRunning (self : Strand) : Type 0 where
   pub holds : (is : IsFit (its_code self)) (j : jobs.Job) → IsJob (its_code self) is (its_parts self) j
       → ∥ Holds self is j ∥₁
 
--- how it stands: it goes on; it waits for the newest job out; it has stopped, also for want of memory; or it does not
--- go on
+-- how it stands: it goes on; it waits for the newest job out; it has stopped, also for want of memory or because it was
+-- given up; or it does not go on
 abbrev pub IsGoing : Strand → Type 0
 IsGoing self = self.mode ≡ mode.Going
 
@@ -205,6 +206,27 @@ stops mode.Going = false
 stops mode.Waiting = false
 stops _ = true
 
+-- it trapped or passed the limit
+abbrev pub halts : Mode → Bool
+halts (mode.Trapped trap line) = true
+halts mode.Over = true
+halts _ = false
+
+-- nothing that it did counts: memory was wanting, or it was given up
+abbrev pub has_failed : Mode → Bool
+has_failed mode.Memory = true
+has_failed mode.GivenUp = true
+has_failed _ = false
+
+-- one that has not stopped is given up
+abbrev pub given_up : Mode → Mode
+given_up mode.Going = mode.GivenUp
+given_up mode.Waiting = mode.GivenUp
+given_up (mode.Trapped trap line) = mode.Trapped trap line
+given_up mode.Over = mode.Over
+given_up mode.Memory = mode.Memory
+given_up mode.GivenUp = mode.GivenUp
+
 -- nothing is known of the run any more
 abbrev pub is_lost : Mode → Bool
 is_lost mode.Memory = true
@@ -213,8 +235,8 @@ is_lost _ = false
 abbrev pub HasStopped : Strand → Type 0
 HasStopped self = stops self.mode ≡ true
 
-abbrev pub IsLost : Strand → Type 0
-IsLost self = is_lost self.mode ≡ true
+abbrev pub HasFailed : Strand → Type 0
+HasFailed self = has_failed self.mode ≡ true
 
 abbrev pub IsAtSync : Strand → Type 0
 IsAtSync self = self.mode ≢ mode.Going

@@ -9,22 +9,23 @@ use Rattle.cw_strand.specs.declared.strand.Event.TheVariants as event
 use Rattle.cw_strand.specs.declared.strand.Step.{Step}
 use Rattle.cw_strand.specs.declared.strand.Step.TheVariants as step
 use Rattle.cw_strand.specs.declared.strand.Strand.{Strand}
-use Rattle.cw_strand.specs.Holds.{IsGoing, IsWaiting, IsLost}
-use Rattle.cw_strand.specs.Giving.{passes_limit, IsMemory}
+use Rattle.cw_strand.specs.Holds.{IsGoing, IsWaiting, HasFailed}
+use Rattle.cw_strand.specs.Giving.{passes_limit}
 
--- MEMORY MAY BE WANTING IN A STRAND: it goes on, or has stopped for that
+-- MEMORY MAY BE WANTING IN A STRAND: it goes on, or has stopped for that, or was given up
 abbrev pub MayLack : Strand → Type 0
-MayLack self = IsGoing self ⊎ IsLost self
+MayLack self = IsGoing self ⊎ HasFailed self
 
 -- how a strand stands has changed only if it went on
 abbrev pub StandsAs : (old new : Strand) → Type 0
 StandsAs old new = IsGoing old ⊎ (new.mode ≡ old.mode)
 
--- A STRAND THAT STOOD SO HAS THIS EFFECT: its call has ended only if it went on; and memory was wanting only where it
--- may have been
+-- A STRAND THAT STOOD SO HAS THIS EFFECT: its call has ended only if it went on; and memory was wanting, or it was given
+-- up, only where that may have been
 abbrev pub ComesFrom : Effect → Strand → Type 0
 ComesFrom (effect.Ended value shown) self = IsGoing self
 ComesFrom (effect.Memory back) self = MayLack self
+ComesFrom (effect.GivenUp back) self = MayLack self
 ComesFrom _ self = Unit {0}
 
 -- SO IT STANDS AFTER AN EVENT: it goes on where it handed a job out; else it has changed only if it went on
@@ -35,6 +36,7 @@ Leaves (step.Ended e) old new = ComesFrom e old
 
 abbrev pub LeavesAt : Event → (old new : Strand) → Type 0
 LeavesAt (event.Spawned job) old new = IsGoing new
+LeavesAt event.Ran old new = IsGoing old × IsGoing new
 LeavesAt _ old new = StandsAs old new
 
 -- after one instruction, by which it went on or came to an event
@@ -47,9 +49,10 @@ abbrev pub LeavesEnd : Option Effect → (old new : Strand) → Type 0
 LeavesEnd None old new = new.mode ≡ old.mode
 LeavesEnd (Some e) old new = ComesFrom e old
 
--- it goes on where it handed a job out
+-- it goes on where it handed a job out, or where nothing came
 abbrev pub GoesOn : Event → Strand → Type 0
 GoesOn (event.Spawned job) new = IsGoing new
+GoesOn event.Ran new = IsGoing new
 GoesOn _ new = Unit {0}
 
 -- what a rest has shown is taken in: by a strand that waits, within the limit
@@ -58,7 +61,13 @@ TakesIn self (effect.Joined frame replaced shown) = IsWaiting self × (passes_li
 TakesIn self (effect.Trapped trap line lines cost back) = IsWaiting self × (passes_limit self cost ≡ false)
 TakesIn self _ = ⊥
 
--- AN EFFECT MAY LOSE THE STRAND THAT IT IS GIVEN TO: memory was wanting in the strand, or in the rest; or what the rest
--- has shown is taken in
+-- memory was wanting in a rest, or it was given up
+abbrev pub TellsFailure : Effect → Type 0
+TellsFailure (effect.Memory back) = Unit {0}
+TellsFailure (effect.GivenUp back) = Unit {0}
+TellsFailure _ = ⊥
+
+-- AN EFFECT MAY LOSE THE STRAND THAT IT IS GIVEN TO: memory was wanting in the strand, or in the rest, or one of them was
+-- given up; or what the rest has shown is taken in
 abbrev pub MayLose : Strand → Effect → Type 0
-MayLose self e = IsLost self ⊎ IsMemory e ⊎ TakesIn self e
+MayLose self e = HasFailed self ⊎ TellsFailure e ⊎ TakesIn self e

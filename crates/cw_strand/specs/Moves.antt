@@ -103,6 +103,17 @@ abbrev pub ComesTo : Event → (old new : Strand) → Type 0
 ComesTo (event.Spawned job) old new = KeptBy (step.Spawned job) old new
 ComesTo event.AtSync old new = KeptBy step.AtSync old new
 ComesTo (event.AtEnd e) old new = EndsAt e new × (outs new ≡ outs old)
+ComesTo event.Ran old new = ⊥
+
+-- an event; or none, and the strand is as it was, for this reason
+abbrev pub ComesOr : (reason : Type 0) → Event → (old new : Strand) → Type 0
+ComesOr reason event.Ran old new = reason × (new ≡ old)
+ComesOr reason e old new = ComesTo e old new
+
+-- an event within so many instructions; or these were done, and all else is as it was
+abbrev pub ComesWithin : (most : ℕ) → Event → (old new : Strand) → Type 0
+ComesWithin most event.Ran old new = IsRunning new × (outs new ≡ outs old) × (new.count ≡ old.count + most)
+ComesWithin most e old new = ComesTo e old new
 
 -- ONE INSTRUCTION OF A STRAND: it was done, and all else is as it was; or it came to an event
 abbrev pub AdvancesBy : Advance → (old new : Strand) → Type 0

@@ -24,10 +24,11 @@ impl Strand {
         let stop = self.run_on(next);
         match stop {
             Stop::Over => Advance::Ran,
-            _ => Advance::Came(match self.settle(stop, end) {
+            _ => Advance::Came(match self.settle(stop, next, end) {
                 Event::Spawned(job) => Step::Spawned(job),
                 Event::AtSync => Step::AtSync,
                 Event::AtEnd(end) => Step::Ended(self.effect_at(end)),
+                Event::Ran => unreachable!(),
             }),
         }
     }

@@ -80,6 +80,9 @@ impl Strand {
             Mode::Over => Effect::OverLimit {
                 back: given_up(&mut self.run.machine, &mut self.parts.rest),
             },
+            Mode::GivenUp => Effect::GivenUp {
+                back: given_up(&mut self.run.machine, &mut self.parts.rest),
+            },
             _ => Effect::Memory {
                 back: Vec::new(alloc),
             },

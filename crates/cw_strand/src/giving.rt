@@ -101,6 +101,7 @@ fn arrays_of(alloc: Global, effect: Effect) -> Option<(Vec<Slice>, Vec<Option<Sl
             back,
         } => Some((back, Vec::new(alloc))),
         Effect::OverLimit { back } => Some((back, Vec::new(alloc))),
+        Effect::GivenUp { back } => Some((back, Vec::new(alloc))),
         Effect::Memory { back: _ } => None,
         Effect::Ended { value: _, shown: _ } => unreachable!(),
     }
@@ -207,6 +208,20 @@ impl Strand {
         self.mode = Mode::Over;
     }
 
+    // That of a rest that was given up, given so: the strand is given up, too.
+    fn give_given_up(&mut self, back: Vec<Slice>)
+        requires running { IsRunning self.old }
+        requires waiting { IsWaiting self.old }
+        requires given { IsGiven self.old (effect.GivenUp back) }
+        ensures of { self.new.of ≡ self.old.of }
+        ensures running { IsRunning self.new }
+        ensures outs { LeavesOthers self.old self.new }
+        ensures back { IsWaiting self.new → ⊥ }
+    {
+        self.give_up();
+        self.give_stopped(Effect::GivenUp { back });
+    }
+
     // The effect of the newest job out, given to a strand that waits for it.
     fn give_waiting(&mut self, effect: Effect)
         requires running { IsRunning self.old }
@@ -234,6 +249,7 @@ impl Strand {
                 back,
             } => self.give_trap(trap, line, lines, cost, back),
             Effect::OverLimit { back } => self.give_over(back),
+            Effect::GivenUp { back } => self.give_given_up(back),
             Effect::Memory { back: _ } => self.lose(),
             Effect::Ended { value: _, shown: _ } => unreachable!(),
         }
@@ -265,7 +281,7 @@ impl Strand {
     /// Gives the effect of the newest job out, which ran elsewhere, and which must mean it. Where the call beside it has
     /// returned, the strand goes on at the join, with what the rest has printed, summed up and counted; or it stops, where
     /// the rest trapped, or where both together passed the limit. A strand that has stopped takes the arrays home. Where
-    /// memory is wanting the strand stops for that.
+    /// memory is wanting the strand stops for that, and where the rest was given up the strand is.
     pub fn give(&mut self, effect: Effect)
         requires running { IsRunning self.old }
         requires at_sync { IsAtSync self.old }

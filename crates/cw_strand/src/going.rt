@@ -1,17 +1,42 @@
 //! A strand goes on.
 
-ghost use Rattle.std.specs.Prelude.{◌≡◌, ◌≢◌, ◌-◌, ◌≤◌, true, false, [], IsSome};
+ghost use Rattle.std.specs.Prelude.{◌≡◌, ◌≢◌, ◌+◌, ◌-◌, ◌≤◌, ◌<◌, true, false, [], IsSome};
 ghost use Rattle.cw_strand.specs.declared.strand.Mode.TheVariants as mode;
 ghost use Rattle.cw_jobs.specs.Means.{IsMeaningOf};
+ghost use Rattle.cw_machine.specs.declared.run.Stop.TheVariants as stops;
 ghost use Rattle.cw_strand.specs.Holds.{its_job, its_parts, outs, HasStopped, IsAtSync, IsRunning};
 ghost use Rattle.cw_strand.specs.Losing.{ComesFrom, GoesOn, Leaves, LeavesAt, LeavesEnd};
-ghost use Rattle.cw_strand.specs.Moves.{EndsBy, HasCome, IsSame, IsStill, KeptBy, ComesTo, EndsAt};
+ghost use Rattle.cw_strand.specs.Moves.{EndsBy, HasCome, IsSame, IsStill, KeptBy, ComesOr, ComesTo, ComesWithin, EndsAt};
 
 use crate::strand::{End, Event, Mode, Step, Strand};
 use cw_jobs::effect::Effect;
 use cw_machine::laws::machines_that_stop_remain;
 use cw_machine::run::Stop;
 use cw_strands::laws::calls_on_a_strand_keep_its_job;
+
+// Whether a job goes on behind so many instructions.
+#[inline(always)]
+fn goes_beyond(to: u64, end: u64) -> bool
+    ensures yes { result ≡ true → to < end }
+    ensures no { result ≡ false → end ≤ to }
+{
+    to < end
+}
+
+// So many instructions further, and no further than the end.
+#[inline(always)]
+fn within(count: u64, most: u64, end: u64) -> u64
+    requires { count ≤ end }
+    ensures above { count ≤ result }
+    ensures within { result ≤ end }
+    ensures by { result < end → result ≡ count + most }
+{
+    if most < end - count {
+        count + most
+    } else {
+        end
+    }
+}
 
 impl Strand {
     // As many instructions as its job may have in all.
@@ -56,30 +81,34 @@ impl Strand {
         Event::AtSync
     }
 
-    // What a strand that went on came to.
+    // What a strand that went on so far came to: `Ran` where it stopped for that alone, before the end of its job.
     #[inline(always)]
-    pub(crate) fn settle(&mut self, stop: Stop, end: u64) -> Event
-        requires comes { HasCome self.old end stop }
+    pub(crate) fn settle(&mut self, stop: Stop, to: u64, end: u64) -> Event
+        requires comes { HasCome self.old to stop }
         requires end { end ≡ (its_parts self.old).limit - (its_parts self.old).before }
+        requires within { to ≤ end }
         ensures of { self.new.of ≡ self.old.of }
-        ensures keeps { ComesTo result self.old self.new }
+        ensures keeps { ComesOr ((to < end) × (stop ≡ stops.Over)) result self.old self.new }
         ensures goes { GoesOn result self.new }
     {
         calls_on_a_strand_keep_its_job();
         machines_that_stop_remain();
         match stop {
-            Stop::Spawned(spawn) => self.lend(spawn, end),
+            Stop::Spawned(spawn) => self.lend(spawn, to),
             Stop::CameBack => {
                 self.mode = Mode::Waiting;
                 Event::AtSync
             }
-            Stop::Joined => Event::AtEnd(End::Joined(end)),
-            Stop::Gave(value) => Event::AtEnd(End::Gave(value, end)),
+            Stop::Joined => Event::AtEnd(End::Joined(to)),
+            Stop::Gave(value) => Event::AtEnd(End::Gave(value, to)),
             Stop::Trapped(trap, line) => {
                 self.mode = Mode::Trapped(trap, line);
                 self.rest()
             }
             Stop::Over => {
+                if goes_beyond(to, end) {
+                    return Event::Ran;
+                }
                 self.mode = Mode::Over;
                 self.rest()
             }
@@ -123,19 +152,21 @@ impl Strand {
         }
     }
 
-    /// Goes on to its next event, as `go`, but that an effect is not made yet.
+    /// Goes on to its next event, as `go`, but that an effect is not made yet; or by so many instructions, where no event
+    /// comes before: `Ran`.
     #[inline(always)]
-    pub fn next_event(&mut self) -> Event
+    pub fn next_event(&mut self, most: u64) -> Event
         requires { IsRunning self.old }
         ensures of { self.new.of ≡ self.old.of }
-        ensures keeps { ComesTo result self.old self.new }
+        ensures keeps { ComesWithin most result self.old self.new }
         ensures leaves { LeavesAt result self.old self.new }
     {
         match self.mode {
             Mode::Going => {
                 let end = self.end_of_job();
-                let stop = self.run_on(end);
-                self.settle(stop, end)
+                let to = within(self.count, most, end);
+                let stop = self.run_on(to);
+                self.settle(stop, to, end)
             }
             _ => {
                 if self.has_ended() {
@@ -170,10 +201,11 @@ impl Strand {
         ensures keeps { KeptBy result self.old self.new }
         ensures leaves { Leaves result self.old self.new }
     {
-        match self.next_event() {
+        match self.next_event(u64::MAX) {
             Event::Spawned(job) => Step::Spawned(job),
             Event::AtSync => Step::AtSync,
             Event::AtEnd(end) => Step::Ended(self.effect_at(end)),
+            Event::Ran => unreachable!(),
         }
     }
 

@@ -11,6 +11,7 @@ use crate::lending::loans_named;
 use crate::strand::{Home, Lent, Mode, Strand};
 use cw_jobs::job::Job;
 use cw_machine::hands::Lender;
+use cw_machine::laws::machines_that_stop_remain;
 use cw_machine::machine::Machine;
 use cw_slices::Slice;
 use cw_strands::laws::calls_on_a_strand_keep_its_job;
@@ -51,8 +52,8 @@ fn bring_home(
 }
 
 impl Strand {
-    /// Whether it has stopped, by a trap, its limit or want of memory: it goes on no more, and ends once nothing is
-    /// out.
+    /// Whether it has stopped, by a trap, its limit or want of memory, or was given up: it goes on no more, and ends once
+    /// nothing is out.
     pub fn stopped(&self) -> bool
         ensures yes { result ≡ true → HasStopped self.now }
         ensures no { IsAtSync self.now → result ≡ false → IsWaiting self.now }
@@ -62,6 +63,25 @@ impl Strand {
             Mode::Waiting => false,
             _ => true,
         }
+    }
+
+    /// Whether it trapped or passed the limit of the run.
+    pub fn halted(&self) -> bool
+        ensures { result ≡ holds.halts self.now.mode }
+    {
+        match self.mode {
+            Mode::Trapped(_, _) => true,
+            Mode::Over => true,
+            _ => false,
+        }
+    }
+
+    /// The instructions that it did, with those of the rests that were given to it.
+    #[inline(always)]
+    pub fn done(&self) -> u64
+        ensures { result ≡ self.now.count }
+    {
+        self.count
     }
 
     // Whether memory was wanting, so that nothing is known of the run any more.
@@ -111,6 +131,23 @@ impl Strand {
         let mut none = Vec::new(*self.lent.allocator());
         self.pop_home(&mut parts.rest.slices, &mut none);
         self.spare(parts);
+    }
+
+    /// The strand is given up, unless it has stopped already: it goes on no more, what comes back to it comes home, and
+    /// where nothing is out it ends with an effect that brings its own arrays home.
+    pub fn give_up(&mut self)
+        ensures of { self.new.of ≡ self.old.of }
+        ensures mode { self.new.mode ≡ holds.given_up self.old.mode }
+        ensures running { IsRunning self.old → IsRunning self.new }
+        ensures outs { outs self.new ≡ outs self.old }
+    {
+        calls_on_a_strand_keep_its_job();
+        machines_that_stop_remain();
+        match self.mode {
+            Mode::Going => self.mode = Mode::GivenUp,
+            Mode::Waiting => self.mode = Mode::GivenUp,
+            _ => {}
+        }
     }
 
     /// The strand stops for want of memory, whatever it was at.

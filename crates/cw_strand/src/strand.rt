@@ -25,6 +25,8 @@ pub enum Mode {
     Over,
     /// Memory was wanting.
     Memory,
+    /// It was given up.
+    GivenUp,
 }
 
 /// Where a job that is out comes back to.
@@ -79,6 +81,8 @@ pub enum Event {
     AtSync,
     /// The strand has ended: its effect is made of this end.
     AtEnd(End),
+    /// None of these: as many instructions were done as was asked for, and the strand goes on behind them.
+    Ran,
 }
 
 /// What one instruction led a strand to.

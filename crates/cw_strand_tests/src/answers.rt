@@ -182,5 +182,6 @@ pub fn is_same(
         } => Ok(cost == at && is_same_trap(alone, trap, line, lines.as_slice())),
         Effect::OverLimit { back: _ } => Ok(is_over(alone)),
         Effect::Memory { back: _ } => Err(Fault::Memory),
+        Effect::GivenUp { back: _ } => Ok(false),
     }
 }

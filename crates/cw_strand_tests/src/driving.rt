@@ -38,6 +38,21 @@ pub struct Way<'a> {
     pub by_one: bool,
 }
 
+/// Where a run is broken off.
+#[derive(Clone, Copy)]
+pub struct Break {
+    /// The strand that hands out the rest of this number, counted from 1, stops then; none does at 0.
+    pub rest: u64,
+    /// Whether it is given up; else memory is wanting in it.
+    pub is_given_up: bool,
+}
+
+/// None is.
+pub const WHOLE: Break = Break {
+    rest: 0,
+    is_given_up: false,
+};
+
 // A run under way.
 #[derive(Drop)]
 struct Guide<'a> {
@@ -47,8 +62,8 @@ struct Guide<'a> {
     way: Way<'a>,
     // The place of the next rest's fate.
     turn: usize,
-    // The rests up to the one at which the strand that hands it out fails.
-    sound: u64,
+    // Where it is broken off, counted from the next rest.
+    broken: Break,
 }
 
 // As deep as strands are run inside one another, and as many events as a strand has between two of its spawns.
@@ -66,10 +81,24 @@ fn next_fate(guide: &mut Guide) -> Fate {
     fate.unwrap_or(Fate::TakenBack)
 }
 
-// Whether the strand that has just handed out a rest fails.
-fn fails_now(guide: &mut Guide) -> bool {
-    guide.sound = guide.sound.wrapping_sub(1);
-    guide.sound == 0
+// Whether the strand that has just handed out a rest stops.
+fn stops_now(guide: &mut Guide) -> bool {
+    guide.broken.rest = guide.broken.rest.wrapping_sub(1);
+    guide.broken.rest == 0
+}
+
+// A strand stops.
+fn break_off(strand: &mut Strand, is_given_up: bool)
+    requires running { IsRunning strand.old }
+    ensures of { strand.new.of ≡ strand.old.of }
+    ensures running { IsRunning strand.new }
+    ensures outs { outs strand.new ≡ outs strand.old }
+{
+    if is_given_up {
+        strand.give_up();
+    } else {
+        strand.fail();
+    }
 }
 
 /// A rest that nobody ran comes back to its join.
@@ -189,8 +218,8 @@ fn see_to(guide: &mut Guide, depth: u32, strand: &mut Strand, job: Job) -> Resul
 {
     let of = Snapshot::of(&job);
     let fate = next_fate(guide);
-    if fails_now(guide) {
-        strand.fail();
+    if stops_now(guide) {
+        break_off(strand, guide.broken.is_given_up);
     }
     match fate {
         Fate::TakenBack => {
@@ -211,16 +240,15 @@ fn see_to(guide: &mut Guide, depth: u32, strand: &mut Strand, job: Job) -> Resul
     Ok(())
 }
 
-/// The effect of a job, run so on one thread. The strand that hands out the rest of this number, counted from 1, fails
-/// then; none does at 0.
-pub fn run_so(alloc: Global, job: Job, way: &Way, sound: u64) -> Result<Effect, Lost>
+/// The effect of a job, run so on one thread, and broken off there.
+pub fn run_so(alloc: Global, job: Job, way: &Way, broken: Break) -> Result<Effect, Lost>
     ensures { IfOk result (λ effect. IsMeaningOf job effect) }
 {
     let mut guide = Guide {
         alloc,
         way: *way,
         turn: 0,
-        sound,
+        broken,
     };
     run_apart(&mut guide, MOST_DEPTH, job)
 }

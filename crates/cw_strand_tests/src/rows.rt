@@ -6,7 +6,7 @@ use crate::arrays::{CUT, MADE, SQUARES};
 use crate::calls::{
     DIVIDED, DIVIDED_BESIDE_FOREVER, DIVIDED_TWICE, FIB, GREATEST_IN_TURNS, NESTED, PRINTED, SUMMED,
 };
-use crate::driving::{Fate, Way, run_so};
+use crate::driving::{Break, Fate, WHOLE, Way, run_so};
 use crate::programs::{Program, code_of};
 use crate::readers::TOTAL;
 use cw_jobs::effect::Effect;
@@ -120,10 +120,10 @@ fn apart(
     row: &Row,
     way: &Way,
     limit: u64,
-    sound: u64,
+    broken: Break,
 ) -> Result<Effect, Fault> {
     let job = Job::root(alloc, code.clone()?, row.args, limit, row.burden())?;
-    match run_so(alloc, job, way, sound) {
+    match run_so(alloc, job, way, broken) {
         Ok(effect) => Ok(effect),
         Err(_) => Err(Fault::Strands),
     }
@@ -137,7 +137,7 @@ fn holds(
     way: &Way,
     limit: u64,
 ) -> Result<bool, Fault> {
-    let effect = apart(alloc, code, row, way, limit, 0)?;
+    let effect = apart(alloc, code, row, way, limit, WHOLE)?;
     let alone = alone(alloc, code, row, limit)?;
     is_same(alloc, &code.code, &alone, effect, row.cost)
 }
@@ -165,22 +165,38 @@ fn holds_within_limits(alloc: Global, row: &Row) -> Result<bool, Fault> {
     Ok(all)
 }
 
-// Whether an effect says that memory was wanting.
-fn is_memory(effect: &Effect) -> bool {
+// Whether an effect says that memory was wanting, or that the run was given up.
+fn is_broken(effect: &Effect, is_given_up: bool) -> bool {
     match effect {
-        Effect::Memory { back: _ } => true,
+        Effect::Memory { back: _ } => !is_given_up,
+        Effect::GivenUp { back } => is_given_up && back.is_empty(),
         _ => false,
     }
 }
 
-// Whether one strand that fails, at whichever rest, takes the whole run with it, all ways.
+// Whether one strand that fails or is given up, at this rest, takes the whole run with it, all ways.
+fn breaks_whole(
+    alloc: Global,
+    code: &Arc<Verified>,
+    row: &Row,
+    broken: Break,
+) -> Result<bool, Fault> {
+    let mut all = true;
+    for way in &ways() {
+        let effect = apart(alloc, code, row, way, row.cost, broken)?;
+        all = is_broken(&effect, broken.is_given_up) && all;
+    }
+    Ok(all)
+}
+
+// The same at whichever rest.
 fn fails_whole(alloc: Global, row: &Row) -> Result<bool, Fault> {
     let code = code_of(alloc, &row.program)?;
     let mut all = true;
-    for sound in 1..=row.spawns {
-        for way in &ways() {
-            let effect = apart(alloc, &code, row, way, row.cost, sound)?;
-            all = is_memory(&effect) && all;
+    for rest in 1..=row.spawns {
+        for is_given_up in [false, true] {
+            let broken = Break { rest, is_given_up };
+            all = breaks_whole(alloc, &code, row, broken)? && all;
         }
     }
     Ok(all)

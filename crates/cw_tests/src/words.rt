@@ -307,6 +307,7 @@ const NO_COMMANDS: &[Misuse] = &[
         "run f --version",
         "error: unexpected argument '--version' found\n",
     ),
+    ("run f -V", "error: unexpected argument '-V' found\n"),
     // behind '--' the word is an argument of main
     ("run f -- --explain", "arguments\n"),
 ];
@@ -327,13 +328,14 @@ const PROGRAM: &[Help] = &[(
         "standard input",
         "'region NAME { .. }'",
         "under its tag NAME",
-        "docs/GUIDE.md",
+        "PREFIX/share/doc/cilkwork",
         "  4  over limit ",
         "  sites  ",
         "may take some seconds",
         "  --explain  ",
         "  --edges   spawn, or both",
-        "--version",
+        "  -h, --help  tells of the command",
+        "-V or --version",
         "4611686018427387904",
         "  4  too many strands ",
     ],
@@ -368,7 +370,7 @@ const COMMANDS: &[Help] = &[
         ],
     ),
     ("sites --help", "Runs a program", &["  own_span  "]),
-    ("help sites", "Runs a program", &["docs/GUIDE.md"]),
+    ("help sites", "Runs a program", &["GUIDE.md"]),
     (
         "greedy --help",
         "Runs a program",
@@ -376,6 +378,7 @@ const COMMANDS: &[Help] = &[
             "Usage: cilkwork greedy",
             "<P> <FILE> [ARGS]...",
             "  greedy      ",
+            "--workers <N>  Takes it as other commands, and runs with one thread\n",
         ],
     ),
 ];
@@ -458,7 +461,10 @@ fn tells_each_thing_once(rt: HostRuntime) -> Result<(), Fail> {
     none_tells_statuses(rt, STATUSLESS)
 }
 
-const VERSION: &[Row] = &[("--version", "", 0, "cilkwork 0.1.0\n", "")];
+const VERSION: &[Row] = &[
+    ("--version", "", 0, "cilkwork 0.1.0\n", ""),
+    ("-V", "", 0, "cilkwork 0.1.0\n", ""),
+];
 
 #[test]
 fn tells_its_version(rt: HostRuntime) -> Result<(), Fail> {

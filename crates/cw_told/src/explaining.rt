@@ -3,17 +3,20 @@
 ghost use Rattle.std.specs.Prelude.{IfOk};
 ghost use Rattle.cw_model.specs.Tokens.{IsTokenCut};
 
+use crate::owning::Unowned;
 use crate::unparsed::first_unparsed;
 use cw_explain::{
-    At, Trapped, Unreadable, add_lines, broken_ownership, broken_rule, line_of, no_token,
-    not_ascii, passed_by_code, passed_by_parts, passed_by_tokens,
+    Trapped, Unreadable, add_lines, broken_rule, line_of, no_token, not_ascii, passed_by_code,
+    passed_by_parts, passed_by_tokens,
 };
 use cw_lex::lex;
 use cw_model::limits::MOST_SOURCE_BYTES;
 use cw_model::token::Token;
+use cw_own::disowned;
 use cw_parse::parse;
 use cw_text::{Fault, Source};
 use cw_tree::syntax::Ast;
+use cw_types::check;
 use std::alloc::Global;
 
 /// Why these bytes are refused with this fault, or trapped: the rule that is broken, in words, with its names, on one
@@ -67,9 +70,11 @@ fn tree_of(alloc: Global, bytes: &[u8]) -> Result<Ast, Fault> {
 
 // Of the grammar.
 fn of_grammar(alloc: Global, out: &mut String, bytes: &[u8], line: u32) -> Result<(), Fault> {
-    let (_, tokens) = tokens_of(alloc, bytes)?;
-    let reason = first_unparsed(alloc, bytes, tokens.as_slice())?;
-    write!(out, "{reason}\n")?;
+    let (source, tokens) = tokens_of(alloc, bytes)?;
+    match first_unparsed(alloc, &source, bytes, tokens.as_slice())? {
+        Some(reason) => write!(out, "{reason}\n")?,
+        None => out.push_str("a token cannot stand here\n")?,
+    }
     add_lines(out, bytes, line, None)?;
     Ok(())
 }
@@ -93,10 +98,11 @@ fn of_types(alloc: Global, out: &mut String, bytes: &[u8], line: u32) -> Result<
 // Of ownership.
 fn of_ownership(alloc: Global, out: &mut String, bytes: &[u8], line: u32) -> Result<(), Fault> {
     let ast = tree_of(alloc, bytes)?;
-    match broken_ownership(alloc, &ast, line)? {
-        Some(reason) => {
-            let at = At { reason, line };
-            write!(out, "{at}\n")?;
+    let typed = check(alloc, ast)?;
+    match disowned(alloc, &typed)? {
+        Some(at) => {
+            let reason = Unowned { at };
+            write!(out, "{reason}\n")?;
             add_lines(out, bytes, line, reason.other_line())?;
         }
         None => {

@@ -188,3 +188,63 @@ pub fn spelled(kind: Kind) -> bool {
         _ => false,
     }
 }
+
+/// A text of a token of this kind, the same for all names and for all numbers.
+pub fn spelling(kind: Kind) -> &'static str {
+    match kind {
+        Kind::Name => "x",
+        Kind::Number(_) => "1",
+        Kind::Int => "int",
+        Kind::Void => "void",
+        Kind::Const => "const",
+        Kind::If => "if",
+        Kind::Else => "else",
+        Kind::While => "while",
+        Kind::Return => "return",
+        Kind::Print => "print",
+        Kind::Len => "len",
+        Kind::Cut => "cut",
+        Kind::At => "at",
+        Kind::As => "as",
+        Kind::Region => "region",
+        Kind::Reducer => "reducer",
+        Kind::Sum => "sum",
+        Kind::Max => "max",
+        Kind::Grain => "grain",
+        Kind::Over => "over",
+        Kind::Spawn => "cilk_spawn",
+        Kind::Sync => "cilk_sync",
+        Kind::Scope => "cilk_scope",
+        Kind::For => "cilk_for",
+        _ => symbol(kind),
+    }
+}
+
+// The same of a symbol.
+fn symbol(kind: Kind) -> &'static str {
+    match kind {
+        Kind::LeftParen => "(",
+        Kind::RightParen => ")",
+        Kind::LeftBrace => "{",
+        Kind::RightBrace => "}",
+        Kind::LeftBracket => "[",
+        Kind::RightBracket => "]",
+        Kind::Comma => ",",
+        Kind::Semicolon => ";",
+        Kind::Assign => "=",
+        Kind::AddAssign => "+=",
+        Kind::Increment => "++",
+        Kind::Plus => "+",
+        Kind::Minus => "-",
+        Kind::Star => "*",
+        Kind::Slash => "/",
+        Kind::Percent => "%",
+        Kind::Less => "<",
+        Kind::LessEqual => "<=",
+        Kind::Greater => ">",
+        Kind::GreaterEqual => ">=",
+        Kind::Equal => "==",
+        Kind::NotEqual => "!=",
+        _ => "!",
+    }
+}

@@ -3,6 +3,8 @@
 
 mod explaining;
 mod grammar;
+mod owning;
+mod shortened;
 mod unparsed;
 
 pub use explaining::explain;

@@ -1,15 +1,17 @@
 //! The token that no source goes on with, and those that one does.
 
-ghost use Rattle.std.specs.Prelude.{◌≡◌, ◌≤◌, All, IfOk, length, take, true};
+ghost use Rattle.std.specs.Prelude.{◌≡◌, ◌≤◌, All, IfOk, length, true};
 ghost use Rattle.cw_told.specs.Going.{CanFollow, GoesOn, followed};
 ghost use Rattle.cw_model.specs.Text.{end_line};
+ghost use Rattle.cw_model.specs.Tokens.{IsTokenCut};
 ghost use Rattle.cw_model.specs.declared.limits.TheConstants.{MOST_SOURCE_BYTES};
 
 use crate::grammar::{ALL, Choice, spelled};
+use crate::shortened::Shortened;
 use cw_explain::Word;
 use cw_lex::lex;
 use cw_model::token::{Kind, Token};
-use cw_parse::parse;
+use cw_parse::{first_refused, parse};
 use cw_text::{Fault, Source};
 use std::alloc::Global;
 use std::fmt;
@@ -66,38 +68,24 @@ fn end_line(text: &[u8]) -> u32
     line
 }
 
-// The text up to a place, with a word behind it, each on a line of its own.
-fn with_word(alloc: Global, text: &[u8], end: usize, word: &str) -> Result<Vec<u8>, Fault>
-    ensures { IfOk result (λ longer. longer.items ≡ followed (take end text.now) word.now) }
+// A text with a word behind it, each on a line of its own.
+fn with_word(alloc: Global, text: &[u8], word: &str) -> Result<Vec<u8>, Fault>
+    ensures { IfOk result (λ longer. longer.items ≡ followed text.now word.now) }
 {
-    let mut longer = Vec::from_slice(alloc, &text[..end.min(text.len())])?;
+    let mut longer = Vec::from_slice(alloc, text)?;
     longer.push(b'\n')?;
     longer.extend_from_slice(word.as_bytes())?;
     longer.push(b'\n')?;
     Ok(longer)
 }
 
-// How many tokens go on: the greatest count up to the token that does not.
-fn count_that_goes_on(alloc: Global, text: &[u8], tokens: &[Token]) -> Result<usize, Fault> {
-    let mut low = 0;
-    let mut high = tokens.len();
-    while low < high {
-        let middle = low + (high - low) / 2;
-        let shorter = with_word(alloc, text, tokens[middle].end as usize, "")?;
-        if goes_on(alloc, shorter.as_slice())? {
-            low = middle + 1;
-        } else {
-            high = middle;
-        }
+// These tokens, shortened.
+fn shortened(alloc: Global, tokens: &[Token]) -> Result<Shortened, Fault> {
+    let mut short = Shortened::new(alloc);
+    for token in tokens {
+        short.add(token.kind)?;
     }
-    Ok(low)
-}
-
-// Where a token ends.
-fn end_of(token: Token) -> usize
-    ensures { result ≡ token.end }
-{
-    token.end as usize
+    Ok(short)
 }
 
 // The text of a token.
@@ -109,13 +97,13 @@ fn word_of<'a>(text: &'a [u8], token: Token) -> Word<'a> {
     }
 }
 
-// What can stand behind a text, up to a place: with each of these a source goes on.
-fn choices(alloc: Global, text: &[u8], end: usize) -> Result<Vec<Choice>, Fault>
-    ensures { IfOk result (λ chosen. All (λ choice. CanFollow (take end text.now) choice.word.now) chosen.items) }
+// What can stand behind a text: with each of these a source goes on.
+fn choices(alloc: Global, text: &[u8]) -> Result<Vec<Choice>, Fault>
+    ensures { IfOk result (λ chosen. All (λ choice. CanFollow text.now choice.word.now) chosen.items) }
 {
     let mut expected = Vec::new(alloc);
     for choice in ALL {
-        let longer = with_word(alloc, text, end, choice.word)?;
+        let longer = with_word(alloc, text, choice.word)?;
         if goes_on(alloc, longer.as_slice())? {
             expected.push(*choice)?;
         }
@@ -123,31 +111,43 @@ fn choices(alloc: Global, text: &[u8], end: usize) -> Result<Vec<Choice>, Fault>
     Ok(expected)
 }
 
-/// The first of these tokens of a text that no source goes on with, and what can stand in its place.
+// The name at the end of these tokens, if one stands there.
+fn last_name<'a>(text: &'a [u8], tokens: &[Token]) -> Option<Word<'a>> {
+    match tokens {
+        [.., token] => {
+            if token.kind == Kind::Name {
+                return Some(word_of(text, *token));
+            }
+            None
+        }
+        [] => None,
+    }
+}
+
+/// The first of these tokens of a text that no source goes on with, and what can stand in its place, if they are no source.
+/// That is asked of the tokens before it, shortened.
 pub fn first_unparsed<'a>(
     alloc: Global,
+    source: &Source,
     text: &'a [u8],
     tokens: &[Token],
-) -> Result<Unparsed<'a>, Fault> {
-    let count = count_that_goes_on(alloc, text, tokens)?;
+) -> Result<Option<Unparsed<'a>>, Fault>
+    requires { IsTokenCut source.now tokens.now }
+{
+    let Some(place) = first_refused(alloc, source, tokens)? else {
+        return Ok(None);
+    };
+    let before = &tokens[..place.min(tokens.len())];
+    let short = shortened(alloc, before)?;
+    let expected = choices(alloc, short.text())?;
     let found = tokens
-        .get(count)
+        .get(place)
         .map(|token| (token.kind, word_of(text, *token)));
-    let mut before = None;
-    let mut end = 0;
-    if count > 0 && count <= tokens.len() {
-        let token = tokens[count - 1];
-        end = end_of(token);
-        if token.kind == Kind::Name {
-            before = Some(word_of(text, token));
-        }
-    }
-    let expected = choices(alloc, text, end)?;
-    Ok(Unparsed {
+    Ok(Some(Unparsed {
         found,
-        before,
+        before: last_name(text, before),
         expected,
-    })
+    }))
 }
 
 impl Unparsed<'_> {

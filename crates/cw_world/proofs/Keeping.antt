@@ -7,9 +7,8 @@ use Rattle.cw_text.specs.declared.fault.Fault.TheVariants as fault
 use Rattle.cw_model.specs.declared.burden.Burden.{Burden}
 use Rattle.cw_verify.specs.declared.verified.Verified.{Verified}
 use Rattle.cw_machine.specs.declared.alone.Ended as alone
-use Rattle.cw_strand.specs.Holds.{is_lost, IsGoing, IsWaiting, IsLost}
-use Rattle.cw_strand.specs.Giving.{IsMemory}
-use Rattle.cw_strand.specs.Losing.{MayLack, MayLose, TakesIn}
+use Rattle.cw_strand.specs.Holds.{has_failed, IsGoing, IsWaiting, HasFailed}
+use Rattle.cw_strand.specs.Losing.{MayLack, MayLose, TakesIn, TellsFailure}
 use Rattle.cw_sched.specs.Board.{pushed, newest, but_newest, oldest, of_worker}
 use Rattle.cw_world.specs.declared.board.Cell.{Cell}
 use Rattle.cw_world.specs.declared.event.Event.{Event}
@@ -66,7 +65,7 @@ loses s s' w p x board at is l = record {
 }
 
 -- a strand of a world in which memory was wanting nowhere
-not_lost : (s : Scene) (w : ℕ) (p : Posted) → LacksNone s → top s w ≡ Some (Goes p) → IsLost p.strand → ⊥
+not_lost : (s : Scene) (w : ℕ) (p : Posted) → LacksNone s → top s w ≡ Some (Goes p) → HasFailed p.strand → ⊥
 not_lost s w p h at lost = never (sym lost ∙ top_has s w (Goes p) h at)
 
 -- what is laid down lacks none, or this is known of it
@@ -113,7 +112,7 @@ retake_keeps v s s' w d h =
     cases s s' w d.stage board (event.Retake w) h d.is (same_cells s.board w d.at.newest h.1) (λ lacking.
     let k = ended (d.lacks lacking) in (loses s s' w p d.stage board d.at.at.is d.is lacking, k.0, k.1))
   where
-    ended : IsLost d.at.at.post.strand ⊎ (IsWaiting d.at.at.post.strand × HasEnded d.stage) → IsWaiting d.at.at.post.strand × HasEnded d.stage
+    ended : HasFailed d.at.at.post.strand ⊎ (IsWaiting d.at.at.post.strand × HasEnded d.stage) → IsWaiting d.at.at.post.strand × HasEnded d.stage
     ended (inl lost) = absurd (not_lost s w d.at.at.post h d.at.at.is lost)
     ended (inr k) = k
 
@@ -135,7 +134,7 @@ collect_keeps v s s' w d h =
     cases s s' w d.stage board (event.Collect w) h d.is (each_remove CellHasSome s.board.cells d.place h.1) (λ lacking.
     (loses s s' w d.at.at.post d.stage board d.at.at.is d.is lacking, d.place, record { number = d.number; effect = d.effect }, d.cell, taken (d.lacks lacking)))
   where
-    not_memory : IsMemory d.effect → ⊥
+    not_memory : TellsFailure d.effect → ⊥
     not_memory m = never (sym (memory_is d.effect m) ∙ each_at CellHasSome s.board.cells d.place (record { number = d.number; effect = d.effect }) h.1 d.cell)
 
     taken : MayLose d.at.at.post.strand d.effect → TakesIn d.at.at.post.strand d.effect
@@ -164,7 +163,7 @@ world_keeps w w' e r d = done_keeps (arc_value w.code) e r (scene w) (scene w') 
 -- memory was wanting nowhere in a world that has begun
 started_none : (v : Verified) (args : List ℤ) (n : ℕ) (burden : Burden) (workers : ℕ) (w : World) → IsStarted v args n burden workers w → LacksNone (scene w)
 started_none v args n burden workers w h = (
-  subst (λ (b : List (List Stage)). Each (Each HasSome) b) (sym h.begun) ((ap is_lost h.goes, tt), each_none HasSome (workers - 1)),
+  subst (λ (b : List (List Stage)). Each (Each HasSome) b) (sym h.begun) ((ap has_failed h.goes, tt), each_none HasSome (workers - 1)),
   subst (λ (b : Boarded). Each CellHasSome b.cells) (sym h.board) tt,
 )
 

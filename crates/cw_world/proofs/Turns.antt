@@ -5,7 +5,7 @@ use Rattle.cw_verify.specs.declared.verified.Verified.{Verified}
 use Rattle.cw_jobs.specs.declared.effect.Effect.{Effect}
 use Rattle.cw_jobs.specs.declared.job.Job.{Job}
 use Rattle.cw_machine.specs.Answering.{IsOfWhole}
-use Rattle.cw_strand.specs.Holds.{its_job, outs, is_lost}
+use Rattle.cw_strand.specs.Holds.{its_job, outs, has_failed}
 use Rattle.cw_strand.specs.Losing.{MayLack}
 use Rattle.cw_world.specs.declared.post.Out.{Out}
 use Rattle.cw_world.specs.declared.post.Out.TheVariants as out
@@ -77,7 +77,7 @@ spawned v s w p q jobs' begun' x at works h b is =
       at = record { post = p; is = at };
       job = h.job;
       post = q;
-      goes = ap is_lost h.goes;
+      goes = ap has_failed h.goes;
       comes = comes_stays v more p q (p.outs ++ o ∷ []) (h.job ∷ outs p.strand) h.stays (kept_job s.jobs h.job p.number (its_job p.strand) works.named) (spawned_names s.jobs p h.job works) own;
       is = same_scene jobs' more begun' (with_top (but_top s.begun w) w (Goes q)) s.board h.jobs_are (is ∙ ap (with_top (but_top s.begun w) w) b);
     }

@@ -12,7 +12,7 @@ use Rattle.cw_machine.specs.Runs.{RunsAsCode}
 use Rattle.cw_jobs.specs.declared.effect.Effect.{Effect}
 use Rattle.cw_jobs.specs.declared.job.Job.{Job}
 use Rattle.cw_machine.specs.Answering.{IsAnswerOf}
-use Rattle.cw_strand.specs.Holds.{its_job, IsWaiting, IsLost}
+use Rattle.cw_strand.specs.Holds.{its_job, IsWaiting, HasFailed}
 use Rattle.cw_strand.specs.Losing.{MayLack, MayLose}
 use Rattle.cw_sched.specs.Board.{of_worker, pushed, newest, but_newest, oldest}
 use Rattle.cw_world.specs.declared.board.Offer.{Offer}
@@ -141,7 +141,7 @@ pub record Retakes (v : Verified) (s s' : Scene) (w : ℕ) : Type 0 where
   pub stage : Stage
   pub comes : ComesTo v s.jobs at.at.post at.older stage
   pub lacks : lacks_memory stage ≡ true
-      → IsLost at.at.post.strand ⊎ (IsWaiting at.at.post.strand × HasEnded stage)
+      → HasFailed at.at.post.strand ⊎ (IsWaiting at.at.post.strand × HasEnded stage)
   pub is : s' ≡ turned s w stage (board_without s.board w at.newest)
 
 -- STEAL: a strand begins the oldest job of a deque; it lacks memory only if it has come to its end

@@ -6,7 +6,7 @@ use Rattle.cw_jobs.specs.declared.effect.Effect.{Effect}
 use Rattle.cw_jobs.specs.declared.effect.Effect.TheVariants as effect
 use Rattle.cw_machine.specs.declared.alone.Ended as alone
 use Rattle.cw_strand.specs.declared.strand.Strand.{Strand}
-use Rattle.cw_strand.specs.Holds.{is_lost, IsGoing, IsWaiting, IsLost}
+use Rattle.cw_strand.specs.Holds.{has_failed, IsGoing, IsWaiting, HasFailed}
 use Rattle.cw_strand.specs.Losing.{TakesIn}
 use Rattle.cw_world.specs.declared.board.Cell.{Cell}
 use Rattle.cw_world.specs.declared.event.Event.{Event}
@@ -14,22 +14,23 @@ use Rattle.cw_world.specs.declared.event.Event.TheVariants as event
 use Rattle.cw_world.specs.Boards.{Each}
 use Rattle.cw_world.specs.Scenes.{Posted, Stage, Goes, Made, Answered, Scene, top}
 
--- an effect says that memory was wanting; a run answers so
+-- an effect says that memory was wanting, or that its job was given up; a run answers so
 abbrev pub is_memory : Effect → Bool
 is_memory (effect.Memory back) = true
+is_memory (effect.GivenUp back) = true
 is_memory _ = false
 
 abbrev pub answers_memory : Result alone.Ended Fault → Bool
 answers_memory (Err fault.Memory) = true
 answers_memory _ = false
 
--- it has stopped for want of memory, or ended so
+-- it has stopped for want of memory or was given up, or ended so
 abbrev pub lacks_memory : Stage → Bool
-lacks_memory (Goes p) = is_lost p.strand.mode
+lacks_memory (Goes p) = has_failed p.strand.mode
 lacks_memory (Made n e) = is_memory e
 lacks_memory (Answered r) = answers_memory r
 
--- MEMORY WAS WANTING NOWHERE IN A WORLD: in no strand, no effect and no answer of it
+-- MEMORY WAS WANTING NOWHERE IN A WORLD, and nothing was given up: in no strand, no effect and no answer of it
 abbrev pub LacksNone : Scene → Type 0
 LacksNone s = Each (Each (λ x. lacks_memory x ≡ false)) s.begun × Each (λ c. is_memory c.effect ≡ false) s.board.cells
 
@@ -38,16 +39,17 @@ abbrev pub HasEnded : Stage → Type 0
 HasEnded (Goes p) = ⊥
 HasEnded _ = Unit {0}
 
--- what memory may be answered of: an effect that says that it was wanting, and that of a whole call, which is still to
+-- what memory may be answered of: an effect that says that it was wanting, or that its job was given up, and that of a whole call, which is still to
 -- be told
 abbrev pub IsAnsweredMemory : Effect → Type 0
 IsAnsweredMemory (effect.Ended value shown) = Unit {0}
 IsAnsweredMemory (effect.Memory back) = Unit {0}
+IsAnsweredMemory (effect.GivenUp back) = Unit {0}
 IsAnsweredMemory _ = ⊥
 
 -- so a strand may have lacked memory that stands so, or has ended with this effect
 abbrev pub LacksAfter : Option Effect → Strand → Type 0
-LacksAfter None self = IsLost self
+LacksAfter None self = HasFailed self
 LacksAfter (Some e) self = IsAnsweredMemory e
 
 -- the newest of a worker, which was a strand, lacks memory now

@@ -2,7 +2,7 @@
 
 ghost use Rattle.std.specs.Prelude.{◌≡◌, ◌⊎◌, ◌∷◌, List, IfOk, IsSome, MatchResult, OnErr};
 ghost use Rattle.cw_jobs.specs.declared.job.Job as jobs;
-ghost use Rattle.cw_strand.specs.Holds.{outs, IsAtSync, IsGoing, IsLost, IsRunning, IsWaiting};
+ghost use Rattle.cw_strand.specs.Holds.{outs, IsAtSync, IsGoing, HasFailed, IsRunning, IsWaiting};
 ghost use Rattle.cw_strand.specs.Losing.{LeavesEnd, MayLack, MayLose};
 ghost use Rattle.cw_strand.specs.Giving.{IsGiven};
 ghost use Rattle.cw_sched.specs.Board.{pushed};
@@ -137,7 +137,7 @@ impl Post {
         requires lacks { Lacks self.old rest }
         ensures comes { ComesBack result self.old rest self.new }
         ensures lacks { LacksAfter result self.new.strand
-            → IsLost self.old.strand ⊎ (IsWaiting self.old.strand × IsSome result) }
+            → HasFailed self.old.strand ⊎ (IsWaiting self.old.strand × IsSome result) }
     {
         unrun(&mut self.strand, rest);
         self.stand()

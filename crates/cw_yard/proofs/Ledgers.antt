@@ -1,8 +1,7 @@
 -- What a push, a pop and a theft do to the ledger of a deque.
 use Rattle.std.proofs.Common.{◌≡◌, ◌≢◌, ◌<◌, ◌≤◌, ◌+◌, ℕ, suc, Bool, true, false, eqb, List, [], ◌∷◌, ◌++◌, length, map, sym, refl, ap, ◌∙◌, subst, arith, eq-eqb, ne_eqb}
-use Rattle.cw_jobs.specs.declared.job.Job.{Job}
 use Rattle.cw_yard.specs.declared.task.Offer.{Offer}
-use Rattle.cw_yard.specs.Ledger.{Name, Fate, out, retaken, stolen, Entry, outs, if_same, thefts, NoneStolen, FrontFirst, shown, Each}
+use Rattle.cw_yard.specs.Ledger.{Lot, Name, Fate, out, retaken, stolen, Entry, outs, if_same, thefts, NoneStolen, FrontFirst, shown, Each}
 
 pub nil_no_cons : {A : Type 0} (x : A) (xs : List A) → ¬ ([] ≡ x ∷ xs)
 nil_no_cons x xs e = let l : 0 ≡ suc (length xs) = ap length e in absurd (omega arith)
@@ -25,30 +24,30 @@ on n m = omega arith
 on0 : (n : ℕ) → n ≡ n + 0
 on0 n = omega arith
 
-pub outs-snoc : (n : ℕ) (es : List Entry) (j : Job) → outs n (es ++ (j, out) ∷ []) ≡ outs n es ++ (n + length es, j) ∷ []
+pub outs-snoc : (n : ℕ) (es : List Entry) (j : Lot) → outs n (es ++ (j, out) ∷ []) ≡ outs n es ++ (n + length es, j) ∷ []
 outs-snoc n [] j = let e : n ≡ n + 0 = omega arith in ap (λ m. (m, j) ∷ []) e
 outs-snoc n ((k, out) ∷ es) j = ap (λ l. (n, k) ∷ l) (outs-snoc (suc n) es j ∙ ap (λ m. outs (suc n) es ++ (m, j) ∷ []) (on n (length es)))
 outs-snoc n ((k, retaken) ∷ es) j = outs-snoc (suc n) es j ∙ ap (λ m. outs (suc n) es ++ (m, j) ∷ []) (on n (length es))
 outs-snoc n ((k, stolen p) ∷ es) j = outs-snoc (suc n) es j ∙ ap (λ m. outs (suc n) es ++ (m, j) ∷ []) (on n (length es))
 
-none-snoc : (es : List Entry) (j : Job) → NoneStolen es → NoneStolen (es ++ (j, out) ∷ [])
+none-snoc : (es : List Entry) (j : Lot) → NoneStolen es → NoneStolen (es ++ (j, out) ∷ [])
 none-snoc [] j h = (tt, tt)
 none-snoc (e ∷ es) j h = (h.0, none-snoc es j h.1)
 
-pub front-snoc : (es : List Entry) (j : Job) → FrontFirst es → FrontFirst (es ++ (j, out) ∷ [])
+pub front-snoc : (es : List Entry) (j : Lot) → FrontFirst es → FrontFirst (es ++ (j, out) ∷ [])
 front-snoc [] j h = tt
 front-snoc ((k, out) ∷ es) j h = none-snoc es j h
 front-snoc ((k, retaken) ∷ es) j h = front-snoc es j h
 front-snoc ((k, stolen p) ∷ es) j h = front-snoc es j h
 
-pub thefts-snoc : (p n : ℕ) (es : List Entry) (j : Job) → thefts p n (es ++ (j, out) ∷ []) ≡ thefts p n es
+pub thefts-snoc : (p n : ℕ) (es : List Entry) (j : Lot) → thefts p n (es ++ (j, out) ∷ []) ≡ thefts p n es
 thefts-snoc p n [] j = refl
 thefts-snoc p n ((k, out) ∷ es) j = thefts-snoc p (suc n) es j
 thefts-snoc p n ((k, retaken) ∷ es) j = thefts-snoc p (suc n) es j
 thefts-snoc p n ((k, stolen q) ∷ es) j = ap (if_same (eqb q p) (n, k)) (thefts-snoc p (suc n) es j)
 
 -- an entry with the fate f between others
-abbrev pub among : List Entry → Job → Fate → List Entry → List Entry
+abbrev pub among : List Entry → Lot → Fate → List Entry → List Entry
 among xs j f ys = xs ++ (j, f) ∷ ys
 
 pub record Found (es : List Entry) (n : ℕ) (q : Name) : Type 0 where
@@ -69,27 +68,27 @@ none_thefts p n ((k, out) ∷ es) h = none_thefts p (suc n) es h.1
 none_thefts p n ((k, retaken) ∷ es) h = none_thefts p (suc n) es h.1
 none_thefts p n ((k, stolen q) ∷ es) h = absurd h.0
 
-none_after : (xs : List Entry) (j : Job) (f : Fate) (ys : List Entry) → NoneStolen (among xs j f ys) → NoneStolen ys
+none_after : (xs : List Entry) (j : Lot) (f : Fate) (ys : List Entry) → NoneStolen (among xs j f ys) → NoneStolen ys
 none_after [] j f ys h = h.1
 none_after (a ∷ xs) j f ys h = none_after xs j f ys h.1
 
-pub front_after : (xs : List Entry) (j : Job) (ys : List Entry) → FrontFirst (among xs j out ys) → NoneStolen ys
+pub front_after : (xs : List Entry) (j : Lot) (ys : List Entry) → FrontFirst (among xs j out ys) → NoneStolen ys
 front_after [] j ys h = h
 front_after ((k, out) ∷ xs) j ys h = none_after xs j out ys h
 front_after ((k, retaken) ∷ xs) j ys h = front_after xs j ys h
 front_after ((k, stolen p) ∷ xs) j ys h = front_after xs j ys h
 
-none_retake : (xs : List Entry) (j : Job) (ys : List Entry) → NoneStolen (among xs j out ys) → NoneStolen (among xs j retaken ys)
+none_retake : (xs : List Entry) (j : Lot) (ys : List Entry) → NoneStolen (among xs j out ys) → NoneStolen (among xs j retaken ys)
 none_retake [] j ys h = (tt, h.1)
 none_retake (a ∷ xs) j ys h = (h.0, none_retake xs j ys h.1)
 
-pub front_retake : (xs : List Entry) (j : Job) (ys : List Entry) → FrontFirst (among xs j out ys) → FrontFirst (among xs j retaken ys)
+pub front_retake : (xs : List Entry) (j : Lot) (ys : List Entry) → FrontFirst (among xs j out ys) → FrontFirst (among xs j retaken ys)
 front_retake [] j ys h = none_front ys h
 front_retake ((k, out) ∷ xs) j ys h = none_retake xs j ys h
 front_retake ((k, retaken) ∷ xs) j ys h = front_retake xs j ys h
 front_retake ((k, stolen p) ∷ xs) j ys h = front_retake xs j ys h
 
-pub thefts_retake : (p n : ℕ) (xs : List Entry) (j : Job) (ys : List Entry) → thefts p n (among xs j out ys) ≡ thefts p n (among xs j retaken ys)
+pub thefts_retake : (p n : ℕ) (xs : List Entry) (j : Lot) (ys : List Entry) → thefts p n (among xs j out ys) ≡ thefts p n (among xs j retaken ys)
 thefts_retake p n [] j ys = refl
 thefts_retake p n ((k, out) ∷ xs) j ys = thefts_retake p (suc n) xs j ys
 thefts_retake p n ((k, retaken) ∷ xs) j ys = thefts_retake p (suc n) xs j ys
@@ -172,7 +171,7 @@ first_out n ((k, out) ∷ es) q ps h = record {
 first_out n ((k, retaken) ∷ es) q ps h = past n q ps (k, retaken) es (λ l. refl) (first_out (suc n) es q ps h)
 first_out n ((k, stolen p) ∷ es) q ps h = past n q ps (k, stolen p) es (λ l. refl) (first_out (suc n) es q ps h)
 
-pub front_steal : (p n : ℕ) (xs : List Entry) (j : Job) (ys : List Entry) → outs n xs ≡ [] → FrontFirst (among xs j out ys) → FrontFirst (among xs j (stolen p) ys)
+pub front_steal : (p n : ℕ) (xs : List Entry) (j : Lot) (ys : List Entry) → outs n xs ≡ [] → FrontFirst (among xs j out ys) → FrontFirst (among xs j (stolen p) ys)
 front_steal p n [] j ys none h = none_front ys h
 front_steal p n ((k, out) ∷ xs) j ys none h = absurd (nil_no_cons (n, k) (outs (suc n) xs) (sym none))
 front_steal p n ((k, retaken) ∷ xs) j ys none h = front_steal p (suc n) xs j ys none h
@@ -188,20 +187,20 @@ if_same-snoc : (b : Bool) (x y : Name) (l : List Name) → if_same b x (l ++ y �
 if_same-snoc true x y l = refl
 if_same-snoc false x y l = refl
 
-pub thefts_steal : (p n : ℕ) (xs : List Entry) (j : Job) (ys : List Entry) → NoneStolen ys → thefts p n (among xs j (stolen p) ys) ≡ thefts p n (among xs j out ys) ++ (n + length xs, j) ∷ []
+pub thefts_steal : (p n : ℕ) (xs : List Entry) (j : Lot) (ys : List Entry) → NoneStolen ys → thefts p n (among xs j (stolen p) ys) ≡ thefts p n (among xs j out ys) ++ (n + length xs, j) ∷ []
 thefts_steal p n [] j ys none = let e : n ≡ n + 0 = omega arith in if_same-self p (n, j) (thefts p (suc n) ys) ∙ (λ i. (e i, j) ∷ none_thefts p (suc n) ys none i) ∙ ap (λ l. l ++ (n + 0, j) ∷ []) (sym (none_thefts p (suc n) ys none))
 thefts_steal p n ((k, out) ∷ xs) j ys none = thefts_steal p (suc n) xs j ys none ∙ ap (λ m. thefts p (suc n) (among xs j out ys) ++ (m, j) ∷ []) (on n (length xs))
 thefts_steal p n ((k, retaken) ∷ xs) j ys none = thefts_steal p (suc n) xs j ys none ∙ ap (λ m. thefts p (suc n) (among xs j out ys) ++ (m, j) ∷ []) (on n (length xs))
 thefts_steal p n ((k, stolen q) ∷ xs) j ys none = ap (if_same (eqb q p) (n, k)) (thefts_steal p (suc n) xs j ys none ∙ ap (λ m. thefts p (suc n) (among xs j out ys) ++ (m, j) ∷ []) (on n (length xs)))
     ∙ if_same-snoc (eqb q p) (n, k) (n + suc (length xs), j) (thefts p (suc n) (among xs j out ys))
 
-pub thefts_other : (p q n : ℕ) (xs : List Entry) (j : Job) (ys : List Entry) → p ≢ q → thefts q n (among xs j (stolen p) ys) ≡ thefts q n (among xs j out ys)
+pub thefts_other : (p q n : ℕ) (xs : List Entry) (j : Lot) (ys : List Entry) → p ≢ q → thefts q n (among xs j (stolen p) ys) ≡ thefts q n (among xs j out ys)
 thefts_other p q n [] j ys ne = if_same-other q p (n, j) (thefts q (suc n) ys) ne
 thefts_other p q n ((k, out) ∷ xs) j ys ne = thefts_other p q (suc n) xs j ys ne
 thefts_other p q n ((k, retaken) ∷ xs) j ys ne = thefts_other p q (suc n) xs j ys ne
 thefts_other p q n ((k, stolen r) ∷ xs) j ys ne = ap (if_same (eqb r q) (n, k)) (thefts_other p q (suc n) xs j ys ne)
 
-pub shown_steal : (p : ℕ) (xs : List Entry) (j : Job) (ys : List Entry) → map shown (among xs j (stolen p) ys) ≡ map shown (among xs j out ys)
+pub shown_steal : (p : ℕ) (xs : List Entry) (j : Lot) (ys : List Entry) → map shown (among xs j (stolen p) ys) ≡ map shown (among xs j out ys)
 shown_steal p [] j ys = refl
 shown_steal p (a ∷ xs) j ys = ap (λ l. shown a ∷ l) (shown_steal p xs j ys)
 
@@ -214,7 +213,7 @@ if_same-all true x l m lt h = (lt, h)
 if_same-all false x l m lt h = h
 
 -- what was stolen has lower numbers than what lies in the deque
-pub below : (p n : ℕ) (xs : List Entry) (j : Job) (ys : List Entry) → NoneStolen ys → Each (λ (x : Name). x.0 < n + length xs) (thefts p n (among xs j out ys))
+pub below : (p n : ℕ) (xs : List Entry) (j : Lot) (ys : List Entry) → NoneStolen ys → Each (λ (x : Name). x.0 < n + length xs) (thefts p n (among xs j out ys))
 below p n [] j ys none = subst (Each (λ (x : Name). x.0 < n + 0)) (sym (none_thefts p (suc n) ys none)) tt
 below p n ((k, out) ∷ xs) j ys none = all_weaker (suc n + length xs) (n + suc (length xs)) _ (omega arith) (below p (suc n) xs j ys none)
 below p n ((k, retaken) ∷ xs) j ys none = all_weaker (suc n + length xs) (n + suc (length xs)) _ (omega arith) (below p (suc n) xs j ys none)

@@ -16,7 +16,7 @@ use Rattle.cw_yard.specs.declared.task.Item.TheVariants.{Mark, Work}
 use Rattle.cw_yard.specs.declared.task.Offer.{Offer}
 use Rattle.cw_yard.specs.declared.task.DequeView.{DequeView}
 use Rattle.cw_yard.specs.declared.task.DequeView.TheVariants.{Fresh, Marked, Owner, Thief}
-use Rattle.cw_yard.specs.Ledger.{Each, Name, name_of, table_of, out, retaken, stolen, Entry, outs, thefts, FrontFirst, offer, shown, Fits, Running, Dealt, MayPush, pushed, Retakes, Steals, IsOwner, IsThief, number, marked}
+use Rattle.cw_yard.specs.Ledger.{Each, Name, name_of, table_of, out, retaken, stolen, Entry, outs, thefts, FrontFirst, offer, lot, shown, Fits, Running, Dealt, MayPush, pushed, Retakes, Steals, IsOwner, IsThief, number, marked}
 use Rattle.cw_yard.proofs.Ledgers.{outs-snoc, front-snoc, thefts-snoc, among, last_out, all_back, front_after, front_retake, thefts_retake, first_out, front_steal, thefts_steal, thefts_other, shown_steal, below, nil_no_cons, nil_no_snoc, head_or, tail_of}
 
 plus_none : (n : ℕ) → 0 + n ≡ n
@@ -73,10 +73,10 @@ pushes port (Owner t os) k may items views d at =
     let r = running items views port (Owner t os) tt at d in
     let mine = r.6 port (Owner t os) at in
     let ledger = r.2 in
-    let after : List Entry = ledger ++ (k.job, out) ∷ [] in
-    let w : DequeView = Owner t (os ++ offer k.job false ∷ []) in
+    let after : List Entry = ledger ++ (lot k, out) ∷ [] in
+    let w : DequeView = Owner t (os ++ offer (lot k) false ∷ []) in
     let n : number k ≡ 0 + length ledger = may.1 ∙ ap length mine.2 ∙ length-map ledger shown ∙ sym (plus_none (length ledger)) in
-    let names = map-append name_of items (Work k ∷ []) ∙ (λ i. r.3 i ++ Some (n i, k.job) ∷ []) ∙ sym (ap (map (λ x. Some x)) (outs-snoc 0 ledger k.job) ∙ map-append (λ x. Some x) (outs 0 ledger) ((0 + length ledger, k.job) ∷ [])) in (
+    let names = map-append name_of items (Work k ∷ []) ∙ (λ i. r.3 i ++ Some (n i, lot k) ∷ []) ∙ sym (ap (map (λ x. Some x)) (outs-snoc 0 ledger (lot k)) ∙ map-append (λ x. Some x) (outs 0 ledger) ((0 + length ledger, lot k) ∷ [])) in (
       w,
       inr (
         r.0,
@@ -84,8 +84,8 @@ pushes port (Owner t os) k may items views d at =
         after,
         names,
         each-snoc (λ x. table_of x ≡ r.0) items (Work k) r.4 (may.0 ∙ mine.0),
-        front-snoc ledger k.job r.5,
-        refits r.0 r.1 ledger after views port w r.6 (mine.0, mine.1, ap (λ l. l ++ offer k.job false ∷ []) mine.2 ∙ sym (map-append shown ledger ((k.job, out) ∷ []))) (λ q _. thefts-snoc q 0 ledger k.job)
+        front-snoc ledger (lot k) r.5,
+        refits r.0 r.1 ledger after views port w r.6 (mine.0, mine.1, ap (λ l. l ++ offer (lot k) false ∷ []) mine.2 ∙ sym (map-append shown ledger ((lot k, out) ∷ []))) (λ q _. thefts-snoc q 0 ledger (lot k))
             (λ q apart is. absurd (apart (is ∙ sym mine.1))),
       ),
       refl,
@@ -119,20 +119,20 @@ named l = map (λ x. Some x) l
 
 -- the owner's pop, where the ledger has the job last
 retakes : (port : ℕ) (v : DequeView) (k : Task) (items : List Item) (views : List DequeView) → IsOwner v → get_elem? views port ≡ some v
-    → (r : Running (items ++ Work k ∷ []) views) → (ps : List Name) → outs 0 r.2 ≡ ps ++ (number k, k.job) ∷ [] → map name_of items ≡ named ps
+    → (r : Running (items ++ Work k ∷ []) views) → (ps : List Name) → outs 0 r.2 ≡ ps ++ (number k, lot k) ∷ [] → map name_of items ≡ named ps
     → (w : DequeView) × Dealt items (set views port w) × Retakes v (Work k ∷ []) w
 retakes port Fresh k items views own at r ps is names = absurd own
 retakes port (Marked t) k items views own at r ps is names = absurd own
 retakes port (Thief t ss) k items views own at r ps is names = absurd own
 retakes port (Owner t os) k items views own at r ps is names =
     let mine = r.6 port (Owner t os) at in
-    let l = last_out 0 r.2 ps (number k, k.job) is in
-    let after : List Entry = among l.before k.job retaken l.after in
+    let l = last_out 0 r.2 ps (number k, lot k) is in
+    let after : List Entry = among l.before (lot k) retaken l.after in
     let pre : List Offer = map shown l.before in
     let post : List Offer = map shown l.after in
     let front = subst FrontFirst l.is r.5 in
-    let none = front_after l.before k.job l.after front in
-    let w : DequeView = Owner t (pre ++ offer k.job true ∷ post) in
+    let none = front_after l.before (lot k) l.after front in
+    let w : DequeView = Owner t (pre ++ offer (lot k) true ∷ post) in
     let tables = each-init (λ x. table_of x ≡ r.0) items (Work k) r.4 in (
       w,
       inr (
@@ -141,9 +141,9 @@ retakes port (Owner t os) k items views own at r ps is names =
         after,
         names ∙ ap named (sym l.left),
         tables.0,
-        front_retake l.before k.job l.after front,
-        refits r.0 r.1 r.2 after views port w r.6 (mine.0, mine.1, sym (map-append shown l.before ((k.job, retaken) ∷ l.after)))
-            (λ q _. sym (thefts_retake q 0 l.before k.job l.after) ∙ ap (thefts q 0) (sym l.is)) (λ q apart e. absurd (apart (e ∙ sym mine.1))),
+        front_retake l.before (lot k) l.after front,
+        refits r.0 r.1 r.2 after views port w r.6 (mine.0, mine.1, sym (map-append shown l.before ((lot k, retaken) ∷ l.after)))
+            (λ q _. sym (thefts_retake q 0 l.before (lot k) l.after) ∙ ap (thefts q 0) (sym l.is)) (λ q apart e. absurd (apart (e ∙ sym mine.1))),
       ),
       (
         k,
@@ -151,7 +151,7 @@ retakes port (Owner t os) k items views own at r ps is names =
         post,
         refl,
         tables.1 ∙ sym mine.0,
-        mine.2 ∙ ap (map shown) l.is ∙ map-append shown l.before ((k.job, out) ∷ l.after),
+        mine.2 ∙ ap (map shown) l.is ∙ map-append shown l.before ((lot k, out) ∷ l.after),
         l.number ∙ plus_none (length l.before) ∙ sym (length-map l.before shown),
         all_back l.after none (l.none_out 0),
         refl,
@@ -162,7 +162,7 @@ pops_at : (port : ℕ) (v : DequeView) (x : Item) (items : List Item) (views : L
     → Cut (map name_of items) (name_of x) (outs 0 r.2) → (w : DequeView) × Dealt items (set views port w) × Retakes v (x ∷ []) w
 pops_at port v (Mark t) items views own at r c = absurd (subst There (sym c.lasts) tt)
 pops_at port v (Work k) items views own at r c =
-    retakes port v k items views own at r c.front (c.is ∙ ap (λ q. c.front ++ q ∷ []) (sym (ap (un (number k, k.job)) c.lasts))) c.fronts
+    retakes port v k items views own at r c.front (c.is ∙ ap (λ q. c.front ++ q ∷ []) (sym (ap (un (number k, lot k)) c.lasts))) c.fronts
 
 plays : (v : DequeView) → IsOwner v → Plays v
 plays Fresh h = h
@@ -177,19 +177,19 @@ pops port v own x items views d at =
 
 -- a theft, where the ledger has the job first
 steals : (port : ℕ) (v : DequeView) (k : Task) (items : List Item) (views : List DequeView) → IsThief v → get_elem? views port ≡ some v
-    → (r : Running (Work k ∷ items) views) → (ps : List Name) → outs 0 r.2 ≡ (number k, k.job) ∷ ps → map name_of items ≡ named ps
+    → (r : Running (Work k ∷ items) views) → (ps : List Name) → outs 0 r.2 ≡ (number k, lot k) ∷ ps → map name_of items ≡ named ps
     → (w : DequeView) × Dealt items (set views port w) × Steals v (Work k ∷ []) w
 steals port Fresh k items views own at r ps is names = absurd own
 steals port (Marked t) k items views own at r ps is names = absurd own
 steals port (Owner t os) k items views own at r ps is names = absurd own
 steals port (Thief t ss) k items views own at r ps is names =
     let mine = r.6 port (Thief t ss) at in
-    let l = first_out 0 r.2 (number k, k.job) ps is in
-    let after : List Entry = among l.before k.job (stolen port) l.after in
+    let l = first_out 0 r.2 (number k, lot k) ps is in
+    let after : List Entry = among l.before (lot k) (stolen port) l.after in
     let front = subst FrontFirst l.is r.5 in
-    let none = front_after l.before k.job l.after front in
-    let w : DequeView = Thief t (ss ++ (number k, k.job) ∷ []) in
-    let ss_is : ss ≡ thefts port 0 (among l.before k.job out l.after) = mine.1 ∙ ap (thefts port 0) l.is in (
+    let none = front_after l.before (lot k) l.after front in
+    let w : DequeView = Thief t (ss ++ (number k, lot k) ∷ []) in
+    let ss_is : ss ≡ thefts port 0 (among l.before (lot k) out l.after) = mine.1 ∙ ap (thefts port 0) l.is in (
       w,
       inr (
         r.0,
@@ -197,15 +197,15 @@ steals port (Thief t ss) k items views own at r ps is names =
         after,
         names ∙ ap named (sym (l.left port)),
         r.4.1,
-        front_steal port 0 l.before k.job l.after l.none_out front,
-        refits r.0 r.1 r.2 after views port w r.6 (mine.0, (λ i. ss_is i ++ (l.number i, k.job) ∷ []) ∙ sym (thefts_steal port 0 l.before k.job l.after none))
-            (λ q apart. thefts_other port q 0 l.before k.job l.after (λ e. apart (sym e)) ∙ ap (thefts q 0) (sym l.is)) (λ q _ _. shown_steal port l.before k.job l.after ∙ ap (map shown) (sym l.is)),
+        front_steal port 0 l.before (lot k) l.after l.none_out front,
+        refits r.0 r.1 r.2 after views port w r.6 (mine.0, (λ i. ss_is i ++ (l.number i, lot k) ∷ []) ∙ sym (thefts_steal port 0 l.before (lot k) l.after none))
+            (λ q apart. thefts_other port q 0 l.before (lot k) l.after (λ e. apart (sym e)) ∙ ap (thefts q 0) (sym l.is)) (λ q _ _. shown_steal port l.before (lot k) l.after ∙ ap (map shown) (sym l.is)),
       ),
       (
         k,
         refl,
         r.4.0 ∙ sym mine.0,
-        subst (λ (z : ℕ × List Name). Each (λ (x : Name). x.0 < z.0) z.1) (λ i. (sym l.number i, sym ss_is i)) (below port 0 l.before k.job l.after none),
+        subst (λ (z : ℕ × List Name). Each (λ (x : Name). x.0 < z.0) z.1) (λ i. (sym l.number i, sym ss_is i)) (below port 0 l.before (lot k) l.after none),
         refl,
       ),
     )
@@ -215,7 +215,7 @@ steals_at : (port : ℕ) (v : DequeView) (x : Item) (items : List Item) (views :
 steals_at port v x items views [] own at r is e = absurd (nil_no_cons (name_of x) (map name_of items) (sym e))
 steals_at port v (Mark t) items views (n ∷ ns) own at r is e = absurd (subst There (sym (ap (head_or (Some n)) e)) tt)
 steals_at port v (Work k) items views (n ∷ ns) own at r is e =
-    steals port v k items views own at r ns (is ∙ ap (λ q. q ∷ ns) (sym (ap (un (number k, k.job)) (ap (head_or (Some n)) e)))) (ap tail_of e)
+    steals port v k items views own at r ns (is ∙ ap (λ q. q ∷ ns) (sym (ap (un (number k, lot k)) (ap (head_or (Some n)) e)))) (ap tail_of e)
 
 plays_thief : (v : DequeView) → IsThief v → Plays v
 plays_thief Fresh h = h

@@ -163,6 +163,8 @@ pub seated : (y : Yard) (cells : ℕ) (owns : List OwnDeque) (w : OwnDeque) (p :
     → Lead y (owns ++ w ∷ []) → IsFresh (table_of y) w → IsPart y cells p → IsNewSeat y cells (length owns) (seat w p)
 seated y cells owns w p lead f h = record {
   seat = (owns_at (table_of y) (worker_view w) f.0, f.1, h.1, h.2.0, h.2.1, h.3);
+  room = h.4;
+  unseen = h.5;
   worker = λ o e. lead (length owns) w o (last_at owns w) e;
   offered = nothing_offered (table_of y) (worker_view w) f.0;
   stolen = h.2.2;

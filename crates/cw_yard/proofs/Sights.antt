@@ -5,11 +5,11 @@ use mathlib.Core.Logic.{dite}
 use native.Mathlib.Decide.{ℕ_discrete}
 use lib.ListN.{get_elem?}
 use Rattle.std.specs.List.{slice_index}
-use Rattle.atomic_table.specs.Table.{State, Me, keeps, Allows, Splits, opening}
+use Rattle.atomic_table.specs.Table.{State, Me, keeps, Allows, Splits}
 use Rattle.atomic_table.proofs.Lists.{at_set, set_else}
 use Rattle.cw_yard.specs.declared.mark.MarkView.{MarkView}
 use Rattle.cw_yard.specs.declared.mark.MarkView.TheVariants.{Unseen, Seen, Marked}
-use Rattle.cw_yard.specs.Marks.{IsSeen, Ends, seeing, Finds}
+use Rattle.cw_yard.specs.Marks.{IsSeen, IsMarked, Ends, seeing, Finds}
 
 abbrev St : Type 0
 St = State (Unit {0}) MarkView
@@ -65,6 +65,11 @@ is_seen Unseen = tt
 is_seen Seen = tt
 is_seen Marked = tt
 
+marked_before : (v : MarkView) → IsMarked (seeing v) → IsMarked v
+marked_before Unseen h = h
+marked_before Seen h = h
+marked_before Marked h = h
+
 pub looks : (slots id : ℕ) (me : Mine) → Allows Ends slots id me 0 (λ n. n) (λ r n. Finds me.0 r n.0)
 looks slots id me s h len at _ =
     let found : slice_index s.words 0 ≡ h.0 = ap (λ ws. slice_index ws 0) h.1 in
@@ -75,14 +80,14 @@ looks slots id me s h len at _ =
       keeps,
       tt,
       (h.0, kept, inl (z.0, same_unseen s.views id me.0 at z.1)),
-      ((λ seen. absurd (subst IsSeen none seen)), (λ one. absurd (omega (arith, found, z.0, one))), λ _. refl),
+      ((λ seen. absurd (subst IsSeen none seen)), (λ one. absurd (omega (arith, found, z.0, one))), (λ _. refl), λ m. m),
     ))
     (λ (z : (h.0 ≡ 1) × ((k : ℕ) × (get_elem? s.views k ≡ some Marked))). (
       seeing me.0,
       keeps,
       tt,
       (h.0, kept, inr (z.0, still s.views id z.1.0 me.0 at z.1.1)),
-      ((λ _. found ∙ z.0), (λ _. is_seen me.0), λ ne. absurd (ne (found ∙ z.0))),
+      ((λ _. found ∙ z.0), (λ _. is_seen me.0), (λ ne. absurd (ne (found ∙ z.0))), marked_before me.0),
     ))
     h.2
 

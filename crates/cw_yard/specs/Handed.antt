@@ -7,7 +7,7 @@ use Rattle.cw_jobs.specs.declared.effect.Effect.{Effect}
 use Rattle.cw_jobs.specs.Means.{IsMeaningOf}
 use Rattle.cw_yard.specs.Ledger.{offer}
 use Rattle.cw_yard.specs.Words.{OwnsAt, Rises, Takes, offered, stolen}
-use Rattle.cw_yard.specs.Tickets.{ticket_job, ticket_number, duty_job}
+use Rattle.cw_yard.specs.Tickets.{ticket_job, ticket_number, duty_job, LeavesAll}
 use Rattle.cw_yard.specs.Opens.{OwnDeque, ThiefPass}
 use Rattle.cw_yard.specs.declared.ticket.Ticket.{Ticket}
 use Rattle.cw_yard.specs.declared.ticket.Duty.{Duty}
@@ -26,7 +26,7 @@ abbrev pub IsOffered : TableId → Job → (old new : OwnDeque) → Ticket → T
 IsOffered z job old new t =
     (t.token.table_id ≡ z) × (ticket_job t ≡ Some job)
     × (ticket_number t ≡ Some (length (offered (worker_view old))))
-    × (offered (worker_view new) ≡ offered (worker_view old) ++ offer job false ∷ [])
+    × (offered (worker_view new) ≡ offered (worker_view old) ++ offer (job, t.cell) false ∷ [])
 
 -- the same job comes back with a cell, since the deque could not be sure of a slot
 abbrev pub IsGivenBack : TableId → Job → (old new : OwnDeque) → Job × FreeCell → Type 0
@@ -38,8 +38,12 @@ IsGivenBack z job old new e =
 abbrev pub IsTakenBack : TableId → Ticket → (old new : OwnDeque) → Job × FreeCell → Type 0
 IsTakenBack z t old new r =
     (ticket_job t ≡ Some r.0)
-    × Takes (offered (worker_view old)) (ticket_number t) r.0 (offered (worker_view new))
+    × Takes (offered (worker_view old)) (ticket_number t) (r.0, t.cell) (offered (worker_view new))
     × (r.1.token.table_id ≡ z)
+
+-- what was offered is as before, unless the ticket is not the newest: then another job may have come in its place
+abbrev pub LeavesOffers : Ticket → (old new : OwnDeque) → Type 0
+LeavesOffers t old new = LeavesAll t (offered (worker_view old)) (offered (worker_view new))
 
 -- a job was stolen, with its duty, and its number is above those of the earlier ones
 abbrev pub IsStolen : TableId → (old new : ThiefPass) → Job × Duty → Type 0

@@ -18,12 +18,19 @@ abbrev pub Each : {A : Type 0} → (A → Type 0) → List A → Type 0
 Each P [] = Unit {0}
 Each P (x ∷ xs) = P x × Each P xs
 
+-- a job with its cell
+abbrev pub Lot : Type 0
+Lot = Job × ℕ
+
+abbrev pub lot : Task → Lot
+lot k = (k.job, k.cell)
+
 abbrev pub Name : Type 0
-Name = ℕ × Job
+Name = ℕ × Lot
 
 abbrev pub name_of : Item → Option Name
 name_of (Mark t) = None
-name_of (Work k) = Some (number_of k.duty.me.0, k.job)
+name_of (Work k) = Some (number_of k.duty.me.0, lot k)
 
 abbrev pub table_of : Item → TableId
 table_of (Mark t) = t.table_id
@@ -36,9 +43,9 @@ pub data Fate : Type 0 where
   stolen : ℕ → Fate
 
 abbrev pub Entry : Type 0
-Entry = Job × Fate
+Entry = Lot × Fate
 
-abbrev pub out_here : ℕ → Job → Fate → List Name → List Name
+abbrev pub out_here : ℕ → Lot → Fate → List Name → List Name
 out_here n j out rest = (n, j) ∷ rest
 out_here n j retaken rest = rest
 out_here n j (stolen p) rest = rest
@@ -52,7 +59,7 @@ abbrev pub if_same : Bool → Name → List Name → List Name
 if_same true x rest = x ∷ rest
 if_same false x rest = rest
 
-abbrev pub theft_here : ℕ → ℕ → Job → Fate → List Name → List Name
+abbrev pub theft_here : ℕ → ℕ → Lot → Fate → List Name → List Name
 theft_here p n j out rest = rest
 theft_here p n j retaken rest = rest
 theft_here p n j (stolen q) rest = if_same (q == p) (n, j) rest
@@ -86,8 +93,8 @@ is_retaken out = false
 is_retaken retaken = true
 is_retaken (stolen p) = false
 
-abbrev pub offer : Job → Bool → Offer
-offer j b = record { job = j; retaken = b }
+abbrev pub offer : Lot → Bool → Offer
+offer l b = record { job = l.0; cell = l.1; retaken = b }
 
 abbrev pub shown : Entry → Offer
 shown e = offer e.0 (is_retaken e.1)
@@ -129,7 +136,7 @@ MayPush (Owner t os) k = (k.duty.table_id ≡ t.table_id) × (number k ≡ lengt
 MayPush (Thief t ss) k = ⊥
 
 abbrev pub pushed : DequeView → List Item → DequeView
-pushed (Owner t os) (Work k ∷ []) = Owner t (os ++ offer k.job false ∷ [])
+pushed (Owner t os) (Work k ∷ []) = Owner t (os ++ offer (lot k) false ∷ [])
 pushed v xs = v
 
 -- the newest job that was not yet retaken: those offered after it were all retaken
@@ -139,8 +146,8 @@ Retakes (Marked t) xs w = Unit {0}
 Retakes (Owner t os) xs w =
     (k : Task) × (pre : List Offer) × (post : List Offer)
     × (xs ≡ Work k ∷ []) × (k.duty.table_id ≡ t.table_id)
-    × (os ≡ pre ++ offer k.job false ∷ post) × (number k ≡ length pre) × Each (λ o. o.retaken ≡ true) post
-    × (w ≡ Owner t (pre ++ offer k.job true ∷ post))
+    × (os ≡ pre ++ offer (lot k) false ∷ post) × (number k ≡ length pre) × Each (λ o. o.retaken ≡ true) post
+    × (w ≡ Owner t (pre ++ offer (lot k) true ∷ post))
 Retakes (Thief t ss) xs w = Unit {0}
 
 -- the newest job that was not yet retaken comes out
@@ -154,7 +161,7 @@ Steals (Marked t) xs w = Unit {0}
 Steals (Owner t os) xs w = Unit {0}
 Steals (Thief t ss) xs w =
     (k : Task) × (xs ≡ Work k ∷ []) × (k.duty.table_id ≡ t.table_id) × Each (λ x. x.0 < number k) ss
-    × (w ≡ Thief t (ss ++ (number k, k.job) ∷ []))
+    × (w ≡ Thief t (ss ++ (number k, lot k) ∷ []))
 
 abbrev pub marked : List Item → DequeView
 marked (Mark t ∷ []) = Marked t

@@ -13,6 +13,11 @@ IsSeen Unseen = ⊥
 IsSeen Seen = Unit {0}
 IsSeen Marked = Unit {0}
 
+abbrev pub IsMarked : MarkView → Type 0
+IsMarked Unseen = ⊥
+IsMarked Seen = ⊥
+IsMarked Marked = Unit {0}
+
 -- where the word is w
 abbrev pub EndsAt : ℕ → List MarkView → Type 0
 EndsAt w views =
@@ -34,12 +39,16 @@ seeing Unseen = Seen
 seeing Seen = Seen
 seeing Marked = Marked
 
--- what a look tells
+-- what a look tells; it marks nothing
 abbrev pub Finds : MarkView → ℕ → MarkView → Type 0
-Finds v r w = (IsSeen v → r ≡ 1) × (r ≡ 1 → IsSeen w) × (¬ (r ≡ 1) → w ≡ v)
+Finds v r w = (IsSeen v → r ≡ 1) × (r ≡ 1 → IsSeen w) × (¬ (r ≡ 1) → w ≡ v) × (IsMarked w → IsMarked v)
 
 abbrev pub HasSeen : Seat (Unit {0}) MarkView → Type 0
 HasSeen t = IsSeen t.me.0
+
+-- this watcher marked it
+abbrev pub HasMarked : Seat (Unit {0}) MarkView → Type 0
+HasMarked t = IsMarked t.me.0
 
 -- a watcher's token of the mark that is called z
 abbrev pub IsWatchOf : TableId → Seat (Unit {0}) MarkView → Type 0

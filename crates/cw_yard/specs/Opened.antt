@@ -1,5 +1,5 @@
 -- What a yard is when it is opened.
-use Rattle.std.specs.Prelude.{◌≡◌, ◌+◌, ◌&&◌, nat_le, ℕ, Bool, true, false, List, [], length, slice_get, Some}
+use Rattle.std.specs.Prelude.{◌≡◌, ◌≤◌, ◌+◌, ◌&&◌, nat_le, ℕ, Bool, true, false, List, [], length, slice_get, Some}
 use Rattle.crossbeam_deque.specs.Handles.{view, stealer_deque, worker_deque}
 use Rattle.crossbeam_utils.specs.Padded.{padded_value}
 use Rattle.cw_text.specs.declared.fault.Fault.{Fault}
@@ -7,21 +7,24 @@ use Rattle.cw_text.specs.declared.fault.Fault.TheVariants as fault
 use Rattle.cw_yard.specs.declared.open.TheConstants.{MOST_WORKERS, MOST_CELLS}
 use Rattle.cw_yard.specs.declared.seat.Yard.{Yard}
 use Rattle.cw_yard.specs.declared.seat.Seat.{Seat}
+use Rattle.cw_yard.specs.declared.mark.MarkView.TheVariants.{Unseen}
 use Rattle.cw_yard.specs.Ledger.{Each}
 use Rattle.cw_yard.specs.Words.{stolen}
-use Rattle.cw_yard.specs.Seats.{IsSeatOf, workers_of, offered_by}
+use Rattle.cw_yard.specs.Seats.{IsSeatOf, workers_of, offered_by, free_cells, cell_room}
 
 -- who steals from worker k steals from this seat's deque
 abbrev pub IsWorker : Yard → ℕ → Seat → Type 0
 IsWorker y k s = (o : _) → slice_get y.stealers.items k ≡ Some o → stealer_deque (padded_value o) ≡ worker_deque s.own
 
--- WORKER k'S SEAT BEFORE ITS FIRST CALL: nothing was offered or stolen, and all its cells are free
+-- WORKER k'S SEAT BEFORE ITS FIRST CALL: nothing was offered or stolen, all its cells are free, and no end was seen
 pub record IsNewSeat (y : Yard) (cells k : ℕ) (s : Seat) : Type 0 where
   pub seat : IsSeatOf y s
   pub worker : IsWorker y k s
   pub offered : offered_by s ≡ []
   pub stolen : Each (λ e. stolen (view e) ≡ []) s.passes.items
-  pub free : length s.free.items ≡ cells
+  pub free : free_cells s ≡ cells
+  pub room : cells ≤ cell_room s
+  pub unseen : s.watch.me.0 ≡ Unseen
 
 -- the seats of all workers, worker 0's the last
 pub record AreSeats (y : Yard) (cells : ℕ) (seats : List Seat) : Type 0 where

@@ -1,5 +1,5 @@
 -- What the opening of a yard makes.
-use Rattle.std.specs.Prelude.{◌≡◌, ◌+◌, ℕ, List, [], length, slice_get, Option, Some}
+use Rattle.std.specs.Prelude.{◌≡◌, ◌≤◌, ◌+◌, ℕ, List, [], length, slice_get, Option, Some, vec_capacity}
 use Rattle.crossbeam_deque.specs.Handles.{Pass, view, IsPassOf, stealer_deque, worker_deque, worker_view, worker_flavor}
 use Rattle.crossbeam_utils.specs.Padded.{padded_value}
 use Rattle.atomic_table.specs.Seated.{TableId}
@@ -7,6 +7,7 @@ use Rattle.atomic_table.specs.declared.shared.Seat.{Seat as Token}
 use Rattle.cw_yard.specs.declared.left.Left.{Left}
 use Rattle.cw_yard.specs.declared.view.CellView.{CellView}
 use Rattle.cw_yard.specs.declared.view.CellView.TheVariants.{Rest}
+use Rattle.cw_yard.specs.declared.mark.MarkView.TheVariants.{Unseen}
 use Rattle.cw_yard.specs.Marks.{IsWatchOf}
 use Rattle.cw_yard.specs.Ledger.{Each}
 use Rattle.cw_yard.specs.declared.task.Item.{Item}
@@ -69,4 +70,5 @@ ArePasses y es = (length es ≡ workers_of y) × HasPasses y es × Each (λ e. s
 abbrev pub IsPart : Yard → ℕ → Part → Type 0
 IsPart y cells p =
     (length p.free.items ≡ cells) × Each (λ f. f.token.table_id ≡ table_of y) p.free.items
-    × ArePasses y p.passes.items × IsWatchOf y.mark.shared.table_id p.watch
+    × ArePasses y p.passes.items × IsWatchOf y.mark.shared.table_id p.watch × (cells ≤ vec_capacity p.free)
+    × (p.watch.me.0 ≡ Unseen)

@@ -1,12 +1,13 @@
 -- What ties seats, tickets and duties to their yard.
-use Rattle.std.specs.Prelude.{◌≡◌, ◌≤◌, ◌++◌, ◌⊎◌, ℕ, false, List, [], ◌∷◌, length, slice_get, Option, Some, None}
+use Rattle.std.specs.Prelude.{◌≡◌, ◌≢◌, ◌≤◌, ◌+◌, ◌++◌, ◌⊎◌, ℕ, false, List, [], ◌∷◌, length, slice_get, Option, Some}
+use Rattle.std.specs.Prelude.{None, vec_capacity}
 use Rattle.crossbeam_deque.specs.Handles.{view, IsPassOf, stealer_deque, worker_view, worker_flavor, worker_capacity}
-use Rattle.crossbeam_deque.specs.Handles.{worker_index}
+use Rattle.crossbeam_deque.specs.Handles.{worker_index, SameWorker}
 use Rattle.crossbeam_utils.specs.Padded.{padded_value}
 use Rattle.atomic_table.specs.Seated.{TableId}
 use Rattle.cw_jobs.specs.declared.job.Job.{Job}
 use Rattle.cw_jobs.specs.Means.{IsMeaningOf}
-use Rattle.cw_yard.specs.Marks.{IsWatchOf, HasSeen}
+use Rattle.cw_yard.specs.Marks.{IsWatchOf, HasSeen, HasMarked}
 use Rattle.cw_yard.specs.Ledger.{Each, offer}
 use Rattle.cw_yard.specs.declared.task.Offer.{Offer}
 use Rattle.cw_yard.specs.declared.task.DequeView.{DequeView}
@@ -18,8 +19,8 @@ use Rattle.cw_yard.specs.declared.yard.Retaken.{Retaken}
 use Rattle.cw_yard.specs.declared.yard.Retaken.TheVariants as retaken
 use Rattle.cw_yard.specs.declared.yard.Collected.{Collected}
 use Rattle.cw_yard.specs.declared.yard.Collected.TheVariants as collected
-use Rattle.cw_yard.specs.Words.{OwnsAt, StealsAt, Takes, Rises, Deal, offered, stolen}
-use Rattle.cw_yard.specs.Tickets.{ticket_job, ticket_number, duty_job}
+use Rattle.cw_yard.specs.Words.{OwnsAt, StealsAt, Takes, Rises, Theft, offered, stolen}
+use Rattle.cw_yard.specs.Tickets.{ticket_job, ticket_number, duty_job, LeavesAll}
 
 abbrev pub table_of : Yard → TableId
 table_of y = y.table.shared.table_id
@@ -48,13 +49,26 @@ IsDutyOf y d = d.token.table_id ≡ table_of y
 abbrev pub offered_by : Seat → List Offer
 offered_by s = offered (worker_view s.own)
 
-abbrev pub deals_by : {A : Type 0} → (A → DequeView) → Option A → List Deal
-deals_by f None = []
-deals_by f (Some e) = stolen (f e)
+abbrev pub thefts_by : {A : Type 0} → (A → DequeView) → Option A → List Theft
+thefts_by f None = []
+thefts_by f (Some e) = stolen (f e)
 
 -- what a seat stole of a victim
-abbrev pub stolen_from : Seat → ℕ → List Deal
-stolen_from s k = deals_by view (slice_get s.passes.items k)
+abbrev pub stolen_from : Seat → ℕ → List Theft
+stolen_from s k = thefts_by view (slice_get s.passes.items k)
+
+-- how many free cells a seat has, and how many it has room for: at least as many as it was opened with
+abbrev pub free_cells : Seat → ℕ
+free_cells s = length s.free.items
+
+abbrev pub cell_room : Seat → ℕ
+cell_room s = vec_capacity s.free
+
+-- a cell is free again; it is lost only where there was no room for it, since all were free
+abbrev pub GainsCell : (old new : Seat) → Type 0
+GainsCell old new =
+    (free_cells new ≡ free_cells old + 1)
+    ⊎ ((cell_room old ≤ free_cells old) × (free_cells new ≡ free_cells old))
 
 abbrev pub HasNoCell : Seat → Type 0
 HasNoCell s = s.free.items ≡ []
@@ -66,29 +80,57 @@ HasFullDeque s = worker_capacity s.own ≤ worker_index s.own
 abbrev pub HasSeenEnd : Seat → Type 0
 HasSeenEnd s = HasSeen s.watch
 
--- the job is the next number of the seat, and the ticket names it
+abbrev pub HasMarkedEnd : Seat → Type 0
+HasMarkedEnd s = HasMarked s.watch
+
+-- WHAT OF A SEAT IS AS BEFORE: its deque with what was offered, its free cells, what it stole, what it knows of the end
+abbrev pub KeepsOffers : (old new : Seat) → Type 0
+KeepsOffers old new = new.own ≡ old.own
+
+abbrev pub KeepsCells : (old new : Seat) → Type 0
+KeepsCells old new = new.free ≡ old.free
+
+abbrev pub KeepsThefts : (old new : Seat) → Type 0
+KeepsThefts old new = new.passes ≡ old.passes
+
+abbrev pub KeepsSight : (old new : Seat) → Type 0
+KeepsSight old new = new.watch ≡ old.watch
+
+-- its deque is the same, with room for as many jobs at least, and it has room for as many cells
+abbrev pub KeepsRoom : (old new : Seat) → Type 0
+KeepsRoom old new = SameWorker old.own new.own × (cell_room old ≤ cell_room new)
+
+-- what it stole of any other victim
+abbrev pub KeepsOtherThefts : (victim : ℕ) → (old new : Seat) → Type 0
+KeepsOtherThefts victim old new = (k : ℕ) → k ≢ victim → stolen_from new k ≡ stolen_from old k
+
+-- the job is the next number of the seat, the ticket names it, and a free cell is gone
 abbrev pub OffersFor : Yard → Job → (old new : Seat) → Ticket → Type 0
 OffersFor y job old new t =
     IsTicketOf y t × (ticket_job t ≡ Some job) × (ticket_number t ≡ Some (length (offered_by old)))
-    × (offered_by new ≡ offered_by old ++ offer job false ∷ [])
+    × (offered_by new ≡ offered_by old ++ offer (job, t.cell) false ∷ []) × (free_cells old ≡ free_cells new + 1)
 
--- the same job, whole, with nothing offered: there was no cell, or no slot that the deque could be sure of
+-- the same job, whole, with nothing offered and as many cells: there was none, or no slot that the deque was sure of
 abbrev pub RefusesOffer : Job → (old new : Seat) → Job → Type 0
 RefusesOffer job old new back =
-    (back ≡ job) × (offered_by new ≡ offered_by old) × (HasNoCell old ⊎ HasFullDeque old)
+    (back ≡ job) × (offered_by new ≡ offered_by old) × (free_cells new ≡ free_cells old)
+    × (HasNoCell old ⊎ HasFullDeque old)
 
 -- a job of the victim with its duty, and its number is above those that the seat stole of it before
 abbrev pub StealsFor : Yard → (victim : ℕ) → (old new : Seat) → Job × Duty → Type 0
 StealsFor y victim old new r =
     IsDutyOf y r.1 × (duty_job r.1 ≡ Some r.0) × Rises (stolen_from old victim) r.0 (stolen_from new victim)
 
--- the whole job of the ticket is back, and is among the retaken; or the ticket
-abbrev pub RetakesFor : Ticket → (old new : List Offer) → Retaken → Type 0
-RetakesFor t old new (retaken.Mine b) = (ticket_job t ≡ Some b) × Takes old (ticket_number t) b new
-RetakesFor t old new (retaken.Later u) = u ≡ t
+-- the whole job of the ticket is back, and is among the retaken, with its cell; or the ticket, and if it is the newest
+-- nothing else of the offers is changed
+abbrev pub RetakesFor : Ticket → (old new : Seat) → Retaken → Type 0
+RetakesFor t old new (retaken.Mine b) =
+    (ticket_job t ≡ Some b) × Takes (offered_by old) (ticket_number t) (b, t.cell) (offered_by new) × GainsCell old new
+RetakesFor t old new (retaken.Later u) =
+    (u ≡ t) × KeepsCells old new × LeavesAll t (offered_by old) (offered_by new)
 
--- the effect means the job of the ticket; or the ticket
-abbrev pub CollectsFor : Yard → Ticket → Collected → Type 0
-CollectsFor y t (collected.Done e) = (j : Job) → ticket_job t ≡ Some j → IsMeaningOf j e
-CollectsFor y t (collected.Later u) =
-    IsTicketOf y u × (ticket_job u ≡ ticket_job t) × (ticket_number u ≡ ticket_number t)
+-- the effect means the job of the ticket, and its cell is back; or the ticket
+abbrev pub CollectsFor : Yard → Ticket → (old new : Seat) → Collected → Type 0
+CollectsFor y t old new (collected.Done e) = ((j : Job) → ticket_job t ≡ Some j → IsMeaningOf j e) × GainsCell old new
+CollectsFor y t old new (collected.Later u) =
+    IsTicketOf y u × (ticket_job u ≡ ticket_job t) × (ticket_number u ≡ ticket_number t) × KeepsCells old new

@@ -7,7 +7,7 @@ use Rattle.cw_yard.specs.declared.view.Stage.TheVariants.{Free, Held, Out, Back,
 use Rattle.cw_yard.specs.declared.view.Stage.{Stage}
 use Rattle.cw_yard.specs.declared.view.CellView.{CellView}
 use Rattle.cw_yard.specs.declared.view.CellView.TheVariants.{Idle, Rest, Owner, Duty as OnDuty}
-use Rattle.cw_yard.specs.Ledger.{Each, offer}
+use Rattle.cw_yard.specs.Ledger.{Each, Lot, offer}
 use Rattle.cw_yard.specs.declared.task.Offer.{Offer}
 use Rattle.cw_yard.specs.declared.task.DequeView.{DequeView}
 use Rattle.cw_yard.specs.declared.task.DequeView.TheVariants.{Fresh, Marked, Owner as OwnerHand, Thief}
@@ -23,8 +23,12 @@ offered (Thief t ss) = []
 abbrev pub Deal : Type 0
 Deal = ℕ × Job
 
+-- a number and what was stolen by it
+abbrev pub Theft : Type 0
+Theft = ℕ × Lot
+
 -- what a pass has stolen
-abbrev pub stolen : DequeView → List Deal
+abbrev pub stolen : DequeView → List Theft
 stolen Fresh = []
 stolen (Marked t) = []
 stolen (OwnerHand t os) = []
@@ -44,14 +48,15 @@ StealsAt z (OwnerHand t os) = ⊥
 StealsAt z (Thief t ss) = t.table_id ≡ z
 
 -- the job of a number was taken back, and all that were offered after it before
-abbrev pub Takes : List Offer → Option ℕ → Job → List Offer → Type 0
-Takes os number job os' =
-    (pre : List Offer) × (post : List Offer) × (os ≡ pre ++ offer job false ∷ post)
-    × (number ≡ Some (length pre)) × Each (λ o. o.retaken ≡ true) post × (os' ≡ pre ++ offer job true ∷ post)
+abbrev pub Takes : List Offer → Option ℕ → Lot → List Offer → Type 0
+Takes os number l os' =
+    (pre : List Offer) × (post : List Offer) × (os ≡ pre ++ offer l false ∷ post)
+    × (number ≡ Some (length pre)) × Each (λ o. o.retaken ≡ true) post × (os' ≡ pre ++ offer l true ∷ post)
 
 -- a job was stolen, whose number is above those of the earlier ones
-abbrev pub Rises : List Deal → Job → List Deal → Type 0
-Rises ss job ss' = (n : ℕ) × Each (λ (x : Deal). x.0 < n) ss × (ss' ≡ ss ++ (n, job) ∷ [])
+abbrev pub Rises : List Theft → Job → List Theft → Type 0
+Rises ss job ss' =
+    (n : ℕ) × (cell : ℕ) × Each (λ (x : Theft). x.0 < n) ss × (ss' ≡ ss ++ (n, (job, cell)) ∷ [])
 
 -- the token of a cell stands for the job of this number
 abbrev pub IsFor : ℕ → CellView → ℕ → Job → Type 0

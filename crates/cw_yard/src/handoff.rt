@@ -9,7 +9,7 @@ ghost use Rattle.cw_yard.specs.Deals.{number_of};
 ghost use Rattle.cw_yard.specs.Ledger.{offer, Retakes, Steals};
 ghost use Rattle.cw_yard.specs.declared.task.Item.TheVariants.{Work};
 ghost use Rattle.cw_yard.specs.Words.{offered, stolen, Deal, Rises, Takes, OwnsAt, StealsAt};
-ghost use Rattle.cw_yard.specs.Handed.{IsOfTable, MayOffer, IsOffered, IsGivenBack, IsTakenBack, IsStolen, IsCollected, IsSameTicket};
+ghost use Rattle.cw_yard.specs.Handed.{IsOfTable, MayOffer, IsOffered, IsGivenBack, IsTakenBack, IsStolen, IsCollected, IsSameTicket, LeavesOffers};
 ghost use Rattle.cw_yard.specs.Tickets.{ticket_job, ticket_number, duty_job};
 
 use crate::cells::{Cells, Holding, Token};
@@ -87,7 +87,7 @@ pub fn retake(
     requires own { OwnsAt table.now.table_id (worker_view own.old) × (worker_flavor own.old ≡ 1) }
     ensures same { SameWorker own.old own.new × OwnsAt table.now.table_id (worker_view own.new) }
     ensures mine { IfOk result (IsTakenBack table.now.table_id ticket own.old own.new) }
-    ensures later { IfErr result (λ t. t ≡ ticket) }
+    ensures later { IfErr result (λ t. (t ≡ ticket) × LeavesOffers ticket own.old own.new) }
 {
     let Some(task) = crate::deque::retake(own) else {
         return Err(ticket);

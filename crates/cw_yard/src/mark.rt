@@ -1,7 +1,7 @@
 //! The end mark: one word, in a table of its own.
 ghost use Rattle.std.specs.Prelude.{◌≡◌, ◌+◌, [], ◌∷◌, true, false, IfOk};
 ghost use Rattle.cw_yard.specs.declared.mark.MarkView.TheVariants.{Unseen, Seen, Marked};
-ghost use Rattle.cw_yard.specs.Marks.{Ends, same, unseen, Finds, HasSeen, IsWatchOf};
+ghost use Rattle.cw_yard.specs.Marks.{Ends, same, unseen, Finds, HasSeen, HasMarked, IsWatchOf};
 
 use atomic_table::{Play, Seat, Shared, Split, Table, TableRule};
 use std::alloc::{AllocError, Global};
@@ -57,8 +57,9 @@ pub fn unmarked(alloc: Global) -> Result<(MarkTable, Watch), AllocError>
 /// The token of one more watcher.
 pub fn another(mark: &Mark, watch: &mut Watch) -> Watch
     requires { IsWatchOf mark.now.table_id watch.old }
-    ensures { IsWatchOf mark.now.table_id watch.new × IsWatchOf mark.now.table_id result
+    ensures of { IsWatchOf mark.now.table_id watch.new × IsWatchOf mark.now.table_id result
         × (watch.new.me.0 ≡ watch.old.me.0) }
+    ensures unseen { result.me.0 ≡ Unseen }
 {
     mark.split_seat::<Shares>(watch)
 }
@@ -68,6 +69,7 @@ pub fn end(mark: &Mark, watch: &mut Watch)
     requires { IsWatchOf mark.now.table_id watch.old }
     ensures mine { IsWatchOf mark.now.table_id watch.new }
     ensures seen { HasSeen watch.new }
+    ensures marked { HasMarked watch.new }
 {
     mark.store::<Sets>(watch, 0, 1);
 }
@@ -79,6 +81,7 @@ pub fn ended(mark: &Mark, watch: &mut Watch) -> bool
     ensures seen { HasSeen watch.old → result ≡ true }
     ensures told { result ≡ true → HasSeen watch.new }
     ensures same { result ≡ false → watch.new.me.0 ≡ watch.old.me.0 }
+    ensures marks_nothing { HasMarked watch.new → HasMarked watch.old }
 {
     mark.load::<Looks>(watch, 0) == 1
 }

@@ -1,5 +1,5 @@
 //! The opening of a yard.
-ghost use Rattle.std.specs.Prelude.{◌≡◌, ◌≤◌, ◌<◌, ◌+◌, ◌*◌, ◌^◌, ℕ, [], ◌∷◌, length, slice_get, IfOk, Some, MatchResult};
+ghost use Rattle.std.specs.Prelude.{◌≡◌, ◌≤◌, ◌<◌, ◌+◌, ◌*◌, ◌^◌, ℕ, [], ◌∷◌, length, slice_get, IfOk, Some, MatchResult, vec_capacity};
 ghost use Rattle.crossbeam_deque.specs.Handles.{stealer_deque, worker_deque};
 ghost use Rattle.crossbeam_utils.specs.Padded.{padded_value};
 ghost use Rattle.cw_yard.specs.declared.view.CellView.TheVariants.{Rest};
@@ -119,7 +119,8 @@ fn free_cells(
     requires { AllRest table.now.table_id all.old from × (from + count ≤ table.now.table_id.slots)
         × (from + count < 2 ^ 60) }
     ensures { IfOk result (λ v. AllRest table.now.table_id all.new (from + count)
-        × (length v.items ≡ count) × Each (λ f. f.token.table_id ≡ table.now.table_id) v.items) }
+        × (length v.items ≡ count) × Each (λ f. f.token.table_id ≡ table.now.table_id) v.items
+        × (count ≤ vec_capacity v)) }
 {
     let mut cells = Vec::with_capacity(alloc, count)?;
     let mut k = 0;

@@ -23,9 +23,10 @@ pub enum Item {
     Work(Task),
 }
 
-/// What was offered, and whether its owner took it back. No value of it is made, nor of `DequeView`.
+/// What was offered, with its cell, and whether its owner took it back. No value of it is made, nor of `DequeView`.
 pub struct Offer {
     pub job: Job,
+    pub cell: usize,
     pub retaken: bool,
 }
 
@@ -33,5 +34,5 @@ pub enum DequeView {
     Fresh,
     Marked(Token),
     Owner(Token, LinkedList<Offer>),
-    Thief(Token, LinkedList<(u64, Job)>),
+    Thief(Token, LinkedList<(u64, (Job, usize))>),
 }

@@ -5,7 +5,7 @@ ghost use Rattle.cw_jobs.specs.Means.{IsMeaningOf};
 ghost use Rattle.cw_yard.specs.Ledger.{offer as offered_job};
 ghost use Rattle.cw_yard.specs.Words.{Rises};
 ghost use Rattle.cw_yard.specs.Tickets.{ticket_job, ticket_number, duty_job};
-ghost use Rattle.cw_yard.specs.Seats.{IsSeatOf, IsTicketOf, IsDutyOf, offered_by, stolen_from, workers_of, HasNoCell, HasFullDeque, OffersFor, RefusesOffer, RetakesFor, StealsFor, CollectsFor, HasSeenEnd};
+ghost use Rattle.cw_yard.specs.Seats.{IsSeatOf, IsTicketOf, IsDutyOf, offered_by, stolen_from, workers_of, HasNoCell, HasFullDeque, OffersFor, RefusesOffer, RetakesFor, StealsFor, CollectsFor, HasSeenEnd, HasMarkedEnd, KeepsOffers, KeepsCells, KeepsThefts, KeepsOtherThefts, KeepsSight, KeepsRoom};
 
 use crate::seat::{Seat, Yard};
 use crate::ticket::{Duty, Ticket};
@@ -38,9 +38,10 @@ impl Yard {
     /// slot left and could not grow.
     pub fn offer(&self, seat: &mut Seat, job: Job) -> Result<Ticket, Job>
         requires seat { IsSeatOf self.now seat.old }
-        ensures seat { IsSeatOf self.now seat.new }
+        ensures seat { IsSeatOf self.now seat.new × KeepsRoom seat.old seat.new }
         ensures ok { IfOk result (OffersFor self.now job seat.old seat.new) }
         ensures err { IfErr result (RefusesOffer job seat.old seat.new) }
+        ensures kept { KeepsThefts seat.old seat.new × KeepsSight seat.old seat.new }
     {
         let Some(free) = seat.free.pop() else {
             return Err(job);
@@ -51,10 +52,7 @@ impl Yard {
                 Ok(ticket)
             }
             Err((job, free)) => {
-                match seat.free.push(free) {
-                    Ok(()) => {}
-                    Err(lost) => drop(lost),
-                }
+                seat.free.push_reserved(free);
                 Err(job)
             }
         }
@@ -62,11 +60,15 @@ impl Yard {
 
     /// Takes back the job of the newest ticket that was not spent, unless it was stolen: from the end of the deque at
     /// which it was offered. Waits for nobody, and takes no memory where each ticket is spent with the seat that it was got with.
+    ///
+    /// Where all that the seat offered after the ticket's job was taken back, `Later` leaves the offers as they were. Else
+    /// a newer job may lie in the deque: it comes out in place of the ticket's, and is given up.
     pub fn retake(&self, seat: &mut Seat, ticket: Ticket) -> Retaken
         requires seat { IsSeatOf self.now seat.old }
         requires ticket { IsTicketOf self.now ticket }
-        ensures seat { IsSeatOf self.now seat.new }
-        ensures ticket { RetakesFor ticket (offered_by seat.old) (offered_by seat.new) result }
+        ensures seat { IsSeatOf self.now seat.new × KeepsRoom seat.old seat.new }
+        ensures ticket { RetakesFor ticket seat.old seat.new result }
+        ensures kept { KeepsThefts seat.old seat.new × KeepsSight seat.old seat.new }
     {
         match handoff::retake(&self.table.shared, &mut seat.own, ticket, &mut seat.spare) {
             Ok((job, free)) => {
@@ -90,6 +92,9 @@ impl Yard {
         ensures seat { IsSeatOf self.now seat.new }
         ensures some { IfSome result (StealsFor self.now victim seat.old seat.new) }
         ensures none { IfNone result (stolen_from seat.new victim ≡ stolen_from seat.old victim) }
+        ensures others { KeepsOtherThefts victim seat.old seat.new }
+        ensures kept { KeepsOffers seat.old seat.new × KeepsCells seat.old seat.new
+            × KeepsSight seat.old seat.new }
     {
         let stealer = &self.stealers[victim];
         let pass = &mut seat.passes[victim];
@@ -112,9 +117,10 @@ impl Yard {
     pub fn collect(&self, seat: &mut Seat, ticket: Ticket) -> Collected
         requires seat { IsSeatOf self.now seat.old }
         requires ticket { IsTicketOf self.now ticket }
-        ensures seat { IsSeatOf self.now seat.new }
-        ensures ticket { CollectsFor self.now ticket result }
-        ensures same { offered_by seat.new ≡ offered_by seat.old }
+        ensures seat { IsSeatOf self.now seat.new × KeepsRoom seat.old seat.new }
+        ensures ticket { CollectsFor self.now ticket seat.old seat.new result }
+        ensures kept { KeepsOffers seat.old seat.new × KeepsThefts seat.old seat.new
+            × KeepsSight seat.old seat.new }
     {
         match handoff::collect(&self.table.shared, ticket) {
             Ok((effect, free)) => {
@@ -132,7 +138,9 @@ impl Yard {
     pub fn end(&self, seat: &mut Seat)
         requires { IsSeatOf self.now seat.old }
         ensures seat { IsSeatOf self.now seat.new }
-        ensures seen { HasSeenEnd seat.new }
+        ensures seen { HasSeenEnd seat.new × HasMarkedEnd seat.new }
+        ensures kept { KeepsOffers seat.old seat.new × KeepsCells seat.old seat.new
+            × KeepsThefts seat.old seat.new }
     {
         mark::end(&self.mark.shared, &mut seat.watch);
         self.bell.notify_all();
@@ -145,6 +153,9 @@ impl Yard {
         ensures seat { IsSeatOf self.now seat.new }
         ensures seen { HasSeenEnd seat.old → result ≡ true }
         ensures told { result ≡ true → HasSeenEnd seat.new }
+        ensures marks_nothing { HasMarkedEnd seat.new → HasMarkedEnd seat.old }
+        ensures kept { KeepsOffers seat.old seat.new × KeepsCells seat.old seat.new
+            × KeepsThefts seat.old seat.new }
     {
         mark::ended(&self.mark.shared, &mut seat.watch)
     }

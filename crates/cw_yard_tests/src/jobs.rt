@@ -62,7 +62,7 @@ pub fn argument(job: &Job) -> i64 {
 // The arrays that came back from a job that was given up, or 0.
 pub fn value(effect: &Effect) -> i64 {
     match effect {
-        Effect::Memory { back } => i64::try_from(back.len()).unwrap_or(0),
+        Effect::GivenUp { back } => i64::try_from(back.len()).unwrap_or(0),
         _ => 0,
     }
 }

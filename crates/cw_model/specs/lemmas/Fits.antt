@@ -7,7 +7,7 @@ use Rattle.cw_model.specs.declared.syntax.NameKind.TheVariants as name_kind
 use Rattle.cw_model.specs.Syntax.{Name, Expr, Number, Variable, Element, Length, Negative, Not, Binary, Param}
 use Rattle.cw_model.specs.Syntax.{is_array_kind, is_written_kind, wants_array}
 use Rattle.cw_model.specs.Names.{same_name}
-use Rattle.cw_model.specs.Typing.{Known, is_known, is_fine, is_array, is_writable, is_argument, are_arguments}
+use Rattle.cw_model.specs.Typing.{Known, is_fine, is_array, is_writable, is_argument, are_arguments}
 use Rattle.cw_model.specs.lemmas.Kept.{both_left, both_right}
 
 -- an expression for an integer, and an array alone for an array

@@ -1,7 +1,7 @@
 use Rattle.std.proofs.Common.{◌≡◌, ◌∙◌, sym, subst}
 use Rattle.cw_code.specs.Code.{code_view}
 use Rattle.cw_verify.specs.declared.verified.Verified.{Verified}
-use Rattle.cw_machine.specs.Runs.{RunsAsCode}
+use Rattle.cw_machine.specs.Runs.{GivesAsCode}
 use Rattle.cw_cli.specs.Compiled.{IsCompiled}
 use Rattle.cw_cli.proofs.analysis.run_plain_with.Goals as goal
 
@@ -12,4 +12,4 @@ returns g c = λ bytes runs compiled_given.
     let compiled : IsCompiled bytes (code_view given.code) = subst (λ v. IsCompiled bytes (code_view v.code)) (sym same) compiled_given in
     let shared : c.in_ok-share.share.value ≡ given = c.in_ok-share.ensures ∙ sym c.deref.ensures in
     c.write_values.ensures bytes runs compiled
-    (c.values_of.ensures _ _ _ _ (subst (λ v. RunsAsCode (code_view v.code) c.args.args.now c.args.options.limit c.args.options.burden c.run-ended.result) shared (c.run-ended.ensures.0 c.requires.few)))
+    (subst (λ v. GivesAsCode (code_view v.code) c.args.args.now c.args.options.limit c.args.options.burden c.values-values.result) shared (c.values-values.ensures.0 c.requires.few))

@@ -26,4 +26,6 @@ returns c = record {
   greatest_limit = refl;
   greatest_burden = refl;
   limit_that_is_usual = refl;
+  most_functions_told = refl;
+  functions_told_as_usual = refl;
 }

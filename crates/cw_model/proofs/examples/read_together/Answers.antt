@@ -17,6 +17,7 @@ returns-clause-types c = record {
   given_away_by_a_spawn = (refl, refl);
   cut = (refl, refl);
   looped_over = (refl, refl);
+  looped_over_behind_another = (refl, refl);
   read_alone = (refl, refl);
   assigned = (refl, refl);
   target = (refl, refl);
@@ -48,6 +49,7 @@ returns-clause-frozen c = record {
   call_freezes_nothing = (refl, refl, refl, refl, refl);
   spawn_freezes = (refl, refl, refl);
   spawn_takes_its_target = (refl, refl, refl);
+  first_argument_frozen = (refl, refl, refl);
   second_argument_frozen = (refl, refl, refl);
   second_argument_read = (refl, refl, refl, refl, refl);
   given_away_beside_one_to_be_read = (refl, refl, refl, refl, refl);
@@ -55,6 +57,10 @@ returns-clause-frozen c = record {
   twice_the_first_given_away = (refl, refl, refl);
   twice_the_second_given_away = (refl, refl, refl);
   two_arrays = (refl, refl, refl, refl, refl);
+  second_given_away_read = (refl, refl, refl);
+  second_given_away_read_behind_another = (refl, refl, refl);
+  another_read_twice = (refl, refl, refl, refl, refl);
+  integer_argument_written = (refl, refl, refl, refl, refl);
   sync = (refl, refl, refl, refl, refl);
   sync_in_scope = (refl, refl, refl);
   after_a_cut_of_a_frozen_array = (refl, refl, refl);
@@ -74,7 +80,29 @@ returns-clause-frozen c = record {
   whole_passed_in_its_cut = (refl, refl, refl);
   array_of_a_loop_passed = (refl, refl, refl);
   outer_array_passed = (refl, refl, refl);
+  outer_array_passed_before_an_own = (refl, refl, refl);
+  outer_array_passed_behind_an_own = (refl, refl, refl);
+  outer_integer_passed = (refl, refl, refl, refl, refl);
   own_array_of_a_turn = (refl, refl, refl, refl, refl);
+}
+
+pub returns-clause-thawed : goal.returns-clause-thawed
+unfolding digits serial_answer call
+returns-clause-thawed c = record {
+  by_a_region = (refl, refl, refl, refl, refl);
+  by_a_cut_of_another = (refl, refl, refl, refl, refl);
+  by_a_return = (refl, refl, refl, refl, refl);
+  by_both_branches = (refl, refl, refl, refl, refl);
+  not_by_a_scope = (refl, refl, refl);
+  not_by_a_region = (refl, refl, refl);
+  not_by_a_cut = (refl, refl, refl);
+  not_by_a_loop = (refl, refl, refl);
+  not_by_an_if_that_joins = (refl, refl, refl);
+  not_by_an_if_that_returns = (refl, refl, refl);
+  not_by_one_branch = (refl, refl, refl);
+  not_by_the_other_branch = (refl, refl, refl);
+  not_by_a_while_that_joins = (refl, refl, refl);
+  not_by_a_while_that_returns = (refl, refl, refl);
 }
 
 pub returns-clause-runs : goal.returns-clause-runs

@@ -11,6 +11,9 @@ loop-init g c =
     let y = c.args.yard.now in
     (tt, tt, c.requires, (c.in-Ok.ensures.1 y, begun y c.args.job _ c.new-below.result.items c.new-below.ensures.items c.in-Ok.ensures.0))
 
+pub turn-requires-clause-works : goal.turn-requires-clause-works
+turn-requires-clause-works g c = c.heed.ensures.works c.args.yard.now c.loop.invariant.3.0
+
 pub settle-requires-clause-settles : goal.settle-requires-clause-settles
 settle-requires-clause-settles g c =
     let y = c.args.yard.now in
@@ -19,7 +22,7 @@ settle-requires-clause-settles g c =
       (
         its_job c.loop.post.strand,
         l.0,
-        subst (λ j. IsMeaningOf j c.effect-effect.result) (ap (λ (q : Post). its_job q.strand) c.replace-ended.ensures.value ∙ same_of c.turn.new.self.strand c.loop.post.strand c.in-Ends.ensures.of) c.effect-effect.ensures.means,
+        subst (λ j. IsMeaningOf j c.effect-effect.result) (ap (λ (q : Post). its_job q.strand) c.replace-ended.ensures.value ∙ (same_of c.turn.new.self.strand c.heed.new.self.strand c.in-Ends.ensures.of ∙ same_of c.heed.new.self.strand c.loop.post.strand c.heed.ensures.of)) c.effect-effect.ensures.means,
       ),
     )
 

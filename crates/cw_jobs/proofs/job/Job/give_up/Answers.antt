@@ -10,4 +10,4 @@ pub returns : goal.returns
 unfolding IsMeaningOf
 returns c = λ ok j is.
     let p = c.args.self.parts.value in
-    ∣ subst (λ (q : Parts). MeansIt (code_of p) ok p (effect.Memory q.rest.slices) j) (sym c.into_inner-rest.ensures) (given_up (code_of p) ok p j) ∣₁
+    ∣ subst (λ (q : Parts). MeansIt (code_of p) ok p (effect.GivenUp q.rest.slices) j) (sym c.into_inner-rest.ensures) (given_up (code_of p) ok p j) ∣₁

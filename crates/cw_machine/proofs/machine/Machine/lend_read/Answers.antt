@@ -1,5 +1,5 @@
-use Rattle.std.proofs.Common.{arith, ◌≡◌, ◌-◌, Some, length, subst}
-use Rattle.std.specs.Prelude.{slice_get, slice_index_or}
+use Rattle.std.proofs.Common.{arith, ◌≡◌, ◌-◌, length, subst}
+use Rattle.std.specs.Prelude.{slice_index_or}
 use Rattle.cw_code.specs.declared.code.Loan.{Loan}
 use Rattle.cw_code.specs.declared.code.Loan.TheVariants.{Array}
 use Rattle.cw_machine.proofs.Lending.{ReadUp, none_read, more_read, all_read, sees_up, loan_at}

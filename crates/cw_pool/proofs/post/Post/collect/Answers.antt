@@ -6,7 +6,7 @@ use Rattle.cw_pool.proofs.post.Post.collect.Goals as goal
 pub give-requires-clause-given : goal.give-requires-clause-given
 give-requires-clause-given c =
     let n = newest _ _ _ c.requires.lacks.1 in
-    record { out = n.job; others = n.others; are = n.is; means = c.in-Done.ensures.ticket n.job n.named_is }
+    record { out = n.job; others = n.others; are = n.is; means = c.in-Done.ensures.ticket.0 n.job n.named_is }
 
 pub returns-in-Done-clause-works : goal.returns-in-Done-clause-works
 returns-in-Done-clause-works c =

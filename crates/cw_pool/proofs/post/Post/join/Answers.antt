@@ -42,4 +42,4 @@ collect-requires-clause-lacks c =
     let p = post c.args.self.now.strand c.pop.new.self in
     let l = popped y c.args.self.now c.pop.new.self c.in-Some-Out.field-0 c.requires.works c.in-Some-Out.ensures.items in
     let t : Lacks y p (ticket_job c.in-Some-Out.ticket) = subst (λ k. Lacks y p (kept_job k)) c.in-Some-Out.field-0-is l.0 in
-    subst (λ o. Lacks y p o) (ap ticket_job (sym c.in-Later.ensures.ticket)) t
+    subst (λ o. Lacks y p o) (ap ticket_job (sym c.in-Later.ensures.ticket.0)) t

@@ -8,7 +8,7 @@ use Rattle.cw_sites.proofs.paths.Paths.append_piece.Goals as goal
 
 pub returns-clause-strand_path : goal.returns-clause-strand_path
 returns-clause-strand_path c = λ laid pl q fits.
-    let r : Paths = record { steps = c.args.piece.steps; weight = c.args.piece.weight; start = c.args.piece.start; blocks = c.pop.new.self; limit = c.args.piece.limit; sums = c.args.piece.sums } in
+    let r : Paths = record { steps = c.args.piece.steps; weight = c.args.piece.weight; start = c.args.piece.start; blocks = c.pop.new.self; limit = c.args.piece.limit } in
     let f = c.in-Some.f in
     let e = strand_path_by q c.args.piece r f c.in-Some.ensures.items in
     let t = strand_path q c.args.self.now in

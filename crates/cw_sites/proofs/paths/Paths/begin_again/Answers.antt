@@ -15,7 +15,7 @@ returns-in-Some-clause-strand_path c = λ laid q. let e : c.len-len.result ≡ l
 
 pub returns-in-Some-clause-bounded : goal.returns-in-Some-clause-bounded
 returns-in-Some-clause-bounded c = λ most b.
-    let r : Paths = record { steps = c.args.self.now.steps; weight = c.args.self.now.weight; start = c.args.self.now.start; blocks = c.pop.new.self; limit = c.args.self.now.limit; sums = c.args.self.now.sums } in
+    let r : Paths = record { steps = c.args.self.now.steps; weight = c.args.self.now.weight; start = c.args.self.now.start; blocks = c.pop.new.self; limit = c.args.self.now.limit } in
     let e : c.len-len.result ≡ length c.take_out.new.steps.items = search rules in
     let t = tight_with most c.args.self.now r c.in-Some.f c.in-Some.ensures.items refl refl refl b in
     let o2 = t.laid.order.2 in let ch = t.laid.child in let st = t.laid.start in

@@ -7,11 +7,11 @@ use Rattle.cw_sites.proofs.PathBoundLaws.{tight_with}
 use Rattle.cw_sites.proofs.paths.Paths.end.Goals as goal
 
 pub returns-in_ok-take-in-Some-clause-laid : goal.returns-in_ok-take-in-Some-clause-laid
-returns-in_ok-take-in-Some-clause-laid c = λ laid. let r : Paths = record { steps = c.args.self.now.steps; weight = c.args.self.now.weight; start = c.args.self.now.start; blocks = c.pop.new.self; limit = c.args.self.now.limit; sums = c.args.self.now.sums } in
+returns-in_ok-take-in-Some-clause-laid c = λ laid. let r : Paths = record { steps = c.args.self.now.steps; weight = c.args.self.now.weight; start = c.args.self.now.start; blocks = c.pop.new.self; limit = c.args.self.now.limit } in
     c.in_ok-take-in-Some.ensures.laid (laid_with c.args.self.now r c.in-Some.f c.in-Some.ensures.items refl refl laid)
 
 pub returns-in_ok-take-in-Some-clause-strand_path : goal.returns-in_ok-take-in-Some-clause-strand_path
-returns-in_ok-take-in-Some-clause-strand_path c = λ laid q fits. let r : Paths = record { steps = c.args.self.now.steps; weight = c.args.self.now.weight; start = c.args.self.now.start; blocks = c.pop.new.self; limit = c.args.self.now.limit; sums = c.args.self.now.sums } in
+returns-in_ok-take-in-Some-clause-strand_path c = λ laid q fits. let r : Paths = record { steps = c.args.self.now.steps; weight = c.args.self.now.weight; start = c.args.self.now.start; blocks = c.pop.new.self; limit = c.args.self.now.limit } in
     let k = fits_with q c.args.self.now r c.in-Some.f c.in-Some.ensures.items fits in
     let k0 = k.0 in let k1 = k.1 in
     let small : c.in-Some.f.rest + c.args.self.now.weight < 2 ^ 64 = omega arith in
@@ -21,11 +21,11 @@ returns-in_ok-take-in-Some-clause-strand_path c = λ laid q fits. let r : Paths 
     ∙ sym (ap ends (strand_path_by q c.args.self.now r c.in-Some.f c.in-Some.ensures.items))
 
 pub returns-else-is_longest-clause-laid : goal.returns-else-is_longest-clause-laid
-returns-else-is_longest-clause-laid c = λ laid. let r : Paths = record { steps = c.args.self.now.steps; weight = c.args.self.now.weight; start = c.args.self.now.start; blocks = c.pop.new.self; limit = c.args.self.now.limit; sums = c.args.self.now.sums } in
+returns-else-is_longest-clause-laid c = λ laid. let r : Paths = record { steps = c.args.self.now.steps; weight = c.args.self.now.weight; start = c.args.self.now.start; blocks = c.pop.new.self; limit = c.args.self.now.limit } in
     c.let_go.ensures.laid (laid_with c.args.self.now r c.in-Some.f c.in-Some.ensures.items refl refl laid)
 
 pub returns-else-is_longest-clause-strand_path : goal.returns-else-is_longest-clause-strand_path
-returns-else-is_longest-clause-strand_path c = λ laid q fits. let r : Paths = record { steps = c.args.self.now.steps; weight = c.args.self.now.weight; start = c.args.self.now.start; blocks = c.pop.new.self; limit = c.args.self.now.limit; sums = c.args.self.now.sums } in
+returns-else-is_longest-clause-strand_path c = λ laid q fits. let r : Paths = record { steps = c.args.self.now.steps; weight = c.args.self.now.weight; start = c.args.self.now.start; blocks = c.pop.new.self; limit = c.args.self.now.limit } in
     let k = fits_with q c.args.self.now r c.in-Some.f c.in-Some.ensures.items fits in
     let k0 = k.0 in let k1 = k.1 in
     let small : c.in-Some.f.rest + c.args.self.now.weight < 2 ^ 64 = omega arith in
@@ -35,9 +35,9 @@ returns-else-is_longest-clause-strand_path c = λ laid q fits. let r : Paths = r
     ∙ sym (ap ends (strand_path_by q c.args.self.now r c.in-Some.f c.in-Some.ensures.items))
 
 pub returns-in_ok-take-in-Some-clause-bounded : goal.returns-in_ok-take-in-Some-clause-bounded
-returns-in_ok-take-in-Some-clause-bounded c = λ most b. let r : Paths = record { steps = c.args.self.now.steps; weight = c.args.self.now.weight; start = c.args.self.now.start; blocks = c.pop.new.self; limit = c.args.self.now.limit; sums = c.args.self.now.sums } in
+returns-in_ok-take-in-Some-clause-bounded c = λ most b. let r : Paths = record { steps = c.args.self.now.steps; weight = c.args.self.now.weight; start = c.args.self.now.start; blocks = c.pop.new.self; limit = c.args.self.now.limit } in
     c.in_ok-take-in-Some.ensures.bounded most (tight_with most c.args.self.now r c.in-Some.f c.in-Some.ensures.items refl refl refl b)
 
 pub returns-else-is_longest-clause-bounded : goal.returns-else-is_longest-clause-bounded
-returns-else-is_longest-clause-bounded c = λ most b. let r : Paths = record { steps = c.args.self.now.steps; weight = c.args.self.now.weight; start = c.args.self.now.start; blocks = c.pop.new.self; limit = c.args.self.now.limit; sums = c.args.self.now.sums } in
+returns-else-is_longest-clause-bounded c = λ most b. let r : Paths = record { steps = c.args.self.now.steps; weight = c.args.self.now.weight; start = c.args.self.now.start; blocks = c.pop.new.self; limit = c.args.self.now.limit } in
     c.let_go.ensures.bounded most (tight_with most c.args.self.now r c.in-Some.f c.in-Some.ensures.items refl refl refl b)

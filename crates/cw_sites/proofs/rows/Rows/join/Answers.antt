@@ -1,15 +1,5 @@
-use Rattle.std.proofs.Common.{subst}
-use Rattle.cw_sites.specs.declared.rows.Rows.{Rows}
-use Rattle.cw_sites.specs.SiteRows.{under, AddsEach}
-use Rattle.cw_sites.proofs.RowLaws.{joined_into_ours, joined_into_piece}
+use Rattle.cw_sites.proofs.RowLaws.{rows_joined}
 use Rattle.cw_sites.proofs.rows.Rows.join.Goals as goal
 
-pub returns-then-len : goal.returns-then-len
-returns-then-len c = joined_into_ours c.args.self.now c.args.piece c.add.new.self c.add.ensures
-
-pub returns-else-len : goal.returns-else-len
-returns-else-len c =
-    let new = c.add_under.new.self in
-    let L : Rows → Type 0 = λ longer. AddsEach under longer c.replace-ours.result new in
-    let S : Rows → Type 0 = λ shorter. AddsEach under c.args.piece shorter new in
-    joined_into_piece c.args.self.now c.args.piece new (subst S c.replace-ours.ensures.value (subst L c.replace-ours.ensures.after c.add_under.ensures))
+pub returns : goal.returns
+returns c = rows_joined c.args.self.now c.args.piece c.join_firsts.new.self c.join_further.new.self c.in_ok-join_firsts.ensures c.in_ok-join_further.ensures

@@ -9,7 +9,7 @@ pub returns-clause-told : goal.returns-clause-told
 returns-clause-told c =
     let old = c.args.self.now in
     let new : SiteTable = record { rows = c.join.new.self; paths = c.append.new.self; noted = c.saturating_add-self.result; here = old.here } in
-    table_piece old c.args.piece new c.args.first c.join.ensures c.in_ok-append.ensures.laid c.in_ok-append.ensures.strand_path (λ h. omega arith) refl
+    table_piece old c.args.piece new c.args.first c.in_ok-join.ensures c.in_ok-append.ensures.laid c.in_ok-append.ensures.strand_path (λ h. omega arith) refl
 
 pub returns-clause-bounded : goal.returns-clause-bounded
 returns-clause-bounded c = λ most a b. tight_bounded most _ (record { paths = c.in_ok-append.ensures.bounded (2 * (most_steps most + 1)) most a.paths.sites b.paths; here = b.here })

@@ -2,7 +2,6 @@ use Rattle.std.proofs.Common.{◌≡◌, ◌+◌, refl, sym, ap, ◌∙◌, subs
 use Rattle.cw_jobs.specs.declared.effect.Effect.TheVariants as effect
 use Rattle.cw_jobs.specs.Jobs.{code_of}
 use Rattle.cw_strand.specs.declared.strand.Mode.TheVariants as mode
-use Rattle.cw_strand.specs.declared.strand.Strand.{Strand}
 use Rattle.cw_strand.specs.Holds.{its_code}
 use Rattle.cw_strand.specs.Moves.{home_of}
 use Rattle.cw_strand.specs.Giving.{HasJoined, MayJoin}

@@ -1,4 +1,4 @@
-use Rattle.std.proofs.Common.{◌≡◌, [], refl, sym, ap, ◌∙◌, subst}
+use Rattle.std.proofs.Common.{[], refl, sym, subst}
 use Rattle.cw_jobs.specs.declared.effect.Effect.TheVariants as effect
 use Rattle.cw_strand.specs.Moves.{MayPopHome, HasPoppedHome}
 use Rattle.cw_strand.specs.declared.strand.Mode.TheVariants as mode

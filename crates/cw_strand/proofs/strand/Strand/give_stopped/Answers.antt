@@ -2,7 +2,7 @@ use Rattle.cw_strand.proofs.Same.{newest_of, others_left}
 use Rattle.cw_strand.proofs.Gave.{lost_runs, may_stopped, stopped_runs}
 use Rattle.std.proofs.Common.{◌∙◌, ap, inl, inr}
 use Rattle.cw_strand.specs.Holds.{stops}
-use Rattle.cw_strand.proofs.Losing.{lost_before, waits_not}
+use Rattle.cw_strand.proofs.Losing.{lost_before, memory_fails, waits_not}
 use Rattle.cw_strand.proofs.strand.Strand.give_stopped.Goals as goal
 
 pub pop_home-requires : goal.pop_home-requires
@@ -39,7 +39,7 @@ pub returns-in-Some-clause-back : goal.returns-in-Some-clause-back
 returns-in-Some-clause-back c = λ w. waits_not c.pop_home.new.self.mode (ap stops c.pop_home.ensures.mode ∙ c.requires.stopped) w
 
 pub returns-in-None-clause-lacks : goal.returns-in-None-clause-lacks
-returns-in-None-clause-lacks c = λ _. inr (inl c.in-None.ensures)
+returns-in-None-clause-lacks c = λ _. inr (inl (memory_fails c.args.effect c.in-None.ensures))
 
 pub returns-in-None-clause-back : goal.returns-in-None-clause-back
 returns-in-None-clause-back c = λ w. waits_not c.lose.new.self.mode (ap stops c.lose.ensures.mode) w

@@ -1,5 +1,4 @@
-use Rattle.std.proofs.Common.{◌≡◌, ◌+◌, [], ◌++◌, refl, sym, ap, ◌∙◌, subst}
-use Rattle.cw_jobs.specs.declared.effect.Effect.{Effect}
+use Rattle.std.proofs.Common.{◌+◌, [], ◌++◌, refl, sym, ap, ◌∙◌, subst}
 use Rattle.cw_jobs.specs.declared.effect.Effect.TheVariants as effect
 use Rattle.cw_strand.specs.declared.strand.Mode.TheVariants as mode
 use Rattle.cw_strand.specs.declared.strand.Strand.{Strand}

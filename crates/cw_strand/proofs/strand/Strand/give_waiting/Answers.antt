@@ -1,9 +1,8 @@
 use Rattle.cw_strand.proofs.Same.{newest_of, others_left}
 use Rattle.cw_strand.proofs.Gave.{lost_runs}
 use Rattle.std.proofs.Common.{sym, ap, subst, inl, inr}
-use Rattle.cw_strand.specs.Giving.{IsMemory}
-use Rattle.cw_strand.specs.Holds.{stops, is_lost}
-use Rattle.cw_strand.specs.Losing.{TakesIn}
+use Rattle.cw_strand.specs.Holds.{stops, has_failed}
+use Rattle.cw_strand.specs.Losing.{TakesIn, TellsFailure}
 use Rattle.cw_strand.proofs.Losing.{lacks_not, waits_not}
 use Rattle.cw_strand.proofs.strand.Strand.give_waiting.Goals as goal
 
@@ -24,13 +23,16 @@ pub returns-in-Trapped-clause-lacks : goal.returns-in-Trapped-clause-lacks
 returns-in-Trapped-clause-lacks c = λ l. inr (inr (subst (TakesIn c.args.self.now) (sym c.in-Trapped.is) (c.requires.waiting, c.give_trap.ensures.lacks l)))
 
 pub returns-in-OverLimit-clause-lacks : goal.returns-in-OverLimit-clause-lacks
-returns-in-OverLimit-clause-lacks c = λ l. absurd (lacks_not c.give_over.new.self.mode (ap stops c.give_over.ensures.over) (ap is_lost c.give_over.ensures.over) l)
+returns-in-OverLimit-clause-lacks c = λ l. absurd (lacks_not c.give_over.new.self.mode (ap stops c.give_over.ensures.over) (ap has_failed c.give_over.ensures.over) l)
 
 pub returns-in-OverLimit-clause-back : goal.returns-in-OverLimit-clause-back
 returns-in-OverLimit-clause-back c = λ w. waits_not c.give_over.new.self.mode (ap stops c.give_over.ensures.over) w
 
 pub returns-in-Memory-clause-lacks : goal.returns-in-Memory-clause-lacks
-returns-in-Memory-clause-lacks c = λ _. inr (inl (subst IsMemory (sym c.in-Memory.is) tt))
+returns-in-Memory-clause-lacks c = λ _. inr (inl (subst TellsFailure (sym c.in-Memory.is) tt))
 
 pub returns-in-Memory-clause-back : goal.returns-in-Memory-clause-back
 returns-in-Memory-clause-back c = λ w. waits_not c.lose.new.self.mode (ap stops c.lose.ensures.mode) w
+
+pub returns-in-GivenUp-clause-lacks : goal.returns-in-GivenUp-clause-lacks
+returns-in-GivenUp-clause-lacks c = λ _. inr (inl (subst TellsFailure (sym c.in-GivenUp.is) tt))

@@ -1,12 +1,19 @@
-use Rattle.std.proofs.Common.{refl, inr}
+use Rattle.std.proofs.Common.{refl, ap, inr}
+use Rattle.std.specs.Prelude.{map, reverse}
+use Rattle.cw_strand.proofs.Advanced.{comes_within}
 use Rattle.cw_strand.proofs.Losing.{leaves_going}
 use Rattle.cw_strand.proofs.strand.Strand.next_event.Goals as goal
 
-pub returns-else-has_ended-clause-keeps : goal.returns-else-has_ended-clause-keeps
-returns-else-has_ended-clause-keeps c = (c.requires, refl, c.has_ended.ensures.no c.if-has_ended.false, c.in_default.not-Going)
+pub returns-in-Going-clause-keeps : goal.returns-in-Going-clause-keeps
+returns-in-Going-clause-keeps c =
+    comes_within c.args.most c.within-to.result c.end_of_job-end.result c.run_on-stop.result c.settle.result c.args.self.now c.run_on-stop.new.self c.settle.new.self
+    (ap (λ v. map (λ l. l.job.value) (reverse v.items)) c.run_on-stop.ensures.same.1) c.within-to.ensures.by c.run_on-stop.ensures.comes c.settle.ensures.keeps
 
 pub returns-in-Going-clause-leaves : goal.returns-in-Going-clause-leaves
 returns-in-Going-clause-leaves c = leaves_going c.settle.result c.args.self.now c.settle.new.self c.in-Going.is c.settle.ensures.goes
+
+pub returns-else-has_ended-clause-keeps : goal.returns-else-has_ended-clause-keeps
+returns-else-has_ended-clause-keeps c = (c.requires, refl, c.has_ended.ensures.no c.if-has_ended.false, c.in_default.not-Going)
 
 pub returns-then-has_ended-clause-leaves : goal.returns-then-has_ended-clause-leaves
 returns-then-has_ended-clause-leaves c = inr refl

@@ -1,14 +1,15 @@
-use Rattle.std.proofs.Common.{◌+◌, sym, ap, subst, ◌∙◌}
+use Rattle.std.proofs.Common.{◌+◌, sym, ap, subst, ◌∙◌, arith}
 use Rattle.std.specs.Prelude.{◌-◌, map, reverse}
 use Rattle.cw_strand.specs.Moves.{HasCome}
 use Rattle.cw_strand.proofs.RunsOn.{over_goes}
-use Rattle.cw_strand.proofs.Advanced.{came_within, over_count}
+use Rattle.cw_strand.proofs.Advanced.{over_count}
 use Rattle.cw_strand.proofs.strand.Strand.step_on.Goals as goal
 
 pub settle-requires : goal.settle-requires
 settle-requires c =
     let mid = c.run_on-stop.new.self in record {
-      comes = came_within mid (c.args.self.now.count + 1) c.args.end c.run_on-stop.result c.in_default.not-Over c.run_on-stop.ensures.comes;
+      comes = c.run_on-stop.ensures.comes;
+      within = (let below = c.requires.below in omega (arith, below));
       end = c.requires.end ∙ ap (λ o. (o.value.parts.value).limit - (o.value.parts.value).before) (sym c.run_on-stop.ensures.same.0);
     }
 

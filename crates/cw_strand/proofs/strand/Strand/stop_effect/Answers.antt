@@ -2,8 +2,8 @@ use Rattle.std.proofs.Common.{length, refl, sym, ap, subst, inr}
 use Rattle.cw_jobs.specs.declared.call.Parts.{Parts}
 use Rattle.cw_jobs.specs.declared.effect.Effect.TheVariants as effect
 use Rattle.cw_machine.specs.JobRuns as runs
-use Rattle.cw_strand.specs.Holds.{its_job}
-use Rattle.cw_strand.proofs.Ends.{may_with, gives_with, may_trapped, may_over, trap_means, over_means, memory_means}
+use Rattle.cw_strand.specs.Holds.{its_job, has_failed}
+use Rattle.cw_strand.proofs.Ends.{may_with, gives_with, may_trapped, may_over, may_give_up, trap_means, over_means, up_means, memory_means}
 use Rattle.cw_strand.proofs.Losing.{stopped_lost}
 use Rattle.cw_strand.proofs.strand.Strand.stop_effect.Goals as goal
 
@@ -19,6 +19,12 @@ given_up-requires c =
     let self = c.args.self.now in
     subst (λ (q : Parts). runs.MayGiveUp self.run.machine (length q.rest.slices.items)) (sym c.deref_mut-in-Over.ensures.value)
     (may_over c.calls_on_a_strand_keep_its_job.ensures c.machines_that_stop_remain.ensures.kept self c.requires.running c.requires.none c.in-Over.is)
+
+pub given_up-requires-in-GivenUp : goal.given_up-requires-in-GivenUp
+given_up-requires-in-GivenUp c =
+    let self = c.args.self.now in
+    subst (λ (q : Parts). runs.MayGiveUp self.run.machine (length q.rest.slices.items)) (sym c.deref_mut-in-GivenUp.ensures.value)
+    (may_give_up c.calls_on_a_strand_keep_its_job.ensures c.machines_that_stop_remain.ensures.kept self c.requires.running c.requires.none c.in-GivenUp.is)
 
 pub returns-in-Trapped-clause-means : goal.returns-in-Trapped-clause-means
 returns-in-Trapped-clause-means c =
@@ -40,6 +46,16 @@ returns-in-Over-clause-means c =
     over_means c.calls_on_a_strand_keep_its_job.ensures c.machines_that_stop_remain.ensures.kept self c.requires.running c.requires.none
     (effect.OverLimit c.given_up.result) c.in-Over.is
     (subst (λ (q : Parts). runs.GivesUp self.run.machine (length q.rest.slices.items) c.given_up.result.items) c.deref_mut-in-Over.ensures.value c.given_up.ensures)
+
+pub returns-in-GivenUp-clause-means : goal.returns-in-GivenUp-clause-means
+returns-in-GivenUp-clause-means c =
+    let self = c.args.self.now in
+    up_means c.calls_on_a_strand_keep_its_job.ensures c.machines_that_stop_remain.ensures.kept self c.requires.running c.requires.none
+    (effect.GivenUp c.given_up-in-GivenUp.result) c.in-GivenUp.is
+    (subst (λ (q : Parts). runs.GivesUp self.run.machine (length q.rest.slices.items) c.given_up-in-GivenUp.result.items) c.deref_mut-in-GivenUp.ensures.value c.given_up-in-GivenUp.ensures)
+
+pub returns-in-GivenUp-clause-comes : goal.returns-in-GivenUp-clause-comes
+returns-in-GivenUp-clause-comes c = inr (ap has_failed c.in-GivenUp.is)
 
 pub returns-in_default-clause-means : goal.returns-in_default-clause-means
 returns-in_default-clause-means c = memory_means (its_job c.args.self.now) (effect.Memory c.new-in_default.result) tt

@@ -1,0 +1,35 @@
+"""The program with what belongs to it, in a folder such as ~/.local."""
+import os
+import pathlib
+import shutil
+
+import native
+
+DOCUMENTS = ["docs/GUIDE.md", "docs/LANGUAGE.md", "CHANGELOG.md"]
+
+
+def put(file, to, mode=0o644):
+    """Copies a file, in one step where another one stands there, which may be a program that runs."""
+    to.parent.mkdir(parents=True, exist_ok=True)
+    made = to.with_name(to.name + ".new")
+    shutil.copyfile(file, made)
+    os.chmod(made, mode)
+    os.replace(made, to)
+
+
+def installed(program, prefix):
+    """Copies the program, its page of the manual, its completions, documents and examples; gives the files by what they are."""
+    prefix = pathlib.Path(prefix).expanduser().absolute()
+    put(program, prefix / "bin/cilkwork", 0o755)
+    for file in sorted((native.TOP / "share").rglob("*")):
+        if file.is_file():
+            put(file, prefix / "share" / file.relative_to(native.TOP / "share"))
+    place = prefix / "share/doc/cilkwork"
+    for name in DOCUMENTS:
+        put(native.TOP / name, place / pathlib.Path(name).name)
+    # here documents and examples lie beside one another
+    guide = place / "GUIDE.md"
+    guide.write_text(guide.read_text().replace("](../examples", "](examples"))
+    for file in sorted((native.TOP / "examples").iterdir()):
+        put(file, place / "examples" / file.name)
+    return prefix

@@ -1,0 +1,4 @@
+pub mod FreedRuns
+pub mod PathLaws
+pub mod Runs
+pub mod Moves

@@ -1,0 +1,3 @@
+pub mod FreedRuns
+pub mod Paths
+pub mod Freeing

@@ -1,0 +1,4 @@
+pub mod Bounds
+pub mod Sums
+pub mod Ranks
+pub mod FreeSites

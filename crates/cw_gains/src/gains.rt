@@ -1,0 +1,146 @@
+//! The spans of a run if the instructions of functions were free.
+
+ghost use Rattle.std.specs.Prelude.{◌≡◌, IfErr, IfOk, map};
+ghost use Rattle.cw_code.specs.Code.{code_view, site_view};
+ghost use Rattle.cw_gains.specs.Free.{AreFreeOf, IsFreeOf, OnlyMemory, frees_from};
+ghost use Rattle.cw_gains.specs.Gains.{GainsAsCode};
+ghost use Rattle.cw_machine.specs.Runs.{Runs, RunsAsCode};
+
+use crate::counts::{Counted, Head, ranked};
+use cw_code::code::Code;
+use cw_machine::alone::Ended;
+use cw_machine::freed::freed_alone;
+use cw_meter::Readings;
+use cw_model::burden::Burden;
+use cw_text::Fault;
+use cw_verify::verified::Verified;
+use std::alloc::{AllocError, Global};
+use std::sync::Arc;
+
+/// A function, and what the spans of the run would be if its instructions were free.
+#[derive(Debug, Drop)]
+pub struct FunctionGain {
+    /// The function, with its invocations and their instructions.
+    pub counted: Counted,
+    /// The span of the run, in instructions.
+    pub span_if_free: u64,
+    /// Its burdened span, in instructions.
+    pub burdened_if_free: u128,
+}
+
+/// What functions of a run would bring.
+#[derive(Debug, Drop)]
+pub struct Gains {
+    /// Work, span and burdened span of the run as it is, in instructions.
+    pub measure: Readings,
+    /// The functions with the most instructions on the chosen path, the greatest first, of equal ones by place.
+    pub functions: Vec<FunctionGain>,
+}
+
+/// What functions of a run would bring, at most `top` of them: of a run of this code on these arguments within `n`
+/// instructions that was done, and answered this. Each function that is told costs a further run.
+///
+/// The error is that of the run, or `Memory` where memory runs out.
+pub fn gains_of_run(
+    alloc: Global,
+    code: Arc<Verified>,
+    heads: &[Head],
+    args: &[i64],
+    n: u64,
+    burden: Burden,
+    top: usize,
+    ended: Result<Ended, Fault>,
+) -> Result<Gains, Fault>
+    ensures { RunsAsCode (code_view code.value.code) args.now n burden ended
+        → GainsAsCode (code_view code.value.code) heads.now args.now n burden top result }
+{
+    match ended {
+        Ok(ended) => {
+            let gains = gains_of_ended(alloc, &code, heads, args, n, burden, top, &ended)?;
+            Ok(gains)
+        }
+        Err(fault) => Err(fault),
+    }
+}
+
+// The same of a run that ended.
+fn gains_of_ended(
+    alloc: Global,
+    code: &Arc<Verified>,
+    heads: &[Head],
+    args: &[i64],
+    n: u64,
+    burden: Burden,
+    top: usize,
+    ended: &Ended,
+) -> Result<Gains, Fault>
+    ensures { Runs (code_view code.now.value.code) args.now n burden ended.now
+        → GainsAsCode (code_view code.now.value.code) heads.now args.now n burden top result }
+{
+    let mut counted = ranked(alloc, heads, &code.code, ended.sites.values().as_slice())?;
+    counted.truncate(top);
+    let functions = freed(alloc, code, args, n, burden, counted.as_slice())?;
+    Ok(Gains {
+        measure: ended.measure,
+        functions,
+    })
+}
+
+// Functions with the spans of the run if each were free.
+fn freed(
+    alloc: Global,
+    code: &Arc<Verified>,
+    args: &[i64],
+    n: u64,
+    burden: Burden,
+    all: &[Counted],
+) -> Result<Vec<FunctionGain>, Fault>
+    ensures ok { IfOk result (λ gains. AreFreeOf (code_view code.now.value.code) args.now n burden all.now gains.items) }
+    ensures why { IfErr result (OnlyMemory (code_view code.now.value.code) args.now n burden) }
+{
+    let mut gains = Vec::new(alloc);
+    for counted in all {
+        let gain = gain_of(alloc, code, args, n, burden, counted)?;
+        gains.push(gain)?;
+    }
+    Ok(gains)
+}
+
+// A function with the spans of the run if it were free.
+fn gain_of(
+    alloc: Global,
+    code: &Arc<Verified>,
+    args: &[i64],
+    n: u64,
+    burden: Burden,
+    counted: &Counted,
+) -> Result<FunctionGain, Fault>
+    ensures ok { IfOk result (IsFreeOf (code_view code.now.value.code) args.now n burden counted.now) }
+    ensures why { IfErr result (OnlyMemory (code_view code.now.value.code) args.now n burden) }
+{
+    let name = counted.name.share(alloc)?;
+    let frees = frees_of(alloc, &code.code, name.as_bytes())?;
+    let share = Arc::try_clone(code)?;
+    let free = freed_alone(alloc, share, args, n, burden, frees)?;
+    Ok(FunctionGain {
+        counted: Counted {
+            name,
+            line: counted.line,
+            sums: counted.sums,
+        },
+        span_if_free: free.span,
+        burdened_if_free: free.burdened,
+    })
+}
+
+// For each site, by its number, whether it calls a function of this name.
+fn frees_of(alloc: Global, code: &Code, name: &[u8]) -> Result<Vec<bool>, AllocError>
+    ensures { IfOk result (λ frees. frees.items ≡ frees_from name.now (map site_view code.now.sites.items)) }
+{
+    let mut frees = Vec::with_capacity(alloc, code.sites.len() + 1)?;
+    frees.push(name == b"main".as_slice())?;
+    for site in &code.sites {
+        frees.push(name == site.callee.as_bytes())?;
+    }
+    Ok(frees)
+}

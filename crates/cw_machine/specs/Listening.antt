@@ -1,0 +1,133 @@
+-- What a listener keeps of a run: whoever is told of each instruction that begins, ends or joins a part of it.
+use Rattle.std.specs.Prelude.{◌≡◌, ◌<◌, ℕ, ◌+◌, ℤ, Bool, false, List, [], ◌∷◌, Option, Some}
+use Rattle.cw_model.specs.declared.limits.TheConstants.{MOST_LIMIT}
+use Rattle.cw_model.specs.Frames.{no_frame}
+use Rattle.cw_model.specs.declared.total.Total.{Total}
+use Rattle.cw_model.specs.Trees.{Mark, Invocation, Marked, Event, tree_of, normal}
+use Rattle.cw_model.specs.Outcome.{Trace, Done, Trapped}
+use Rattle.cw_model.specs.Answers.{Ended}
+use Rattle.cw_measure.specs.OpenParts.{Open, closed}
+use Rattle.cw_meter.specs.Meters.{ticked, synced, begun}
+use Rattle.cw_recorded.specs.Recording.{IsOpen}
+use Rattle.cw_code.specs.Code.{Code, code_view}
+use Rattle.cw_code.specs.Run.{State, Transition, step, steps, code_serial}
+use Rattle.cw_jobs.specs.Totals.{HoldsTotals}
+use Rattle.cw_metered.specs.Opens.{whole}
+use Rattle.cw_verify.specs.declared.op.Op.{Op}
+use Rattle.cw_verify.specs.declared.verified.Verified.{Verified}
+use Rattle.cw_machine.specs.declared.machine.Machine.{Machine}
+use Rattle.cw_machine.specs.declared.machine.Moved.{Moved}
+use Rattle.cw_machine.specs.declared.machine.Moved.TheVariants as moved
+use Rattle.cw_machine.specs.Arrays.{IsFit, Ok, alone}
+use Rattle.cw_machine.specs.Shows.{Shows, MayGo, Follows}
+use Rattle.cw_machine.specs.Telling.{opens_round, After, Tells}
+
+-- what is kept of a run so far, of so many instructions: the parts that are open, and the events of the innermost one
+abbrev pub Keeping : Type 0 → Type 1
+Keeping W = ℕ → List Open → List Event → W → Type 0
+
+-- what is kept goes from one run so far to another, by an instruction
+abbrev pub Goes : {W : Type 0} → Keeping W → (old new : W) → (count : ℕ) → (os os' : List Open) → (es es' : List Event)
+    → Type 0
+Goes keeps old new count os os' es es' =
+    count < MOST_LIMIT → IsOpen os → keeps count os es old → keeps (count + 1) os' es' new
+
+-- a part begins, a block joins and ends, a call does, a block joins, or an instruction does none of these
+abbrev pub Begins : {W : Type 0} → Keeping W → (old new : W) → (count : ℕ) → (spawned : Bool) → Option Mark → Type 0
+Begins keeps old new count spawned mark =
+    (os : List Open) (es : List Event) → Goes keeps old new count os (begun spawned mark es os) es []
+
+abbrev pub EndsBlock : {W : Type 0} → Keeping W → (old new : W) → (count : ℕ) → Type 0
+EndsBlock keeps old new count =
+    (o : Open) (os : List Open) (es : List Event) → o.spawned ≡ false
+    → Goes keeps old new count (o ∷ os) os es (ticked (closed o es))
+
+abbrev pub EndsCall : {W : Type 0} → Keeping W → (old new : W) → (count : ℕ) → Type 0
+EndsCall keeps old new count =
+    (o : Open) (os : List Open) (es : List Event) → Goes keeps old new count (o ∷ os) os es (closed o (synced es))
+
+abbrev pub Joins : {W : Type 0} → Keeping W → (old new : W) → (count : ℕ) → Type 0
+Joins keeps old new count = (os : List Open) (es : List Event) → Goes keeps old new count os os es (synced es)
+
+abbrev pub NeedsNoCall : {W : Type 0} → Keeping W → Type 0
+NeedsNoCall {W = W} keeps =
+    (w : W) (count : ℕ) (os : List Open) (es : List Event) → Goes keeps w w count os os es (ticked es)
+
+-- a listener was told of this instruction, after so many: whatever parts are open, it keeps the run up to where the
+-- instruction leads
+abbrev pub IsToldOf : {W : Type 0} → Keeping W → (old new : W) → (count : ℕ) → Op → Type 0
+IsToldOf keeps old new count o =
+    (code : Code) (os : List Open) (es : List Event) → count < MOST_LIMIT → IsOpen os → keeps count os es old
+    → Tells (λ os es. keeps (count + 1) os es new) code o os es
+
+-- a listener keeps the run up to where a move leads; nothing is said of it where memory was refused
+abbrev pub KeepsMove : {W : Type 0} → Keeping W → (count : ℕ) → Moved → W → Transition → Type 0
+KeepsMove keeps count moved.NoMemory w went = Unit {0}
+KeepsMove keeps count _ w went = After (λ os es. keeps count os es w) went
+
+-- a machine holds this state after so many instructions, and the listener beside it keeps the run up to it
+pub record ShowsKept {W : Type 0} (keeps : Keeping W) (v : Verified) (ok : Ok v) (count : ℕ) (m : Machine) (w : W)
+    (s : State) : Type 0 where
+  pub shows : Shows v ok m s
+  pub kept : keeps count (opens_round s.around) s.trace.events w
+
+-- the machine went where the code goes, which was the last of so many instructions
+pub record FollowsKept {W : Type 0} (keeps : Keeping W) (v : Verified) (ok : Ok v) (count : ℕ) (to : Moved)
+    (m : Machine) (w : W) (went : Transition) : Type 0 where
+  pub follows : Follows v ok to m went
+  pub kept : KeepsMove keeps count to w went
+
+-- from each state that it may hold after so many instructions, the machine went where the code goes
+abbrev pub DoesKept : {W : Type 0} → Keeping W → Verified → (m : Machine) → W → (count : ℕ) → Moved → (m' : Machine) → W
+    → Type 0
+DoesKept keeps v m w count to m' w' =
+    (ok : Ok v) (s : State) → count < MOST_LIMIT → ShowsKept keeps v ok count m w s → MayGo v ok m s
+    → FollowsKept keeps v ok (count + 1) to m' w' (step (code_view v.code) s)
+
+-- a run came to its end after so many instructions, with what the code has shown
+pub record CameTo {W : Type 0} (keeps : Keeping W) (v : Verified) (count : ℕ) (m : Machine) (w : W) (t : Trace)
+    : Type 0 where
+  pub lines : m.lines.items ≡ t.lines
+  pub totals : HoldsTotals (code_view v.code) m.totals.items t.updates
+  pub kept : keeps count [] (whole t) w
+
+-- all of so many instructions are done, and the machine holds the state that they lead to; or the run ended before
+abbrev pub Reaches : {W : Type 0} → Keeping W → (v : Verified) → Ok v → (count : ℕ) → Moved → Machine → W → (n : ℕ)
+    → State → Type 0
+Reaches keeps v ok count moved.On m w n s =
+    (s' : State) × ShowsKept keeps v ok count m w s'
+    × ((k : ℕ) → steps (code_view v.code) (n + k) s ≡ steps (code_view v.code) k s')
+Reaches keeps v ok count (moved.Gave x) m w n s =
+    (left : ℕ) × (t : Trace) × (steps (code_view v.code) n s ≡ Some (Done (x, no_frame) left t))
+    × CameTo keeps v count m w t
+Reaches keeps v ok count (moved.Trapped c l) m w n s =
+    steps (code_view v.code) n s ≡ Some (Trapped c l m.lines.items)
+Reaches keeps v ok count moved.NoMemory m w n s = Unit {0}
+
+-- a run from main on holds some state, after so many instructions
+pub record IsUnderWay {W : Type 0} (keeps : Keeping W) (v : Verified) (count : ℕ) (m : Machine) (w : W) : Type 0 where
+  pub verified : IsFit v
+  pub state : State
+  pub shows : ShowsKept keeps v (alone v verified) count m w state
+
+-- whatever is asked of it
+pub record IsGoing {A W : Type 0} (keeps : A → Keeping W) (v : Verified) (count : ℕ) (m : Machine) (w : W) : Type 0 where
+  pub asked : A
+  pub under_way : IsUnderWay (keeps asked) v count m w
+
+-- a run did at most so many instructions, from each state that it may hold before its first one, and counted those it
+-- did
+abbrev pub ReachesAny : {W : Type 0} → Keeping W → Verified → (m : Machine) → W → (n count : ℕ) → Moved
+    → (m' : Machine) → W → Type 0
+ReachesAny keeps v m w n count to m' w' =
+    (is : IsFit v) (s : State) → ShowsKept keeps v (alone v is) 0 m w s → Reaches keeps v (alone v is) count to m' w' n s
+
+-- a run ends, after so many instructions, with what a listener keeps of its events
+pub record EndsRun {W : Type 0} (keeps : Keeping W) (code : Code) (args : List ℤ) (n count : ℕ) (w : W) : Type 0 where
+  pub value : ℤ
+  pub lines : List ℤ
+  pub totals : List Total
+  pub trace : Trace
+  pub answer : code_serial code args n
+      ≡ Some (Ended value lines totals (normal (Marked (Invocation 0) (tree_of trace.events))))
+  pub kept : keeps count [] (whole trace) w

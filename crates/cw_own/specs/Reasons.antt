@@ -1,0 +1,324 @@
+-- Which rule of ownership is broken, by slots: the first one of each statement, for which names; and where in a function.
+use Rattle.std.specs.Prelude.{ℕ, nat_le, Bool, true, false, not, ◌&&◌, ◌||◌, if◌then◌else◌, List, [], ◌∷◌, ◌++◌}
+use Rattle.std.specs.Prelude.{Option, Some, None, option_map, flat_map, Contains}
+use Rattle.std.specs.Option.{option_or}
+use Rattle.cw_model.specs.Ownership.{Closing, Joins, Leaves}
+use Rattle.cw_tree.specs.Resolved.{Use, Listed, Expr, Number, Variable, Element, Length, Negative, Not, Binary, Argument}
+use Rattle.cw_tree.specs.Resolved.{Int, Array, Shared, Stmt, Declare, DeclareArray, Assign, AssignElement, Reduce, Call}
+use Rattle.cw_tree.specs.Resolved.{Sync, If, IfElse, While, For, Scope, Cut, Region, Print, Return, Head, Parts, Block}
+use Rattle.cw_tree.specs.Resolved.{End, Then, Function, Resolved}
+use Rattle.cw_own.specs.declared.reason.Touch.{Touch}
+use Rattle.cw_own.specs.declared.reason.Touch.TheVariants as touch
+use Rattle.cw_own.specs.declared.reason.Holder.{Holder}
+use Rattle.cw_own.specs.declared.reason.Holder.TheVariants as holder
+use Rattle.cw_own.specs.Sets.{Slots, no_slot, with_slot, Row, no_local, with_int}
+use Rattle.cw_own.specs.Taken.{Taken, nothing, int_taken, inside, inside_cut, with_parts, known_after, taken_after}
+use Rattle.cw_own.specs.Taken.{taken_after_all, with_params}
+use Rattle.cw_own.specs.Rules.{Loop, with_uses, is_variable, given_away, at_end, seen_by}
+
+-- a rule that is broken, with the names that it is broken for, and the line of the head of the loop around
+pub data Reason : Type 0 where
+  -- a name is touched while something holds it
+  Held : Use → Touch → Holder → Reason
+  -- a name of a block is still held as the block ends
+  EndsHeld : Use → Holder → Reason
+  -- a call is given one array twice, or one that it reads besides
+  GivenTwice : Use → (callee : Listed) → Reason
+  GivenAndRead : Use → (callee : Listed) → Reason
+  -- a loop is over one array twice
+  OverTwice : Use → Reason
+  -- a loop's body writes an integer from outside, or names an array from outside that is none of the loop's, or one
+  -- that is, in another way than at the loop's variable
+  OuterWritten : Use → (head : ℕ) → Reason
+  OuterArray : Use → (head : ℕ) → Reason
+  OtherElement : Use → (variable : Use) → (head : ℕ) → Reason
+
+-- a turn of a loop in which something is done: the locals from outside its body and its variable, that variable, the
+-- arrays of the loop, which the head of a further loop may not name, and the line of the loop's head
+pub record Turn : Type 0 where
+  pub outer : Row
+  pub variable : Use
+  pub over : Slots
+  pub in_head : Bool
+  pub head : ℕ
+
+-- the arrays of the loop that may be named there
+abbrev pub named : Turn → Slots
+named t = if t.in_head then no_slot else t.over
+
+-- the loop, as the rules have it
+abbrev pub loop_around : Turn → Loop
+loop_around t = record { outer = t.outer; variable = t.variable.slot; over = named t }
+
+-- the head of a further loop
+abbrev pub head_in : Turn → Turn
+head_in t =
+    record { outer = t.outer; variable = t.variable; over = t.over; in_head = true; head = t.head }
+
+-- a turn of the loop of this head, which is of this line, where these locals are known before it
+abbrev pub turn_in : (line : ℕ) → Head → Row → Turn
+turn_in line head known = record {
+  outer = with_int head.variable.slot known;
+  variable = head.variable;
+  over = with_uses head.over no_slot;
+  in_head = false;
+  head = line;
+}
+
+-- what took an integer
+abbrev pub int_holder : Taken → ℕ → Option Holder
+int_holder taken slot = if int_taken taken slot then Some holder.Result else None
+
+-- what took an array
+abbrev pub array_taker : Taken → ℕ → Option Holder
+array_taker taken slot =
+    if taken.outer.arrays slot || taken.here.arrays slot then Some holder.Argument
+    else (if taken.cuts slot then Some holder.Cut else None)
+
+-- what only reads an array
+abbrev pub array_reader : Taken → ℕ → Option Holder
+array_reader taken slot = if taken.outer.frozen slot || taken.here.frozen slot then Some holder.Reader else None
+
+-- what holds an array
+abbrev pub array_holder : Taken → ℕ → Option Holder
+array_holder taken slot = option_or (array_taker taken slot) (array_reader taken slot)
+
+-- a name is touched while this holds it
+abbrev pub held_by : Use → Touch → Option Holder → Option Reason
+held_by u how None = None
+held_by u how (Some h) = Some (Held u how h)
+
+-- an array from outside the loop is named in another way than it may be
+abbrev pub outside : Turn → Use → Reason
+outside t u = if t.over u.slot then OtherElement u t.variable t.head else OuterArray u t.head
+
+-- an array is indexed: one from outside may be where the loop is over it, by the loop's variable
+abbrev pub why_index : Option Turn → Use → Expr → Option Reason
+why_index None u e = None
+why_index (Some t) u e =
+    if (named t u.slot && is_variable t.variable.slot e) || not (t.outer.arrays u.slot) then None
+    else Some (outside t u)
+
+-- an array from outside the loop is named as a whole
+abbrev pub why_outer_array : Option Turn → Use → Option Reason
+why_outer_array None u = None
+why_outer_array (Some t) u = if t.outer.arrays u.slot then Some (outside t u) else None
+
+-- an integer from outside the loop is written
+abbrev pub why_outer_int : Option Turn → Use → Option Reason
+why_outer_int None u = None
+why_outer_int (Some t) u = if t.outer.ints u.slot then Some (OuterWritten u t.head) else None
+
+-- an integer is touched while it is taken
+abbrev pub why_int : Taken → Touch → Use → Option Reason
+why_int taken how u = held_by u how (int_holder taken u.slot)
+
+-- an array is read while it is taken
+abbrev pub why_taken : Taken → Use → Option Reason
+why_taken taken u = held_by u touch.Read (array_taker taken u.slot)
+
+-- an array is read as a whole
+abbrev pub why_lend : Option Turn → Taken → Use → Option Reason
+why_lend around taken u = option_or (why_taken taken u) (why_outer_array around u)
+
+-- an expression is read
+abbrev pub why_read : Option Turn → Taken → Expr → Option Reason
+why_read around taken (Number n) = None
+why_read around taken (Variable u) = why_int taken touch.Read u
+why_read around taken (Element u e) =
+    option_or (option_or (why_taken taken u) (why_read around taken e)) (why_index around u e)
+why_read around taken (Length u) = why_lend around taken u
+why_read around taken (Negative e) = why_read around taken e
+why_read around taken (Not e) = why_read around taken e
+why_read around taken (Binary operator d e) = option_or (why_read around taken d) (why_read around taken e)
+
+-- an integer is written
+abbrev pub why_write : Option Turn → Taken → Use → Option Reason
+why_write around taken u = option_or (why_int taken touch.Written u) (why_outer_int around u)
+
+-- an array is given away, cut or named in over
+abbrev pub why_whole : Option Turn → Taken → Touch → Use → Option Reason
+why_whole around taken how u =
+    option_or (held_by u how (array_holder taken u.slot)) (why_outer_array around u)
+
+-- the integer that a result goes to is written, if there is one
+abbrev pub why_target : Option Turn → Taken → Option Use → Option Reason
+why_target around taken None = None
+why_target around taken (Some u) = why_write around taken u
+
+-- an argument is read, given away or lent
+abbrev pub why_argument : Option Turn → Taken → Argument → Option Reason
+why_argument around taken (Int e) = why_read around taken e
+why_argument around taken (Array u) = why_whole around taken touch.Passed u
+why_argument around taken (Shared u) = why_lend around taken u
+
+-- the first of these arguments that may not be
+abbrev pub why_arguments : Option Turn → Taken → List Argument → Option Reason
+why_arguments around taken [] = None
+why_arguments around taken (e ∷ es) = option_or (why_argument around taken e) (why_arguments around taken es)
+
+-- something is returned, if anything is
+abbrev pub why_return : Option Turn → Taken → Option Expr → Option Reason
+why_return around taken None = None
+why_return around taken (Some e) = why_read around taken e
+
+-- this function is given an array twice, or one of these
+abbrev pub why_twice : (callee : Listed) → Slots → List Argument → Option Reason
+why_twice f seen [] = None
+why_twice f seen (Int e ∷ es) = why_twice f seen es
+why_twice f seen (Array u ∷ es) =
+    if seen u.slot then Some (GivenTwice u f) else why_twice f (with_slot u.slot seen) es
+why_twice f seen (Shared u ∷ es) = why_twice f seen es
+
+-- it reads one of these arrays, which it is given
+abbrev pub why_read_too : (callee : Listed) → (given : Slots) → List Argument → Option Reason
+why_read_too f given [] = None
+why_read_too f given (Int e ∷ es) = why_read_too f given es
+why_read_too f given (Array u ∷ es) = why_read_too f given es
+why_read_too f given (Shared u ∷ es) = if given u.slot then Some (GivenAndRead u f) else why_read_too f given es
+
+-- a call
+abbrev pub why_call : Option Turn → Taken → Option Use → (callee : Listed) → List Argument → Option Reason
+why_call around taken target f es =
+    option_or
+    (option_or (option_or (why_arguments around taken es) (why_target around taken target)) (why_twice f no_slot es))
+    (why_read_too f (given_away es no_slot) es)
+
+-- a loop is over an array twice, or over one of these
+abbrev pub why_over_twice : Slots → List Use → Option Reason
+why_over_twice seen [] = None
+why_over_twice seen (u ∷ us) =
+    if seen u.slot then Some (OverTwice u) else why_over_twice (with_slot u.slot seen) us
+
+-- the first of these arrays that may not be named in over
+abbrev pub why_over : Option Turn → Taken → List Use → Option Reason
+why_over around taken [] = None
+why_over around taken (u ∷ us) =
+    option_or (why_whole around taken touch.NamedInOver u) (why_over around taken us)
+
+-- the head of a loop, where these are the loops around
+abbrev pub why_in_head : Option Turn → Taken → Head → Option Reason
+why_in_head inner taken head =
+    option_or
+    (option_or (option_or (why_read inner taken head.from) (why_read inner taken head.to))
+    (why_over inner taken head.over))
+    (why_over_twice no_slot head.over)
+
+-- the head of a loop
+abbrev pub why_head : Option Turn → Taken → Head → Option Reason
+why_head around taken head = why_in_head (option_map head_in around) taken head
+
+-- a cut
+abbrev pub why_cut : Option Turn → Taken → Parts → Option Reason
+why_cut around taken parts =
+    option_or (why_read around taken parts.at) (why_whole around taken touch.Cut parts.array)
+
+-- an element is written
+abbrev pub why_element : Option Turn → Taken → Use → (index value : Expr) → Option Reason
+why_element around taken u i e =
+    option_or
+    (option_or (option_or (why_read around taken i) (why_read around taken e))
+    (held_by u touch.Written (array_holder taken u.slot)))
+    (why_index around u i)
+
+-- the first rule that a statement breaks, but for what stands in its blocks
+abbrev pub why : Option Turn → Taken → Stmt → Option Reason
+why around taken (Declare u e) = why_read around taken e
+why around taken (DeclareArray u e) = why_read around taken e
+why around taken (Assign u e) = option_or (why_read around taken e) (why_write around taken u)
+why around taken (AssignElement u i e) = why_element around taken u i e
+why around taken (Reduce how s e) = why_read around taken e
+why around taken (Call kind site target f es) = why_call around taken target f es
+why around taken Sync = None
+why around taken (If e b) = why_read around taken e
+why around taken (IfElse e b c) = why_read around taken e
+why around taken (While e b) = why_read around taken e
+why around taken (For head b) = why_head around taken head
+why around taken (Scope b) = None
+why around taken (Cut parts b) = why_cut around taken parts
+why around taken (Region tag b) = None
+why around taken (Print e) = why_read around taken e
+why around taken (Return e) = why_return around taken e
+
+-- a line with the rule that it breaks, if it breaks one
+abbrev pub reasons_at : (line : ℕ) → Option Reason → List (ℕ × Reason)
+reasons_at line None = []
+reasons_at line (Some r) = (line, r) ∷ []
+
+-- a name ends while this holds it
+abbrev pub ends_by : Use → Option Holder → Option Reason
+ends_by u None = None
+ends_by u (Some h) = Some (EndsHeld u h)
+
+-- the name that a statement declares is held as its block ends
+abbrev pub why_left : Taken → Stmt → Option Reason
+why_left taken (Declare u e) = ends_by u (int_holder taken u.slot)
+why_left taken (DeclareArray u e) = ends_by u (array_holder taken u.slot)
+why_left taken _ = None
+
+-- the lines of the declarations of a block whose names are held as it ends
+abbrev pub left_reasons : Taken → Block → List (ℕ × Reason)
+left_reasons taken End = []
+left_reasons taken (Then line s b) = reasons_at line (why_left taken s) ++ left_reasons taken b
+
+-- the same of a block in which so much is known and held at first
+abbrev pub ending_reasons : Closing → (known : Row) → Taken → Block → List (ℕ × Reason)
+ending_reasons closing known taken b = left_reasons (at_end closing (taken_after_all known b taken)) b
+
+abbrev mutual
+  -- the lines in the blocks of a statement of a line that break a rule, each with the first rule that it breaks there,
+  -- where so much is known and so much is held
+  pub reasons_within : Option Turn → (known : Row) → Taken → (line : ℕ) → Stmt → List (ℕ × Reason)
+  reasons_within around known taken line (If e b) =
+      reasons_in around known taken b ++ ending_reasons Leaves known taken b
+  reasons_within around known taken line (IfElse e b c) =
+      (reasons_in around known taken b ++ ending_reasons Leaves known taken b)
+      ++ (reasons_in around known taken c ++ ending_reasons Leaves known taken c)
+  reasons_within around known taken line (While e b) =
+      reasons_in around known taken b ++ ending_reasons Leaves known taken b
+  reasons_within around known taken line (For head b) =
+      reasons_in (Some (turn_in line head known)) (with_int head.variable.slot known) (inside taken) b
+      ++ ending_reasons Joins (with_int head.variable.slot known) (inside taken) b
+  reasons_within around known taken line (Scope b) =
+      reasons_in around known (inside taken) b ++ ending_reasons Joins known (inside taken) b
+  reasons_within around known taken line (Cut parts b) =
+      reasons_in around (with_parts parts known) (inside_cut parts.array.slot taken) b
+      ++ ending_reasons Joins (with_parts parts known) (inside_cut parts.array.slot taken) b
+  reasons_within around known taken line (Region tag b) =
+      reasons_in around known (inside taken) b ++ ending_reasons Joins known (inside taken) b
+  reasons_within around known taken line _ = []
+
+  -- the same of the statements of a block, its blocks included
+  pub reasons_in : Option Turn → (known : Row) → Taken → Block → List (ℕ × Reason)
+  reasons_in around known taken End = []
+  reasons_in around known taken (Then line s b) =
+      (reasons_at line (why around (seen_by known taken s) s)
+      ++ reasons_within around known (seen_by known taken s) line s)
+      ++ reasons_in around (known_after known s) (taken_after known s taken) b
+
+-- the same of a block, also of its declarations whose names are held as it ends
+abbrev pub block_reasons : Option Turn → (known : Row) → Taken → Closing → Block → List (ℕ × Reason)
+block_reasons around known taken closing b =
+    reasons_in around known taken b ++ ending_reasons closing known taken b
+
+-- the same of a function
+abbrev pub function_reasons : Function → List (ℕ × Reason)
+function_reasons f = block_reasons None (with_params 0 0 f.params no_local) nothing Joins f.body
+
+-- the same of a program
+abbrev pub ownership_reasons : Resolved → List (ℕ × Reason)
+ownership_reasons tree = flat_map function_reasons tree.functions
+
+-- the line breaks this rule
+abbrev pub IsDisowned : Resolved → (line : ℕ) → Reason → Type 0
+IsDisowned tree line r = Contains (ownership_reasons tree) (line, r)
+
+-- the earlier of the first line so far and a line; of one line the rule that was found first
+abbrev pub earlier : Option (ℕ × Reason) → (ℕ × Reason) → Option (ℕ × Reason)
+earlier None new = Some new
+earlier (Some first) new = Some (if nat_le first.0 new.0 then first else new)
+
+-- the first of all lines, after the first so far
+abbrev pub first_of : Option (ℕ × Reason) → List (ℕ × Reason) → Option (ℕ × Reason)
+first_of first [] = first
+first_of first (r ∷ rs) = first_of (earlier first r) rs

@@ -1,0 +1,2 @@
+-- Lemmas that proofs of the crates above cite.
+pub mod Places

@@ -1,0 +1,112 @@
+//! What a run by a crew answers.
+
+ghost use Rattle.std.specs.Prelude.{◌≡◌, ℕ, ℤ, List, true, false};
+ghost use Rattle.cw_code.specs.Code.{Code, code_view};
+ghost use Rattle.cw_model.specs.declared.burden.Burden as burdens;
+ghost use Rattle.cw_machine.specs.Answering.{IsAnswerOf};
+ghost use Rattle.cw_machine.specs.Runs.{GivesAsCode, RunsAsCode};
+ghost use Rattle.cw_pool.specs.Crews.{IsEffectOf, IsKnown};
+
+use cw_jobs::effect::Effect;
+use cw_machine::alone::{Ended, run_alone};
+use cw_machine::answering::answer;
+use cw_machine::values::{Values, values_alone};
+use cw_model::burden::Burden;
+use cw_text::Fault;
+use cw_verify::verified::Verified;
+use std::alloc::Global;
+use std::sync::Arc;
+
+/// What a run came to.
+#[derive(Drop)]
+pub(crate) struct Outcome {
+    /// The code that was run.
+    pub(crate) code: Arc<Verified>,
+    /// The effect of its root.
+    pub(crate) effect: Effect,
+    /// Whether it was given up.
+    pub(crate) is_given_up: bool,
+}
+
+impl Outcome {
+    // Whether the effect tells the answer: where the run was not given up, or had come to its end before.
+    fn is_known(&self) -> bool
+        ensures yes { result ≡ true → IsKnown self.now }
+        ensures no { result ≡ false → IsKnown self.now → ⊥ }
+    {
+        if !self.is_given_up {
+            return true;
+        }
+        match self.effect {
+            Effect::Memory { back: _ } => false,
+            Effect::GivenUp { back: _ } => false,
+            _ => true,
+        }
+    }
+}
+
+/// What the effect of the root tells, where it tells the answer; else what one worker answers.
+pub(crate) fn ended_by(
+    alloc: Global,
+    outcome: Outcome,
+    args: &[i64],
+    n: u64,
+    burden: Burden,
+) -> Result<Ended, Fault>
+    requires { IsEffectOf outcome.code.value args.now n burden outcome.effect }
+    ensures as_code { RunsAsCode (code_view outcome.code.value.code) args.now n burden result }
+    ensures tells { IsKnown outcome → IsAnswerOf outcome.effect result }
+{
+    let is_known = outcome.is_known();
+    let Outcome {
+        code,
+        effect,
+        is_given_up: _,
+    } = outcome;
+    if is_known {
+        let ended = answer(alloc, &code, effect)?;
+        return Ok(ended);
+    }
+    let ended = run_alone(alloc, code, args, n, burden)?;
+    Ok(ended)
+}
+
+// The values of a run of which all was counted.
+fn values_of(ended: Result<Ended, Fault>) -> Result<Values, Fault>
+    ensures { (code : Code) (args : List ℤ) (n : ℕ) (burden : burdens.Burden) → RunsAsCode code args n burden ended
+        → GivesAsCode code args n burden result }
+{
+    match ended {
+        Ok(ended) => Ok(Values {
+            value: ended.value,
+            lines: ended.lines,
+            totals: ended.totals,
+        }),
+        Err(fault) => Err(fault),
+    }
+}
+
+/// The same of the values alone.
+pub(crate) fn values_by(
+    alloc: Global,
+    outcome: Outcome,
+    args: &[i64],
+    n: u64,
+    burden: Burden,
+) -> Result<Values, Fault>
+    requires { IsEffectOf outcome.code.value args.now n burden outcome.effect }
+    ensures { GivesAsCode (code_view outcome.code.value.code) args.now n burden result }
+{
+    let is_known = outcome.is_known();
+    let Outcome {
+        code,
+        effect,
+        is_given_up: _,
+    } = outcome;
+    if is_known {
+        let values = values_of(answer(alloc, &code, effect))?;
+        return Ok(values);
+    }
+    let values = values_alone(alloc, code, args, n, burden)?;
+    Ok(values)
+}
