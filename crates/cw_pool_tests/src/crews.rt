@@ -353,23 +353,26 @@ fn each_rest_that_reads_is_run_by_the_other(rt: HostRuntime) -> Result<(), Fail>
     Ok(())
 }
 
-// Whether a crew of so many bodies, each held at random, answers this, and was held at all.
-pub fn answers_held<R: Threads + Wait + Copy + Send + Drop + 'static>(
+// How often a crew of so many bodies, each held at random, was held, if it answers this.
+pub fn held_of_same<R: Threads + Wait + Copy + Send + Drop + 'static>(
     rt: R,
     alloc: Global,
     run: &Run,
     bodies: usize,
     seed: u64,
     wanted: &Result<Ended, Fault>,
-) -> Result<bool, Fault> {
+) -> Result<Option<u64>, Fault> {
     let crew = serving(alloc, rt, bodies)?;
     let gate = Arc::new(alloc, Stumbling::new(seed))?;
     let told = Arc::try_clone(&gate)?;
     let got = together(rt, alloc, run, crew, gate)?;
-    Ok(is_same(&got, wanted) && told.held() > 0)
+    if is_same(&got, wanted) {
+        return Ok(Some(told.held()));
+    }
+    Ok(None)
 }
 
-// Whether 2, 4 and 8 workers, each held at random, answer what one worker does.
+// Whether 2, 4 and 8 workers, each held at random, answer what one worker does, and each crew was held at all.
 fn all_answer_held<R: Threads + Wait + Copy + Send + Drop + 'static>(
     rt: R,
     alloc: Global,
@@ -378,7 +381,8 @@ fn all_answer_held<R: Threads + Wait + Copy + Send + Drop + 'static>(
 ) -> Result<bool, Fault> {
     let wanted = alone(alloc, run)?;
     for bodies in [1usize, 3, 7] {
-        if !answers_held(rt, alloc, run, bodies, seed, &wanted)? {
+        let held = held_of_same(rt, alloc, run, bodies, seed, &wanted)?;
+        if held.unwrap_or(0) == 0 {
             return Ok(false);
         }
     }

@@ -1,7 +1,7 @@
 //! Runs by crews that are given up: what one worker answers, in the time of one worker.
 
 use crate::crews::{
-    Run, SEEDS, alone, answers, answers_held, fault_of, is_same, run_held, together,
+    Run, SEEDS, alone, answers, fault_of, held_of_same, is_same, run_held, together,
 };
 use crate::gates::{Robbed, serving};
 use crate::programs::{
@@ -101,7 +101,8 @@ static ROWS: &[Row] = &[
     },
 ];
 
-// Whether crews of 2, 4, 16 and 64 workers answer what one does, which fails so: serving freely, and held at random.
+// Whether crews of 2, 4, 16 and 64 workers answer what one does, which fails so: serving freely, and held at random, where
+// their run is not over before that.
 fn fails_with_all<R: Threads + Wait + Copy + Send + Drop + 'static>(
     rt: R,
     alloc: Global,
@@ -115,7 +116,7 @@ fn fails_with_all<R: Threads + Wait + Copy + Send + Drop + 'static>(
         if !answers(rt, alloc, &row.run, bodies, &wanted)? {
             return Ok(false);
         }
-        if !answers_held(rt, alloc, &row.run, bodies, SEEDS[0], &wanted)? {
+        if held_of_same(rt, alloc, &row.run, bodies, SEEDS[0], &wanted)?.is_none() {
             return Ok(false);
         }
     }

@@ -14,6 +14,7 @@ use cw_jobs::job::Job;
 use cw_machine::alone::{Ended, run_alone};
 use cw_model::burden::{Burden, Edges};
 use cw_model::total::Total;
+use cw_slices::Slice;
 use cw_text::Fault;
 use cw_verify::verified::Verified;
 use std::alloc::Global;
@@ -165,11 +166,16 @@ fn holds_within_limits(alloc: Global, row: &Row) -> Result<bool, Fault> {
     Ok(all)
 }
 
-// Whether an effect says that memory was wanting, or that the run was given up.
+// Whether none of these is an array.
+fn are_empty(slices: &[Slice]) -> bool {
+    slices.iter().all(|slice| slice.len() == 0)
+}
+
+// Whether an effect says that memory was wanting, or that the run was given up, where no slot of main has an array yet.
 fn is_broken(effect: &Effect, is_given_up: bool) -> bool {
     match effect {
         Effect::Memory { back: _ } => !is_given_up,
-        Effect::GivenUp { back } => is_given_up && back.is_empty(),
+        Effect::GivenUp { back } => is_given_up && are_empty(back),
         _ => false,
     }
 }
