@@ -20,7 +20,8 @@ use Rattle.cw_meter.specs.Whole.{AreReadings, AreSiteRows, AreRegionRows}
 use Rattle.cw_code.specs.Code.{Code, told_sites}
 use Rattle.cw_machine.specs.declared.alone.Ended as run
 use Rattle.cw_machine.specs.Runs.{tags_in}
-use Rattle.cw_report.specs.Texts.{tag_lines, scale_report, counts_of, row_line, row_lines, root_at, sites_of}
+use Rattle.cw_gains.specs.Gains.{root_at}
+use Rattle.cw_report.specs.Texts.{tag_lines, scale_report, counts_of, row_line, row_lines, sites_of}
 
 -- ---- tags
 
