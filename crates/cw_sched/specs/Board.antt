@@ -47,21 +47,31 @@ or_none (Some xs) = xs
 abbrev pub of_worker : {A : Type 0} → List (List A) → ℕ → List A
 of_worker lists w = or_none (slice_get lists w)
 
-abbrev pub with_list : Board → ℕ → List ℕ → Board
-with_list board w list = record { lists = slice_set board.lists w list; states = board.states }
+-- the lists of all workers, after one was laid at the back of w's, and after the newest or the oldest has left it
+abbrev pub laid : {A : Type 0} → List (List A) → (w : ℕ) → A → List (List A)
+laid lists w x = slice_set lists w (pushed (of_worker lists w) x)
+
+abbrev pub without_newest : {A : Type 0} → List (List A) → (w : ℕ) → List (List A)
+without_newest lists w = slice_set lists w (but_newest (of_worker lists w))
+
+abbrev pub without_oldest : {A : Type 0} → List (List A) → (w : ℕ) → List (List A)
+without_oldest lists w = slice_set lists w (but_oldest (of_worker lists w))
+
+abbrev pub with_lists : Board → List (List ℕ) → Board
+with_lists board lists = record { lists = lists; states = board.states }
 
 abbrev pub with_state : Board → ℕ → State → Board
 with_state board n state = record { lists = board.lists; states = slice_set board.states n state }
 
 -- one function for each of the five events that touch the board
 abbrev pub offer : (worker n : ℕ) → Board → Board
-offer w n board = with_state (with_list board w (pushed (of_worker board.lists w) n)) n Out
+offer w n board = with_state (with_lists board (laid board.lists w n)) n Out
 
 abbrev pub retake : (worker n : ℕ) → Board → Board
-retake w n board = with_state (with_list board w (but_newest (of_worker board.lists w))) n Retaken
+retake w n board = with_state (with_lists board (without_newest board.lists w)) n Retaken
 
 abbrev pub steal : (victim : ℕ) → Board → Board
-steal v board = with_list board v (but_oldest (of_worker board.lists v))
+steal v board = with_lists board (without_oldest board.lists v)
 
 abbrev pub settle : (n : ℕ) → Board → Board
 settle n board = with_state board n Settled

@@ -21,6 +21,30 @@ pub data Event : Type 0 where
   Settle : (w : ℕ) → Event
   Collect : (w : ℕ) → Event
 
+-- what the table asks of a world: of each worker whether it is there, has begun a strand and not settled it, and has a
+-- job in its deque; and of its newest strand whether it has not ended, is at a spawn to decide, is at a join, could
+-- take its newest job out back, could be given its effect, or was stolen and has ended
+pub record Sight : Type 0 where
+  pub is_there : ℕ → Bool
+  pub has_strand : ℕ → Bool
+  pub has_offer : ℕ → Bool
+  pub goes : ℕ → Bool
+  pub is_at_spawn : ℕ → Bool
+  pub is_at_join : ℕ → Bool
+  pub can_retake : ℕ → Bool
+  pub can_collect : ℕ → Bool
+  pub can_settle : ℕ → Bool
+
+-- THE TABLE OF EVENTS, by what is seen of a world
+abbrev pub possible : Sight → Event → Bool
+possible s (Run w) = s.goes w && not (s.is_at_spawn w) && not (s.is_at_join w)
+possible s (Offer w) = s.is_at_spawn w
+possible s (Inline w) = s.is_at_spawn w
+possible s (Retake w) = s.is_at_join w && s.can_retake w
+possible s (Steal w v) = s.is_there w && (not (s.has_strand w) || s.is_at_join w) && s.has_offer v
+possible s (Settle w) = s.can_settle w
+possible s (Collect w) = s.is_at_join w && s.can_collect w
+
 -- the jobs by number, each in its place; for each worker the jobs whose strands it has begun and not settled, the
 -- newest first; and the board
 pub record Sched : Type 0 where
@@ -117,18 +141,21 @@ is_at_spawn s w t = is_undecided w (place_of s (newest_out t))
 abbrev pub can_retake : Sched → ℕ → Option ℕ → Bool
 can_retake s w n = is_kept_by w (place_of s n) || is_same n (newest (of_worker s.board.lists w))
 
--- the table
+abbrev pub sight : Sched → Sight
+sight s = record {
+  is_there = λ w. is_some (slice_get s.begun w);
+  has_strand = λ w. has_strand (top s w);
+  has_offer = λ w. is_some (oldest (of_worker s.board.lists w));
+  goes = λ w. has_strand (top s w) && not (has_ended (top s w));
+  is_at_spawn = λ w. is_at_spawn s w (top s w);
+  is_at_join = λ w. is_at_join (top s w);
+  can_retake = λ w. can_retake s w (newest_out (top s w));
+  can_collect = λ w. is_settled (place_of s (newest_out (top s w)));
+  can_settle = λ w. has_ended (top s w) && is_stolen s (top s w);
+}
+
 abbrev pub is_possible : Sched → Event → Bool
-is_possible s (Run w) =
-    has_strand (top s w) && not (has_ended (top s w)) && not (is_at_spawn s w (top s w)) && not (is_at_join (top s w))
-is_possible s (Offer w) = is_at_spawn s w (top s w)
-is_possible s (Inline w) = is_at_spawn s w (top s w)
-is_possible s (Retake w) = is_at_join (top s w) && can_retake s w (newest_out (top s w))
-is_possible s (Steal w v) =
-    is_some (slice_get s.begun w) && (not (has_strand (top s w)) || is_at_join (top s w))
-    && is_some (oldest (of_worker s.board.lists v))
-is_possible s (Settle w) = has_ended (top s w) && is_stolen s (top s w)
-is_possible s (Collect w) = is_at_join (top s w) && is_settled (place_of s (newest_out (top s w)))
+is_possible s event = possible (sight s) event
 
 -- the effect of a strand that has come to its end
 abbrev pub effect_of : Code → Job → Strand → Option Effect

@@ -1,20 +1,134 @@
 -- A strand has gone on by one instruction.
-use Rattle.std.proofs.Common.{◌≡◌, ◌+◌, ◌<◌, ℕ, ◌∷◌, sym, ap, subst, ◌∙◌}
+use Rattle.std.proofs.Common.{◌≡◌, ◌≢◌, ◌+◌, ◌<◌, ℕ, ℤ, Option, ◌∷◌, refl, sym, ap, subst, ◌∙◌, inl, arith}
 use native.Mathlib.Nat.{ℕ_set}
 use Rattle.std.proofs.Math.Logic.{∥∥₁_elim}
 use Rattle.cw_machine.specs.declared.run.Stop.{Stop}
 use Rattle.cw_machine.specs.declared.run.Stop.TheVariants as stop
+use Rattle.cw_jobs.specs.declared.effect.Effect.{Effect}
+use Rattle.cw_jobs.specs.declared.effect.Effect.TheVariants as effect
+use Rattle.cw_jobs.specs.Means.{IsMeaningOf}
 use Rattle.cw_strand.specs.declared.strand.Strand.{Strand}
+use Rattle.cw_strand.specs.declared.strand.Advance.{Advance}
+use Rattle.cw_strand.specs.declared.strand.Advance.TheVariants as advance
+use Rattle.cw_strand.specs.declared.strand.End.{End}
+use Rattle.cw_strand.specs.declared.strand.End.TheVariants as end
 use Rattle.cw_strand.specs.declared.strand.Event.{Event}
 use Rattle.cw_strand.specs.declared.strand.Event.TheVariants as event
-use Rattle.cw_strand.specs.Holds.{outs, IsRunning}
-use Rattle.cw_strand.specs.Moves.{HasCome, ComesOr, ComesWithin}
-use Rattle.cw_strand.proofs.RunsOn.{sound_of, over_goes}
+use Rattle.cw_strand.specs.declared.strand.Step.TheVariants as step
+use Rattle.cw_strand.specs.Holds.{outs, IsGoing, IsRunning}
+use Rattle.cw_strand.specs.Losing.{ComesFrom, LeavesBy}
+use Rattle.cw_strand.specs.Moves.{HasCome, ComesOr, ComesWithin, AdvancesBy, DoesOne, EndsAfter, EndsAt, EndsCall, EndsStill, IsBefore, LeadsTo, RunsOn}
+use Rattle.cw_strand.proofs.Losing.{comes_from}
+use Rattle.cw_strand.proofs.RunsOn.{sound_of, join_goes, over_goes}
 
 -- a run that stopped for its limit has done as many instructions
 pub over_count : (self : Strand) (limit : ℕ) → HasCome self limit stop.Over → self.count ≡ limit
 over_count self limit h =
     ∥∥₁_elim (sound_of self) (ℕ_set _ _) (λ s. ∥∥₁_elim (h.comes s.ok s.job s.is) (ℕ_set _ _) (λ c. c.at.1))
+
+-- from before an instruction, with room for one, it was done
+stirs : (old new : Strand) (to : Stop) → RunsOn old new (old.count + 1) to → IsBefore old → HasCome new (old.count + 1) to → new.count ≡ old.count → ⊥
+stirs old new (stop.Spawned spawn) ran before came same = ran.still same
+stirs old new stop.CameBack ran before came same = ran.still same
+stirs old new stop.Joined ran before came same = ran.before before same refl
+stirs old new (stop.Gave x) ran before came same = ran.still same
+stirs old new (stop.Trapped c l) ran before came same = ran.still same
+stirs old new stop.Over ran before came same = let far = over_count new (old.count + 1) came in omega (arith, far, same)
+stirs old new stop.NoMemory ran before came same = ran.still same
+
+pub one_done : (old new : Strand) (to : Stop) → RunsOn old new (old.count + 1) to → IsBefore old → HasCome new (old.count + 1) to → new.count ≡ old.count + 1
+one_done old new to ran before came =
+    let stirred : new.count ≢ old.count = stirs old new to ran before came in
+    let from = ran.from in
+    let within = ran.within in
+    omega (arith, stirred, from, within)
+
+pub stays : (old new : Strand) (to : Stop) → RunsOn old new old.count to → new.count ≡ old.count
+stays old new to ran = let from = ran.from in let within = ran.within in omega (arith, from, within)
+
+-- with room for none, and not at the join, it stopped for its limit
+pub over_of : (old new : Strand) (to : Stop) → RunsOn old new old.count to → to ≢ stop.Joined → to ≡ stop.Over
+over_of old new (stop.Spawned spawn) ran not = absurd (ran.still (stays old new (stop.Spawned spawn) ran))
+over_of old new stop.CameBack ran not = absurd (ran.still (stays old new stop.CameBack ran))
+over_of old new stop.Joined ran not = absurd (not refl)
+over_of old new (stop.Gave x) ran not = absurd (ran.still (stays old new (stop.Gave x) ran))
+over_of old new (stop.Trapped c l) ran not = absurd (ran.still (stays old new (stop.Trapped c l) ran))
+over_of old new stop.Over ran not = refl
+over_of old new stop.NoMemory ran not = absurd (ran.still (stays old new stop.NoMemory ran))
+
+-- an effect that is not that of a whole call
+pub still_counts : (e : Effect) (n : ℕ) → EndsStill e n → EndsAfter e n
+still_counts (effect.Ended value shown) n h = absurd h
+still_counts (effect.Joined frame replaced shown) n h = h
+still_counts (effect.Trapped trap line lines cost back) n h = h
+still_counts (effect.OverLimit back) n h = h
+still_counts (effect.Memory back) n h = h
+still_counts (effect.GivenUp back) n h = h
+
+-- and one that is
+call_counts : (e : Effect) (n m : ℕ) → n ≡ m + 1 → EndsCall e n → EndsAfter e m
+call_counts (effect.Ended value shown) n m same h = h ∙ same
+call_counts (effect.Joined frame replaced shown) n m same h = absurd h
+call_counts (effect.Trapped trap line lines cost back) n m same h = absurd h
+call_counts (effect.OverLimit back) n m same h = absurd h
+call_counts (effect.Memory back) n m same h = absurd h
+call_counts (effect.GivenUp back) n m same h = absurd h
+
+call_does : (e : Effect) (n : ℕ) → EndsCall e n → DoesOne (advance.Came (step.Ended e))
+call_does (effect.Ended value shown) n h = tt
+call_does (effect.Joined frame replaced shown) n h = absurd h
+call_does (effect.Trapped trap line lines cost back) n h = absurd h
+call_does (effect.OverLimit back) n h = absurd h
+call_does (effect.Memory back) n h = absurd h
+call_does (effect.GivenUp back) n h = absurd h
+
+call_comes : (e : Effect) (n : ℕ) (self : Strand) → EndsCall e n → IsGoing self → ComesFrom e self
+call_comes (effect.Ended value shown) n self h going = going
+call_comes (effect.Joined frame replaced shown) n self h going = absurd h
+call_comes (effect.Trapped trap line lines cost back) n self h going = absurd h
+call_comes (effect.OverLimit back) n self h going = absurd h
+call_comes (effect.Memory back) n self h going = absurd h
+call_comes (effect.GivenUp back) n self h going = absurd h
+
+-- at any end but that of its call a strand goes on to its effect by no other one
+pub end_goes : (e : End) (self : Strand) → EndsAt e self → ((value : Option ℤ) (limit : ℕ) → e ≢ end.Gave value limit) → IsRunning self
+end_goes end.Stopped self h not = h.0
+end_goes (end.Joined limit) self h not = join_goes self limit h
+end_goes (end.Gave value limit) self h not = absurd (not value limit refl)
+
+-- an instruction led to an end
+pub led_on : (a : Advance) (old mid new : Strand) → mid.of ≡ old.of → outs mid ≡ outs old → mid.count ≡ old.count + 1 → IsGoing old → LeadsTo a mid new → AdvancesBy a old new × LeavesBy a old new × DoesOne a
+led_on advance.Ran old mid new of same one going h = ((h.0, h.1 ∙ same, h.2 ∙ one), going, tt)
+led_on (advance.Came (step.Spawned job)) old mid new of same one going h = absurd h
+led_on (advance.Came step.AtSync) old mid new of same one going h = absurd h
+led_on (advance.Came (step.Ended e)) old mid new of same one going h = (
+  (
+    (subst (λ o. IsMeaningOf o.value e) of h.0.0, sym same ∙ h.0.1),
+    call_counts e mid.count old.count one h.1,
+  ),
+  call_comes e mid.count old h.1 going,
+  call_does e mid.count h.1,
+)
+
+-- an advance of a strand that was as far, told of how it was before
+pub advances_from : (a : Advance) (old mid new : Strand) → mid.of ≡ old.of → outs mid ≡ outs old → mid.count ≡ old.count → AdvancesBy a mid new → AdvancesBy a old new
+advances_from advance.Ran old mid new of same still h = (h.0, h.1 ∙ same, h.2 ∙ ap (λ n. n + 1) still)
+advances_from (advance.Came (step.Spawned job)) old mid new of same still h = ((h.0.0, h.0.1 ∙ ap (λ l. job ∷ l) same), h.1 ∙ ap (λ n. n + 1) still)
+advances_from (advance.Came step.AtSync) old mid new of same still h = ((h.0.0, h.0.1 ∙ same, λ none. h.0.2 (same ∙ none), h.0.3), h.1 ∙ still)
+advances_from (advance.Came (step.Ended e)) old mid new of same still h = (
+  (subst (λ o. IsMeaningOf o.value e) of h.0.0, sym same ∙ h.0.1),
+  subst (EndsAfter e) still h.1,
+)
+
+pub leaves_from : (a : Advance) (old mid new : Strand) → IsGoing old → LeavesBy a mid new → LeavesBy a old new
+leaves_from advance.Ran old mid new going h = going
+leaves_from (advance.Came (step.Spawned job)) old mid new going h = h
+leaves_from (advance.Came step.AtSync) old mid new going h = inl going
+leaves_from (advance.Came (step.Ended e)) old mid new going h = comes_from e old mid (inl going) h
+
+-- what a strand that went on behind an instruction came to, beside its end
+pub came_on : (reason : Type 0) (old mid new : Strand) → outs mid ≡ outs old → mid.count ≡ old.count + 1 → new.count ≡ mid.count → ComesOr reason event.AtSync mid new → AdvancesBy advance.Ran old new
+came_on reason old mid new same one still h = (h.0, h.1 ∙ same, still ∙ one)
 
 -- what came of a strand that went on up to there
 pub comes_within : (most to end : ℕ) (s : Stop) (e : Event) (old mid new : Strand) → outs mid ≡ outs old → (to < end → to ≡ old.count + most) → HasCome mid to s → ComesOr ((to < end) × (s ≡ stop.Over)) e mid new → ComesWithin most e old new

@@ -89,7 +89,7 @@ module _ (self : Strand) (is : IsFit (its_code self)) (j : jobs.Job) (g : Ground
     may = may_run s h.outs h.lends h.frozen;
   }
 
-done_later : (v : Verified) (ok : _) (k : _) (limit : ℕ) (to : Stop) (done : ℕ) (r : Run) (later : ℕ) (s : State) → StopsAt v ok k limit to done r later s → later ≤ done
+pub done_later : (v : Verified) (ok : _) (k : _) (limit : ℕ) (to : Stop) (done : ℕ) (r : Run) (later : ℕ) (s : State) → StopsAt v ok k limit to done r later s → later ≤ done
 done_later v ok k limit (stop.Spawned spawn) done r later s h = let e = h.0 in omega (arith, e)
 done_later v ok k limit stop.CameBack done r later s h = let e = h.0 in omega (arith, e)
 done_later v ok k limit stop.Joined done r later s h = let e = h.0 in omega (arith, e)

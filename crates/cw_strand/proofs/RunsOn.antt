@@ -1,29 +1,31 @@
 -- A strand that runs goes on to a stop.
-use Rattle.std.proofs.Common.{◌≡◌, ◌≢◌, ℕ, ◌-◌, ◌≤◌, true, List, [], ◌∷◌, refl, sym, ◌∙◌, subst, arith}
+use Rattle.std.proofs.Common.{◌≡◌, ◌≢◌, ℕ, ◌-◌, ◌≤◌, true, false, List, [], ◌∷◌, refl, sym, ap, ◌∙◌, subst, arith}
 use Rattle.std.specs.Prelude.{map, reverse}
+use Rattle.std.specs.Coded.{le_prop}
 use Rattle.std.proofs.Math.Logic.{∥∥₁_elim, ∥∥₁_map}
 use mathlib.Core.HLevel.{⊥_prop}
 use Rattle.cw_code.specs.Code.{Code, code_view}
 use Rattle.cw_code.specs.Run.{State}
 use Rattle.cw_strands.specs.Jobs as jobs
-use Rattle.cw_strands.specs.Jobs.{Extent}
+use Rattle.cw_strands.specs.Jobs.{has_come, Extent}
 use Rattle.cw_strands.specs.Strands as strands
 use Rattle.cw_strands.specs.Strands.{Going, Waits, Halted}
 use Rattle.cw_strands.specs.Promises.{IsStrandOf}
 use Rattle.cw_strands.specs.Steps.{CallsKeep}
-use Rattle.cw_jobs.specs.Jobs.{IsSound}
+use Rattle.cw_jobs.specs.declared.call.Extent.TheVariants as extent
+use Rattle.cw_jobs.specs.Jobs.{extent_of, IsSound}
 use Rattle.cw_machine.specs.declared.run.Run.{Run}
 use Rattle.cw_machine.specs.declared.run.Stop.{Stop}
 use Rattle.cw_machine.specs.declared.run.Stop.TheVariants as stop
 use Rattle.cw_machine.specs.Arrays.{Out, IsFit}
-use Rattle.cw_machine.specs.Stretches.{Stretch, Here, Further, StopsAt, IsUnderWay, GoesOn}
+use Rattle.cw_machine.specs.Stretches.{Stretch, Here, Further, MayRun, ShowsRun, StopsAt, IsUnderWay, GoesOn}
 use Rattle.cw_strand.specs.declared.strand.Lent.{Lent}
 use Rattle.cw_strand.specs.declared.strand.Mode.TheVariants as mode
 use Rattle.cw_strand.specs.declared.strand.Strand.{Strand}
 use Rattle.cw_strand.specs.Levels.{Level, levels_of}
 use Rattle.cw_strand.specs.Holds.{its_job, its_parts, its_code, outs, Ground, setting_of, ok_with, Lends, rests_at, Runs, Waited, HeldIn, Holds, IsRunning, IsWaiting, IsAtSync}
-use Rattle.cw_strand.specs.Moves.{HasCome, IsStill}
-use Rattle.cw_strand.proofs.Onward.{may_run, under_way, came_to}
+use Rattle.cw_strand.specs.Moves.{CameTo, HasCome, IsBefore, IsStill, RunsOn}
+use Rattle.cw_strand.proofs.Onward.{done_later, may_run, under_way, came_to}
 use Rattle.cw_strand.proofs.Halts.{came_back}
 
 -- the job of a strand is one of the definitions, by code that fits
@@ -145,30 +147,103 @@ decided (stop.Trapped c l) h = ∥∥₁_elim h ⊥_prop (λ x. x)
 decided stop.Over h = tt
 decided stop.NoMemory h = ∥∥₁_elim h ⊥_prop (λ x. x)
 
-pub run_still : (self : Strand) (r : Run) (done limit : ℕ) (to : Stop) → IsRunning self → self.mode ≡ mode.Going → GoesOn (its_code self) self.run self.count limit true to done r → done ≤ limit → limit ≡ self.count → IsStill to
-run_still self r done limit to h e goes le same = decided to (∥∥₁_elim (sound_of self) (hlevel) (λ s. ∥∥₁_map (h.holds s.ok s.job s.is) (λ d.
-    let at = going_of self s.ok s.job e d in
-    let came = goes (ok_with d.ground at.runs.outs) (setting_of d.ground) at.state refl at.runs.shows (may_run self s.ok s.job d.ground at.state at.runs.outs at.runs.lends at.runs.frozen) in
-    let low = stretch_low (setting_of d.ground).extent (code_view (its_code self).code) self.count came.0 at.state came.1 came.2 in
-    still_at (its_code self) (ok_with d.ground at.runs.outs) (setting_of d.ground) limit to done r came.0 came.1 came.3 (omega (arith, low, le, same)))))
+-- nor does one that stopped where it stood
+stretch_here : (x : Extent) (code : Code) (count later : ℕ) (s s1 : State) → Stretch x code true count s later s1 → later ≤ count → s1 ≡ s
+stretch_here x code count _ s _ (Here _ _) le = refl
+stretch_here x code count _ s _ (Further _ later _ s1 s2 before p) le = let low = stretch_low x code count later s s1 before in absurd (omega (arith, low, le))
 
--- where it may do no more it goes on from there
-pub over_goes : (self : Strand) (limit : ℕ) → HasCome self limit stop.Over → IsRunning self
-over_goes self limit h = record {
+never : true ≡ false → ⊥
+never e = cc
+
+module _ (self : Strand) (r : Run) (done limit : ℕ) (to : Stop) (h : IsRunning self) (e : self.mode ≡ mode.Going) (goes : GoesOn (its_code self) self.run self.count limit true to done r) where
+  low : self.count ≤ done
+  low = ∥∥₁_elim (sound_of self) le_prop (λ s. ∥∥₁_elim (h.holds s.ok s.job s.is) le_prop (λ d.
+      let at = going_of self s.ok s.job e d in
+      let ok = ok_with d.ground at.runs.outs in
+      let came = goes ok (setting_of d.ground) at.state refl at.runs.shows (may_run self s.ok s.job d.ground at.state at.runs.outs at.runs.lends at.runs.frozen) in
+      let far = stretch_low (setting_of d.ground).extent (code_view (its_code self).code) self.count came.0 at.state came.1 came.2 in
+      let near = done_later (its_code self) ok (setting_of d.ground) limit to done r came.0 came.1 came.3 in
+      omega (arith, far, near)))
+
+  still : done ≡ self.count → IsStill to
+  still same = decided to (∥∥₁_elim (sound_of self) (hlevel) (λ s. ∥∥₁_map (h.holds s.ok s.job s.is) (λ d.
+      let at = going_of self s.ok s.job e d in
+      let came = goes (ok_with d.ground at.runs.outs) (setting_of d.ground) at.state refl at.runs.shows (may_run self s.ok s.job d.ground at.state at.runs.outs at.runs.lends at.runs.frozen) in
+      let far = stretch_low (setting_of d.ground).extent (code_view (its_code self).code) self.count came.0 at.state came.1 came.2 in
+      still_at (its_code self) (ok_with d.ground at.runs.outs) (setting_of d.ground) limit to done r came.0 came.1 came.3 (omega (arith, far, same)))))
+
+  before : IsBefore self → done ≡ self.count → to ≢ stop.Joined
+  before b same is = ∥∥₁_elim (sound_of self) ⊥_prop (λ s. ∥∥₁_elim (b.comes s.ok s.job s.is) ⊥_prop (λ c.
+      let v = its_code self in
+      let ok = ok_with c.ground c.outs in
+      let k = setting_of c.ground in
+      let came = goes ok k c.state refl c.at.2.shows c.at.2.may in
+      let at = subst (λ t. StopsAt v ok k limit t done r came.0 came.1) is came.3 in
+      let same_at = at.0 in
+      let here = stretch_here k.extent (code_view v.code) self.count came.0 c.state came.1 came.2 (omega (arith, same, same_at)) in
+      never (sym at.1.come ∙ ap (λ z. has_come k.extent (code_view v.code) z) here ∙ c.at.2.before)))
+
+  -- so far it ran
+  pub run_ran : done ≤ limit → RunsOn self (record self { run = r; count = done }) limit to
+  run_ran le = record { from = low; within = le; still = still; before = before }
+
+-- one that stopped without an instruction goes on from there
+goes_from : (self : Strand) (limit : ℕ) (to : Stop) → HasCome self limit to
+    → ((is : IsFit (its_code self)) (j : jobs.Job) (c : CameTo self limit to is j)
+    → (self.count ≡ c.later) × ShowsRun (its_code self) (ok_with c.ground c.outs) (setting_of c.ground) self.count self.run c.state × MayRun (its_code self) (ok_with c.ground c.outs) (setting_of c.ground) c.state)
+    → IsRunning self
+goes_from self limit to h at = record {
   keeps = h.keeps;
   spares = h.spares;
   rests = h.rests;
-  holds = λ is j job. ∥∥₁_map (h.comes is j job) (λ c. record {
-    ground = c.ground;
-    strand = Going c.state c.later (rests_at (its_parts self) (levels_of c.state.around) (reverse self.lent.items));
-    is_of = c.is_of;
-    held = subst (λ m. HeldIn self is j c.ground m (Going c.state c.later (rests_at (its_parts self) (levels_of c.state.around) (reverse self.lent.items)))) (sym h.going) (record {
-      counts = sym c.at.0;
-      outs = c.outs;
-      lends = c.lends;
-      are = refl;
-      shows = c.at.2.shows;
-      frozen = c.at.2.may.frozen;
-    });
-  });
+  holds = λ is j job. ∥∥₁_map (h.comes is j job) (λ c.
+      let on = at is j c in record {
+        ground = c.ground;
+        strand = Going c.state c.later (rests_at (its_parts self) (levels_of c.state.around) (reverse self.lent.items));
+        is_of = c.is_of;
+        held = subst (λ m. HeldIn self is j c.ground m (Going c.state c.later (rests_at (its_parts self) (levels_of c.state.around) (reverse self.lent.items)))) (sym h.going) (record {
+          counts = sym on.0;
+          outs = c.outs;
+          lends = c.lends;
+          are = refl;
+          shows = on.1;
+          frozen = on.2.frozen;
+        });
+      });
+}
+
+-- where it may do no more, and where it is at the join
+pub over_goes : (self : Strand) (limit : ℕ) → HasCome self limit stop.Over → IsRunning self
+over_goes self limit h = goes_from self limit stop.Over h (λ is j c. (c.at.0, c.at.2.shows, c.at.2.may))
+
+pub join_goes : (self : Strand) (limit : ℕ) → HasCome self limit stop.Joined → IsRunning self
+join_goes self limit h = goes_from self limit stop.Joined h (λ is j c. (c.at.0, c.at.1.shows, c.at.1.may))
+
+-- a whole call that goes on is before an instruction
+pub whole_before : (self : Strand) → IsRunning self → self.mode ≡ mode.Going → (its_parts self).extent ≡ extent.WholeCall → IsBefore self
+whole_before self h e whole = record {
+  going = e;
+  keeps = h.keeps;
+  spares = h.spares;
+  rests = h.rests;
+  comes = λ is j job. ∥∥₁_map (h.holds is j job) (λ d.
+      let at = going_of self is j e d in
+      let code = code_view (its_code self).code in
+      record {
+        ground = d.ground;
+        state = at.state;
+        later = self.count;
+        outs = at.runs.outs;
+        lends = at.runs.lends;
+        is_of = subst (λ o. IsStrandOf code j (Going at.state self.count o)) at.runs.are (subst (λ n. IsStrandOf code j (Going at.state n at.out)) at.runs.counts at.is_of);
+        at = (
+          refl,
+          refl,
+          record {
+            before = subst (λ y. has_come (extent_of y) code at.state ≡ false) (sym whole) refl;
+            shows = at.runs.shows;
+            may = may_run self is j d.ground at.state at.runs.outs at.runs.lends at.runs.frozen;
+          },
+        );
+      });
 }

@@ -24,8 +24,9 @@ use Rattle.cw_machine.specs.JobRuns.{ok_of, HoldsOf, OnlyReads, IsEmptied}
 use Rattle.cw_machine.specs.Stretches.{nothing, StandsRound}
 use Rattle.cw_strand.specs.declared.strand.Mode.TheVariants as mode
 use Rattle.cw_strand.specs.declared.strand.Strand.{Strand}
-use Rattle.cw_strand.specs.Holds.{its_job, its_parts, its_code, Ground, ok_with, Lends, rests_at, HeldIn, Holds}
+use Rattle.cw_strand.specs.Holds.{its_job, its_parts, its_code, Ground, ok_with, Lends, rests_at, HeldIn, Holds, IsRunning}
 use Rattle.cw_strand.specs.Moves.{Begins, BeginsRun}
+use Rattle.cw_strand.proofs.RunsOn.{whole_before}
 use Rattle.cw_strand.proofs.Flat.{under_flat}
 
 nothing_flat : IsOutermost nothing
@@ -110,26 +111,9 @@ begins keep meters job p' self of parts none bare zero going b = record {
   of = of;
   outs = ap (λ l. map (λ h. h.job.value) (reverse l)) none;
   goes = going;
-  running = record {
-    keeps = record {
-      code = ap (λ q. code_of q) parts ∙ begun.code;
-      extent = ap (λ (q : Parts). q.extent) parts ∙ begun.extent;
-      site = ap (λ (q : Parts). q.site) parts ∙ begun.site;
-      burden = ap (λ (q : Parts). q.burden) parts ∙ begun.burden;
-      limit = ap (λ (q : Parts). q.limit) parts ∙ begun.limit;
-      before = ap (λ (q : Parts). q.before) parts ∙ begun.before;
-      rest = subst (λ (q : Parts). IsEmptied (its_parts self).rest q.rest) (sym parts) begun.rest;
-      within = (let low = ∥∥₁_elim sound le_prop (λ s. s.within) in omega (arith, low, zero));
-      range = ∥∥₁_elim sound le_prop (λ s. s.range);
-    };
-    spares = λ k q e. absurd (none_there k q (subst (λ l. slice_get l k ≡ Some q) bare e));
-    rests = λ k q e. absurd (none_there k q (subst (λ l. slice_get (reverse l) k ≡ Some q) none e));
-    holds = λ is j isj.
-        let light : (its_parts self).burden.charge ≤ MOST_BURDEN = ∥∥₁_elim sound le_prop (λ s. s.light) in
-        let low : (its_parts self).before ≤ (its_parts self).limit = ∥∥₁_elim sound le_prop (λ s. s.within) in
-        let b = begun.machine is (its_parts self) j refl isj in
-        ∣ starts self keep meters is j isj light low b.0 b.1 begun.meter none zero going ∣₁;
-  };
+  running = running;
+  count = zero;
+  whole = λ e. whole_before self running going (ap (λ (x : Job). x.parts.value.extent) of ∙ e);
 }
   where
     sound : ∥ IsSound (its_parts self) ∥₁
@@ -140,3 +124,25 @@ begins keep meters job p' self of parts none bare zero going b = record {
 
     none_there : {A : Type 0} (k : ℕ) (q : A) → slice_get {X = A} [] k ≡ Some q → ⊥
     none_there k q e = cc
+
+    running : IsRunning self
+    running = record {
+      keeps = record {
+        code = ap (λ q. code_of q) parts ∙ begun.code;
+        extent = ap (λ (q : Parts). q.extent) parts ∙ begun.extent;
+        site = ap (λ (q : Parts). q.site) parts ∙ begun.site;
+        burden = ap (λ (q : Parts). q.burden) parts ∙ begun.burden;
+        limit = ap (λ (q : Parts). q.limit) parts ∙ begun.limit;
+        before = ap (λ (q : Parts). q.before) parts ∙ begun.before;
+        rest = subst (λ (q : Parts). IsEmptied (its_parts self).rest q.rest) (sym parts) begun.rest;
+        within = (let low = ∥∥₁_elim sound le_prop (λ s. s.within) in omega (arith, low, zero));
+        range = ∥∥₁_elim sound le_prop (λ s. s.range);
+      };
+      spares = λ k q e. absurd (none_there k q (subst (λ l. slice_get l k ≡ Some q) bare e));
+      rests = λ k q e. absurd (none_there k q (subst (λ l. slice_get (reverse l) k ≡ Some q) none e));
+      holds = λ is j isj.
+          let light : (its_parts self).burden.charge ≤ MOST_BURDEN = ∥∥₁_elim sound le_prop (λ s. s.light) in
+          let low : (its_parts self).before ≤ (its_parts self).limit = ∥∥₁_elim sound le_prop (λ s. s.within) in
+          let b = begun.machine is (its_parts self) j refl isj in
+          ∣ starts self keep meters is j isj light low b.0 b.1 begun.meter none zero going ∣₁;
+    }

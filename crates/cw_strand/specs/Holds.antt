@@ -1,5 +1,5 @@
 -- How a strand in memory holds a strand of the definitions.
-use Rattle.std.specs.Prelude.{◌≡◌, ◌≢◌, ℕ, ◌+◌, ◌≤◌, Bool, true, false, List, [], ◌∷◌, length, map, reverse, Some}
+use Rattle.std.specs.Prelude.{◌≡◌, ◌≢◌, ℕ, ◌+◌, ◌-◌, ◌≤◌, Bool, true, false, List, [], ◌∷◌, length, map, reverse, Some}
 use Rattle.std.specs.Prelude.{slice_get}
 use Rattle.cw_model.specs.declared.limits.TheConstants.{MOST_LIMIT, MOST_BURDEN}
 use Rattle.cw_code.specs.Code.{code_view}
@@ -46,6 +46,10 @@ its_parts self = (its_job self).parts.value
 
 abbrev pub its_code : Strand → Verified
 its_code self = code_of (its_parts self)
+
+-- as many instructions as it may do in all
+abbrev pub its_end : Strand → ℕ
+its_end self = (its_parts self).limit - (its_parts self).before
 
 -- what a job that is out is made of
 abbrev pub lent_parts : Lent → Parts

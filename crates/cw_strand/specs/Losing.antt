@@ -1,5 +1,5 @@
 -- Where memory may be wanting in a strand.
-use Rattle.std.specs.Prelude.{◌≡◌, ◌⊎◌, false, Option, Some, None}
+use Rattle.std.specs.Prelude.{◌≡◌, ◌⊎◌, ℕ, ◌+◌, false, Option, Some, None}
 use Rattle.cw_jobs.specs.declared.effect.Effect.{Effect}
 use Rattle.cw_jobs.specs.declared.effect.Effect.TheVariants as effect
 use Rattle.cw_strand.specs.declared.strand.Advance.{Advance}
@@ -39,9 +39,9 @@ LeavesAt (event.Spawned job) old new = IsGoing new
 LeavesAt event.Ran old new = IsGoing old × IsGoing new
 LeavesAt _ old new = StandsAs old new
 
--- after one instruction, by which it went on or came to an event
+-- after one instruction, which only one that goes on does, or an event
 abbrev pub LeavesBy : Advance → (old new : Strand) → Type 0
-LeavesBy advance.Ran old new = IsGoing old × IsGoing new
+LeavesBy advance.Ran old new = IsGoing old
 LeavesBy (advance.Came s) old new = Leaves s old new
 
 -- after it was looked whether it has ended
@@ -71,3 +71,13 @@ TellsFailure _ = ⊥
 -- given up; or what the rest has shown is taken in
 abbrev pub MayLose : Strand → Effect → Type 0
 MayLose self e = HasFailed self ⊎ TellsFailure e ⊎ TakesIn self e
+
+-- what an effect counts of a rest that is taken in
+abbrev pub cost_in : Effect → ℕ
+cost_in (effect.Joined frame replaced shown) = shown.cost
+cost_in (effect.Trapped trap line lines cost back) = cost
+cost_in _ = 0
+
+-- A STRAND THAT IS GIVEN AN EFFECT counts what it counted; and what the rest did, where that is taken in
+abbrev pub CountsGiven : Effect → (old new : Strand) → Type 0
+CountsGiven e old new = (new.count ≡ old.count) ⊎ (TakesIn old e × (new.count ≡ old.count + cost_in e))

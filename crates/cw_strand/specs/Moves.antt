@@ -1,5 +1,5 @@
 -- What the calls on a strand keep.
-use Rattle.std.specs.Prelude.{◌≡◌, ◌≢◌, ℕ, ◌+◌, false, List, [], ◌∷◌, reverse, Option, Some, None}
+use Rattle.std.specs.Prelude.{◌≡◌, ◌≢◌, ◌⊎◌, ℕ, ◌+◌, ◌≤◌, false, List, [], ◌∷◌, reverse, Option, Some, None}
 use Rattle.cw_code.specs.Code.{code_view}
 use Rattle.cw_code.specs.Run.{State}
 use Rattle.cw_slices.specs.Placed.{Placed}
@@ -10,6 +10,7 @@ use Rattle.cw_metered.specs.Strands.{StartsFrom}
 use Rattle.cw_jobs.specs.declared.call.Parts.{Parts}
 use Rattle.cw_jobs.specs.declared.call.Extent.TheVariants as extent
 use Rattle.cw_jobs.specs.declared.effect.Effect.{Effect}
+use Rattle.cw_jobs.specs.declared.effect.Effect.TheVariants as effect
 use Rattle.cw_jobs.specs.declared.effect.Shown.{Shown}
 use Rattle.cw_jobs.specs.declared.job.Job.{Job}
 use Rattle.cw_jobs.specs.Jobs.{code_of, origin_of, IsJob}
@@ -57,13 +58,6 @@ pub record BeginsRun (p p' : Parts) (r : Run) : Type 0 where
   pub before : p'.before ≡ p.before
   pub rest : IsEmptied p.rest p'.rest
 
--- a strand begins its job
-pub record Begins (job : Job) (self : Strand) : Type 0 where
-  pub of : its_job self ≡ job
-  pub outs : outs self ≡ []
-  pub running : IsRunning self
-  pub goes : IsGoing self
-
 -- WHAT AN EVENT OF A STRAND KEEPS: it handed a job out; or it waits for the newest one out; or it ended with nothing
 -- out, with an effect that means its job
 abbrev pub KeptBy : Step → (old new : Strand) → Type 0
@@ -92,6 +86,23 @@ pub record HasCome (self : Strand) (limit : ℕ) (stop : Stop) : Type 0 where
   pub comes : (is : IsFit (its_code self)) (j : jobs.Job) → IsJob (its_code self) is (its_parts self) j
       → ∥ CameTo self limit stop is j ∥₁
 
+-- A STRAND IS BEFORE AN INSTRUCTION: it goes on, and is not at the join of its job
+abbrev pub IsBefore : Strand → Type 0
+IsBefore self = HasCome self self.count stop.Over
+
+-- a strand with nothing out has not come to its end
+abbrev pub IsUnended : Strand → Type 0
+IsUnended self = outs self ≡ [] → IsBefore self
+
+-- a strand begins its job, with no instruction done; a whole call has one to do
+pub record Begins (job : Job) (self : Strand) : Type 0 where
+  pub of : its_job self ≡ job
+  pub outs : outs self ≡ []
+  pub running : IsRunning self
+  pub goes : IsGoing self
+  pub count : self.count ≡ 0
+  pub whole : job.parts.value.extent ≡ extent.WholeCall → IsBefore self
+
 -- A STRAND HAS COME TO AN END: it has stopped, with nothing out, or its run is at the end of its job
 abbrev pub EndsAt : End → Strand → Type 0
 EndsAt end.Stopped self = IsRunning self × HasStopped self × (outs self ≡ [])
@@ -115,19 +126,65 @@ abbrev pub ComesWithin : (most : ℕ) → Event → (old new : Strand) → Type 
 ComesWithin most event.Ran old new = IsRunning new × (outs new ≡ outs old) × (new.count ≡ old.count + most)
 ComesWithin most e old new = ComesTo e old new
 
--- ONE INSTRUCTION OF A STRAND: it was done, and all else is as it was; or it came to an event
+-- the instructions that an effect counts, if it counts any: all that its job did
+abbrev pub CountsIn : Effect → (n : ℕ) → Type 0
+CountsIn (effect.Ended value shown) n = shown.cost ≡ n
+CountsIn (effect.Joined frame replaced shown) n = shown.cost ≡ n
+CountsIn (effect.Trapped trap line lines cost back) n = cost ≡ n
+CountsIn _ n = Unit {0}
+
+-- a whole call has ended by the last of so many
+abbrev pub EndsCall : Effect → (n : ℕ) → Type 0
+EndsCall (effect.Ended value shown) n = shown.cost ≡ n
+EndsCall _ n = ⊥
+
+-- a strand that had done so many has ended otherwise, by no other one
+abbrev pub EndsStill : Effect → (n : ℕ) → Type 0
+EndsStill (effect.Ended value shown) n = ⊥
+EndsStill e n = CountsIn e n
+
+-- one or the other
+abbrev pub EndsAfter : Effect → (n : ℕ) → Type 0
+EndsAfter (effect.Ended value shown) n = shown.cost ≡ n + 1
+EndsAfter e n = CountsIn e n
+
+-- a spawn is one instruction; a strand comes to a join, or ends there, by none
+abbrev pub CountsBy : Step → (old new : Strand) → Type 0
+CountsBy (step.Spawned job) old new = new.count ≡ old.count + 1
+CountsBy step.AtSync old new = new.count ≡ old.count
+CountsBy (step.Ended e) old new = EndsAfter e old.count
+
+-- ONE INSTRUCTION OF A STRAND: it was done, and the same jobs are out; or it came to an event
 abbrev pub AdvancesBy : Advance → (old new : Strand) → Type 0
 AdvancesBy advance.Ran old new = IsRunning new × (outs new ≡ outs old) × (new.count ≡ old.count + 1)
-AdvancesBy (advance.Came s) old new = KeptBy s old new
+AdvancesBy (advance.Came s) old new = KeptBy s old new × CountsBy s old new
+
+-- an instruction was done: it goes on or has stopped behind it, it was a spawn, or its call has ended by it
+abbrev pub DoesOne : Advance → Type 0
+DoesOne (advance.Came step.AtSync) = ⊥
+DoesOne (advance.Came (step.Ended (effect.Ended value shown))) = Unit {0}
+DoesOne (advance.Came (step.Ended e)) = ⊥
+DoesOne _ = Unit {0}
 
 -- the same job, and the same jobs out
 abbrev pub IsSame : (old new : Strand) → Type 0
 IsSame old new = (new.of ≡ old.of) × (new.lent ≡ old.lent)
 
--- a strand that ends: with an effect that means its job
+-- a strand that ends, with an effect that means its job and counts what it did; or has not come to its end
 abbrev pub EndsBy : Option Effect → (old new : Strand) → Type 0
-EndsBy None old new = IsRunning new × (outs new ≡ outs old)
-EndsBy (Some e) old new = IsMeaningOf (its_job old) e × (outs old ≡ [])
+EndsBy None old new = IsRunning new × (outs new ≡ outs old) × (new.count ≡ old.count) × IsUnended new
+EndsBy (Some e) old new = IsMeaningOf (its_job old) e × (outs old ≡ []) × EndsStill e old.count
+
+-- one that goes on and is at the join of its job, or is before an instruction
+abbrev pub JoinsBy : Option Effect → (old new : Strand) → Type 0
+JoinsBy None old new = IsRunning new × (outs new ≡ outs old) × (new.count ≡ old.count) × IsBefore new
+JoinsBy (Some e) old new = KeptBy (step.Ended e) old new × EndsStill e old.count × (IsBefore old → ⊥)
+
+-- a strand that was led to its end: that of its call, or one that it comes to next
+abbrev pub LeadsTo : Advance → (old new : Strand) → Type 0
+LeadsTo advance.Ran old new = IsRunning new × (outs new ≡ outs old) × (new.count ≡ old.count)
+LeadsTo (advance.Came (step.Ended e)) old new = KeptBy (step.Ended e) old new × EndsCall e old.count × IsGoing old
+LeadsTo _ old new = ⊥
 
 -- what a run has shown and counted
 pub record IsShown (r : Run) (cost : ℕ) (shown : Shown) : Type 0 where
@@ -199,6 +256,13 @@ abbrev pub IsStill : Stop → Type 0
 IsStill stop.Joined = Unit {0}
 IsStill stop.Over = Unit {0}
 IsStill _ = ⊥
+
+-- a strand ran on, so far at most, up to such a stop: of what does not end at once at the join it did some
+pub record RunsOn (old new : Strand) (limit : ℕ) (to : Stop) : Type 0 where
+  pub from : old.count ≤ new.count
+  pub within : new.count ≤ limit
+  pub still : new.count ≡ old.count → IsStill to
+  pub before : IsBefore old → new.count ≡ old.count → to ≢ stop.Joined
 
 -- slices may come home to the newest job out, of a machine of which anything is known
 pub record MayPopHome (self : Strand) (back : List Placed) (replaced : List (Option Placed)) : Type 0 where

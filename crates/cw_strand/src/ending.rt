@@ -6,7 +6,7 @@ ghost use Rattle.cw_machine.specs.JobRuns as runs;
 ghost use Rattle.cw_jobs.specs.Means.{IsMeaningOf};
 ghost use Rattle.cw_strand.specs.Holds.{its_job, outs, HasStopped, IsRunning};
 ghost use Rattle.cw_strand.specs.Losing.{ComesFrom};
-ghost use Rattle.cw_strand.specs.Moves.{HasCome, IsShown};
+ghost use Rattle.cw_strand.specs.Moves.{EndsCall, EndsStill, HasCome, IsShown};
 
 use crate::lending::empty_rest;
 use crate::strand::{Mode, Strand};
@@ -61,6 +61,7 @@ impl Strand {
         ensures of { self.new.of ≡ self.old.of }
         ensures means { IsMeaningOf (its_job self.old) result }
         ensures comes { ComesFrom result self.old }
+        ensures counts { EndsStill result self.old.count }
     {
         calls_on_a_strand_keep_its_job();
         machines_that_stop_remain();
@@ -97,6 +98,7 @@ impl Strand {
         ensures means { IsMeaningOf (its_job self.old) result }
         ensures comes { ComesFrom result self.old }
         ensures none { outs self.old ≡ [] }
+        ensures counts { EndsCall result self.old.count }
     {
         calls_on_a_strand_keep_its_job();
         Effect::Ended {
@@ -113,6 +115,7 @@ impl Strand {
         ensures means { IsMeaningOf (its_job self.old) result }
         ensures comes { ComesFrom result self.old }
         ensures none { outs self.old ≡ [] }
+        ensures counts { EndsStill result self.old.count }
     {
         calls_on_a_strand_keep_its_job();
         calls_keep_what_meters_tell();

@@ -5,7 +5,7 @@ ghost use Rattle.cw_jobs.specs.declared.effect.Effect.TheVariants as effect;
 ghost use Rattle.cw_strand.specs.Holds.{HasStopped, IsAtSync, IsRunning, IsWaiting};
 ghost use Rattle.cw_strand.specs.Giving.{passes_limit, AreJoined, GivesBack, HasJoined, HasTaken, IsGiven, IsJoinedAt, IsMemory, IsOfRest, LeavesOthers};
 ghost use Rattle.cw_strand.specs.Giving as giving;
-ghost use Rattle.cw_strand.specs.Losing.{MayLack, MayLose};
+ghost use Rattle.cw_strand.specs.Losing.{CountsGiven, MayLack, MayLose};
 ghost use Rattle.cw_strand.specs.declared.strand.Mode.TheVariants as mode;
 
 use crate::lending::loans_named;
@@ -126,6 +126,7 @@ impl Strand {
         ensures outs { LeavesOthers self.old self.new }
         ensures lacks { MayLack self.new → passes_limit self.old shown.cost ≡ false }
         ensures back { IsWaiting self.new → ⊥ }
+        ensures counts { CountsGiven (effect.Joined frame replaced shown) self.old self.new }
     {
         calls_on_a_strand_keep_its_job();
         calls_keep_what_meters_tell();
@@ -170,6 +171,7 @@ impl Strand {
         ensures outs { LeavesOthers self.old self.new }
         ensures lacks { MayLack self.new → passes_limit self.old cost ≡ false }
         ensures back { IsWaiting self.new → ⊥ }
+        ensures counts { CountsGiven (effect.Trapped trap line lines cost back) self.old self.new }
     {
         calls_on_a_strand_keep_its_job();
         machines_that_stop_remain();
@@ -199,6 +201,7 @@ impl Strand {
         ensures running { IsRunning self.new }
         ensures outs { LeavesOthers self.old self.new }
         ensures over { self.new.mode ≡ mode.Over }
+        ensures counts { self.new.count ≡ self.old.count }
     {
         calls_on_a_strand_keep_its_job();
         machines_that_stop_remain();
@@ -217,6 +220,7 @@ impl Strand {
         ensures running { IsRunning self.new }
         ensures outs { LeavesOthers self.old self.new }
         ensures back { IsWaiting self.new → ⊥ }
+        ensures counts { self.new.count ≡ self.old.count }
     {
         self.give_up();
         self.give_stopped(Effect::GivenUp { back });
@@ -233,6 +237,7 @@ impl Strand {
         ensures outs { LeavesOthers self.old self.new }
         ensures lacks { MayLack self.new → MayLose self.old effect }
         ensures back { IsWaiting self.new → ⊥ }
+        ensures counts { CountsGiven effect self.old self.new }
     {
         calls_on_a_strand_keep_its_job();
         match effect {
@@ -266,6 +271,7 @@ impl Strand {
         ensures outs { LeavesOthers self.old self.new }
         ensures lacks { MayLack self.new → MayLose self.old effect }
         ensures back { IsWaiting self.new → ⊥ }
+        ensures counts { self.new.count ≡ self.old.count }
     {
         calls_on_a_strand_keep_its_job();
         match arrays_of(*self.lent.allocator(), effect) {
@@ -291,6 +297,7 @@ impl Strand {
         ensures outs { LeavesOthers self.old self.new }
         ensures lacks { MayLack self.new → MayLose self.old effect }
         ensures back { IsWaiting self.new → ⊥ }
+        ensures counts { CountsGiven effect self.old self.new }
     {
         match self.mode {
             Mode::Waiting => self.give_waiting(effect),

@@ -1,12 +1,12 @@
 //! A strand goes on.
 
-ghost use Rattle.std.specs.Prelude.{◌≡◌, ◌≢◌, ◌+◌, ◌-◌, ◌≤◌, ◌<◌, true, false, [], IsSome};
+ghost use Rattle.std.specs.Prelude.{◌≡◌, ◌≢◌, ◌+◌, ◌-◌, ◌≤◌, ◌<◌, true, false, []};
 ghost use Rattle.cw_strand.specs.declared.strand.Mode.TheVariants as mode;
 ghost use Rattle.cw_jobs.specs.Means.{IsMeaningOf};
 ghost use Rattle.cw_machine.specs.declared.run.Stop.TheVariants as stops;
 ghost use Rattle.cw_strand.specs.Holds.{its_job, its_parts, outs, HasStopped, IsAtSync, IsRunning};
 ghost use Rattle.cw_strand.specs.Losing.{ComesFrom, GoesOn, Leaves, LeavesAt, LeavesEnd};
-ghost use Rattle.cw_strand.specs.Moves.{EndsBy, HasCome, IsSame, IsStill, KeptBy, ComesOr, ComesTo, ComesWithin, EndsAt};
+ghost use Rattle.cw_strand.specs.Moves.{EndsBy, HasCome, IsSame, JoinsBy, KeptBy, ComesOr, ComesTo, ComesWithin, EndsAt, RunsOn};
 
 use crate::strand::{End, Event, Mode, Step, Strand};
 use cw_jobs::effect::Effect;
@@ -58,7 +58,7 @@ impl Strand {
         requires within { limit ≤ (its_parts self.old).limit - (its_parts self.old).before }
         ensures same { IsSame self.old self.new }
         ensures comes { HasCome self.new limit result }
-        ensures still { limit ≡ self.old.count → IsStill result }
+        ensures ran { RunsOn self.old self.new limit result }
     {
         calls_on_a_strand_keep_its_job();
         let (stop, count) = self.run.go_on(&self.parts.code, self.count, limit, true);
@@ -73,6 +73,7 @@ impl Strand {
         requires stopped { HasStopped self.old }
         ensures of { self.new.of ≡ self.old.of }
         ensures keeps { ComesTo result self.old self.new }
+        ensures counts { self.new.count ≡ self.old.count }
         ensures goes { GoesOn result self.new }
     {
         if self.lent.is_empty() {
@@ -89,6 +90,7 @@ impl Strand {
         requires within { to ≤ end }
         ensures of { self.new.of ≡ self.old.of }
         ensures keeps { ComesOr ((to < end) × (stop ≡ stops.Over)) result self.old self.new }
+        ensures counts { self.new.count ≡ self.old.count }
         ensures goes { GoesOn result self.new }
     {
         calls_on_a_strand_keep_its_job();
@@ -119,27 +121,26 @@ impl Strand {
         }
     }
 
-    // The effect of a strand that goes on, where it is at the join of its job.
-    fn end_at_join(&mut self) -> Option<Effect>
+    // The effect of a strand that goes on, where it is at the join of its job: else it is before an instruction.
+    pub(crate) fn end_at_join(&mut self) -> Option<Effect>
         requires running { IsRunning self.old }
         requires going { self.old.mode ≡ mode.Going }
         ensures of { self.new.of ≡ self.old.of }
-        ensures ends { EndsBy result self.old self.new }
+        ensures joins { JoinsBy result self.old self.new }
         ensures leaves { LeavesEnd result self.old self.new }
     {
         let count = self.count;
         let stop = self.run_on(count);
         match stop {
             Stop::Joined => Some(self.join_effect(count)),
-            Stop::Over => None,
-            _ => unreachable!(),
+            _ => None,
         }
     }
 
     // Whether a strand that does not go on is at its end: else the newest job out must come back first.
     #[cold]
     #[inline(never)]
-    fn has_ended(&self) -> bool
+    pub(crate) fn has_ended(&self) -> bool
         requires running { IsRunning self.now }
         requires at_sync { IsAtSync self.now }
         ensures stopped { result ≡ true → HasStopped self.now }
@@ -210,14 +211,13 @@ impl Strand {
     }
 
     /// Ends the strand, without an instruction, where it has come to its end: where it has stopped, or is at the join
-    /// of its job, and nothing is out; its effect means its job. None where it is not at its end: then it goes on as
-    /// before.
+    /// of its job, and nothing is out; its effect means its job, and counts what the strand did. None where it is not at
+    /// its end: then it goes on as before.
     pub fn end(&mut self) -> Option<Effect>
         requires { IsRunning self.old }
         ensures of { self.new.of ≡ self.old.of }
         ensures ends { EndsBy result self.old self.new }
         ensures leaves { LeavesEnd result self.old self.new }
-        ensures stopped { HasStopped self.old → outs self.old ≡ [] → IsSome result }
     {
         if !self.lent.is_empty() {
             return None;

@@ -118,6 +118,7 @@ impl Strand {
         requires comes { HasCome self.old end (stop.Spawned spawn) }
         ensures of { self.new.of ≡ self.old.of }
         ensures keeps { ComesTo result self.old self.new }
+        ensures counts { self.new.count ≡ self.old.count }
         ensures goes { GoesOn result self.new }
     {
         calls_on_a_strand_keep_its_job();

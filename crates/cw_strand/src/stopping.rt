@@ -3,7 +3,7 @@
 ghost use Rattle.std.specs.Prelude.{◌≡◌, ◌∷◌, true, false, List};
 ghost use Rattle.cw_jobs.specs.declared.job.Job as jobs;
 ghost use Rattle.cw_strand.specs.Holds as holds;
-ghost use Rattle.cw_strand.specs.Holds.{outs, HasStopped, IsAtSync, IsRunning, IsWaiting};
+ghost use Rattle.cw_strand.specs.Holds.{outs, HasStopped, IsAtSync, IsGoing, IsRunning, IsWaiting};
 ghost use Rattle.cw_strand.specs.Moves as moves;
 ghost use Rattle.cw_strand.specs.Moves.{HasLost, HasPoppedHome, MayPopHome};
 
@@ -52,6 +52,17 @@ fn bring_home(
 }
 
 impl Strand {
+    /// Whether it does not go on: it waits for the newest job out, or has stopped.
+    pub fn is_paused(&self) -> bool
+        ensures yes { result ≡ true → IsAtSync self.now }
+        ensures no { result ≡ false → IsGoing self.now }
+    {
+        match self.mode {
+            Mode::Going => false,
+            _ => true,
+        }
+    }
+
     /// Whether it has stopped, by a trap, its limit or want of memory, or was given up: it goes on no more, and ends once
     /// nothing is out.
     pub fn stopped(&self) -> bool
@@ -125,6 +136,7 @@ impl Strand {
         ensures stopped { HasStopped self.new }
         ensures outs { job ∷ outs self.new ≡ outs self.old }
         ensures mode { self.new.mode ≡ self.old.mode }
+        ensures counts { self.new.count ≡ self.old.count }
     {
         let Job { parts } = job;
         let mut parts = parts;
@@ -140,6 +152,7 @@ impl Strand {
         ensures mode { self.new.mode ≡ holds.given_up self.old.mode }
         ensures running { IsRunning self.old → IsRunning self.new }
         ensures outs { outs self.new ≡ outs self.old }
+        ensures counts { self.new.count ≡ self.old.count }
     {
         calls_on_a_strand_keep_its_job();
         machines_that_stop_remain();

@@ -43,6 +43,7 @@ impl Strand {
         ensures running { IsRunning self.new }
         ensures outs { job ∷ outs self.new ≡ outs self.old }
         ensures goes { IsGoing self.new }
+        ensures counts { self.new.count ≡ self.old.count }
     {
         calls_on_a_strand_keep_its_job();
         let Job { parts } = job;
@@ -65,6 +66,7 @@ impl Strand {
         ensures running { IsRunning self.new }
         ensures outs { job ∷ outs self.new ≡ outs self.old }
         ensures goes { IsGoing self.new }
+        ensures counts { self.new.count ≡ self.old.count }
     {
         self.take_in(job);
     }
@@ -80,6 +82,7 @@ impl Strand {
         ensures running { IsRunning self.new }
         ensures outs { job ∷ outs self.new ≡ outs self.old }
         ensures goes { IsGoing self.new }
+        ensures counts { self.new.count ≡ self.old.count }
     {
         if job.parts.rest.slices.is_empty() && self.spares.len() < self.spares.capacity() {
             self.take_in(job);

@@ -7,6 +7,7 @@ use Rattle.cw_verify.specs.declared.verified.Verified.{Verified}
 use Rattle.cw_jobs.specs.declared.job.Job.{Job}
 use Rattle.cw_jobs.specs.Jobs.{IsRoot}
 use Rattle.cw_strand.specs.Holds.{its_job, outs, IsRunning, IsGoing}
+use Rattle.cw_strand.specs.Moves.{IsBefore}
 use Rattle.cw_world.specs.Boards.{Each, opened}
 use Rattle.cw_world.specs.Scenes.{Posted, Stage, Goes, Scene, scene}
 use Rattle.cw_world.specs.Sound.{IsOwn, out_number, Works, IsStage, IsOffer, Sound}
@@ -15,7 +16,6 @@ use Rattle.std.specs.Arc.{arc_value}
 use Rattle.cw_world.specs.declared.world.World.{World}
 use Rattle.cw_world.specs.Worlds.{idle, IsStarted}
 use Rattle.cw_world.proofs.Lists.{named}
-use Rattle.cw_world.proofs.Lacking.{goes_not_waits}
 use Rattle.cw_world.proofs.Posts.{stands_none}
 use Rattle.cw_world.proofs.Placed.{once_cases}
 
@@ -30,25 +30,25 @@ sum_none f (suc n) = let r : sum_over f (replicate n []) ≡ 0 = sum_none f n in
 abbrev pub first_scene : (root : Job) (post : Posted) (workers : ℕ) → Scene
 first_scene root post workers = record { jobs = root ∷ []; begun = (Goes post ∷ []) ∷ idle (workers - 1); board = opened workers }
 
-first_works : (root : Job) (post : Posted) → post.number ≡ 0 → its_job post.strand ≡ root → IsRunning post.strand → outs post.strand ≡ [] → post.outs ≡ [] → post.at_join ≡ false → IsGoing post.strand → Works (root ∷ []) post
-first_works root post n of running none none' flag goes =
+first_works : (root : Job) (post : Posted) → post.number ≡ 0 → its_job post.strand ≡ root → IsRunning post.strand → outs post.strand ≡ [] → post.outs ≡ [] → post.at_join ≡ false → IsBefore post.strand → Works (root ∷ []) post
+first_works root post n of running none none' flag before =
     record {
       running = running;
       named = ap (λ k. slice_get (root ∷ []) k) n ∙ ap (λ j. Some j) (sym of);
       lent = ap (λ os. map (λ o. slice_get (root ∷ []) (out_number o)) (reverse os)) none' ∙ sym (ap named none);
       own = subst (λ os. Each (IsOwn (root ∷ [])) os) (sym none') tt;
-      stands = stands_none post flag none' (goes_not_waits post.strand.mode goes);
+      stands = stands_none post flag before;
     }
 
 pub first_sound : (v : Verified) (args : List ℤ) (n : ℕ) (burden : Burden) (root : Job) (post : Posted) (workers : ℕ) → 0 < workers → IsRoot v args n burden root.parts.value
-    → post.number ≡ 0 → its_job post.strand ≡ root → IsRunning post.strand → outs post.strand ≡ [] → post.outs ≡ [] → post.at_join ≡ false → IsGoing post.strand
+    → post.number ≡ 0 → its_job post.strand ≡ root → IsRunning post.strand → outs post.strand ≡ [] → post.outs ≡ [] → post.at_join ≡ false → IsBefore post.strand
     → Sound v (first_scene root post workers)
-first_sound v args n burden root post workers some is number of running none none' flag goes =
+first_sound v args n burden root post workers some is number of running none none' flag before =
     let long : length (replicate {A = List Stage} (workers - 1) []) ≡ workers - 1 = length-replicate (workers - 1) [] in
     let long' : length (opened workers).offers ≡ workers = length-replicate workers [] in
     record {
       root = record { args = args; limit = n; burden = burden; root = root; named = refl; is = is };
-      begun = ((first_works root post number of running none none' flag goes, tt), each_none (IsStage v (root ∷ [])) (workers - 1));
+      begun = ((first_works root post number of running none none' flag before, tt), each_none (IsStage v (root ∷ [])) (workers - 1));
       offers = each_none (IsOffer (root ∷ [])) workers;
       cells = tt;
       workers = omega (arith, long, long', some);
@@ -83,14 +83,14 @@ first_root root post workers number = number
 
 -- it begins so, whatever scene shows it
 pub begins : (v : Verified) (args : List ℤ) (n : ℕ) (burden : Burden) (workers : ℕ) (w : World) (root : Job) (post : Posted) → 0 < workers → IsRoot v args n burden root.parts.value → arc_value w.code ≡ v
-    → scene w ≡ first_scene root post workers → post.number ≡ 0 → its_job post.strand ≡ root → IsRunning post.strand → outs post.strand ≡ [] → post.outs ≡ [] → post.at_join ≡ false → IsGoing post.strand
+    → scene w ≡ first_scene root post workers → post.number ≡ 0 → its_job post.strand ≡ root → IsRunning post.strand → outs post.strand ≡ [] → post.outs ≡ [] → post.at_join ≡ false → IsGoing post.strand → post.strand.count ≡ 0 → IsBefore post.strand
     → IsStarted v args n burden workers w
-begins v args n burden workers w root post some is code scene_is number of running none none' flag goes =
+begins v args n burden workers w root post some is code scene_is number of running none none' flag goes undone before =
     record {
       is = record {
         sound = record {
           right = subst (λ (t : Scene). Sound (arc_value w.code) t) (sym scene_is)
-              (subst (λ (x : Verified). Sound x (first_scene root post workers)) (sym code) (first_sound v args n burden root post workers some is number of running none none' flag goes));
+              (subst (λ (x : Verified). Sound x (first_scene root post workers)) (sym code) (first_sound v args n burden root post workers some is number of running none none' flag before));
           places = subst (λ (t : Scene). OnePlace t) (sym scene_is) (first_places root post workers number none');
           first = subst (λ (t : Scene). RootIsFirst t) (sym scene_is) (first_root root post workers number);
         };
@@ -100,6 +100,7 @@ begins v args n burden workers w root post some is code scene_is number of runni
       post = post;
       root = (number, none');
       goes = goes;
+      none = undone;
       begun = ap (λ (t : Scene). t.begun) scene_is;
       board = ap (λ (t : Scene). t.board) scene_is;
     }

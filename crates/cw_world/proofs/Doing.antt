@@ -1,6 +1,6 @@
 -- What events do, from what their parts did.
 use Rattle.std.proofs.Common.{◌≡◌, ◌≢◌, ◌∙◌, ℕ, zero, suc, ◌+◌, ◌<◌, Bool, true, false, ◌&&◌, List, [], ◌∷◌, ◌++◌, Option, Some, None, refl, sym, ap, subst, length, arith, Vec, Global}
-use Rattle.std.specs.Prelude.{map, slice_get, slice_set, IfSome, is_some}
+use Rattle.std.specs.Prelude.{map, not, slice_get, slice_set, IfSome, is_some}
 use Rattle.std.specs.Option.{option_to_list, MatchOption}
 use Rattle.std.specs.Vec.{vec_len, vec_capacity}
 use Rattle.cw_verify.specs.declared.verified.Verified.{Verified}
@@ -59,6 +59,19 @@ taken_works v s w p h at = top_stage v s w (Goes p) h at
 
 pub at_sync : (jobs : List Job) (p : Posted) (t : Option Stage) → Works jobs p → t ≡ Some (Goes p) → is_at_join t ≡ true → IsRunning p.strand × IsAtSync p.strand
 at_sync jobs p t works is e = (works.running, (works.stands.0 (sym (ap is_at_join is) ∙ e)).0)
+
+-- where Run is possible
+pub not_at_join : (t : Option Stage) → goes t && not (is_at_spawn t) && not (is_at_join t) ≡ true → is_at_join t ≡ false
+not_at_join t h = by_tests (goes t) (is_at_spawn t) (is_at_join t) h
+  where
+    differ : false ≡ true → ⊥
+    differ e = cc
+
+    by_tests : (a b c : Bool) → a && not b && not c ≡ true → c ≡ false
+    by_tests true false false h = refl
+    by_tests true false true h = absurd (differ h)
+    by_tests true true c h = absurd (differ h)
+    by_tests false b c h = absurd (differ h)
 
 -- the newest out of its list
 pub newest_is : (p : Posted) (t : Option Stage) (older : List Out) (o : Out) → t ≡ Some (Goes p) → p.outs ≡ older ++ o ∷ [] → newest_out t ≡ Some o

@@ -29,19 +29,6 @@ bool_cases true = inr refl
 pub goes_not_lost : (m : Mode) → m ≡ mode.Going → has_failed m ≡ true → ⊥
 goes_not_lost m going lost = never (sym lost ∙ ap has_failed going)
 
-going_not_waiting : mode.Going ≡ mode.Waiting → ⊥
-going_not_waiting e = cc
-
-pub goes_not_waits : (m : Mode) → m ≡ mode.Going → m ≡ mode.Waiting → ⊥
-goes_not_waits m going waits = going_not_waiting (sym going ∙ waits)
-
-pub stopped_not_waits : (m : Mode) → stops m ≡ true → m ≡ mode.Waiting → ⊥
-stopped_not_waits m stopped waits = never (sym stopped ∙ ap stops waits)
-
-pub back_not_waits : (old mid : Strand) → IsBackIn old mid → IsWaiting mid → ⊥
-back_not_waits old mid (inl b) waits = goes_not_waits mid.mode b.1 waits
-back_not_waits old mid (inr b) waits = stopped_not_waits mid.mode (ap stops b.1 ∙ b.0) waits
-
 -- a strand, after it was looked whether it has ended
 pub after_end : (r : Option Effect) (mid new : Strand) → LeavesEnd r mid new → LacksAfter r new → MayLack mid
 after_end None mid new same lost = inr (ap has_failed (sym same) ∙ lost)

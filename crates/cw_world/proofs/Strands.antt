@@ -121,5 +121,5 @@ works_other jobs p older o o' w e same own =
       lent = ap (map (λ x. slice_get jobs (out_number x))) (reverse_pushed older o')
           ∙ (ap (λ k. slice_get jobs k ∷ jobs_at jobs older) same ∙ (ap (λ x. x ∷ jobs_at jobs older) n.named_is ∙ (ap (λ l. Some n.job ∷ l) n.older_are ∙ ap named (sym n.is))));
       own = each_pushed (IsOwn jobs) older o' n.own own;
-      stands = ((λ j. ((w.stands.0 j).0, some)), (λ h _. w.stands.1 h some_old), w.stands.2);
+      stands = ((λ j. ((w.stands.0 j).0, some)), w.stands.1, w.stands.2);
     }

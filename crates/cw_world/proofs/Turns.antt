@@ -1,19 +1,21 @@
 -- What events do, by what a post came to and what was laid on its worker's list.
-use Rattle.std.proofs.Common.{◌≡◌, ◌⊎◌, ◌∙◌, ℕ, Bool, true, List, [], ◌∷◌, ◌++◌, Option, Some, None, refl, sym, ap, subst, length, reverse, inl, inr}
+use Rattle.std.proofs.Common.{◌≡◌, ◌⊎◌, ◌∙◌, ℕ, ◌+◌, Bool, true, List, [], ◌∷◌, ◌++◌, Option, Some, None, refl, sym, ap, subst, length, reverse, inl, inr}
 use Rattle.std.specs.Prelude.{map, slice_get, IfSome, Ok}
 use Rattle.cw_verify.specs.declared.verified.Verified.{Verified}
 use Rattle.cw_jobs.specs.declared.effect.Effect.{Effect}
 use Rattle.cw_jobs.specs.declared.job.Job.{Job}
 use Rattle.cw_machine.specs.Answering.{IsOfWhole}
-use Rattle.cw_strand.specs.Holds.{its_job, outs, has_failed}
-use Rattle.cw_strand.specs.Losing.{MayLack}
+use Rattle.cw_strand.specs.declared.strand.Strand.{Strand}
+use Rattle.cw_strand.specs.Holds.{its_job, its_end, outs, has_failed}
+use Rattle.cw_strand.specs.Losing.{cost_in, MayLack, TakesIn}
+use Rattle.cw_strand.specs.Moves.{CountsIn}
 use Rattle.cw_world.specs.declared.post.Out.{Out}
 use Rattle.cw_world.specs.declared.post.Out.TheVariants as out
 use Rattle.cw_world.specs.Boards.{Each, Boarded}
 use Rattle.cw_world.specs.Scenes.{Posted, Stage, Goes, Made, Answered, Scene, top}
-use Rattle.cw_world.specs.Posts.{Stays, Comes, HandsOut, Steps, Went}
+use Rattle.cw_world.specs.Posts.{Stays, Comes, HandsOut, Steps, HasDone, HasDoneWith, DoesOneMore}
 use Rattle.cw_world.specs.Sound.{IsJobOf, IsOwn, out_number, Works, HasRoot, Sound}
-use Rattle.cw_world.specs.Events.{with_top, but_top, GoesOn, ComesTo, IsBegun, Runs, Spawns, WentOn}
+use Rattle.cw_world.specs.Events.{with_top, but_top, GoesOn, ComesTo, Counts, IsBegun, Runs, Spawns}
 use Rattle.cw_world.proofs.Lists.{named, each_weaken, each_pushed, get_pushed, get_last, same_names, reverse_pushed}
 use Rattle.cw_world.proofs.Strands.{jobs_at, newest_out_of, comes_stays, comes_to, ended_stage, comes_whole}
 use Rattle.cw_world.specs.Lacking.{lacks_memory, LacksAfter}
@@ -29,31 +31,44 @@ same_scene jobs jobs' begun begun' board j b =
 abbrev pub scene_of : (jobs : List Job) (begun : List (List Stage)) (board : Boarded) → Scene
 scene_of jobs begun board = record { jobs = jobs; begun = begun; board = board }
 
+-- so many instructions as a post has done, or what it has ended with
+pub counted : (v : Verified) (q : Posted) (ended : Option Effect) (x : Stage) (n : ℕ) → IsBegun v q ended x → HasDone ended q.strand n → Counts x n
+counted v q None x n b h = subst (λ y. Counts y n) (sym b) h
+counted v q (Some e) (Goes k) n b h = absurd b
+counted v q (Some e) (Made m d) n b h = subst (λ z. CountsIn z n) (sym b.2) h
+counted v q (Some e) (Answered r) n b h = tt
+
+one_more : (v : Verified) (p q : Posted) (ended : Option Effect) (x : Stage) → IsBegun v q ended x → DoesOneMore ended p.strand q.strand
+    → Counts x (p.strand.count + 1) ⊎ ((p.strand.count ≡ its_end p.strand) × Counts x p.strand.count)
+one_more v p q ended x b (inl one) = inl (counted v q ended x (p.strand.count + 1) b one)
+one_more v p q ended x b (inr none) = inr (none.0, counted v q ended x p.strand.count b none.1)
+
+-- given an effect
+pub counted_with : (v : Verified) (q : Posted) (ended : Option Effect) (x : Stage) (e : Effect) (old : Strand) → IsBegun v q ended x → HasDoneWith ended e old q.strand
+    → Counts x old.count ⊎ (TakesIn old e × Counts x (old.count + cost_in e))
+counted_with v q ended x e old b (inl same) = inl (counted v q ended x old.count b same)
+counted_with v q ended x e old b (inr t) = inr (t.0, counted v q ended x (old.count + cost_in e) b t.1)
+
 ran_on : (v : Verified) (s : Scene) (w : ℕ) (p q : Posted) (jobs' : List Job) (begun' : List (List Stage)) (x : Stage) → top s w ≡ Some (Goes p) → Works s.jobs p
-    → Stays p q p.outs (outs p.strand) → jobs' ≡ s.jobs → Went p q → (lacks_memory x ≡ true → MayLack p.strand) → x ≡ Goes q → begun' ≡ with_top (but_top s.begun w) w x → Runs v s (scene_of jobs' begun' s.board) w
-ran_on v s w p q jobs' begun' x at works stays same went lacks b is =
+    → Stays p q p.outs (outs p.strand) → jobs' ≡ s.jobs → DoesOneMore None p.strand q.strand → (lacks_memory x ≡ true → MayLack p.strand) → x ≡ Goes q → begun' ≡ with_top (but_top s.begun w) w x → Runs v s (scene_of jobs' begun' s.board) w
+ran_on v s w p q jobs' begun' x at works stays same one lacks b is =
     record {
       at = record { post = p; is = at };
       stage = x;
       comes = subst (λ y. ComesTo v s.jobs p p.outs y) (sym b) (comes_stays v s.jobs p q p.outs (outs p.strand) stays works.named works.lent works.own);
-      went = subst (λ y. WentOn p y) (sym b) went;
+      one = one_more v p q None x b one;
       lacks = lacks;
       is = same_scene jobs' s.jobs begun' (with_top (but_top s.begun w) w x) s.board same is;
     }
 
-went_out : (v : Verified) (p q : Posted) (e : Effect) (x : Stage) → IsBegun v q (Some e) x → WentOn p x
-went_out v p q e (Goes k) b = absurd b
-went_out v p q e (Made n d) b = tt
-went_out v p q e (Answered r) b = tt
-
 ran_out : (v : Verified) (s : Scene) (w : ℕ) (p q : Posted) (e : Effect) (jobs' : List Job) (begun' : List (List Stage)) (x : Stage) → top s w ≡ Some (Goes p) → Works s.jobs p
-    → Comes (Some e) p q [] → jobs' ≡ s.jobs → (lacks_memory x ≡ true → MayLack p.strand) → IsBegun v q (Some e) x → begun' ≡ with_top (but_top s.begun w) w x → Runs v s (scene_of jobs' begun' s.board) w
-ran_out v s w p q e jobs' begun' x at works c same lacks b is =
+    → Comes (Some e) p q [] → jobs' ≡ s.jobs → DoesOneMore (Some e) p.strand q.strand → (lacks_memory x ≡ true → MayLack p.strand) → IsBegun v q (Some e) x → begun' ≡ with_top (but_top s.begun w) w x → Runs v s (scene_of jobs' begun' s.board) w
+ran_out v s w p q e jobs' begun' x at works c same one lacks b is =
     record {
       at = record { post = p; is = at };
       stage = x;
       comes = ended_stage v s.jobs p q e x works.named c.0 c.1 c.2 b;
-      went = went_out v p q e x b;
+      one = one_more v p q (Some e) x b one;
       lacks = lacks;
       is = same_scene jobs' s.jobs begun' (with_top (but_top s.begun w) w x) s.board same is;
     }
@@ -78,6 +93,7 @@ spawned v s w p q jobs' begun' x at works h b is =
       job = h.job;
       post = q;
       goes = ap has_failed h.goes;
+      one = h.one;
       comes = comes_stays v more p q (p.outs ++ o ∷ []) (h.job ∷ outs p.strand) h.stays (kept_job s.jobs h.job p.number (its_job p.strand) works.named) (spawned_names s.jobs p h.job works) own;
       is = same_scene jobs' more begun' (with_top (but_top s.begun w) w (Goes q)) s.board h.jobs_are (is ∙ ap (with_top (but_top s.begun w) w) b);
     }
@@ -90,7 +106,7 @@ ran v s w p q None jobs' begun' x h at (inl c) l b is =
     inl (ran_on v s w p q jobs' begun' x at (top_stage v s w (Goes p) h at) c.0 c.1 c.2 (λ m. l (stage_lacks v q None x b m)) b is)
 ran v s w p q None jobs' begun' x h at (inr c) l b is = inr (spawned v s w p q jobs' begun' x at (top_stage v s w (Goes p) h at) c b is)
 ran v s w p q (Some e) jobs' begun' x h at c l b is =
-    inl (ran_out v s w p q e jobs' begun' x at (top_stage v s w (Goes p) h at) c.0 c.1 (λ m. l (stage_lacks v q (Some e) x b m)) b is)
+    inl (ran_out v s w p q e jobs' begun' x at (top_stage v s w (Goes p) h at) c.0 c.1 c.2 (λ m. l (stage_lacks v q (Some e) x b m)) b is)
 
 -- the root's effect is that of a whole run, by one instruction
 pub ran_whole : (v : Verified) (s : Scene) (w : ℕ) (p q : Posted) (ended : Option Effect) (jobs' : List Job) → Sound v s → top s w ≡ Some (Goes p)

@@ -7,7 +7,7 @@ use Rattle.std.specs.VecDeque.{deque_len, deque_capacity}
 use Rattle.std.specs.List.{remove}
 use Rattle.cw_jobs.specs.declared.effect.Effect.{Effect}
 use Rattle.cw_jobs.specs.declared.job.Job.{Job}
-use Rattle.cw_sched.specs.Board.{pushed, newest, but_newest, but_oldest, of_worker}
+use Rattle.cw_sched.specs.Board.{pushed, newest, laid, without_newest, without_oldest, of_worker}
 use Rattle.cw_world.specs.declared.board.Board.{Board}
 use Rattle.cw_world.specs.declared.board.Offer.{Offer}
 use Rattle.cw_world.specs.declared.board.Cell.{Cell}
@@ -26,18 +26,15 @@ opened workers = record { offers = replicate workers []; cells = [] }
 
 -- one is laid at the back of a worker's deque
 abbrev pub offered : Boarded → (w : ℕ) → Offer → Boarded
-offered b w o =
-    record { offers = slice_set b.offers w (pushed (of_worker b.offers w) o); cells = b.cells }
+offered b w o = record { offers = laid b.offers w o; cells = b.cells }
 
 -- the one at the back leaves it
 abbrev pub retaken : Boarded → (w : ℕ) → Boarded
-retaken b w =
-    record { offers = slice_set b.offers w (but_newest (of_worker b.offers w)); cells = b.cells }
+retaken b w = record { offers = without_newest b.offers w; cells = b.cells }
 
 -- the one at the front leaves it
 abbrev pub stolen : Boarded → (v : ℕ) → Boarded
-stolen b v =
-    record { offers = slice_set b.offers v (but_oldest (of_worker b.offers v)); cells = b.cells }
+stolen b v = record { offers = without_oldest b.offers v; cells = b.cells }
 
 -- one that was stolen stands at the front again
 abbrev pub returned : Boarded → (v : ℕ) → Offer → Boarded

@@ -1,6 +1,6 @@
 -- What each event does.
-use Rattle.std.specs.Prelude.{◌≡◌, ◌≢◌, ◌⊎◌, ℕ, ◌<◌, ℤ, Result, Ok, Err, slice_get, List, [], length, Option, Some}
-use Rattle.std.specs.Prelude.{None, slice_set, true, false}
+use Rattle.std.specs.Prelude.{◌≡◌, ◌≢◌, ◌⊎◌, ℕ, ◌+◌, ◌<◌, ℤ, Result, Ok, Err, slice_get, List, [], length, Option, Some}
+use Rattle.std.specs.Prelude.{None, true, false}
 use Rattle.std.specs.Global.{Vec}
 use Rattle.std.specs.Vec.{vec_len, vec_capacity}
 use Rattle.cw_model.specs.declared.burden.Burden.{Burden}
@@ -12,9 +12,10 @@ use Rattle.cw_machine.specs.Runs.{RunsAsCode}
 use Rattle.cw_jobs.specs.declared.effect.Effect.{Effect}
 use Rattle.cw_jobs.specs.declared.job.Job.{Job}
 use Rattle.cw_machine.specs.Answering.{IsAnswerOf}
-use Rattle.cw_strand.specs.Holds.{its_job, IsWaiting, HasFailed}
-use Rattle.cw_strand.specs.Losing.{MayLack, MayLose}
-use Rattle.cw_sched.specs.Board.{of_worker, pushed, newest, but_newest, oldest}
+use Rattle.cw_strand.specs.Holds.{its_job, its_end, IsWaiting, HasFailed}
+use Rattle.cw_strand.specs.Losing.{cost_in, MayLack, MayLose, TakesIn}
+use Rattle.cw_strand.specs.Moves.{CountsIn}
+use Rattle.cw_sched.specs.Board.{of_worker, pushed, newest, laid, without_newest, oldest}
 use Rattle.cw_world.specs.declared.board.Offer.{Offer}
 use Rattle.cw_world.specs.declared.event.Refused.{Refused}
 use Rattle.cw_world.specs.declared.event.Event.{Event}
@@ -27,15 +28,14 @@ use Rattle.cw_world.specs.Boards.{Boarded, offered, retaken, stolen, settled, co
 use Rattle.cw_world.specs.Boards.{IsCellAt}
 use Rattle.cw_world.specs.Lacking.{lacks_memory, HasEnded}
 use Rattle.cw_world.specs.Scenes.{posted, stacks, Posted, Stage, Goes, Made, Answered, Scene, top}
-use Rattle.cw_world.specs.Posts.{Went}
 use Rattle.cw_world.specs.Sound.{IsStage}
 
 -- the newest of a worker's is taken away, and another one laid there
 abbrev pub but_top : List (List Stage) → (w : ℕ) → List (List Stage)
-but_top begun w = slice_set begun w (but_newest (of_worker begun w))
+but_top begun w = without_newest begun w
 
 abbrev pub with_top : List (List Stage) → (w : ℕ) → Stage → List (List Stage)
-with_top begun w x = slice_set begun w (pushed (of_worker begun w) x)
+with_top begun w x = laid begun w x
 
 -- w's newest strand comes to this, and the board to that
 abbrev pub turned : Scene → (w : ℕ) → Stage → Boarded → Scene
@@ -66,18 +66,20 @@ pub record AtOut (s : Scene) (w : ℕ) : Type 0 where
   pub newest : Out
   pub are : at.post.outs ≡ pushed older newest
 
--- where it goes on, it has done one instruction, or waits from now on
-abbrev pub WentOn : Posted → Stage → Type 0
-WentOn p (Goes q) = Went p q
-WentOn p (Made n e) = Unit {0}
-WentOn p (Answered r) = Unit {0}
+-- so many instructions were done in all by what a worker has begun; of the root that has ended its answer tells
+abbrev pub Counts : Stage → (n : ℕ) → Type 0
+Counts (Goes p) n = p.strand.count ≡ n
+Counts (Made k e) n = CountsIn e n
+Counts (Answered r) n = Unit {0}
 
--- RUN: one instruction, by which a strand goes on or ends; it lacks memory only if it went on, or did before
+-- RUN: one instruction, by which a strand goes on or ends, or none where it may do no more; it lacks memory only if it
+-- went on, or did before
 pub record Runs (v : Verified) (s s' : Scene) (w : ℕ) : Type 0 where
   pub at : AtPost s w
   pub stage : Stage
   pub comes : ComesTo v s.jobs at.post at.post.outs stage
-  pub went : WentOn at.post stage
+  pub one : Counts stage (at.post.strand.count + 1)
+      ⊎ ((at.post.strand.count ≡ its_end at.post.strand) × Counts stage at.post.strand.count)
   pub lacks : lacks_memory stage ≡ true → MayLack at.post.strand
   pub is : s' ≡ turned s w stage s.board
 
@@ -89,6 +91,7 @@ pub record Spawns (v : Verified) (s s' : Scene) (w : ℕ) : Type 0 where
   pub comes : ComesTo v (pushed s.jobs job) at.post
       (pushed at.post.outs (out.Undecided (length s.jobs) job)) (Goes post)
   pub goes : lacks_memory (Goes post) ≡ false
+  pub one : Counts (Goes post) (at.post.strand.count + 1)
   pub is : s' ≡ record {
     jobs = pushed s.jobs job;
     begun = with_top (but_top s.begun w) w (Goes post);
@@ -134,17 +137,18 @@ IsBack b w (out.Offered n) job =
 IsBack b w (out.Kept n kept) job = kept ≡ job
 IsBack b w (out.Undecided n kept) job = ⊥
 
--- RETAKE: the strand has its newest job back; it lacks memory only if it did before, or has waited and come to its end
+-- RETAKE: the strand has its newest job back, and has done nothing more; it lacks memory only if it did before, or has waited and come to its end
 pub record Retakes (v : Verified) (s s' : Scene) (w : ℕ) : Type 0 where
   pub at : AtOut s w
   pub back : IsAtBack s.board w at.newest
   pub stage : Stage
   pub comes : ComesTo v s.jobs at.at.post at.older stage
+  pub none : Counts stage at.at.post.strand.count
   pub lacks : lacks_memory stage ≡ true
       → HasFailed at.at.post.strand ⊎ (IsWaiting at.at.post.strand × HasEnded stage)
   pub is : s' ≡ turned s w stage (board_without s.board w at.newest)
 
--- STEAL: a strand begins the oldest job of a deque; it lacks memory only if it has come to its end
+-- STEAL: a strand begins the oldest job of a deque, and has done nothing; it lacks memory only if it has come to its end
 pub record Steals (v : Verified) (s s' : Scene) (w victim : ℕ) : Type 0 where
   pub there : w < length s.begun
   pub offer : Offer
@@ -153,6 +157,7 @@ pub record Steals (v : Verified) (s s' : Scene) (w victim : ℕ) : Type 0 where
   pub post : Posted
   pub begins : (post.number ≡ offer.number) × (its_job post.strand ≡ offer.job) × (post.outs ≡ [])
   pub comes : ComesTo v s.jobs post [] stage
+  pub none : Counts stage 0
   pub lacks : lacks_memory stage ≡ true → HasEnded stage
   pub is : s' ≡ record {
     jobs = s.jobs;
@@ -171,7 +176,8 @@ pub record Settles (s s' : Scene) (w : ℕ) : Type 0 where
     board = settled s.board (record { number = number; effect = effect });
   }
 
--- COLLECT: the strand is given the effect, and lacks memory only if that may lose it
+-- COLLECT: the strand is given the effect, and has done nothing more, but for what the effect counts where it is taken
+-- in; it lacks memory only if that may lose it
 pub record Collects (v : Verified) (s s' : Scene) (w : ℕ) : Type 0 where
   pub at : AtOut s w
   pub number : ℕ
@@ -182,6 +188,8 @@ pub record Collects (v : Verified) (s s' : Scene) (w : ℕ) : Type 0 where
   pub cell : IsCellAt s.board place number effect
   pub stage : Stage
   pub comes : ComesTo v s.jobs at.at.post at.older stage
+  pub counts : Counts stage at.at.post.strand.count
+      ⊎ (TakesIn at.at.post.strand effect × Counts stage (at.at.post.strand.count + cost_in effect))
   pub lacks : lacks_memory stage ≡ true → MayLose at.at.post.strand effect
   pub is : s' ≡ turned s w stage (collected s.board place)
 

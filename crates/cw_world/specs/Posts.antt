@@ -1,18 +1,18 @@
 -- What a post comes to.
-use Rattle.std.specs.Prelude.{◌≡◌, ◌≢◌, ◌⊎◌, ℕ, ◌<◌, true, false, List, [], ◌∷◌, length, Option, Some, None, Result}
+use Rattle.std.specs.Prelude.{◌≡◌, ◌≢◌, ◌⊎◌, ℕ, ◌+◌, ◌<◌, true, false, List, [], ◌∷◌, length, Option, Some, None, Result}
 use Rattle.std.specs.Prelude.{Ok, Err}
 use Rattle.std.specs.Global.{Vec}
 use Rattle.std.specs.Vec.{vec_len, vec_capacity}
 use Rattle.std.specs.declared.alloc.AllocError.{AllocError}
 use Rattle.std.specs.declared.snapshot.Snapshot.{Snapshot}
+use Rattle.cw_jobs.specs.declared.call.Extent.TheVariants as extent
 use Rattle.cw_jobs.specs.declared.effect.Effect.{Effect}
 use Rattle.cw_jobs.specs.declared.job.Job.{Job}
 use Rattle.cw_jobs.specs.Means.{IsMeaningOf}
 use Rattle.cw_strand.specs.declared.strand.Strand.{Strand}
-use Rattle.cw_strand.specs.declared.strand.Advance.TheVariants as advance
-use Rattle.cw_strand.specs.declared.strand.Step.TheVariants as step
-use Rattle.cw_strand.specs.Moves.{AdvancesBy, EndsBy, KeptBy}
-use Rattle.cw_strand.specs.Holds.{its_job, outs, IsRunning, IsGoing, IsWaiting, IsAtSync, HasStopped}
+use Rattle.cw_strand.specs.Losing.{cost_in, TakesIn}
+use Rattle.cw_strand.specs.Moves.{CountsIn, IsBefore, IsUnended}
+use Rattle.cw_strand.specs.Holds.{its_job, its_end, outs, IsRunning, IsGoing, IsWaiting, IsAtSync, HasStopped}
 use Rattle.cw_sched.specs.Board.{pushed}
 use Rattle.cw_world.specs.declared.post.Out.{Out}
 use Rattle.cw_world.specs.declared.post.Out.TheVariants as out
@@ -28,14 +28,16 @@ pub record Begins (number : ℕ) (job : Job) (p : Post) : Type 0 where
   pub outs_are : p.outs.items ≡ []
   pub goes : p.at_join ≡ false
   pub fresh : IsGoing p.strand
+  pub count : p.strand.count ≡ 0
+  pub whole : job.parts.value.extent ≡ extent.WholeCall → IsBefore p.strand
 
--- at a join only with a strand that is at a join, and with jobs out; and there where it has stopped
--- with jobs out, and where it waits
+-- at a join exactly where its strand does not go on, which then has jobs out; one with nothing out has not come to its
+-- end
 abbrev pub StandsRight : Posted → Type 0
 StandsRight p =
     (p.at_join ≡ true → IsAtSync p.strand × (p.outs ≢ []))
-    × (HasStopped p.strand → p.outs ≢ [] → p.at_join ≡ true)
-    × (IsWaiting p.strand → p.at_join ≡ true)
+    × (p.at_join ≡ false → IsGoing p.strand)
+    × IsUnended p.strand
 
 -- it goes on with the same job; its list has these, and its strand has these jobs out
 pub record Stays (old new : Posted) (list : List Out) (left : List Job) : Type 0 where
@@ -77,13 +79,22 @@ pub record HandsOut (old new : Posted) (jobs jobs' : List Job) : Type 0 where
       (pushed old.outs (out.Undecided (length jobs) job)) (job ∷ outs old.strand)
   pub jobs_are : jobs' ≡ pushed jobs job
   pub goes : IsGoing new.strand
+  pub one : new.strand.count ≡ old.strand.count + 1
 
--- one instruction was done, after which its strand had not come to its end; or none, and it waits
--- from now on
-abbrev pub Went : (old new : Posted) → Type 0
-Went old new =
-    ((mid : Strand) × AdvancesBy advance.Ran old.strand mid × EndsBy None mid new.strand)
-    ⊎ (KeptBy step.AtSync old.strand new.strand × (new.at_join ≡ true))
+-- a strand has done so many instructions; or what it has ended with counts so many
+abbrev pub HasDone : Option Effect → Strand → (n : ℕ) → Type 0
+HasDone None self n = self.count ≡ n
+HasDone (Some e) self n = CountsIn e n
+
+-- and no more than before it was given an effect, but for what that counts, where it is taken in
+abbrev pub HasDoneWith : Option Effect → Effect → (old new : Strand) → Type 0
+HasDoneWith ended e old new =
+    HasDone ended new old.count ⊎ (TakesIn old e × HasDone ended new (old.count + cost_in e))
+
+-- ONE INSTRUCTION MORE; or none, where the strand has done as many as it may
+abbrev pub DoesOneMore : Option Effect → (old new : Strand) → Type 0
+DoesOneMore ended old new =
+    HasDone ended new (old.count + 1) ⊎ ((old.count ≡ its_end old) × HasDone ended new old.count)
 
 -- one instruction: it goes on, has handed out a job, or has ended; or memory was wanting, and all
 -- is as it was
@@ -91,9 +102,10 @@ abbrev pub Steps : Result (Option Effect) AllocError → (old new : Posted) (job
     → Type 0
 Steps (Err e) old new jobs jobs' = (new ≡ old) × (jobs' ≡ jobs)
 Steps (Ok None) old new jobs jobs' =
-    (Stays old new old.outs (outs old.strand) × (jobs' ≡ jobs) × Went old new)
+    (Stays old new old.outs (outs old.strand) × (jobs' ≡ jobs) × DoesOneMore None old.strand new.strand)
     ⊎ HandsOut old new jobs jobs'
-Steps (Ok (Some e)) old new jobs jobs' = Comes (Some e) old new [] × (jobs' ≡ jobs)
+Steps (Ok (Some e)) old new jobs jobs' =
+    Comes (Some e) old new [] × (jobs' ≡ jobs) × DoesOneMore (Some e) old.strand new.strand
 
 -- its list has one more job out, at a spawn to decide, with the next number
 abbrev pub ListsNext : (old : Post) → (jobs : List Job) → Job → (new : Post) → Type 0

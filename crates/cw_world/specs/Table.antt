@@ -1,6 +1,7 @@
 -- Which event is possible in a world.
-use Rattle.std.specs.Prelude.{ℕ, Bool, true, false, ◌&&◌, ◌||◌, not, nat_eq, Option, Some, None, is_some, slice_get}
+use Rattle.std.specs.Prelude.{ℕ, Bool, true, false, nat_eq, Option, Some, None, is_some, slice_get}
 use Rattle.cw_sched.specs.Board.{newest, oldest, of_worker}
+use Rattle.cw_sched.specs.Table as table
 use Rattle.cw_world.specs.declared.event.Event.{Event}
 use Rattle.cw_world.specs.declared.event.Event.TheVariants as event
 use Rattle.cw_world.specs.declared.post.Out.{Out}
@@ -51,15 +52,30 @@ abbrev pub is_settled : Boarded → Option Out → Bool
 is_settled b (Some (out.Offered n)) = is_some (cell_of b n)
 is_settled b _ = false
 
--- THE TABLE
+-- the event as the table names it
+abbrev pub named : Event → table.Event
+named (event.Run w) = table.Run w
+named (event.Offer w) = table.Offer w
+named (event.Inline w) = table.Inline w
+named (event.Retake w) = table.Retake w
+named (event.Steal w v) = table.Steal w v
+named (event.Settle w) = table.Settle w
+named (event.Collect w) = table.Collect w
+
+-- what the table asks of a world
+abbrev pub sight : Scene → table.Sight
+sight s = record {
+  is_there = λ w. is_some (slice_get s.begun w);
+  has_strand = λ w. is_some (top s w);
+  has_offer = λ v. is_some (oldest (of_worker s.board.offers v));
+  goes = λ w. goes (top s w);
+  is_at_spawn = λ w. is_at_spawn (top s w);
+  is_at_join = λ w. is_at_join (top s w);
+  can_retake = λ w. can_retake s.board w (newest_out (top s w));
+  can_collect = λ w. is_settled s.board (newest_out (top s w));
+  can_settle = λ w. has_made (top s w);
+}
+
+-- WHICH EVENT IS POSSIBLE: the table of events says it
 abbrev pub is_possible : Scene → Event → Bool
-is_possible s (event.Run w) =
-    goes (top s w) && not (is_at_spawn (top s w)) && not (is_at_join (top s w))
-is_possible s (event.Offer w) = is_at_spawn (top s w)
-is_possible s (event.Inline w) = is_at_spawn (top s w)
-is_possible s (event.Retake w) = is_at_join (top s w) && can_retake s.board w (newest_out (top s w))
-is_possible s (event.Steal w v) =
-    is_some (slice_get s.begun w) && (not (is_some (top s w)) || is_at_join (top s w))
-    && is_some (oldest (of_worker s.board.offers v))
-is_possible s (event.Settle w) = has_made (top s w)
-is_possible s (event.Collect w) = is_at_join (top s w) && is_settled s.board (newest_out (top s w))
+is_possible s event = table.possible (sight s) (named event)

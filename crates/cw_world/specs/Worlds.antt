@@ -66,13 +66,14 @@ KeepsAnswer old new =
 abbrev pub idle : (others : ℕ) → List (List Stage)
 idle others = replicate others []
 
--- it has begun well: worker 0 has begun the root, all others are idle, and nothing is offered
+-- it has begun well: worker 0 has begun the root and done nothing of it, all others are idle, and nothing is offered
 pub record IsStarted (v : Verified) (args : List ℤ) (n : ℕ) (burden : Burden) (workers : ℕ)
     (w : World) : Type 0 where
   pub is : IsWorldOf v args n burden w
   pub post : Posted
   pub root : (post.number ≡ 0) × (post.outs ≡ [])
   pub goes : IsGoing post.strand
+  pub none : post.strand.count ≡ 0
   pub begun : (scene w).begun ≡ (Goes post ∷ []) ∷ idle (workers - 1)
   pub board : (scene w).board ≡ opened workers
 

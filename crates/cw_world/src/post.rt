@@ -1,15 +1,16 @@
 //! A strand that a worker has begun, beside the jobs that it has out.
 
-ghost use Rattle.std.specs.Prelude.{◌≡◌, ◌⊎◌, ◌∷◌, List, IfOk, IsSome, MatchResult, OnErr};
+ghost use Rattle.std.specs.Prelude.{◌≡◌, ◌≢◌, ◌⊎◌, ◌∷◌, [], List, IfOk, IsSome, MatchResult, OnErr};
 ghost use Rattle.cw_jobs.specs.declared.job.Job as jobs;
 ghost use Rattle.cw_strand.specs.Holds.{outs, IsAtSync, IsGoing, HasFailed, IsRunning, IsWaiting};
 ghost use Rattle.cw_strand.specs.Losing.{LeavesEnd, MayLack, MayLose};
 ghost use Rattle.cw_strand.specs.Giving.{IsGiven};
+ghost use Rattle.cw_strand.specs.Moves.{IsUnended};
 ghost use Rattle.cw_sched.specs.Board.{pushed};
 ghost use Rattle.cw_world.specs.Scenes.{jobs_of, posted};
 ghost use Rattle.cw_world.specs.Boards.{IsFull};
 ghost use Rattle.cw_world.specs.Lacking.{LacksAfter};
-ghost use Rattle.cw_world.specs.Posts.{Begins, Comes, ComesBack, HasRoom, HasStepped, IsBackIn, IsEven, Lacks, LacksOne, ListsNext, StandsRight};
+ghost use Rattle.cw_world.specs.Posts.{Begins, Comes, ComesBack, HasDone, HasDoneWith, HasRoom, HasStepped, IsBackIn, IsEven, Lacks, LacksOne, ListsNext, StandsRight};
 
 use cw_jobs::effect::Effect;
 use cw_jobs::job::Job;
@@ -47,6 +48,7 @@ fn unrun(strand: &mut Strand, rest: Job)
     ensures running { IsRunning strand.new }
     ensures outs { rest ∷ outs strand.new ≡ outs strand.old }
     ensures back { IsBackIn strand.old strand.new }
+    ensures counts { strand.new.count ≡ strand.old.count }
 {
     if strand.stopped() {
         strand.skip(rest);
@@ -75,15 +77,15 @@ impl Post {
     pub(crate) fn stand(&mut self) -> Option<Effect>
         requires running { IsRunning self.old.strand }
         requires even { IsEven self.old }
-        requires back { IsWaiting self.old.strand → ⊥ }
         ensures comes { Comes result (posted self.old) (posted self.new) (outs self.old.strand) }
+        ensures counts { HasDone result self.new.strand self.old.strand.count }
         ensures leaves { LeavesEnd result self.old.strand self.new.strand }
     {
         if self.outs.is_empty() {
             self.at_join = false;
             return self.strand.end();
         }
-        self.at_join = self.strand.stopped();
+        self.at_join = self.strand.is_paused();
         None
     }
 
@@ -91,6 +93,7 @@ impl Post {
     fn hand_out(&mut self, jobs: &mut Vec<Snapshot<Job>>, job: Job)
         requires room { HasRoom self.old.outs × HasRoom jobs.old }
         requires goes { IsGoing self.old.strand }
+        requires out { outs self.old.strand ≢ [] }
         ensures strand { self.new.strand ≡ self.old.strand }
         ensures numbered { self.new.number ≡ self.old.number }
         ensures outs { ListsNext self.old (jobs_of jobs.old) job self.new }
@@ -111,6 +114,7 @@ impl Post {
     ) -> Result<Option<Effect>, AllocError>
         requires running { IsRunning self.old.strand }
         requires even { IsEven self.old }
+        requires ready { IsGoing self.old.strand × IsUnended self.old.strand }
         ensures does { HasStepped result self.old self.new jobs.old jobs.new }
         ensures full { OnErr result (IsFull jobs.old ⊎ IsFull self.old.outs) }
         ensures lacks { IfOk result (λ r. LacksAfter r self.new.strand → MayLack self.old.strand) }
@@ -136,6 +140,7 @@ impl Post {
         requires at_sync { IsRunning self.old.strand × IsAtSync self.old.strand }
         requires lacks { Lacks self.old rest }
         ensures comes { ComesBack result self.old rest self.new }
+        ensures counts { HasDone result self.new.strand self.old.strand.count }
         ensures lacks { LacksAfter result self.new.strand
             → HasFailed self.old.strand ⊎ (IsWaiting self.old.strand × IsSome result) }
     {
@@ -149,6 +154,7 @@ impl Post {
         requires lacks { LacksOne self.old }
         requires given { IsGiven self.old.strand effect }
         ensures comes { (out : jobs.Job) → ComesBack result self.old out self.new }
+        ensures counts { HasDoneWith result effect self.old.strand self.new.strand }
         ensures lacks { LacksAfter result self.new.strand → MayLose self.old.strand effect }
     {
         self.strand.give(effect);

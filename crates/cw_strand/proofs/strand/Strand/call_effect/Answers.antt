@@ -13,3 +13,6 @@ returns-clause-none c = gave_none c.calls_on_a_strand_keep_its_job.ensures c.arg
 
 pub returns-clause-comes : goal.returns-clause-comes
 returns-clause-comes c = c.requires.comes.going
+
+pub returns-clause-counts : goal.returns-clause-counts
+returns-clause-counts c = c.shown.ensures.counted

@@ -1,3 +1,4 @@
+use Rattle.std.proofs.Common.{inl}
 use Rattle.cw_strand.proofs.Same.{newest_of}
 use Rattle.cw_strand.proofs.Gave.{of_rest, else_stopped}
 use Rattle.cw_strand.proofs.strand.Strand.give.Goals as goal
@@ -18,3 +19,6 @@ give_stopped-requires c =
       rest = of_rest self given.out given.others (newest_of self given.out given.others given.are) c.requires.running c.args.effect given.means;
       given = given;
     }
+
+pub returns-in_default-clause-counts : goal.returns-in_default-clause-counts
+returns-in_default-clause-counts c = inl c.give_stopped.ensures.counts

@@ -1,4 +1,4 @@
-use Rattle.std.proofs.Common.{◌≡◌, ◌+◌, refl, sym, ap, ◌∙◌, subst}
+use Rattle.std.proofs.Common.{◌≡◌, ◌+◌, refl, sym, ap, ◌∙◌, subst, inl, inr}
 use Rattle.cw_jobs.specs.declared.effect.Effect.TheVariants as effect
 use Rattle.cw_jobs.specs.Jobs.{code_of}
 use Rattle.cw_strand.specs.declared.strand.Mode.TheVariants as mode
@@ -89,3 +89,12 @@ returns-clause-lacks c = λ _. sym c.passes.ensures ∙ c.if-passes.false
 
 pub returns-clause-back : goal.returns-clause-back
 returns-clause-back c = λ w. waits_not mode.Memory refl w
+
+pub returns-then-passes-clause-counts : goal.returns-then-passes-clause-counts
+returns-then-passes-clause-counts c = inl c.pop_home.ensures.count
+
+pub returns-in-Ok-clause-counts : goal.returns-in-Ok-clause-counts
+returns-in-Ok-clause-counts c = inr ((c.requires.waiting, sym c.passes.ensures ∙ c.if-passes.false), refl)
+
+pub returns-clause-counts : goal.returns-clause-counts
+returns-clause-counts c = inl refl

@@ -2,7 +2,7 @@ use Rattle.cw_strand.proofs.Same.{newest_of, others_left}
 use Rattle.cw_strand.proofs.Gave.{lost_runs}
 use Rattle.std.proofs.Common.{sym, ap, subst, inl, inr}
 use Rattle.cw_strand.specs.Holds.{stops, has_failed}
-use Rattle.cw_strand.specs.Losing.{TakesIn, TellsFailure}
+use Rattle.cw_strand.specs.Losing.{CountsGiven, TakesIn, TellsFailure}
 use Rattle.cw_strand.proofs.Losing.{lacks_not, waits_not}
 use Rattle.cw_strand.proofs.strand.Strand.give_waiting.Goals as goal
 
@@ -36,3 +36,18 @@ returns-in-Memory-clause-back c = λ w. waits_not c.lose.new.self.mode (ap stops
 
 pub returns-in-GivenUp-clause-lacks : goal.returns-in-GivenUp-clause-lacks
 returns-in-GivenUp-clause-lacks c = λ _. inr (inl (subst TellsFailure (sym c.in-GivenUp.is) tt))
+
+pub returns-in-Joined-clause-counts : goal.returns-in-Joined-clause-counts
+returns-in-Joined-clause-counts c = subst (λ e. CountsGiven e c.args.self.now c.give_joined.new.self) (sym c.in-Joined.is) c.give_joined.ensures.counts
+
+pub returns-in-Trapped-clause-counts : goal.returns-in-Trapped-clause-counts
+returns-in-Trapped-clause-counts c = subst (λ e. CountsGiven e c.args.self.now c.give_trap.new.self) (sym c.in-Trapped.is) c.give_trap.ensures.counts
+
+pub returns-in-OverLimit-clause-counts : goal.returns-in-OverLimit-clause-counts
+returns-in-OverLimit-clause-counts c = inl c.give_over.ensures.counts
+
+pub returns-in-GivenUp-clause-counts : goal.returns-in-GivenUp-clause-counts
+returns-in-GivenUp-clause-counts c = inl c.give_given_up.ensures.counts
+
+pub returns-in-Memory-clause-counts : goal.returns-in-Memory-clause-counts
+returns-in-Memory-clause-counts c = inl c.lose.ensures.count

@@ -37,3 +37,6 @@ returns-in-Err-clause-none c = join_none c.calls_on_a_strand_keep_its_job.ensure
 
 pub returns-in-Err-clause-comes : goal.returns-in-Err-clause-comes
 returns-in-Err-clause-comes c = inl c.requires.comes.going
+
+pub returns-in-Ok-clause-counts : goal.returns-in-Ok-clause-counts
+returns-in-Ok-clause-counts c = c.shown.ensures.counted

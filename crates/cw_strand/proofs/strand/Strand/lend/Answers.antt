@@ -20,3 +20,9 @@ returns-in-Ok-clause-keeps c =
 
 pub returns-in-Ok-clause-goes : goal.returns-in-Ok-clause-goes
 returns-in-Ok-clause-goes c = c.in-Ok.ensures.cut.mode ∙ c.requires.comes.going
+
+pub returns-in-Ok-clause-counts : goal.returns-in-Ok-clause-counts
+returns-in-Ok-clause-counts c = c.in-Ok.ensures.cut.count
+
+pub returns-in-Err-clause-counts : goal.returns-in-Err-clause-counts
+returns-in-Err-clause-counts c = c.rest.ensures.counts ∙ c.in-Err.ensures.kept.count

@@ -2,7 +2,7 @@ use Rattle.std.proofs.Common.{◌≡◌, true, sym, ap, subst, ◌∙◌}
 use Rattle.cw_jobs.specs.Jobs.{code_of}
 use Rattle.cw_machine.specs.Stretches.{IsUnderWay, GoesOn}
 use Rattle.cw_strand.specs.Holds.{its_code}
-use Rattle.cw_strand.proofs.RunsOn.{run_way, run_came, run_still}
+use Rattle.cw_strand.proofs.RunsOn.{run_way, run_came, run_ran}
 use Rattle.cw_strand.proofs.strand.Strand.run_on.Goals as goal
 
 pub go_on-stop-requires-clause-running : goal.go_on-stop-requires-clause-running
@@ -22,10 +22,10 @@ returns-clause-comes c =
     (subst (λ v. GoesOn v self.run self.count c.args.limit true to done r) code c.go_on-stop.ensures.goes)
     c.go_on-stop.ensures.within c.requires.within
 
-pub returns-clause-still : goal.returns-clause-still
-returns-clause-still c = λ same.
+pub returns-clause-ran : goal.returns-clause-ran
+returns-clause-ran c =
     let self = c.args.self.now in
     let code : c.deref-2.result.now ≡ its_code self = c.deref-2.ensures ∙ ap (λ q. code_of q) c.deref.ensures ∙ c.requires.running.keeps.code in
-    run_still self c.go_on-stop.new.self c.go_on-stop.result.1 c.args.limit c.go_on-stop.result.0 c.requires.running c.requires.going
+    run_ran self c.go_on-stop.new.self c.go_on-stop.result.1 c.args.limit c.go_on-stop.result.0 c.requires.running c.requires.going
     (subst (λ v. GoesOn v self.run self.count c.args.limit true c.go_on-stop.result.0 c.go_on-stop.result.1 c.go_on-stop.new.self) code c.go_on-stop.ensures.goes)
-    c.go_on-stop.ensures.within same
+    c.go_on-stop.ensures.within

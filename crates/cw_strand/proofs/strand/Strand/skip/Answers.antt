@@ -50,3 +50,6 @@ returns-clause-outs c =
 
 pub returns-clause-mode : goal.returns-clause-mode
 returns-clause-mode c = c.spare.ensures.kept.mode ∙ c.pop_home.ensures.mode
+
+pub returns-clause-counts : goal.returns-clause-counts
+returns-clause-counts c = c.spare.ensures.kept.count ∙ c.pop_home.ensures.count

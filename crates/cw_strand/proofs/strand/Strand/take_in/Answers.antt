@@ -63,3 +63,6 @@ returns-clause-outs c =
 
 pub returns-clause-goes : goal.returns-clause-goes
 returns-clause-goes c = c.spare.ensures.kept.mode
+
+pub returns-clause-counts : goal.returns-clause-counts
+returns-clause-counts c = c.spare.ensures.kept.count

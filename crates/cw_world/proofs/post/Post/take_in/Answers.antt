@@ -1,7 +1,8 @@
-use Rattle.std.proofs.Common.{◌∙◌, refl, ap}
+use Rattle.std.proofs.Common.{◌∙◌, refl, ap, subst}
+use Rattle.cw_world.specs.Posts.{HasDone}
 use Rattle.cw_world.specs.Scenes.{Posted, posted}
 use Rattle.cw_world.proofs.Lists.{tail_of}
-use Rattle.cw_world.proofs.Lacking.{back_not_waits, after_back}
+use Rattle.cw_world.proofs.Lacking.{after_back}
 use Rattle.cw_world.proofs.Posts.{comes_back}
 use Rattle.cw_world.proofs.post.Post.take_in.Goals as goal
 
@@ -13,8 +14,8 @@ returns-clause-comes c =
     comes_back c.stand.result (posted p) mid (posted c.stand.new.self) c.args.rest others refl refl
     (ap (λ o. o.value) c.unrun.ensures.of) (ap tail_of (c.unrun.ensures.outs ∙ e)) c.stand.ensures.comes
 
-pub stand-requires-clause-back : goal.stand-requires-clause-back
-stand-requires-clause-back c = λ w. back_not_waits c.args.self.now.strand c.unrun.new.strand c.unrun.ensures.back w
+pub returns-clause-counts : goal.returns-clause-counts
+returns-clause-counts c = subst (HasDone c.stand.result c.stand.new.self.strand) c.unrun.ensures.counts c.stand.ensures.counts
 
 pub returns-clause-lacks : goal.returns-clause-lacks
 returns-clause-lacks c = after_back c.stand.result c.args.self.now.strand c.unrun.new.strand c.stand.new.self.strand c.unrun.ensures.back c.stand.ensures.leaves

@@ -1,11 +1,12 @@
-use Rattle.std.proofs.Common.{◌≡◌, ◌∙◌, List, refl, sym, ap, length}
+use Rattle.std.proofs.Common.{◌≡◌, ◌∙◌, List, refl, sym, ap, subst, length}
 use Rattle.std.specs.Arc.{arc_value}
 use Rattle.cw_jobs.specs.declared.job.Job.{Job}
 use Rattle.cw_world.specs.declared.board.Offer.{Offer}
 use Rattle.cw_world.specs.Boards.{Boarded, returned, stolen}
 use Rattle.cw_world.specs.Scenes.{posted, scene, stacks}
-use Rattle.cw_world.specs.Events.{with_top}
-use Rattle.cw_world.proofs.Lacking.{goes_not_waits, fresh_lacks}
+use Rattle.cw_world.specs.Events.{with_top, Counts}
+use Rattle.cw_world.proofs.Lacking.{fresh_lacks}
+use Rattle.cw_world.proofs.Turns.{counted}
 use Rattle.cw_world.proofs.Doing.{scene_is, stolen_to, stolen_whole, offer_job, set_back}
 use Rattle.cw_world.proofs.world.World.begin_stolen.Goals as goal
 
@@ -41,6 +42,7 @@ returns-in-Ok-clause-does c =
       post = p;
       begins = (b.numbered, b.of, b.outs_are);
       comes = stolen_to v s.jobs p q c.stand-ended.result x o.number o.job job_is b.numbered b.of b.outs_are b.none c.stand-ended.ensures.comes c.turn.ensures.begun;
+      none = subst (Counts x) b.count (counted v q c.stand-ended.result x p.strand.count c.turn.ensures.begun c.stand-ended.ensures.counts);
       lacks = fresh_lacks v p.strand q c.stand-ended.result x b.fresh c.stand-ended.ensures.leaves c.turn.ensures.begun;
       is = scene_is s.jobs s.jobs (stacks c.turn.new.begun) (with_top s.begun c.args.w x) _ _ refl
           c.turn.ensures.is c.steal-number.ensures.stolen;
@@ -56,6 +58,3 @@ returns-in-Err-clause-does c =
     ∙ (ap (λ (y : Boarded). returned y c.args.v (record { number = o.number; job = c.in-Err.job })) c.steal-number.ensures.stolen
     ∙ (ap (λ (y : Offer). returned (stolen s.board c.args.v) c.args.v y) same
     ∙ ap (λ (l : List (List Offer)). record { offers = l; cells = s.board.cells }) (set_back s.board.offers c.args.v o c.steal-number.ensures.oldest))))
-
-pub stand-ended-requires-clause-back : goal.stand-ended-requires-clause-back
-stand-ended-requires-clause-back c = λ w. goes_not_waits c.in-Ok.post.strand.mode c.in-Ok.ensures.fresh w

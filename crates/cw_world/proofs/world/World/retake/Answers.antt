@@ -5,7 +5,7 @@ use Rattle.cw_world.specs.Scenes.{posted, scene, stacks, top}
 use Rattle.cw_world.specs.Table as table
 use Rattle.cw_world.specs.Events.{board_without, IsBack}
 use Rattle.cw_world.proofs.Lacking.{back_lacks}
-use Rattle.cw_world.proofs.Turns.{came_back, back_whole}
+use Rattle.cw_world.proofs.Turns.{came_back, counted, back_whole}
 use Rattle.cw_world.proofs.Doing.{and_left, and_right, turned_scene, taken_works, at_sync, lacks_back, comes_of, at_back, popped, popped_are, retake_out, join_goes, some_of, if_some, retake_some}
 use Rattle.cw_world.proofs.world.World.retake.Goals as goal
 
@@ -84,6 +84,7 @@ returns-clause-does c =
       stage = x;
       comes = came_back v s.jobs p (posted c.take_in-ended.new.self) older o p.at_join c.take_in-ended.result x works are
           (comes_of v s c.args.w p (posted c.take_in-ended.new.self) older o c.unrun-rest.result c.take_in-ended.result c.requires.sound.right works are back c.take_in-ended.ensures.comes) c.turn.ensures.begun;
+      none = counted v (posted c.take_in-ended.new.self) c.take_in-ended.result x p.strand.count c.turn.ensures.begun c.take_in-ended.ensures.counts;
       lacks = back_lacks v p.strand (posted c.take_in-ended.new.self) c.take_in-ended.result x c.turn.ensures.begun c.take_in-ended.ensures.lacks;
       is = turned_scene s c.args.w x x (stacks c.take-post.new.begun) (stacks c.turn.new.begun) _ _ c.take-post.ensures.left c.turn.ensures.is refl
           (if_some (λ y. boarded c.unrun-rest.new.board ≡ board_without s.board c.args.w y) latest o some.is c.unrun-rest.ensures.board);

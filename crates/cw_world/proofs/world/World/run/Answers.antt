@@ -1,10 +1,11 @@
-use Rattle.std.proofs.Common.{◌∙◌, List, refl, ap}
+use Rattle.std.proofs.Common.{◌≡◌, ◌∙◌, false, List, refl, sym, ap}
 use Rattle.std.specs.Arc.{arc_value}
-use Rattle.cw_world.specs.Scenes.{Posted, Stage, Goes, posted, scene, stacks, jobs_of}
+use Rattle.cw_world.specs.Scenes.{Posted, Stage, Goes, posted, scene, stacks, jobs_of, top}
+use Rattle.cw_world.specs.Table.{is_at_join}
 use Rattle.cw_world.specs.Events.{with_top}
 use Rattle.cw_world.proofs.Strands.{is_even}
 use Rattle.cw_world.proofs.Turns.{ran, ran_whole}
-use Rattle.cw_world.proofs.Doing.{put_back, taken_works}
+use Rattle.cw_world.proofs.Doing.{not_at_join, put_back, taken_works}
 use Rattle.cw_world.proofs.Wanting.{run_wants}
 use Rattle.cw_world.proofs.world.World.run.Goals as goal
 
@@ -18,6 +19,15 @@ step-requires-clause-even c =
     let s = scene c.args.self.now in
     let works = taken_works (arc_value c.args.self.now.code) s c.args.w (posted c.take-post.result) c.requires.sound.right c.take-post.ensures.top in
     is_even s.jobs c.take-post.result.outs.items _ works.lent
+
+pub step-requires-clause-ready : goal.step-requires-clause-ready
+step-requires-clause-ready c =
+    let s = scene c.args.self.now in
+    let p = posted c.take-post.result in
+    let t = top s c.args.w in
+    let works = taken_works (arc_value c.args.self.now.code) s c.args.w p c.requires.sound.right c.take-post.ensures.top in
+    let away : is_at_join t ≡ false = not_at_join t c.requires.possible in
+    (works.stands.1 (sym (ap is_at_join c.take-post.ensures.top) ∙ away), works.stands.2)
 
 pub turn-requires-clause-root : goal.turn-requires-clause-root
 turn-requires-clause-root c =

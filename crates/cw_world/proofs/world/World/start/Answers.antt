@@ -17,4 +17,4 @@ returns c =
     c.in_ok-code.ensures ∙ (ap (λ p. arc_value p.code) c.deref.ensures ∙ c.in_ok-root.ensures.code) in
     begins c.args.code.value c.args.args.now c.args.n c.args.burden c.args.workers _ root post some c.in_ok-root.ensures same
     (scene_is _ (root ∷ []) _ ((Goes post ∷ []) ∷ idle (c.args.workers - 1)) _ (opened c.args.workers) c.in_ok-jobs.ensures c.in_ok-begun.ensures c.in_ok-board.ensures)
-    b.numbered b.of b.running b.none b.outs_are b.goes b.fresh
+    b.numbered b.of b.running b.none b.outs_are b.goes b.fresh b.count (b.whole c.in_ok-root.ensures.whole)

@@ -1,0 +1,30 @@
+use Rattle.std.proofs.Common.{◌≡◌, refl, ◌∙◌, arith}
+use Rattle.cw_strand.specs.declared.strand.Advance.TheVariants as advance
+use Rattle.cw_strand.specs.declared.strand.Mode.TheVariants as mode
+use Rattle.cw_strand.proofs.Advanced.{advances_from, leaves_from}
+use Rattle.cw_strand.proofs.Halts.{over_runs}
+use Rattle.cw_strand.proofs.strand.Strand.step.Goals as goal
+
+pub pause-requires-clause-running : goal.pause-requires-clause-running
+pause-requires-clause-running c =
+    let self = c.args.self.now in
+    let full = c.if-self-end.false in
+    let above = c.end_of_job-end.ensures.above in
+    let same : self.count ≡ c.end_of_job-end.result = omega (arith, full, above) in
+    over_runs c.calls_on_a_strand_keep_its_job.ensures self self.count c.machines_that_stop_remain.ensures.remain (same ∙ c.end_of_job-end.ensures.end) c.requires.before
+
+pub returns-clause-advances : goal.returns-clause-advances
+returns-clause-advances c =
+    let self = c.args.self.now in
+    advances_from (advance.Came c.pause.result) self (record self { mode = mode.Over }) c.pause.new.self refl refl refl (c.pause.ensures.keeps, c.pause.ensures.counts)
+
+pub returns-clause-leaves : goal.returns-clause-leaves
+returns-clause-leaves c =
+    let self = c.args.self.now in
+    leaves_from (advance.Came c.pause.result) self (record self { mode = mode.Over }) c.pause.new.self c.requires.before.going c.pause.ensures.leaves
+
+pub returns-clause-does : goal.returns-clause-does
+returns-clause-does c = λ lt.
+    let full = c.if-self-end.false in
+    let end = c.end_of_job-end.ensures.end in
+    absurd (omega (arith, full, end, lt))
