@@ -80,7 +80,7 @@ fn gain_command<'a>(alloc: Global) -> Result<Command<'a>, AllocError>
     let running = running_command(
         alloc,
         "gain",
-        "Runs a program and writes what each function would bring if it were free",
+        "Runs a program and writes what making a function faster can bring",
         OF_GAIN,
     )?;
     let command = running.arg(number(alloc, TOP))?;

@@ -138,8 +138,8 @@ greatest first, at most as many as --top says.
   parallelism_if_free    work by that, to three digits and rounded down; 0.000
                          where that is 0
   burdened_span_if_free  the same of the burdened span
-No change inside the function alone brings more. Each function that is told
-takes one more run.
+However one function alone is changed, the span stays that long at least. Each
+function that is told takes one more run.
 How to read them: GUIDE.md, which lies where 'cilkwork --help' tells.
 
 --explain tells why a source is refused or a run traps. What ARGS and numbers

@@ -16,10 +16,10 @@ ghost use Rattle.cw_model.specs.Ints.{fits};
 ghost use Rattle.cw_report.specs.Answers.{AnswersText};
 
 use crate::asked::{Mode, Options};
+use cw_gains::gains::Gains;
 use cw_machine::alone::Ended;
 use cw_machine::values::Values;
 use cw_model::laws::derived_sites_are_numbered;
-use cw_gains::gains::Gains;
 use cw_report::{Sink, answer, gain, scale, sites};
 use cw_text::Fault;
 use cw_verify::verified::Verified;

@@ -103,8 +103,7 @@ fn asked_by(alloc: Global, verb: Verb, given: &ArgMatches<'_>) -> Result<Request
         number_of(given, PROCESSORS),
         number_of(given, TOP),
         number_of(given, WORKERS),
-    )
-    else {
+    ) else {
         return Err(Fault::Arguments);
     };
     let args = args_of(alloc, given.get_strs("ARGS").unwrap_or(&[]))?;

@@ -9,7 +9,8 @@ const HEADER: &str =
     "function,line,calls,own_work,own_span,span_if_free,parallelism_if_free,burdened_span_if_free\n";
 
 // A call of nine instructions beside one of five.
-const NEAR_TIE: &str = "void f() { print(1); print(2); print(3); print(4); } void g() { print(1); print(2); } \
+const NEAR_TIE: &str =
+    "void f() { print(1); print(2); print(3); print(4); } void g() { print(1); print(2); } \
 int main() { cilk_spawn f(); g(); return 0; }";
 
 const HALVES: &str = "

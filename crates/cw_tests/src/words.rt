@@ -298,10 +298,7 @@ const NO_TABLES: &[Misuse] = &[
         "gain",
         "error: the following required arguments were not provided:\n",
     ),
-    (
-        "gain f --top",
-        "error: a value is required for '--top <N>'",
-    ),
+    ("gain f --top", "error: a value is required for '--top <N>'"),
     (
         "sites f --top 3",
         "error: unexpected argument '--top' found\n",
