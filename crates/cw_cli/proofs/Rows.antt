@@ -12,7 +12,6 @@ use Rattle.cw_model.specs.declared.total.Total.{Total}
 use Rattle.cw_model.specs.Trees.{Tree, work, span, burdened_span}
 use Rattle.cw_model.specs.Answers.{Ended}
 use Rattle.cw_model.specs.Rows.{site_row}
-use Rattle.cw_model.specs.Sites as model
 use Rattle.cw_model.specs.Sites.{CallSite, call_sites, root_site, are_numbered, heads_of, sites_of}
 use Rattle.cw_model.specs.Freed.{FunctionRow, worth_telling}
 use Rattle.cw_model.specs.Report.{csv_line, scale_header, scale_line, scale_text, sites_header, sites_text, site_kind_text, site_line, region_line, tags_of, gain_header, gain_line, gain_text, free_line, whole_row}
@@ -121,10 +120,10 @@ lines_of : (work : ℕ) (gains : List FunctionGain) → texts.function_lines wor
 lines_of work [] = refl
 lines_of work (g ∷ gains) = ap (λ l. texts.function_line work g ++ l) (lines_of work gains)
 
-free_lines : (sites : List CallSite) (burden : Burden) (t : Tree) (rows : List FunctionRow)
-    → flat_map (line_of (work t)) (map (free_row sites burden t) rows) ≡ flat_map (free_line sites burden t) rows
-free_lines sites burden t [] = refl
-free_lines sites burden t (row ∷ rows) = ap (λ l. free_line sites burden t row ++ l) (free_lines sites burden t rows)
+free_lines : (all : List CallSite) (burden : Burden) (t : Tree) (rows : List FunctionRow)
+    → flat_map (line_of (work t)) (map (free_row all burden t) rows) ≡ flat_map (free_line all burden t) rows
+free_lines all burden t [] = refl
+free_lines all burden t (row ∷ rows) = ap (λ l. free_line all burden t row ++ l) (free_lines all burden t rows)
 
 -- the line of a whole run
 whole_is : (t : Tree) (work' span' burdened burdened' : ℕ) → work' ≡ work t → span' ≡ span t → burdened' ≡ burdened
@@ -143,10 +142,10 @@ pub gains_are : (program : Program) (code : Code) (heads : List Head) (top : ℕ
     → map gain_view g.functions.items ≡ map (free_row (all_sites code) burden t) (worth_telling top (map head_view heads) (all_sites code) t)
     → texts.gain_report (Ok g) ≡ gain_text top program burden (Ended value lines totals t)
 gains_are program code heads top burden g t value lines totals heads_are told line whole functions =
-    let sites = all_sites code in
-    let rows = worth_telling top (map head_view heads) sites t in
+    let all = all_sites code in
+    let rows = worth_telling top (map head_view heads) all t in
     ap₂ (λ a b. gain_header ++ (a ++ b)) (whole_is t g.measure.work g.measure.span (burdened_span burden t) g.measure.burdened whole.work whole.span whole.burdened)
     (lines_of g.measure.work g.functions.items ∙ ap (λ w. flat_map (line_of w) (map gain_view g.functions.items)) whole.work
-    ∙ ap (flat_map (line_of (work t))) functions ∙ free_lines sites burden t rows)
-    ∙ ap₂ (λ heads sites. gain_header ++ (gain_line (whole_row t) (work t) (span t) (burdened_span burden t) ++ flat_map (free_line sites burden t) (worth_telling top heads sites t)))
+    ∙ ap (flat_map (line_of (work t))) functions ∙ free_lines all burden t rows)
+    ∙ ap₂ (λ hs ss. gain_header ++ (gain_line (whole_row t) (work t) (span t) (burdened_span burden t) ++ flat_map (free_line ss burden t) (worth_telling top hs ss t)))
     heads_are (all_sites_are program code told line)

@@ -62,8 +62,8 @@ pub fn analyse_alone<W: Sink>(
 /// and one for each body of the crew as workers that steal from each other.
 ///
 /// The errors and what is written are those of `analyse_alone`, which it calls where the crew is empty: no byte depends
-/// on the crew, on what its bodies and the gate do, or on the order in which workers come to steal. A check and a
-/// schedule are made by the caller's thread alone.
+/// on the crew, on what its bodies and the gate do, or on the order in which workers come to steal. A check, a schedule
+/// and the runs behind the first one in mode `Gain` are made by the caller's thread alone.
 ///
 /// It asks that the crew has at most 63 bodies, and that fewer than 2^64 - 1 writes to the sink failed before.
 pub fn analyse<

@@ -139,7 +139,7 @@ greatest first, at most as many as --top says.
                          where that is 0
   burdened_span_if_free  the same of the burdened span
 However one function alone is changed, the span stays that long at least. Each
-function that is told takes one more run.
+function that is told takes one more run, with one thread.
 How to read them: GUIDE.md, which lies where 'cilkwork --help' tells.
 
 --explain tells why a source is refused or a run traps. What ARGS and numbers

@@ -10,8 +10,8 @@ use Rattle.cw_cli.proofs.analysis.run_gain_with.Goals as goal
 
 pub returns-in_err-most : goal.returns-in_err-most
 returns-in_err-most g c = λ bytes is made.
-    handed_on _ _ _ c.from_residual-in_err-most.result (out_of_range g.W.Sink.seen c.args.out.now bytes c.args.args.now c.args.options _ made.compiled (mode.Gain c.args.top) _ is c.in_err-most.ensures.0 c.in_err-most.ensures.1)
-    c.from_residual-in_err-most.ensures.1
+    handed_on _ _ _ c.from_residual.result (out_of_range g.W.Sink.seen c.args.out.now bytes c.args.args.now c.args.options _ made.compiled (mode.Gain c.args.top) _ is c.in_err-most.ensures.0 c.in_err-most.ensures.1)
+    c.from_residual.ensures.1
 
 pub returns : goal.returns
 returns g c = λ bytes is made.

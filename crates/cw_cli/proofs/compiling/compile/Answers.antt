@@ -59,6 +59,6 @@ returns c =
     source_of c.args.bytes.now c.in_ok-source.source c.in_ok-tokens.tokens.items c.as_slice.result.now c.in_ok-source.ensures c.as_slice.ensures.value (search rules) c.in_ok-tokens.ensures _ c.in_ok-ast.ensures in
     let tree = c.in_ok-core.core.source.typed.tree in
     let same = c.in_ok-core.ensures.same_source ∙ c.in_ok-owned.ensures in
-    let heads = c.in_ok-heads.ensures ∙ ap (λ fs. map head_of (map function_of fs)) c.deref-2.ensures.value in
+    let heads = c.in_ok-heads.ensures ∙ ap (λ fs. map head_of (map function_of fs)) c.deref.ensures.value in
     made c.args.bytes.now _ source c.in_ok-typed.typed.tree c.in_ok-typed.ensures tree same c.in_ok-core.core.source.owned c.in_ok-core.core.few
     c.in_ok-code.code c.in_ok-code.ensures c.in_ok-verified.verified c.in_ok-verified.ensures.0 c.in_ok-heads.heads heads
