@@ -23,12 +23,12 @@ use Rattle.cw_code.specs.Code.{Code, told_sites}
 use Rattle.cw_machine.specs.declared.alone.Ended as run
 use Rattle.cw_machine.specs.Runs.{tags_in}
 use Rattle.cw_gains.specs.Counts.{head_view, row_view}
-use Rattle.cw_gains.specs.Gains.{FreeRow, free_row, gain_view, all_sites}
+use Rattle.cw_gains.specs.Gains.{FreeRow, free_row, gain_view, all_sites, root_at}
 use Rattle.cw_gains.specs.declared.counts.Head.{Head}
 use Rattle.cw_gains.specs.declared.gains.FunctionGain.{FunctionGain}
 use Rattle.cw_gains.specs.declared.gains.Gains.{Gains}
 use Rattle.cw_report.specs.Texts as texts
-use Rattle.cw_report.specs.Texts.{tag_lines, scale_report, counts_of, row_line, row_lines, root_at}
+use Rattle.cw_report.specs.Texts.{tag_lines, scale_report, counts_of, row_line, row_lines}
 
 -- ---- tags
 

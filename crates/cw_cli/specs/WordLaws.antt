@@ -114,6 +114,18 @@ WorkersAreRead =
     → IsPlain workers → IsPlain file → All IsPlain args → length args < 2 ^ 64
     → AreRead (command_name v ∷ codes "--workers" ∷ workers ∷ file ∷ args) (running_on v file args workers)
 
+-- such words after `gain` are the source and the arguments, in their order
+abbrev pub GainIsRead : Type 0
+GainIsRead =
+    (file : Text) (args : List Text) → IsPlain file → All IsPlain args → length args < 2 ^ 64
+    → AreRead (codes "gain" ∷ file ∷ args) (gaining file args top_row.usual burden_row.usual)
+
+-- the same with how many functions before them
+abbrev pub GainTopIsRead : Type 0
+GainTopIsRead =
+    (top file : Text) (args : List Text) → IsPlain top → IsPlain file → All IsPlain args → length args < 2 ^ 64
+    → AreRead (codes "gain" ∷ codes "--top" ∷ top ∷ file ∷ args) (gaining file args top burden_row.usual)
+
 -- such words after `greedy` are the processors, the source and the arguments, in their order
 abbrev pub GreedyIsRead : Type 0
 GreedyIsRead =
