@@ -1,8 +1,9 @@
 #!/usr/bin/env python3
 """Processor time of runs beside that of the same instructions in a switch loop of C, without measures and with them.
 
-    times.py PROGRAM [ROUNDS]   the least of so many interleaved rounds (15), and the ratios beside those that are wanted;
-                                wants gcc, which compiles bench/switch.c and bench/measures.c
+    times.py PROGRAM [ROUNDS]        the least of so many interleaved rounds (15), and the ratios beside those that are wanted;
+                                     wants gcc, which compiles bench/switch.c and bench/measures.c
+    times.py PROGRAM gain [ROUNDS]   the same of `gain` by `scale`: of one function more, and of ten
 
 Sizes are such that what begins and ends a process is a small part, and rounds short: a machine that is shared is now and
 then slower for seconds. Where other work runs beside, ratios still compare, since the rounds are interleaved; seconds do
@@ -55,6 +56,23 @@ def commands(program, folder):
     return found
 
 
+def gains(program, rounds="15"):
+    """A table of `gain` beside `scale`."""
+    least, above = {}, 0
+    for _ in range(int(rounds)):
+        for name, size, *_ in PROGRAMS:
+            for kind, *more in (["scale"], ["gain", "--top", "1"], ["gain", "--top", "10"]):
+                command = [program, kind, *more, "--workers", "1", source(name), size]
+                least[name, *more] = min(least.get((name, *more), 1e9), taken(command))
+    print("| program | `scale` | `gain --top 1` | a what-if by `scale` | wanted | `gain --top 10` | by `scale` | wanted |")
+    print("|---|---|---|---|---|---|---|---|")
+    for name, size, *_ in PROGRAMS:
+        scale, one, ten = (least[name, *more] for more in ([], ["--top", "1"], ["--top", "10"]))
+        above += (one - scale > 0.8 * scale) + (ten > 11 * scale)
+        print(f"| {name} {size} | {scale:.3f} | {one:.3f} | {(one - scale) / scale:.2f} | 0.8 | {ten:.3f} | {ten / scale:.2f} | 11 |")
+    return above
+
+
 def main(program, rounds="15"):
     least, above = {}, 0
     with tempfile.TemporaryDirectory() as folder:
@@ -78,6 +96,7 @@ def main(program, rounds="15"):
 
 
 if __name__ == "__main__":
-    if len(sys.argv) not in (2, 3):
+    words = [it for it in sys.argv[1:] if it != "gain"]
+    if len(words) not in (1, 2):
         sys.exit(__doc__)
-    sys.exit(main(*sys.argv[1:]) != 0)
+    sys.exit((gains if "gain" in sys.argv[2:] else main)(*words) != 0)

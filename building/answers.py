@@ -30,16 +30,10 @@ def answer(program, words, given=b""):
     return ran.returncode, ran.stdout, ran.stderr
 
 
-def modes_of(program):
-    """The modes that have reports beside the examples, gain where the program has it."""
-    has_gain = b"\n  gain " in answer(program, ["--help"])[1]
-    return [mode for mode in ENDINGS if mode != "gain" or has_gain]
-
-
 def beside(program, files):
     """Each report, by its words: whether it is that of the file beside its example."""
     for file in files:
-        for mode in modes_of(program):
+        for mode in ENDINGS:
             words = words_of(mode, file)
             yield words, answer(program, words) == (0, file.with_suffix(ENDINGS[mode]).read_bytes(), b"")
 
@@ -49,7 +43,7 @@ def alike(program, other, files):
     for file in files:
         source = file.read_bytes()
         tries = [([], source), ([], source[: len(source) // 2]), (["--explain"], source[: len(source) // 2]), (["check", file], b"")]
-        for mode in modes_of(program):
+        for mode in ENDINGS:
             words = words_of(mode, file)
             tries += [([*words, "--workers", number], b"") for number in "14"]
             tries += [([*words, "--limit", "100"], b"")]

@@ -53,7 +53,7 @@ def texts_of(name, path):
     run = Run(Program(source), [int(word) for word in arguments], 1000000000)
     texts = {path + ending: report(mode, run, Burden(15000), PROCESSORS)[1] for mode, ending in MODES}
     fields = [("words", " ".join([name + ".cilk"] + arguments)), ("source", source)]
-    fields += [(mode, texts[path + ending]) for mode, ending in MODES if mode != "gain"]
+    fields += [(mode, texts[path + ending]) for mode, ending in MODES]
     texts[os.path.join(TOP, "crates", "cw_tests", "src", "examples", name + ".rt")] = constant(name, fields)
     return texts
 

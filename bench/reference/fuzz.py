@@ -3,7 +3,7 @@
 
     fuzz.py EXE START COUNT [no-loops] [consts]
 
-For each seed from START on, the program of that seed is checked, and run in the modes run, scale, sites and greedy: within a
+For each seed from START on, the program of that seed is checked, and run in the modes run, scale, sites, gain and greedy: within a
 wide limit, within just what it costs, and within one instruction less. Exit status and both streams must be those that
 `ref.py` gives. Then three programs that differ from it in one statement are checked: each must be accepted, or refused
 in its line, as `rules.py` says. With `consts` functions have `const` parameters, too.
@@ -31,12 +31,12 @@ def arguments_of(source, seed):
     return [(seed * 7 + place * 3) % 11 for place in range(params.count("int"))]
 
 
-def answers(source, arguments, burden, processors):
+def answers(source, arguments, burden, processors, top):
     """What the program is asked in each mode, and what it must answer."""
     run = Run(Program(source), arguments, WIDE)
     yield ["check"], (0, "ok\n", "")
-    for mode in ("run", "scale", "sites", "greedy"):
-        wanted = report(mode, run, burden, processors)
+    for mode in ("run", "scale", "sites", "gain", "greedy"):
+        wanted = report(mode, run, burden, processors, top)
         yield [mode, WIDE], wanted
         if not run.is_over:
             yield [mode, run.cost], wanted
@@ -44,12 +44,13 @@ def answers(source, arguments, burden, processors):
                 yield [mode, run.cost - 1], OVER
 
 
-def asked(exe, path, words, arguments, burden, processors):
+def asked(exe, path, words, arguments, burden, processors, top):
     mode, *limit = words
     command = [exe, mode] + ([str(processors)] if mode == "greedy" else []) + [path]
     if limit:
         command += [str(value) for value in arguments] + ["--limit", str(limit[0])]
         command += [] if mode == "greedy" else ["--burden", str(burden.charge), "--edges", burden.edges]
+        command += ["--top", str(top)] if mode == "gain" else []
     done = subprocess.run(command, capture_output=True, text=True)
     return done.returncode, done.stdout, done.stderr
 
@@ -61,12 +62,13 @@ def compare(exe, seed, generator, path, seen):
     arguments = arguments_of(source, seed)
     burden = Burden([0, 1, 10, 100, 15000, 1000000000][seed % 6], ["spawn", "both"][seed // 6 % 2])
     processors = [1, 2, 3, 8, 64, 1000000, 5][seed % 7]
-    for words, wanted in answers(source, arguments, burden, processors):
-        found = asked(exe, path, words, arguments, burden, processors)
+    top = [1, 2, 3, 10, 64][seed % 5]
+    for words, wanted in answers(source, arguments, burden, processors, top):
+        found = asked(exe, path, words, arguments, burden, processors, top)
         seen["%s %d" % (words[0], wanted[0])] += 1
         if found != wanted:
             bad += 1
-            print("seed", seed, words, arguments, "burden", burden.charge, burden.edges, "processors", processors)
+            print("seed", seed, words, arguments, "burden", burden.charge, burden.edges, "processors", processors, "top", top)
             print("wanted", wanted, "answered", found)
     return bad + sum(compare_mutant(exe, mutant(source, 3 * seed + k), path, seen) for k in range(3))
 
@@ -76,7 +78,7 @@ def compare_mutant(exe, source, path, seen):
     write(path, source)
     breaks = broken(Program(source))
     wanted = (2, "", "refused %d line %d\n" % breaks[:2]) if breaks else (0, "ok\n", "")
-    found = asked(exe, path, ["check"], [], Burden(0), 1)
+    found = asked(exe, path, ["check"], [], Burden(0), 1, 1)
     seen["mutant refused %d" % breaks[0] if breaks else "mutant accepted"] += 1
     if found != wanted:
         print("wanted", wanted, breaks, "answered", found, "of", source)

@@ -9,6 +9,7 @@ mod Refusals
 mod Stages
 mod Rows
 mod Scheduling
+mod Gaining
 mod Runs
 mod Tools
 pub mod ReadWords

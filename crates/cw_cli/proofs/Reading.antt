@@ -13,7 +13,7 @@ use Rattle.clap.specs.Walk.{first_of, long_or_other, short_or_plain, trailing, H
 use Rattle.clap.specs.Simple.{App, Shape, built, names_of, entered, new_shape, subcommand_of}
 use Rattle.clap.specs.Faults.{flag_word_fault, bundle_fault, other_fault, turn_fault, walk_fault, step_fault, settle_fault, defaults_fault, check_fault, entered_fault}
 use Rattle.clap.proofs.OnLiterals.{clap_on_literals}
-use Rattle.cw_cli.specs.Command.{burden_row, command_line, command_name, limit_row, processors_row, usual_edges, usual_numbers, workers_row}
+use Rattle.cw_cli.specs.Command.{burden_row, command_line, command_name, limit_row, processors_row, top_row, usual_edges, usual_numbers, workers_row}
 use Rattle.cw_cli.specs.Requests.{AreRead, HaveCommand, Words, edges_text, faults, numbers_of, texts_of}
 use Rattle.cw_cli.specs.WordLaws.{IsPlain, TakesBurden, checking}
 use Rattle.cw_cli.specs.declared.verb.Verb.{Verb}
@@ -80,14 +80,18 @@ scale = first_shape (drop 2 line.subs)
 abbrev pub sites : Shape
 sites = first_shape (drop 3 line.subs)
 
+abbrev pub gain : Shape
+gain = first_shape (drop 4 line.subs)
+
 abbrev pub greedy : Shape
-greedy = first_shape (drop 4 line.subs)
+greedy = first_shape (drop 5 line.subs)
 
 abbrev pub shape_of : Verb → Shape
 shape_of verb.Check = check
 shape_of verb.Run = run
 shape_of verb.Scale = scale
 shape_of verb.Sites = sites
+shape_of verb.Gain = gain
 shape_of verb.Greedy = greedy
 
 -- a command that takes a burden has the rules of `run`
@@ -96,6 +100,7 @@ running name = record run { name = name }
 
 is_running : (m : Verb) → TakesBurden m → shape_of m ≡ running (command_name m)
 is_running verb.Check runs = absurd runs
+is_running verb.Gain runs = absurd runs
 is_running verb.Greedy runs = absurd runs
 is_running verb.Run runs = refl
 is_running verb.Scale runs = refl
@@ -373,6 +378,7 @@ command_step verb.Check = refl
 command_step verb.Run = refl
 command_step verb.Scale = refl
 command_step verb.Sites = refl
+command_step verb.Gain = refl
 command_step verb.Greedy = refl
 
 command_turn : (m : Verb) → turn_fault line.top (names_of line) (walk_from nothing_held) (command_name m) ≡ []
@@ -381,6 +387,7 @@ command_turn verb.Check = refl
 command_turn verb.Run = refl
 command_turn verb.Scale = refl
 command_turn verb.Sites = refl
+command_turn verb.Gain = refl
 command_turn verb.Greedy = refl
 
 pub stopped_walk : (name : Text) (words rest : List Text) → fold (walked line.top.rules (names_of line)) (stopped_at name words) rest ≡ stopped_at name (words ++ rest)
@@ -411,6 +418,7 @@ command_faults verb.Check rest none = ap₂ top_level (top_walk verb.Check rest)
 command_faults verb.Run rest none = ap₂ top_level (top_walk verb.Run rest) (top_fault verb.Run rest) ∙ ap (λ k. or_else k []) none
 command_faults verb.Scale rest none = ap₂ top_level (top_walk verb.Scale rest) (top_fault verb.Scale rest) ∙ ap (λ k. or_else k []) none
 command_faults verb.Sites rest none = ap₂ top_level (top_walk verb.Sites rest) (top_fault verb.Sites rest) ∙ ap (λ k. or_else k []) none
+command_faults verb.Gain rest none = ap₂ top_level (top_walk verb.Gain rest) (top_fault verb.Gain rest) ∙ ap (λ k. or_else k []) none
 command_faults verb.Greedy rest none = ap₂ top_level (top_walk verb.Greedy rest) (top_fault verb.Greedy rest) ∙ ap (λ k. or_else k []) none
 
 pub command_rows : (m : Verb) (rest : List Text) → subcommand_of command_line (command_name m ∷ rest) ≡ Some (command_name m, finished (shape_of m).rules (walk (shape_of m).rules [] nothing_held rest).held)
@@ -418,16 +426,17 @@ command_rows verb.Check rest = ap (λ w. entered line w.stopped) (top_walk verb.
 command_rows verb.Run rest = ap (λ w. entered line w.stopped) (top_walk verb.Run rest)
 command_rows verb.Scale rest = ap (λ w. entered line w.stopped) (top_walk verb.Scale rest)
 command_rows verb.Sites rest = ap (λ w. entered line w.stopped) (top_walk verb.Sites rest)
+command_rows verb.Gain rest = ap (λ w. entered line w.stopped) (top_walk verb.Gain rest)
 command_rows verb.Greedy rest = ap (λ w. entered line w.stopped) (top_walk verb.Greedy rest)
 
 -- ---- what the words are read as
 
 abbrev numbers_given : Given → List Text
-numbers_given nothing = limit_row.usual ∷ burden_row.usual ∷ processors_row.usual ∷ workers_row.usual ∷ []
-numbers_given (limited n) = n ∷ burden_row.usual ∷ processors_row.usual ∷ workers_row.usual ∷ []
-numbers_given (burdened n) = limit_row.usual ∷ n ∷ processors_row.usual ∷ workers_row.usual ∷ []
+numbers_given nothing = usual_numbers
+numbers_given (limited n) = n ∷ burden_row.usual ∷ processors_row.usual ∷ top_row.usual ∷ workers_row.usual ∷ []
+numbers_given (burdened n) = limit_row.usual ∷ n ∷ processors_row.usual ∷ top_row.usual ∷ workers_row.usual ∷ []
 numbers_given (edged n) = usual_numbers
-numbers_given (worked n) = limit_row.usual ∷ burden_row.usual ∷ processors_row.usual ∷ n ∷ []
+numbers_given (worked n) = limit_row.usual ∷ burden_row.usual ∷ processors_row.usual ∷ top_row.usual ∷ n ∷ []
 
 abbrev edges_given : Given → Text
 edges_given (edged n) = n
@@ -503,13 +512,14 @@ named name = cond (nat_eq (length name) 3) verb.Run (by_letter (slice_get name 1
   where
     by_letter : Option ℕ → Verb
     by_letter None = verb.Check
-    by_letter (Some x) = cond (x == 104) verb.Check (cond (x == 99) verb.Scale (cond (x == 114) verb.Greedy verb.Sites))
+    by_letter (Some x) = cond (x == 104) verb.Check (cond (x == 99) verb.Scale (cond (x == 114) verb.Greedy (cond (x == 97) verb.Gain verb.Sites)))
 
 named_by : (m : Verb) → named (command_name m) ≡ m
 named_by verb.Check = refl
 named_by verb.Run = refl
 named_by verb.Scale = refl
 named_by verb.Sites = refl
+named_by verb.Gain = refl
 named_by verb.Greedy = refl
 
 same_verb : (m m' : Verb) → command_name m ≡ command_name m' → m ≡ m'

@@ -1,5 +1,5 @@
 -- A stage that refuses its input refuses the bytes.
-use Rattle.std.proofs.Common.{◌≡◌, ℕ, true, List, [], Result, Ok, Err, MatchResult, IsErrAnd, subst, sym, ap, ◌∙◌}
+use Rattle.std.proofs.Common.{◌≡◌, ℕ, true, List, [], ◌∷◌, map, refl, Result, Ok, Err, MatchResult, IsErrAnd, subst, sym, ap, ◌∙◌}
 use Rattle.cw_model.specs.declared.token.Token.{Token}
 use Rattle.cw_model.specs.Syntax.{Program}
 use Rattle.cw_model.specs.Text.{IsSourceText}
@@ -9,7 +9,7 @@ use Rattle.cw_text.specs.declared.fault.Fault.{Fault}
 use Rattle.cw_text.specs.declared.fault.Fault.TheVariants as fault
 use Rattle.cw_parse.specs.Parsed.{IsParsed, IsUnparsed}
 use Rattle.cw_types.specs.Faults.{IsTyped, IsIllTyped}
-use Rattle.cw_tree.specs.ResolvedView.{program_of}
+use Rattle.cw_tree.specs.ResolvedView.{program_of, resolved_of}
 use Rattle.cw_tree.specs.declared.resolved.Tree.{Tree}
 use Rattle.cw_own.specs.Faults.{BreaksOwnership}
 use Rattle.cw_gen.specs.Generates as gen
@@ -17,19 +17,29 @@ use Rattle.cw_code.specs.Code.{Code, code_view}
 use Rattle.cw_code.specs.declared.code.Code as declared
 use Rattle.cw_code.specs.Fits.{Fits}
 use Rattle.cw_verify.specs.Table.{Fails}
-use Rattle.cw_model.specs.Sites.{are_numbered, call_sites}
+use Rattle.cw_model.specs.Sites.{are_numbered, call_sites, heads_of}
 use Rattle.cw_model.specs.SiteLaw.{SitesAreNumbered}
 use Rattle.cw_model.specs.Sizes.{loop_faults}
 use Rattle.cw_loops.specs.Seen.{WhyNotLowered}
 use Rattle.cw_loops.specs.SourceLike.{is_source_like}
 use Rattle.cw_loops.specs.LoweringLaws.{DerivedIsSourceLike}
 use Rattle.cw_cli.specs.Sources
-use Rattle.cw_cli.specs.Compiled.{IsCompiled}
+use Rattle.cw_cli.specs.Compiled.{IsCompiled, IsMade, head_of}
+use Rattle.std.specs.Global.{Vec}
+use Rattle.cw_tree.specs.Resolved.{Function, plain_function}
+use Rattle.cw_verify.specs.declared.verified.Verified.{Verified}
+use Rattle.cw_gains.specs.Counts.{head_view}
+use Rattle.cw_gains.specs.declared.counts.Head.{Head}
 
 -- a fault that is handed on
 pub handed_on : {A : Type 0} (Q : A → Type 0) (P : Fault → Type 0) (e : Fault) (r : Result A Fault) → P e → IsErrAnd r (λ x. x ≡ e) → MatchResult r Q P
 handed_on Q P e (Ok x) p h = absurd h
 handed_on Q P e (Err x) p h = subst P (sym h) p
+
+-- what is known of a function beside its name and its line says nothing of its head
+plain_heads : (functions : List Function) → map head_of functions ≡ map (λ f. record { name = f.name; line = f.line }) (map plain_function functions)
+plain_heads [] = refl
+plain_heads (f ∷ functions) = ap (λ heads. head_of f ∷ heads) (plain_heads functions)
 
 unparsed : (bytes : List ℕ) (ts : List Token) → Sources.HasTokens bytes ts → (f : Fault) → IsUnparsed bytes ts f → Sources.IsRefused bytes f
 unparsed bytes ts has (fault.Size p) h = Sources.tokens ts has h
@@ -110,3 +120,11 @@ module _ (bytes : List ℕ) (program : Program) (source : Sources.IsSourceOf byt
       compiled code h =
           let g : gen.Generates program code = subst (λ p. gen.Generates p code) is_program h in
           record { program = program; compiles = record { accepted = accepted; loops = few; small = g.small }; generates = g }
+
+      -- what is made of the code, with the heads of the functions beside it
+      pub made : (code : declared.Code) → gen.Generates (program_of other) (code_view code) → (verified : Verified) → verified.code ≡ code → (heads : Vec Head)
+          → map head_view heads.items ≡ map head_of (resolved_of other).functions → IsMade bytes (record { code = verified; heads = heads })
+      made code h verified same_code heads are = record {
+        compiled = subst (λ c. IsCompiled bytes (code_view c)) (sym same_code) (compiled (code_view code) h);
+        heads = are ∙ plain_heads (resolved_of other).functions ∙ ap heads_of is_program;
+      }

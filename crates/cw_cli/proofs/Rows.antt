@@ -1,5 +1,5 @@
 -- The rows that a run tells of are those of its tree.
-use Rattle.std.proofs.Common.{◌≡◌, ◌∙◌, ◌+◌, ℕ, suc, Bool, true, false, ◌&&◌, List, [], ◌∷◌, ◌++◌, length, Some, Ok, flat_map, map, refl, sym, ap, ap₂, subst, arith}
+use Rattle.std.proofs.Common.{◌≡◌, ◌∙◌, ◌+◌, ℕ, ℤ, suc, Bool, true, false, ◌&&◌, List, [], ◌∷◌, ◌++◌, length, Some, Ok, flat_map, map, refl, sym, ap, ap₂, subst, arith}
 use Rattle.std.specs.Prelude.{nat_eq, slice_get, decimal}
 use Rattle.std.proofs.lemmas.Bool.Decides.{nat_tests}
 use Rattle.std.proofs.lemmas.List.{length-map}
@@ -8,11 +8,13 @@ use Rattle.std.specs.Map.{keys_of, values_of}
 use Rattle.indexmap.specs.IndexMap.{values}
 use Rattle.cw_model.specs.declared.burden.Burden.{Burden}
 use Rattle.cw_model.specs.Syntax.{Program, Name}
-use Rattle.cw_model.specs.Trees.{Tree}
+use Rattle.cw_model.specs.declared.total.Total.{Total}
+use Rattle.cw_model.specs.Trees.{Tree, work, span, burdened_span}
 use Rattle.cw_model.specs.Answers.{Ended}
 use Rattle.cw_model.specs.Rows.{site_row}
-use Rattle.cw_model.specs.Sites.{CallSite, call_sites, root_site, are_numbered}
-use Rattle.cw_model.specs.Report.{csv_line, scale_header, scale_line, scale_text, sites_header, sites_text, site_kind_text, site_line, region_line, tags_of}
+use Rattle.cw_model.specs.Sites.{CallSite, call_sites, root_site, are_numbered, heads_of, sites_of}
+use Rattle.cw_model.specs.Freed.{FunctionRow, worth_telling}
+use Rattle.cw_model.specs.Report.{csv_line, scale_header, scale_line, scale_text, sites_header, sites_text, site_kind_text, site_line, region_line, tags_of, gain_header, gain_line, gain_text, free_line, whole_row}
 use Rattle.cw_sites.specs.declared.table.SiteRow.{SiteRow}
 use Rattle.cw_sites.specs.Tables as sites
 use Rattle.cw_regions.specs.declared.table.RegionRow.{RegionRow}
@@ -20,8 +22,13 @@ use Rattle.cw_meter.specs.Whole.{AreReadings, AreSiteRows, AreRegionRows}
 use Rattle.cw_code.specs.Code.{Code, told_sites}
 use Rattle.cw_machine.specs.declared.alone.Ended as run
 use Rattle.cw_machine.specs.Runs.{tags_in}
-use Rattle.cw_gains.specs.Gains.{root_at}
-use Rattle.cw_report.specs.Texts.{tag_lines, scale_report, counts_of, row_line, row_lines, sites_of}
+use Rattle.cw_gains.specs.Counts.{head_view, row_view}
+use Rattle.cw_gains.specs.Gains.{FreeRow, free_row, gain_view, all_sites, root_at}
+use Rattle.cw_gains.specs.declared.counts.Head.{Head}
+use Rattle.cw_gains.specs.declared.gains.FunctionGain.{FunctionGain}
+use Rattle.cw_gains.specs.declared.gains.Gains.{Gains}
+use Rattle.cw_report.specs.Texts as texts
+use Rattle.cw_report.specs.Texts.{tag_lines, scale_report, counts_of, row_line, row_lines}
 
 -- ---- tags
 
@@ -97,8 +104,48 @@ all_rows_are root all (row ∷ rows) t first numbered h =
 
 pub sites_are : (program : Program) (code : Code) (e : run.Ended) (t : Tree) → told_sites code ≡ call_sites program → code.main_line ≡ (root_site program).line
     → are_numbered 0 (call_sites program) ≡ true → AreSiteRows (length code.sites + 1) t (values e.sites)
-    → sites_of code (Ok e) ≡ sites_text program (Ended e.value e.lines.items e.totals.items t)
+    → texts.sites_of code (Ok e) ≡ sites_text program (Ended e.value e.lines.items e.totals.items t)
 sites_are program code e t told line numbered rows =
     let count : length code.sites ≡ length (call_sites program) = sym (length-map code.sites (λ s. s.told)) ∙ ap length told in
     ap₂ (λ l all. sites_header ++ row_lines (root_at l ∷ all) (values e.sites)) line told
     ∙ ap (λ text. sites_header ++ text) (all_rows_are (root_site program) (call_sites program) (values e.sites) t refl numbered (subst (λ n. AreSiteRows (n + 1) t (values e.sites)) count rows))
+
+-- ---- gains
+
+-- the line of a function, in a run of this work
+abbrev line_of : ℕ → FreeRow → List ℕ
+line_of work r = gain_line r.counted work r.span r.burdened
+
+lines_of : (work : ℕ) (gains : List FunctionGain) → texts.function_lines work gains ≡ flat_map (line_of work) (map gain_view gains)
+lines_of work [] = refl
+lines_of work (g ∷ gains) = ap (λ l. texts.function_line work g ++ l) (lines_of work gains)
+
+free_lines : (all : List CallSite) (burden : Burden) (t : Tree) (rows : List FunctionRow)
+    → flat_map (line_of (work t)) (map (free_row all burden t) rows) ≡ flat_map (free_line all burden t) rows
+free_lines all burden t [] = refl
+free_lines all burden t (row ∷ rows) = ap (λ l. free_line all burden t row ++ l) (free_lines all burden t rows)
+
+-- the line of a whole run
+whole_is : (t : Tree) (work' span' burdened burdened' : ℕ) → work' ≡ work t → span' ≡ span t → burdened' ≡ burdened
+    → gain_line (record { name = []; line = 0; calls = 0; own_work = work'; own_span = span' }) work' span' burdened' ≡ gain_line (whole_row t) (work t) (span t) burdened
+whole_is t work' span' burdened burdened' w s b =
+    ap (λ x. gain_line (record { name = []; line = 0; calls = 0; own_work = x; own_span = span' }) x span' burdened') w
+    ∙ ap (λ x. gain_line (record { name = []; line = 0; calls = 0; own_work = work t; own_span = x }) (work t) x burdened') s
+    ∙ ap (gain_line (whole_row t) (work t) (span t)) b
+
+-- all call sites of the code of a program are the program's
+all_sites_are : (program : Program) (code : Code) → told_sites code ≡ call_sites program → code.main_line ≡ (root_site program).line → all_sites code ≡ sites_of program
+all_sites_are program code told line = ap₂ (λ l all. root_at l ∷ all) line told
+
+pub gains_are : (program : Program) (code : Code) (heads : List Head) (top : ℕ) (burden : Burden) (g : Gains) (t : Tree) (value : ℤ) (lines : List ℤ) (totals : List Total)
+    → map head_view heads ≡ heads_of program → told_sites code ≡ call_sites program → code.main_line ≡ (root_site program).line → AreReadings burden t g.measure
+    → map gain_view g.functions.items ≡ map (free_row (all_sites code) burden t) (worth_telling top (map head_view heads) (all_sites code) t)
+    → texts.gain_report (Ok g) ≡ gain_text top program burden (Ended value lines totals t)
+gains_are program code heads top burden g t value lines totals heads_are told line whole functions =
+    let all = all_sites code in
+    let rows = worth_telling top (map head_view heads) all t in
+    ap₂ (λ a b. gain_header ++ (a ++ b)) (whole_is t g.measure.work g.measure.span (burdened_span burden t) g.measure.burdened whole.work whole.span whole.burdened)
+    (lines_of g.measure.work g.functions.items ∙ ap (λ w. flat_map (line_of w) (map gain_view g.functions.items)) whole.work
+    ∙ ap (flat_map (line_of (work t))) functions ∙ free_lines all burden t rows)
+    ∙ ap₂ (λ hs ss. gain_header ++ (gain_line (whole_row t) (work t) (span t) (burdened_span burden t) ++ flat_map (free_line ss burden t) (worth_telling top hs ss t)))
+    heads_are (all_sites_are program code told line)

@@ -1,5 +1,5 @@
 -- From what a run of code answers to what its program means.
-use Rattle.std.proofs.Common.{◌≡◌, ◌≢◌, ℕ, ℤ, Bool, true, false, ◌&&◌, ◌≤◌, List, [], ◌∷◌, ◌++◌, length, Some, Result, Ok, Err, IsErrAnd, flat_map, refl, sym, ap, ◌∙◌, subst, arith}
+use Rattle.std.proofs.Common.{◌≡◌, ◌≢◌, ℕ, ℤ, Bool, true, false, ◌&&◌, ◌≤◌, List, [], ◌∷◌, ◌++◌, length, Some, Result, Ok, Err, IsErrAnd, flat_map, map, refl, sym, ap, ◌∙◌, subst, arith}
 use Rattle.std.specs.Prelude.{nat_eq, nat_le, codes, decimal, MatchResult}
 use Rattle.std.specs.Global.{Vec}
 use Rattle.std.specs.List.{list_all}
@@ -30,7 +30,7 @@ use Rattle.cw_text.specs.declared.fault.Fault.TheVariants as fault
 use Rattle.cw_report.specs.Seen.{Seen}
 use Rattle.cw_report.specs.Sinks.{Writes, WritesAll, WritesPart}
 use Rattle.cw_report.specs.Answers.{AnswersLess}
-use Rattle.cw_report.specs.Texts.{told_reducers, totals_text, handed_text, schedule_header, schedule_report}
+use Rattle.cw_report.specs.Texts.{told_reducers, totals_text, handed_text, schedule_header, schedule_report, gain_report}
 use Rattle.cw_gen.specs.Emit.{coded_reducers}
 use Rattle.cw_gen.specs.Generates.{Generates}
 use Rattle.cw_cli.specs.Compiled.{IsCompiled}
@@ -42,9 +42,13 @@ use Rattle.cw_cli.specs.declared.asked.Options.{Options}
 use Rattle.cw_cli.specs.Requests.{IsModeInRange}
 use Rattle.cw_cli.specs.Schedules.{HasTooManyStrands, IsScheduled, IsScheduledIn}
 use Rattle.cw_cli.specs.Told.{HasTables, told_of}
-use Rattle.cw_cli.proofs.Rows.{scale_is, sites_are}
+use Rattle.cw_cli.proofs.Rows.{scale_is, sites_are, gains_are}
+use Rattle.cw_gains.specs.Counts.{head_view}
+use Rattle.cw_gains.specs.Gains.{Gains, GainsAsCode}
+use Rattle.cw_gains.specs.declared.counts.Head as counted
+use Rattle.cw_gains.specs.declared.gains.Gains as declared
 use Rattle.cw_model.specs.SiteLaw.{SitesAreNumbered}
-use Rattle.cw_model.specs.Sites.{call_sites, are_numbered}
+use Rattle.cw_model.specs.Sites.{call_sites, are_numbered, heads_of}
 
 both : (a b : Bool) → (a && b) ≡ true → (a ≡ true) × (b ≡ true)
 both true b h = (refl, h)
@@ -117,6 +121,7 @@ over_is mode.Check code = refl
 over_is mode.Run code = refl
 over_is mode.Scale code = refl
 over_is mode.Sites code = refl
+over_is (mode.Gain top) code = refl
 over_is (mode.Greedy processors) code = refl
 
 memory_is : (m : Mode) (code : Code) → told_of m code (Err fault.Memory) ≡ []
@@ -124,6 +129,7 @@ memory_is mode.Check code = refl
 memory_is mode.Run code = refl
 memory_is mode.Scale code = refl
 memory_is mode.Sites code = refl
+memory_is (mode.Gain top) code = refl
 memory_is (mode.Greedy processors) code = refl
 
 arguments_are : (m : Mode) (code : Code) → told_of m code (Err fault.Arguments) ≡ []
@@ -131,6 +137,7 @@ arguments_are mode.Check code = refl
 arguments_are mode.Run code = refl
 arguments_are mode.Scale code = refl
 arguments_are mode.Sites code = refl
+arguments_are (mode.Gain top) code = refl
 arguments_are (mode.Greedy processors) code = refl
 
 strands_are : (m : Mode) (code : Code) → told_of m code (Err fault.Strands) ≡ []
@@ -138,6 +145,7 @@ strands_are mode.Check code = refl
 strands_are mode.Run code = refl
 strands_are mode.Scale code = refl
 strands_are mode.Sites code = refl
+strands_are (mode.Gain top) code = refl
 strands_are (mode.Greedy processors) code = refl
 
 -- a mode with tables asks for no schedule
@@ -157,6 +165,7 @@ trap_scheduled mode.Check trap line lines = tt
 trap_scheduled mode.Run trap line lines = tt
 trap_scheduled mode.Scale trap line lines = tt
 trap_scheduled mode.Sites trap line lines = tt
+trap_scheduled (mode.Gain top) trap line lines = tt
 trap_scheduled (mode.Greedy processors) trap line lines = tt
 
 -- the row of a schedule
@@ -302,6 +311,37 @@ module _ (bytes : List ℕ) (args : List ℤ) (words : list_all fits args ≡ tr
         arguments = arguments_are options.mode code;
         strands = strands_are options.mode code;
       }
+
+  -- what functions of a run would bring
+  pub gains_tell : (heads : List counted.Head) (top : ℕ) → options.mode ≡ mode.Gain top → IsModeInRange options.mode → map head_view heads ≡ heads_of compiled.program
+      → Tells (Gains code heads args options.limit options.burden top) (IsFailure code args options.limit options.burden) gain_report
+  gains_tell heads top is of_mode heads_are = record {
+    ended = λ g r.
+        let m = may_run_so of_mode r.asked in
+        let end = Ended r.value r.lines r.totals r.tree in
+        record {
+          may_run = m;
+          end = end;
+          ended = tt;
+          is = answer_is m end r.answer;
+          scheduled = subst (λ k. IsScheduledIn k end) (sym is) tt;
+          told = gains_are compiled.program code heads top options.burden g r.tree r.value r.lines r.totals heads_are compiled.generates.sites compiled.generates.main_line r.measure r.functions
+              ∙ ap (λ k. analyses.text_in k compiled.program options.burden end) (sym is);
+        };
+    unrun = unrun_of of_mode;
+    printed = λ trap line lines. ap (λ k. analyses.text_in k compiled.program options.burden (TrappedAt trap line lines.items)) (sym is);
+    over = refl;
+    memory = refl;
+    arguments = refl;
+    strands = refl;
+  }
+
+  -- what is said of code whose call sites are numbered
+  pub told_as : SitesAreNumbered → (heads : List counted.Head) (top : ℕ) (gains : Result declared.Gains Fault) → GainsAsCode code heads args options.limit options.burden top gains
+      → MatchResult gains (Gains code heads args options.limit options.burden top) (IsFailure code args options.limit options.burden)
+  told_as law heads top gains h =
+      let source = compiled.compiles.accepted.source in
+      h (ap (are_numbered 0) compiled.generates.sites ∙ law bytes source.tokens compiled.program source.parsed.derived)
 
   -- the schedule of a run on so many processors, where the burden is in range
   module _ (p : ℕ) (is : options.mode ≡ mode.Greedy p) (low : options.burden.charge ≤ MOST_BURDEN) where
@@ -471,11 +511,18 @@ module _ {W : Type 0} (seen : W → Seen) (old new : W) (bytes : List ℕ) (args
   in_running_mode mode.Run runs r h = h
   in_running_mode mode.Scale runs r h = h
   in_running_mode mode.Sites runs r h = h
+  in_running_mode (mode.Gain top) runs r h = h
   in_running_mode (mode.Greedy processors) runs r h = h
 
   -- what a run answers, where a run is asked for
   pub run_is : options.mode ≢ mode.Check → (r : Result (Unit {0}) Fault) → analyses.IsRun seen old new bytes args options r → analyses.IsAnalysed seen old new bytes args options r
   run_is runs r h = in_running_mode options.mode runs r h
+
+-- the number that the mode has is out of range
+pub out_of_range : {W : Type 0} (seen : W → Seen) (old : W) (bytes : List ℕ) (args : List ℤ) (options : Options) (code : Code) → IsCompiled bytes code → (m : Mode) (f : Fault) → options.mode ≡ m
+    → f ≡ fault.Arguments → ¬ (IsModeInRange m) → analyses.IsUnreported seen old old bytes args options f
+out_of_range seen old bytes args options code compiled m f is same not = subst (analyses.IsUnreported seen old old bytes args options) (sym same)
+    (record { program = compiled.program; compiles = compiled.compiles; misused = λ may. not (subst IsModeInRange is may.in_range.mode); untouched = refl })
 
 -- ---- bytes that are refused
 
@@ -502,6 +549,7 @@ refused_in seen old bytes args options mode.Check f h = check_refusal seen old b
 refused_in seen old bytes args options mode.Run f h = run_refusal seen old bytes args options f h
 refused_in seen old bytes args options mode.Scale f h = run_refusal seen old bytes args options f h
 refused_in seen old bytes args options mode.Sites f h = run_refusal seen old bytes args options f h
+refused_in seen old bytes args options (mode.Gain top) f h = run_refusal seen old bytes args options f h
 refused_in seen old bytes args options (mode.Greedy processors) f h = run_refusal seen old bytes args options f h
 
 -- bytes that are refused, in any mode

@@ -15,7 +15,7 @@ use Rattle.cw_cli.specs.Command.{command_name}
 use Rattle.cw_cli.specs.Requests.{AreRead, Words, faults, words_in}
 use Rattle.cw_cli.specs.declared.verb.Verb.{Verb}
 use Rattle.cw_cli.specs.declared.verb.Verb.TheVariants as verb
-use Rattle.cw_cli.proofs.Reading.{check, greedy, line, run, scale, sites, level, shape_of, stopped_at, stopped_walk}
+use Rattle.cw_cli.proofs.Reading.{check, gain, greedy, line, run, scale, sites, level, shape_of, stopped_at, stopped_walk}
 use Rattle.cw_cli.proofs.Filled.{NamesNoSource, NotSource, filled_finished, given_first}
 
 both_none : (a b : Kinds) → or_else a b ≡ [] → (a ≡ []) × (b ≡ [])
@@ -145,24 +145,25 @@ by_name (Some name) word words (inr (inr is)) e h = absurd (no (subst (λ o. tur
 
 subcommand_is : (word : Text) → (subcommand_met names idle word ≡ None) ⊎ (((m : Verb) × (subcommand_met names idle word ≡ Some (command_name m))) ⊎ (subcommand_met names idle word ≡ Some (codes "help")))
 subcommand_is word =
-    go (bytes_eq (codes "check") word) (bytes_eq (codes "run") word) (bytes_eq (codes "scale") word) (bytes_eq (codes "sites") word) (bytes_eq (codes "greedy") word) (bytes_eq (codes "help") word)
+    go (bytes_eq (codes "check") word) (bytes_eq (codes "run") word) (bytes_eq (codes "scale") word) (bytes_eq (codes "sites") word) (bytes_eq (codes "gain") word) (bytes_eq (codes "greedy") word) (bytes_eq (codes "help") word)
   where
     met : Bool → Text → Option (Text × List Text) → Option (Text × List Text)
     met b name rest = cond (b || false) (Some (name, [])) rest
 
-    name : (a b c d e f : Bool) → Option Text
-    name a b c d e f =
+    name : (a b c d e f g : Bool) → Option Text
+    name a b c d e f g =
         option_map (λ (s : Text × List Text). s.0) (met a (codes "check") (met b (codes "run") (met c (codes "scale")
-        (met d (codes "sites") (met e (codes "greedy") (met f (codes "help") None))))))
+        (met d (codes "sites") (met e (codes "gain") (met f (codes "greedy") (met g (codes "help") None)))))))
 
-    go : (a b c d e f : Bool) → (name a b c d e f ≡ None) ⊎ (((m : Verb) × (name a b c d e f ≡ Some (command_name m))) ⊎ (name a b c d e f ≡ Some (codes "help")))
-    go true b c d e f = inr (inl (verb.Check, refl))
-    go false true c d e f = inr (inl (verb.Run, refl))
-    go false false true d e f = inr (inl (verb.Scale, refl))
-    go false false false true e f = inr (inl (verb.Sites, refl))
-    go false false false false true f = inr (inl (verb.Greedy, refl))
-    go false false false false false true = inr (inr refl)
-    go false false false false false false = inl refl
+    go : (a b c d e f g : Bool) → (name a b c d e f g ≡ None) ⊎ (((m : Verb) × (name a b c d e f g ≡ Some (command_name m))) ⊎ (name a b c d e f g ≡ Some (codes "help")))
+    go true b c d e f g = inr (inl (verb.Check, refl))
+    go false true c d e f g = inr (inl (verb.Run, refl))
+    go false false true d e f g = inr (inl (verb.Scale, refl))
+    go false false false true e f g = inr (inl (verb.Sites, refl))
+    go false false false false true f g = inr (inl (verb.Gain, refl))
+    go false false false false false true g = inr (inl (verb.Greedy, refl))
+    go false false false false false false true = inr (inr refl)
+    go false false false false false false false = inl refl
 
 stops : (words : List Text) → walk_fault line.top names start words ≡ [] → Stops (walk_on start words)
 unfolding walk_fault walked
@@ -190,6 +191,15 @@ no_number_of_source = (
   (λ x. number_or_help false false false false (has_short (first (drop 6 run.rules)) x)),
 )
 
+top_or_help : (a b c d e f : Bool) → NotSource (cond a (Some (first (drop 2 gain.rules))) (cond b (Some (first (drop 3 gain.rules))) (cond c (Some (first (drop 4 gain.rules))) (cond d (Some (first (drop 5 gain.rules))) (cond e (Some (first (drop 6 gain.rules))) (cond f (Some (first (drop 7 gain.rules))) None))))))
+top_or_help true b c d e f = λ is. cc
+top_or_help false true c d e f = λ is. cc
+top_or_help false false true d e f = λ is. cc
+top_or_help false false false true e f = λ is. cc
+top_or_help false false false false true f = λ is. cc
+top_or_help false false false false false true = λ is. cc
+top_or_help false false false false false false = tt
+
 limit_or_help : (a b c : Bool) → NotSource (cond a (Some (first (drop 3 greedy.rules))) (cond b (Some (first (drop 4 greedy.rules))) (cond c (Some (first (drop 5 greedy.rules))) None)))
 limit_or_help true b c = λ is. cc
 limit_or_help false true c = λ is. cc
@@ -204,6 +214,10 @@ no_flag_of_source verb.Check = (
 no_flag_of_source verb.Run = no_number_of_source
 no_flag_of_source verb.Scale = no_number_of_source
 no_flag_of_source verb.Sites = no_number_of_source
+no_flag_of_source verb.Gain = (
+  (λ name. top_or_help (has_long (first (drop 2 gain.rules)) name) (has_long (first (drop 3 gain.rules)) name) (has_long (first (drop 4 gain.rules)) name) (has_long (first (drop 5 gain.rules)) name) (has_long (first (drop 6 gain.rules)) name) (has_long (first (drop 7 gain.rules)) name)),
+  (λ x. top_or_help false false false false false (has_short (first (drop 7 gain.rules)) x)),
+)
 no_flag_of_source verb.Greedy = (
   (λ name. limit_or_help (has_long (first (drop 3 greedy.rules)) name) (has_long (first (drop 4 greedy.rules)) name) (has_long (first (drop 5 greedy.rules)) name)),
   (λ x. limit_or_help false false (has_short (first (drop 5 greedy.rules)) x)),
@@ -228,6 +242,7 @@ source_given m rows h = of_verb m h
     of_verb verb.Run e = go (is_given (codes "FILE") rows) e
     of_verb verb.Scale e = go (is_given (codes "FILE") rows) e
     of_verb verb.Sites e = go (is_given (codes "FILE") rows) e
+    of_verb verb.Gain e = go (is_given (codes "FILE") rows) e
     of_verb verb.Greedy e = behind (is_given (codes "P") rows) (is_given (codes "FILE") rows) e
 
 -- and a subcommand
@@ -264,6 +279,7 @@ below_of verb.Check rest h = at_level check rest h
 below_of verb.Run rest h = at_level run rest h
 below_of verb.Scale rest h = at_level scale rest h
 below_of verb.Sites rest h = at_level sites rest h
+below_of verb.Gain rest h = at_level gain rest h
 below_of verb.Greedy rest h = at_level greedy rest h
 
 entered_is : (m : Verb) (rest : List Text) → entered line (Some (command_name m, rest)) ≡ Some (command_name m, finished (shape_of m).rules (walk (shape_of m).rules [] nothing_held rest).held)
@@ -271,6 +287,7 @@ entered_is verb.Check rest = refl
 entered_is verb.Run rest = refl
 entered_is verb.Scale rest = refl
 entered_is verb.Sites rest = refl
+entered_is verb.Gain rest = refl
 entered_is verb.Greedy rest = refl
 
 pub taken : (given : List Text) → faults given ≡ [] → (words : Words) × AreRead given words

@@ -76,7 +76,7 @@ unless_weaker P Q fault.Write w h = h
 unless_weaker P Q fault.Strands w h = h
 
 -- the options of numbers that the words write
-pub options_given : (v : Verb) (m : Mode) (limit charge processors workers l b p w : ℕ) (edges : Edges) (word : Text) → m ≡ mode_with v processors → limit ≡ l → charge ≡ b → edges_name edges ≡ word → processors ≡ p → workers ≡ w
-    → AreOptionsOf v (l ∷ b ∷ p ∷ w ∷ []) word (record { mode = m; limit = limit; burden = record { charge = charge; edges = edges } }) workers
-options_given v m limit charge processors workers l b p w edges word is limit_is charge_is edges_are processors_is workers_is =
-    (is ∙ ap (mode_with v) processors_is, limit_is, charge_is, edges_are, workers_is)
+pub options_given : (v : Verb) (m : Mode) (limit charge processors top workers l b p t w : ℕ) (edges : Edges) (word : Text) → m ≡ mode_with v processors top → limit ≡ l → charge ≡ b → edges_name edges ≡ word → processors ≡ p → top ≡ t → workers ≡ w
+    → AreOptionsOf v (l ∷ b ∷ p ∷ t ∷ w ∷ []) word (record { mode = m; limit = limit; burden = record { charge = charge; edges = edges } }) workers
+options_given v m limit charge processors top workers l b p t w edges word is limit_is charge_is edges_are processors_is top_is workers_is =
+    (is ∙ ap (λ n. mode_with v n top) processors_is ∙ ap (mode_with v p) top_is, limit_is, charge_is, edges_are, workers_is)

@@ -118,6 +118,7 @@ module _ (bytes : List ℕ) (long : MOST_SOURCE_BYTES < length bytes) where
     long_whole mode.Run r h = run_whole r h
     long_whole mode.Scale r h = run_whole r h
     long_whole mode.Sites r h = run_whole r h
+    long_whole (mode.Gain top) r h = run_whole r h
     long_whole (mode.Greedy processors) r h = run_whole r h
 
 module _ {W : Type 0} (seen : W → Seen) (old new : W) (args : List ℤ) (options : Options) where
@@ -163,6 +164,7 @@ module _ {W E : Type 0} (seen : W → Seen) (seen' : E → Seen) (old new : W) (
       untouched bytes mode.Run = same
       untouched bytes mode.Scale = same
       untouched bytes mode.Sites = same
+      untouched bytes (mode.Gain top) = same
       untouched bytes (mode.Greedy processors) = same
 
   module _ {D : Type 0} (remaining : D → Option (List ℕ)) (source inner : D) (limit : ℕ) (before read slice : List ℕ) (args : List ℤ) where

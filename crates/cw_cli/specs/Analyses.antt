@@ -24,6 +24,7 @@ text_in mode.Check program burden answer = report_text report.Check program burd
 text_in mode.Run program burden answer = report_text report.Run program burden answer
 text_in mode.Scale program burden answer = report_text report.Scale program burden answer
 text_in mode.Sites program burden answer = report_text report.Sites program burden answer
+text_in (mode.Gain top) program burden answer = report_text (report.Gain top) program burden answer
 text_in (mode.Greedy processors) program burden answer = greedy_text processors answer
 
 -- main has so many parameters, and the options are in range

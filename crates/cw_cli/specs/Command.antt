@@ -1,12 +1,13 @@
 -- The command line, as the parser of words has it.
-use Rattle.std.specs.Prelude.{◌≡◌, ℕ, List, [], ◌∷◌, Some, true, codes, fold, map}
+use Rattle.std.specs.Prelude.{◌≡◌, ℕ, List, [], ◌∷◌, Some, true, false, codes, fold, map}
 use Rattle.clap.specs.Lexer.{usize_max}
 use Rattle.clap.specs.Words.{AddsSubcommand, App, Rule, Text, app_of, new_app, new_rule, with_rule, with_subcommand}
 use Rattle.clap.specs.declared.builder.Command.{Command}
+use Rattle.clap.specs.declared.builder.Command.TheViews.{out-Command}
 use Rattle.clap.specs.declared.builder.ArgAction.TheVariants.{Append, Set}
 use Rattle.cw_model.specs.declared.burden.Edges.{Edges}
 use Rattle.cw_model.specs.declared.burden.Edges.TheVariants.{Spawn, Both}
-use Rattle.cw_model.specs.declared.limits.TheConstants.{MOST_LIMIT, MOST_BURDEN}
+use Rattle.cw_model.specs.declared.limits.TheConstants.{MOST_LIMIT, MOST_BURDEN, MOST_TOP}
 use Rattle.cw_yard.specs.declared.open.TheConstants.{MOST_WORKERS}
 use Rattle.cw_scheduled.specs.declared.schedules.TheConstants.{MOST_PROCESSORS}
 use Rattle.cw_cli.specs.declared.verb.Verb.{Verb}
@@ -32,13 +33,17 @@ burden_row = record { name = codes "burden"; least = 0; most = MOST_BURDEN; usua
 abbrev pub processors_row : NumberRow
 processors_row = record { name = codes "P"; least = 1; most = MOST_PROCESSORS; usual = codes "1" }
 
+-- the functions that a report of gains tells at most
+abbrev pub top_row : NumberRow
+top_row = record { name = codes "top"; least = 1; most = MOST_TOP; usual = codes "10" }
+
 -- the workers of a run
 abbrev pub workers_row : NumberRow
 workers_row = record { name = codes "workers"; least = 1; most = MOST_WORKERS; usual = codes "2" }
 
 -- the numbers, in their order
 abbrev pub number_rows : List NumberRow
-number_rows = limit_row ∷ burden_row ∷ processors_row ∷ workers_row ∷ []
+number_rows = limit_row ∷ burden_row ∷ processors_row ∷ top_row ∷ workers_row ∷ []
 
 -- the words for the numbers that are not given
 abbrev pub usual_numbers : List Text
@@ -92,12 +97,17 @@ command_name verb.Check = codes "check"
 command_name verb.Run = codes "run"
 command_name verb.Scale = codes "scale"
 command_name verb.Sites = codes "sites"
+command_name verb.Gain = codes "gain"
 command_name verb.Greedy = codes "greedy"
 
 -- a command that runs a program and takes a burden: with its source, its arguments and the options
 abbrev pub running_line : Text → App
 running_line name =
     fold with_rule (with_rule (with_rule (new_app name) file_rule) args_rule) option_rules
+
+-- the command for gains, with how many functions it tells behind all that
+abbrev pub gain_line : App
+gain_line = with_rule (running_line (codes "gain")) (number_rule top_row)
 
 -- the command for a schedule: with its processors before its source, its arguments, the limit and the workers
 abbrev pub greedy_line : App
@@ -107,12 +117,14 @@ greedy_line = fold with_rule (new_app (codes "greedy"))
 -- the words of each command: a check has its source alone
 abbrev pub line_of : Verb → App
 line_of verb.Check = with_rule (new_app (codes "check")) file_rule
+line_of verb.Gain = gain_line
 line_of verb.Greedy = greedy_line
 line_of v = running_line (command_name v)
 
 -- a command is of this line, also below another one
 pub record IsCommandOf (line : App) (c : Command) : Type 0 where
   pub shape : app_of c ≡ line
+  pub local : (out-Command c).has_globals ≡ false
   pub below : (above whole : Command) → AddsSubcommand above c whole
       → app_of whole ≡ with_subcommand (app_of above) line.top
 
@@ -122,7 +134,7 @@ with_words_alone a = record a { top = record a.top { no_binary_name = true; subc
 
 -- the commands, in their order
 abbrev pub verbs : List Verb
-verbs = verb.Check ∷ verb.Run ∷ verb.Scale ∷ verb.Sites ∷ verb.Greedy ∷ []
+verbs = verb.Check ∷ verb.Run ∷ verb.Scale ∷ verb.Sites ∷ verb.Gain ∷ verb.Greedy ∷ []
 
 -- the whole command line
 abbrev pub command_line : App

@@ -1,12 +1,25 @@
 -- What the code of bytes does.
-use Rattle.std.specs.Prelude.{ℕ, List}
+use Rattle.std.specs.Prelude.{◌≡◌, ℕ, List, map}
 use Rattle.cw_model.specs.Syntax.{Program}
-use Rattle.cw_code.specs.Code.{Code}
+use Rattle.cw_model.specs.Sites.{Head, heads_of}
+use Rattle.cw_tree.specs.Resolved.{Function}
+use Rattle.cw_code.specs.Code.{Code, code_view}
+use Rattle.cw_gains.specs.Counts.{head_view}
 use Rattle.cw_gen.specs.Generates.{Generates}
 use Rattle.cw_cli.specs.Sources.{Compiles}
+use Rattle.cw_cli.specs.declared.compiling.Compiled.{Compiled}
 
 -- the code of the program that the bytes are a source of: it does what that program's serial elision does
 pub record IsCompiled (bytes : List ℕ) (code : Code) : Type 0 where
   pub program : Program
   pub compiles : Compiles bytes program
   pub generates : Generates program code
+
+-- the code, and the heads of the functions of that program, by place
+pub record IsMade (bytes : List ℕ) (made : Compiled) : Type 0 where
+  pub compiled : IsCompiled bytes (code_view made.code.code)
+  pub heads : map head_view made.heads.items ≡ heads_of compiled.program
+
+-- the head of a function of the resolved tree
+abbrev pub head_of : Function → Head
+head_of f = record { name = f.name; line = f.line }

@@ -6,7 +6,8 @@ use Rattle.clap.specs.Words.{IsAmong, Kinds, Row, Text, all_of, fault_of, first_
 use Rattle.clap.specs.declared.error.ErrorKind.{ErrorKind}
 use Rattle.clap.specs.declared.error.ErrorKind.TheVariants as kind
 use Rattle.cw_model.specs.declared.burden.Edges.{Edges}
-use Rattle.cw_model.specs.declared.limits.TheConstants.{MOST_LIMIT, MOST_BURDEN, MOST_NUMBER, USUAL_LIMIT, USUAL_BURDEN}
+use Rattle.cw_model.specs.declared.limits.TheConstants.{MOST_LIMIT, MOST_BURDEN, MOST_NUMBER, MOST_TOP, USUAL_LIMIT}
+use Rattle.cw_model.specs.declared.limits.TheConstants.{USUAL_BURDEN}
 use Rattle.cw_model.specs.Burdens.{on_spawns}
 use Rattle.cw_model.specs.Pieces.{decimal_value}
 use Rattle.cw_text.specs.declared.fault.Fault.{Fault}
@@ -23,12 +24,13 @@ use Rattle.cw_cli.specs.declared.asked.Request.{Request}
 use Rattle.cw_cli.specs.declared.asked.Said.{Said}
 use Rattle.cw_cli.specs.declared.asked.Said.TheVariants as said
 
--- a schedule is for processors in range
+-- a schedule is for processors in range, and functions that are told are so many
 abbrev pub IsModeInRange : Mode → Type 0
+IsModeInRange (mode.Gain top) = (1 ≤ top) × (top ≤ MOST_TOP)
 IsModeInRange (mode.Greedy processors) = (1 ≤ processors) × (processors ≤ MOST_PROCESSORS)
 IsModeInRange _ = Unit {0}
 
--- the limit and the burden are in range, and the processors of a schedule
+-- the limit and the burden are in range, and the number that a mode has
 pub record AreInRange (options : Options) : Type 0 where
   pub mode : IsModeInRange options.mode
   pub some_limit : 1 ≤ options.limit
@@ -44,13 +46,15 @@ abbrev pub IsVerbNamed : Text → Option Verb → Type 0
 IsVerbNamed name None = (v : Verb) → command_name v ≢ name
 IsVerbNamed name (Some v) = command_name v ≡ name
 
--- the mode that a command asks for, with so many processors where it is a schedule
-abbrev pub mode_with : Verb → (processors : ℕ) → Mode
-mode_with verb.Check processors = mode.Check
-mode_with verb.Run processors = mode.Run
-mode_with verb.Scale processors = mode.Scale
-mode_with verb.Sites processors = mode.Sites
-mode_with verb.Greedy processors = mode.Greedy processors
+-- the mode that a command asks for, with so many processors where it is a schedule, and so many functions where it tells
+-- of these
+abbrev pub mode_with : Verb → (processors top : ℕ) → Mode
+mode_with verb.Check processors top = mode.Check
+mode_with verb.Run processors top = mode.Run
+mode_with verb.Scale processors top = mode.Scale
+mode_with verb.Sites processors top = mode.Sites
+mode_with verb.Gain processors top = mode.Gain top
+mode_with verb.Greedy processors top = mode.Greedy processors
 
 -- the edges of this name, if there are any
 abbrev pub IsEdgesNamed : Text → Option Edges → Type 0
@@ -72,8 +76,8 @@ pub record Words : Type 0 where
 
 -- the options and the workers of a command with these numbers, in the order of the table, and this word for the edges
 abbrev pub AreOptionsOf : Verb → List ℕ → (edges : Text) → Options → (workers : ℕ) → Type 0
-AreOptionsOf v (limit ∷ charge ∷ processors ∷ workers ∷ []) edges o w =
-    (o.mode ≡ mode_with v processors) × (o.limit ≡ limit) × (o.burden.charge ≡ charge)
+AreOptionsOf v (limit ∷ charge ∷ processors ∷ top ∷ workers ∷ []) edges o w =
+    (o.mode ≡ mode_with v processors top) × (o.limit ≡ limit) × (o.burden.charge ≡ charge)
     × (edges_name o.burden.edges ≡ edges) × (w ≡ workers)
 AreOptionsOf v _ edges o w = ⊥
 

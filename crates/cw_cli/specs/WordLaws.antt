@@ -2,9 +2,9 @@
 use Rattle.std.specs.Prelude.{◌≡◌, ◌≢◌, ◌^◌, ◌<◌, List, [], ◌∷◌, All, Some, codes, length, map, slice_get}
 use Rattle.clap.specs.Words.{Text}
 use Rattle.clap.specs.declared.error.ErrorKind.TheVariants as kind
-use Rattle.cw_model.specs.declared.limits.TheConstants.{USUAL_LIMIT, USUAL_BURDEN}
+use Rattle.cw_model.specs.declared.limits.TheConstants.{USUAL_LIMIT, USUAL_BURDEN, USUAL_TOP}
 use Rattle.cw_model.specs.Pieces.{decimal_value}
-use Rattle.cw_cli.specs.Command.{command_name, limit_row, burden_row, processors_row, workers_row, number_rows}
+use Rattle.cw_cli.specs.Command.{command_name, limit_row, burden_row, processors_row, top_row, workers_row, number_rows}
 use Rattle.cw_cli.specs.Command.{usual_numbers, usual_edges}
 use Rattle.cw_cli.specs.declared.asked.TheConstants.{USUAL_WORKERS}
 use Rattle.cw_cli.specs.Requests.{AreRead, AreWithin, Words, faults}
@@ -26,7 +26,7 @@ running v file args limit burden =
       verb = v;
       file = file;
       args = args;
-      numbers = limit ∷ burden ∷ processors_row.usual ∷ workers_row.usual ∷ [];
+      numbers = limit ∷ burden ∷ processors_row.usual ∷ top_row.usual ∷ workers_row.usual ∷ [];
       edges = usual_edges;
     }
 
@@ -42,7 +42,7 @@ running_on v file args workers =
       verb = v;
       file = file;
       args = args;
-      numbers = limit_row.usual ∷ burden_row.usual ∷ processors_row.usual ∷ workers ∷ [];
+      numbers = limit_row.usual ∷ burden_row.usual ∷ processors_row.usual ∷ top_row.usual ∷ workers ∷ [];
       edges = usual_edges;
     }
 
@@ -53,13 +53,25 @@ scheduling processors file args limit =
       verb = verb.Greedy;
       file = file;
       args = args;
-      numbers = limit ∷ burden_row.usual ∷ processors ∷ workers_row.usual ∷ [];
+      numbers = limit ∷ burden_row.usual ∷ processors ∷ top_row.usual ∷ workers_row.usual ∷ [];
       edges = usual_edges;
     }
 
--- the command runs a program, and takes a burden
+-- gains of this source on these arguments, with the words for the functions that are told and for the burden
+abbrev pub gaining : (file : Text) (args : List Text) (top burden : Text) → Words
+gaining file args top burden =
+    record {
+      verb = verb.Gain;
+      file = file;
+      args = args;
+      numbers = limit_row.usual ∷ burden ∷ processors_row.usual ∷ top ∷ workers_row.usual ∷ [];
+      edges = usual_edges;
+    }
+
+-- the command runs a program, and takes a burden and no number of its own
 abbrev pub TakesBurden : Verb → Type 0
 TakesBurden verb.Check = ⊥
+TakesBurden verb.Gain = ⊥
 TakesBurden verb.Greedy = ⊥
 TakesBurden _ = Unit {0}
 
@@ -102,6 +114,18 @@ WorkersAreRead =
     → IsPlain workers → IsPlain file → All IsPlain args → length args < 2 ^ 64
     → AreRead (command_name v ∷ codes "--workers" ∷ workers ∷ file ∷ args) (running_on v file args workers)
 
+-- such words after `gain` are the source and the arguments, in their order
+abbrev pub GainIsRead : Type 0
+GainIsRead =
+    (file : Text) (args : List Text) → IsPlain file → All IsPlain args → length args < 2 ^ 64
+    → AreRead (codes "gain" ∷ file ∷ args) (gaining file args top_row.usual burden_row.usual)
+
+-- the same with how many functions before them
+abbrev pub GainTopIsRead : Type 0
+GainTopIsRead =
+    (top file : Text) (args : List Text) → IsPlain top → IsPlain file → All IsPlain args → length args < 2 ^ 64
+    → AreRead (codes "gain" ∷ codes "--top" ∷ top ∷ file ∷ args) (gaining file args top burden_row.usual)
+
 -- such words after `greedy` are the processors, the source and the arguments, in their order
 abbrev pub GreedyIsRead : Type 0
 GreedyIsRead =
@@ -126,12 +150,12 @@ abbrev pub WordsAreReadOnce : Type 0
 WordsAreReadOnce = (given : List Text) (words words' : Words) → AreRead given words → AreRead given words'
     → words ≡ words'
 
--- the words for the usual numbers are numbers in range, and write the usual limit, the usual burden, one processor and
--- two workers
+-- the words for the usual numbers are numbers in range, and write the usual limit, the usual burden, one processor, ten
+-- functions and two workers
 abbrev pub UsualNumbersAreWritten : Type 0
 UsualNumbersAreWritten =
     AreWithin number_rows usual_numbers
-    × (map decimal_value usual_numbers ≡ USUAL_LIMIT ∷ USUAL_BURDEN ∷ 1 ∷ USUAL_WORKERS ∷ [])
+    × (map decimal_value usual_numbers ≡ USUAL_LIMIT ∷ USUAL_BURDEN ∷ 1 ∷ USUAL_TOP ∷ USUAL_WORKERS ∷ [])
 
 -- numbers after the source, attached to their names, and words after `--`
 abbrev pub WordExamples : Type 0
@@ -159,10 +183,15 @@ WordExamples =
     (running_on verb.Sites (codes "f") (codes "4" ∷ []) (codes "64"))
     × AreRead (codes "scale" ∷ codes "f" ∷ codes "4" ∷ codes "--edges=both" ∷ [])
     (running_along verb.Scale (codes "f") (codes "4" ∷ []) (codes "both"))
+    × AreRead (codes "gain" ∷ codes "f" ∷ codes "4" ∷ codes "--top" ∷ codes "3" ∷ codes "7" ∷ [])
+    (gaining (codes "f") (codes "4" ∷ codes "7" ∷ []) (codes "3") (codes "15000"))
+    × AreRead (codes "gain" ∷ codes "--burden=0" ∷ codes "--top=64" ∷ codes "--" ∷ codes "-f" ∷ codes "-1" ∷ [])
+    (gaining (codes "-f") (codes "-1" ∷ []) (codes "64") (codes "0"))
 
 -- words that are not taken: none, no source, a word too many for a check, a limit, a burden, workers or edges for a
--- check, an unknown word, a negative number, no limit, two limits, no burden, two burdens, no workers, no edges, a
--- schedule without processors, without a source, with a burden or with edges, and calls for help
+-- check, an unknown word, a negative number, no limit, two limits, no burden, two burdens, no workers, no edges, gains
+-- without a source or with no count of functions, such a count for another command, a schedule without processors,
+-- without a source, with a burden or with edges, and calls for help
 abbrev pub RefusalExamples : Type 0
 RefusalExamples =
     (faults [] ≡ kind.MissingSubcommand ∷ [])
@@ -183,6 +212,9 @@ RefusalExamples =
     × (faults (codes "run" ∷ codes "f" ∷ codes "--workers" ∷ []) ≡ kind.InvalidValue ∷ [])
     × (faults (codes "check" ∷ codes "f" ∷ codes "--edges=both" ∷ []) ≡ kind.UnknownArgument ∷ [])
     × (faults (codes "scale" ∷ codes "f" ∷ codes "--edges" ∷ []) ≡ kind.InvalidValue ∷ [])
+    × (faults (codes "gain" ∷ []) ≡ kind.MissingRequiredArgument ∷ [])
+    × (faults (codes "gain" ∷ codes "f" ∷ codes "--top" ∷ []) ≡ kind.InvalidValue ∷ [])
+    × (faults (codes "sites" ∷ codes "f" ∷ codes "--top=3" ∷ []) ≡ kind.UnknownArgument ∷ [])
     × (faults (codes "greedy" ∷ []) ≡ kind.MissingRequiredArgument ∷ [])
     × (faults (codes "greedy" ∷ codes "2" ∷ []) ≡ kind.MissingRequiredArgument ∷ [])
     × (faults (codes "greedy" ∷ codes "2" ∷ codes "f" ∷ codes "--burden=9" ∷ []) ≡ kind.UnknownArgument ∷ [])
@@ -192,4 +224,5 @@ RefusalExamples =
     × (faults (codes "run" ∷ codes "--help" ∷ []) ≡ kind.DisplayHelp ∷ [])
     × (faults (codes "scale" ∷ codes "--help" ∷ []) ≡ kind.DisplayHelp ∷ [])
     × (faults (codes "sites" ∷ codes "f" ∷ codes "--help" ∷ []) ≡ kind.DisplayHelp ∷ [])
+    × (faults (codes "gain" ∷ codes "--help" ∷ []) ≡ kind.DisplayHelp ∷ [])
     × (faults (codes "greedy" ∷ codes "--help" ∷ []) ≡ kind.DisplayHelp ∷ [])

@@ -1,19 +1,21 @@
 //! From bytes to a report.
 
-ghost use Rattle.std.specs.Prelude.{◌≡◌, ◌<◌, ◌≤◌, ◌-◌, ◌^◌, ℕ, List, length};
+ghost use Rattle.std.specs.Prelude.{◌≡◌, ◌<◌, ◌≤◌, ◌-◌, ◌^◌, ℕ, List, MatchResult, length};
 ghost use Rattle.cw_code.specs.Code.{code_view};
 ghost use Rattle.cw_pool.specs.declared.run.TheConstants.{MOST_BODIES};
 ghost use Rattle.cw_cli.specs.declared.asked.Mode.TheVariants as mode;
-ghost use Rattle.cw_cli.specs.Compiled.{IsCompiled};
+ghost use Rattle.cw_cli.specs.Compiled.{IsCompiled, IsMade};
+ghost use Rattle.cw_cli.specs.Requests.{IsModeInRange};
 ghost use Rattle.cw_cli.specs.Analyses.{IsAnalysed, IsRun};
 ghost use Rattle.cw_cli.specs.Told.{HasTables};
 
 use crate::asked::{Mode, Options};
-use crate::compiling::compile;
-use crate::reporting::{are_words, write_tables, write_values};
+use crate::compiling::{Compiled, compile};
+use crate::reporting::{are_words, write_gains, write_tables, write_values};
+use cw_gains::gains::gains_of_run;
 use cw_machine::alone::run_alone;
 use cw_machine::values::values_alone;
-use cw_model::limits::MOST_BURDEN;
+use cw_model::limits::{MOST_BURDEN, MOST_TOP};
 use cw_pool::crew::Body;
 use cw_pool::gate::Gate;
 use cw_report::{Sink, ok, schedule};
@@ -46,12 +48,13 @@ pub fn analyse_alone<W: Sink>(
     requires { (W.seen out.old).failures < 2 ^ 64 - 1 }
     ensures { IsAnalysed W.seen out.old out.new bytes.now args.now options result }
 {
-    let code = compile(alloc, bytes)?;
+    let made = compile(alloc, bytes)?;
     match options.mode {
         Mode::Check => ok(out),
-        Mode::Run => run_plain(alloc, code, args, options, out),
-        Mode::Scale | Mode::Sites => run(alloc, code, args, options, out),
-        Mode::Greedy(processors) => run_greedy(alloc, code, args, processors, options, out),
+        Mode::Run => run_plain(alloc, made.code, args, options, out),
+        Mode::Scale | Mode::Sites => run(alloc, made.code, args, options, out),
+        Mode::Gain(top) => run_gain(alloc, made, args, top, options, out),
+        Mode::Greedy(processors) => run_greedy(alloc, made.code, args, processors, options, out),
     }
 }
 
@@ -59,8 +62,8 @@ pub fn analyse_alone<W: Sink>(
 /// and one for each body of the crew as workers that steal from each other.
 ///
 /// The errors and what is written are those of `analyse_alone`, which it calls where the crew is empty: no byte depends
-/// on the crew, on what its bodies and the gate do, or on the order in which workers come to steal. A check and a
-/// schedule are made by the caller's thread alone.
+/// on the crew, on what its bodies and the gate do, or on the order in which workers come to steal. A check, a schedule
+/// and the runs behind the first one in mode `Gain` are made by the caller's thread alone.
 ///
 /// It asks that the crew has at most 63 bodies, and that fewer than 2^64 - 1 writes to the sink failed before.
 pub fn analyse<
@@ -85,12 +88,13 @@ pub fn analyse<
     if crew.is_empty() {
         return analyse_alone(alloc, bytes, args, options, out);
     }
-    let code = compile(alloc, bytes)?;
+    let made = compile(alloc, bytes)?;
     match options.mode {
         Mode::Check => ok(out),
-        Mode::Run => run_plain_with(rt, alloc, code, args, options, crew, gate, out),
-        Mode::Scale | Mode::Sites => run_with(rt, alloc, code, args, options, crew, gate, out),
-        Mode::Greedy(processors) => run_greedy(alloc, code, args, processors, options, out),
+        Mode::Run => run_plain_with(rt, alloc, made.code, args, options, crew, gate, out),
+        Mode::Scale | Mode::Sites => run_with(rt, alloc, made.code, args, options, crew, gate, out),
+        Mode::Gain(top) => run_gain_with(rt, alloc, made, args, top, options, crew, gate, out),
+        Mode::Greedy(processors) => run_greedy(alloc, made.code, args, processors, options, out),
     }
 }
 
@@ -200,6 +204,95 @@ fn run_with<
         gate,
     );
     write_tables(alloc, &code, args, options, ended, out)
+}
+
+// Runs code, and once more for each function that is told, and writes what these would bring.
+fn run_gain<W: Sink>(
+    alloc: Global,
+    made: Compiled,
+    args: &[i64],
+    top: u64,
+    options: Options,
+    out: &mut W,
+) -> Result<(), Fault>
+    requires { (W.seen out.old).failures < 2 ^ 64 - 1 }
+    ensures { (bytes : List ℕ) → options.mode ≡ mode.Gain top → IsMade bytes made
+        → IsRun W.seen out.old out.new bytes args.now options result }
+{
+    let most = top_of(top)?;
+    let code = Arc::new(alloc, made.code)?;
+    let share = Arc::try_clone(&code)?;
+    let ended = run_alone(alloc, share, args, options.limit, options.burden);
+    let gains = gains_of_run(
+        alloc,
+        code,
+        made.heads.as_slice(),
+        args,
+        options.limit,
+        options.burden,
+        most,
+        ended,
+    );
+    write_gains(alloc, args, options, gains, out)
+}
+
+// Runs code with a crew, and once more for each function that is told, and writes what these would bring.
+fn run_gain_with<
+    W: Sink,
+    G: Gate + Drop + Send + Sync + 'static,
+    B: Body<G> + Send + Drop + 'static,
+    R: Threads + Wait,
+>(
+    rt: &R,
+    alloc: Global,
+    made: Compiled,
+    args: &[i64],
+    top: u64,
+    options: Options,
+    crew: Vec<B>,
+    gate: Arc<G>,
+    out: &mut W,
+) -> Result<(), Fault>
+    requires out { (W.seen out.old).failures < 2 ^ 64 - 1 }
+    requires few { length crew.items ≤ MOST_BODIES }
+    ensures { (bytes : List ℕ) → options.mode ≡ mode.Gain top → IsMade bytes made
+        → IsRun W.seen out.old out.new bytes args.now options result }
+{
+    let most = top_of(top)?;
+    let code = Arc::new(alloc, made.code)?;
+    let share = Arc::try_clone(&code)?;
+    let ended = cw_pool::run::run(
+        rt,
+        alloc,
+        share,
+        args,
+        options.limit,
+        options.burden,
+        crew,
+        gate,
+    );
+    let gains = gains_of_run(
+        alloc,
+        code,
+        made.heads.as_slice(),
+        args,
+        options.limit,
+        options.burden,
+        most,
+        ended,
+    );
+    write_gains(alloc, args, options, gains, out)
+}
+
+// How many functions are told at most, where that is in range.
+fn top_of(top: u64) -> Result<usize, Fault>
+    ensures { MatchResult result (λ most. (most ≡ top) × IsModeInRange (mode.Gain top))
+        (λ e. (e ≡ Fault.Arguments) × ¬ (IsModeInRange (mode.Gain top))) }
+{
+    if top < 1 || MOST_TOP < top {
+        return Err(Fault::Arguments);
+    }
+    Ok(top as usize)
 }
 
 // Runs code for its greedy schedule on so many processors, and writes what is told of that. The burden is tested as for

@@ -22,6 +22,8 @@ pub enum Mode {
     Scale,
     /// Calls, work and span of each call site.
     Sites,
+    /// Work and span of the run, and what its spans would be if each of at most so many functions, from 1 to 64, were free.
+    Gain(u64),
     /// Work, span, and how many steps a greedy schedule of the run takes on so many processors, from 1 to 1,000,000.
     Greedy(u64),
 }

@@ -19,8 +19,8 @@ ghost use Rattle.cw_cli.specs.declared.verb.Verb.TheVariants as verb;
 ghost use Rattle.cw_cli.specs.Rows.{row_of};
 
 use crate::edges::{EDGES, USUAL_EDGES};
-use crate::help::{OF_CHECK, OF_GREEDY, OF_PROGRAM, OF_RUN, OF_SCALE, OF_SITES};
-use crate::number::{BURDEN, LIMIT, NumberOption, PROCESSORS, WORKERS};
+use crate::help::{OF_CHECK, OF_GAIN, OF_GREEDY, OF_PROGRAM, OF_RUN, OF_SCALE, OF_SITES};
+use crate::number::{BURDEN, LIMIT, NumberOption, PROCESSORS, TOP, WORKERS};
 use clap::{Arg, ArgAction, Command};
 use std::alloc::{AllocError, Global};
 
@@ -47,6 +47,7 @@ pub fn command<'a>(alloc: Global) -> Result<Command<'a>, AllocError>
         "Runs a program and writes its work and span by call",
         OF_SITES,
     )?;
+    let gain = gain_command(alloc)?;
     let greedy = greedy_command(alloc)?;
     let command = Command::new(alloc, "cilkwork")
         .bin_name("cilkwork")?
@@ -58,6 +59,7 @@ pub fn command<'a>(alloc: Global) -> Result<Command<'a>, AllocError>
         .subcommand(run)?
         .subcommand(scale)?
         .subcommand(sites)?
+        .subcommand(gain)?
         .subcommand(greedy)?;
     Ok(command)
 }
@@ -69,6 +71,19 @@ fn check_command<'a>(alloc: Global) -> Result<Command<'a>, AllocError>
         .about("Compiles a program and writes 'ok'")
         .after_help(OF_CHECK)
         .arg(file(alloc))?;
+    Ok(command)
+}
+
+fn gain_command<'a>(alloc: Global) -> Result<Command<'a>, AllocError>
+    ensures { IfOk result (IsCommandOf (line_of verb.Gain)) }
+{
+    let running = running_command(
+        alloc,
+        "gain",
+        "Runs a program and writes what making a function faster can bring",
+        OF_GAIN,
+    )?;
+    let command = running.arg(number(alloc, TOP))?;
     Ok(command)
 }
 

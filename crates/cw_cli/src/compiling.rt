@@ -1,10 +1,12 @@
 //! From bytes to code.
 
-ghost use Rattle.std.specs.Prelude.{MatchResult};
-ghost use Rattle.cw_code.specs.Code.{code_view};
-ghost use Rattle.cw_cli.specs.Compiled.{IsCompiled};
+ghost use Rattle.std.specs.Prelude.{◌≡◌, IfOk, MatchResult, map};
+ghost use Rattle.cw_gains.specs.Counts.{head_view};
+ghost use Rattle.cw_tree.specs.ResolvedView.{function_of};
+ghost use Rattle.cw_cli.specs.Compiled.{IsMade, head_of};
 ghost use Rattle.cw_cli.specs.Sources.{IsRefused};
 
+use cw_gains::counts::Head;
 use cw_gen::generate;
 use cw_lex::lex;
 use cw_loops::laws::derived_is_source_like;
@@ -13,22 +15,31 @@ use cw_model::laws::derived_sites_are_numbered;
 use cw_own::own;
 use cw_parse::parse;
 use cw_text::{Fault, Source};
+use cw_tree::resolved::Function;
 use cw_types::check;
 use cw_verify::verified::Verified;
 use cw_verify::verify::verify;
-use std::alloc::Global;
+use std::alloc::{AllocError, Global};
+
+/// What a source is compiled to.
+#[derive(Debug, Drop)]
+pub struct Compiled {
+    /// The code of its program.
+    pub code: Verified,
+    /// The heads of its functions, by place.
+    pub heads: Vec<Head>,
+}
 
 /// The code of the program that these bytes are the source of: on all arguments and within all
-/// limits it does what the program's serial elision does.
+/// limits it does what the program's serial elision does. The heads of the program's functions stand beside it.
 ///
 /// The first stage that refuses the bytes decides, with its line: `Size` for too many bytes, else
 /// `Lexical` for one that is not ASCII; `Lexical` and `Size` for tokens; `Size` for too many
 /// brackets open or too many tokens in a row, else `Syntax`; `Size` for the parts of the program, and
 /// `Types`; `Ownership`; `Size` for too many loops, at the line of the 4,097th by place; and `Size` for
 /// its code, at line 1. `Memory` where memory runs out.
-pub fn compile(alloc: Global, bytes: &[u8]) -> Result<Verified, Fault>
-    ensures { MatchResult result
-        (λ made. IsCompiled bytes.now (code_view made.code)) (IsRefused bytes.now) }
+pub fn compile(alloc: Global, bytes: &[u8]) -> Result<Compiled, Fault>
+    ensures { MatchResult result (IsMade bytes.now) (IsRefused bytes.now) }
 {
     derived_sites_are_numbered();
     derived_is_source_like();
@@ -41,7 +52,26 @@ pub fn compile(alloc: Global, bytes: &[u8]) -> Result<Verified, Fault>
     let owned = own(alloc, typed)?;
     let core = lower(alloc, owned)?;
     let code = generate(alloc, &core)?;
+    let heads = heads_of(alloc, &core.source.typed.tree.functions)?;
     drop(core);
     let verified = verify(alloc, code)?;
-    Ok(verified)
+    Ok(Compiled {
+        code: verified,
+        heads,
+    })
+}
+
+// The heads of functions.
+fn heads_of(alloc: Global, functions: &[Function]) -> Result<Vec<Head>, AllocError>
+    ensures { IfOk result (λ heads. map head_view heads.items ≡ map head_of (map function_of functions.now)) }
+{
+    let mut heads = Vec::with_capacity(alloc, functions.len())?;
+    for function in functions {
+        let name = function.name.share(alloc)?;
+        heads.push(Head {
+            name,
+            line: function.line,
+        })?;
+    }
+    Ok(heads)
 }

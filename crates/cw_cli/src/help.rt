@@ -16,6 +16,8 @@ What is written to standard output:
   run    printed values, totals of reducers and the value of main, a line each
   scale  a table of work, span and parallelism, of the run and of each tag
   sites  a table of calls, work and span, of each call in the source
+  gain   a table of what the run's spans would be if a function were free, of
+         the functions that the span is spent in
   greedy how many steps the run takes on P processors, in a table of one row
 In a table commas stand between fields, and the first line names the columns.
 Work, span, limit and burden are counted in instructions.
@@ -37,6 +39,7 @@ A number is one or more decimal digits; zeros in front are allowed:
             through the spawned call, as if that came back to the join late
   --workers from 1 to 64; how many threads share the run. No report depends on
             it, and greedy runs with one
+  --top     from 1 to 64
 
 Exit status and standard error (L is a line of the source):
   0                     the report is on standard output
@@ -113,6 +116,30 @@ each call in the source has a line, by its place, also where it never ran.
 In work and span a call inside another one of the same site is not counted
 again. The own work of all sites adds up to the work of the run, and their own
 span to its span. --burden and --edges change nothing here.
+How to read them: GUIDE.md, which lies where 'cilkwork --help' tells.
+
+--explain tells why a source is refused or a run traps. What ARGS and numbers
+may be, and the exit statuses: 'cilkwork --help'.";
+
+/// Of `gain`, below its options.
+pub const OF_GAIN: &str = "\
+Writes a table with commas between fields, and none of what the program prints.
+The first line names the columns. The second, without a name, is of the whole
+run as it is. Then each function with an own span has a line, that with the
+greatest first, at most as many as --top says.
+  function               its name
+  line                   the line of its head
+  calls                  how often it was called
+  own_work               instructions of these calls, without those of calls
+                         inside them
+  own_span               those of them that lie on a longest path of the run
+  span_if_free           what the span of the run would be if the function's
+                         own instructions took no time
+  parallelism_if_free    work by that, to three digits and rounded down; 0.000
+                         where that is 0
+  burdened_span_if_free  the same of the burdened span
+However one function alone is changed, the span stays that long at least. Each
+function that is told takes one more run, with one thread.
 How to read them: GUIDE.md, which lies where 'cilkwork --help' tells.
 
 --explain tells why a source is refused or a run traps. What ARGS and numbers

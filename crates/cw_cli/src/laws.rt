@@ -5,6 +5,8 @@ ghost use Rattle.cw_cli.specs.WordLaws.{
   BurdenIsRead,
   CheckIsRead,
   EdgesAreRead,
+  GainIsRead,
+  GainTopIsRead,
   GreedyIsRead,
   GreedyLimitIsRead,
   LimitIsRead,
@@ -42,7 +44,8 @@ pub fn one_answer()
 
 /// A word after `check` that starts with no hyphen is the source. Such words after `run`, `scale` or
 /// `sites` are the source and the arguments, and `--limit`, `--burden` or `--workers` with a word before them is
-/// that number, `--edges` that word; after `greedy` they are the processors, the source and the arguments, and `--limit` is the same.
+/// that number, `--edges` that word; after `gain` they are the same, and so is `--top`; after `greedy` they are the
+/// processors, the source and the arguments, and `--limit` is the same.
 pub fn plain_words()
     ensures check { CheckIsRead }
     ensures usual { PlainWordsAreRead }
@@ -50,6 +53,8 @@ pub fn plain_words()
     ensures burdened { BurdenIsRead }
     ensures edged { EdgesAreRead }
     ensures worked { WorkersAreRead }
+    ensures gain { GainIsRead }
+    ensures gain_top { GainTopIsRead }
     ensures greedy { GreedyIsRead }
     ensures greedy_limited { GreedyLimitIsRead }
 {}

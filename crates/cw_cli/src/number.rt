@@ -6,7 +6,7 @@ ghost use Rattle.std.specs.Option.{SomeIff};
 ghost use Rattle.cw_model.specs.Pieces.{is_digit, decimal_value};
 ghost use Rattle.cw_cli.specs.Numbers.{IsNumber, IsNumberWithin};
 
-use cw_model::limits::{MOST_BURDEN, MOST_LIMIT};
+use cw_model::limits::{MOST_BURDEN, MOST_LIMIT, MOST_TOP};
 use cw_scheduled::schedules::MOST_PROCESSORS;
 use cw_yard::open::MOST_WORKERS;
 
@@ -59,6 +59,15 @@ pub const PROCESSORS: NumberOption = NumberOption {
     most: MOST_PROCESSORS,
     usual: "1",
     help: "How many processors share the strands",
+};
+
+/// The functions that a report of gains tells at most.
+pub const TOP: NumberOption = NumberOption {
+    name: "top",
+    least: 1,
+    most: MOST_TOP,
+    usual: "10",
+    help: "How many functions are told at most",
 };
 
 /// The number that the text writes, where it is digits alone, at least one, and the number is in

@@ -6,17 +6,21 @@ ghost use Rattle.cw_model.specs.declared.burden.Burden.{Burden};
 ghost use Rattle.cw_code.specs.Code.{Code, code_view};
 ghost use Rattle.cw_machine.specs.Runs.{GivesAsCode, RunsAsCode};
 ghost use Rattle.cw_cli.specs.declared.asked.Mode.TheVariants as mode;
-ghost use Rattle.cw_cli.specs.Compiled.{IsCompiled};
+ghost use Rattle.cw_cli.specs.Compiled.{IsCompiled, IsMade};
+ghost use Rattle.cw_cli.specs.declared.compiling.Compiled.{Compiled};
+ghost use Rattle.cw_gains.specs.Gains.{GainsAsCode};
+ghost use Rattle.cw_cli.specs.Requests.{IsModeInRange};
 ghost use Rattle.cw_cli.specs.Analyses.{IsRun};
 ghost use Rattle.cw_cli.specs.Told.{HasTables, told_in};
 ghost use Rattle.cw_model.specs.Ints.{fits};
 ghost use Rattle.cw_report.specs.Answers.{AnswersText};
 
 use crate::asked::{Mode, Options};
+use cw_gains::gains::Gains;
 use cw_machine::alone::Ended;
 use cw_machine::values::Values;
 use cw_model::laws::derived_sites_are_numbered;
-use cw_report::{Sink, answer, scale, sites};
+use cw_report::{Sink, answer, gain, scale, sites};
 use cw_text::Fault;
 use cw_verify::verified::Verified;
 use std::alloc::Global;
@@ -62,6 +66,27 @@ pub(crate) fn write_tables<W: Sink>(
     Ok(())
 }
 
+// Writes what functions of a run of code would bring, at most as many as the mode tells.
+pub(crate) fn write_gains<W: Sink>(
+    alloc: Global,
+    args: &[i64],
+    options: Options,
+    gains: Result<Gains, Fault>,
+    out: &mut W,
+) -> Result<(), Fault>
+    requires { (W.seen out.old).failures < 2 ^ 64 - 1 }
+    ensures { (bytes : List ℕ) (made : Compiled) (top : ℕ) → options.mode ≡ mode.Gain top → IsModeInRange options.mode
+        → IsMade bytes made
+        → GainsAsCode (code_view made.code.code) made.heads.items args.now options.limit options.burden top gains
+        → IsRun W.seen out.old out.new bytes args.now options result }
+{
+    derived_sites_are_numbered();
+    are_words(args);
+    gain(alloc, &gains, out)?;
+    gains?;
+    Ok(())
+}
+
 // Reads each argument: it is a word of 64 bits.
 pub(crate) fn are_words(args: &[i64])
     ensures { list_all fits args.now ≡ true }
@@ -76,8 +101,8 @@ fn is_word(word: i64)
     ensures { fits word ≡ true }
 {}
 
-// Writes what the mode tells of what is counted of a run. A check, a run of values alone and a schedule tell nothing of
-// it.
+// Writes what the mode tells of what is counted of a run. A check, a run of values alone, gains and a schedule tell
+// nothing of it.
 fn report<W: Sink>(
     alloc: Global,
     mode: Mode,
@@ -90,7 +115,7 @@ fn report<W: Sink>(
     ensures answers { AnswersText W.seen out.old out.new (told_in mode code.now ended.now) result }
 {
     match mode {
-        Mode::Check | Mode::Run | Mode::Greedy(_) => Ok(()),
+        Mode::Check | Mode::Run | Mode::Gain(_) | Mode::Greedy(_) => Ok(()),
         Mode::Scale => scale(alloc, ended, out),
         Mode::Sites => sites(alloc, code, ended, out),
     }

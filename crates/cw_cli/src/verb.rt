@@ -12,6 +12,7 @@ pub enum Verb {
     Run,
     Scale,
     Sites,
+    Gain,
     Greedy,
 }
 
@@ -24,20 +25,22 @@ pub fn verb_named(name: &str) -> Option<Verb>
         "run" => Some(Verb::Run),
         "scale" => Some(Verb::Scale),
         "sites" => Some(Verb::Sites),
+        "gain" => Some(Verb::Gain),
         "greedy" => Some(Verb::Greedy),
         _ => None,
     }
 }
 
-/// The mode that a verb asks for, on so many processors where it takes them.
-pub fn mode_of(verb: Verb, processors: u64) -> Mode
-    ensures { result ≡ mode_with verb processors }
+/// The mode that a verb asks for, on so many processors or with so many functions where it takes a number of them.
+pub fn mode_of(verb: Verb, processors: u64, top: u64) -> Mode
+    ensures { result ≡ mode_with verb processors top }
 {
     match verb {
         Verb::Check => Mode::Check,
         Verb::Run => Mode::Run,
         Verb::Scale => Mode::Scale,
         Verb::Sites => Mode::Sites,
+        Verb::Gain => Mode::Gain(top),
         Verb::Greedy => Mode::Greedy(processors),
     }
 }

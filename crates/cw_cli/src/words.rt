@@ -34,7 +34,7 @@ ghost use Rattle.cw_cli.specs.Rows.{IsGivenNumber};
 use crate::asked::{Options, Request, Said};
 use crate::command::command;
 use crate::edges::edges_of;
-use crate::number::{BURDEN, LIMIT, NumberOption, PROCESSORS, WORKERS, read_number};
+use crate::number::{BURDEN, LIMIT, NumberOption, PROCESSORS, TOP, WORKERS, read_number};
 use crate::verb::{Verb, mode_of, verb_named};
 use clap::error::ErrorKind;
 use clap::{ArgMatches, Error};
@@ -47,8 +47,8 @@ use std::alloc::Global;
 /// the request explains nothing.
 ///
 /// The error is what to say in place of a run: the help, what is wrong with the words, `Arguments`
-/// where the limit, the burden, the processors, the workers or an argument of `main` is no number or out of range, or
-/// the word for the edges is neither `spawn` nor `both`; or `Memory`.
+/// where the limit, the burden, the processors, the functions, the workers or an argument of `main` is no number or out of
+/// range, or the word for the edges is neither `spawn` nor `both`; or `Memory`.
 pub fn request(alloc: Global, words: &[String]) -> Result<Request, Said>
     ensures ok { IfOk result (Asks (map string_bytes words.now)) }
     ensures why { IfErr result (IsSaidOf (map string_bytes words.now)) }
@@ -87,12 +87,21 @@ fn asked_by(alloc: Global, verb: Verb, given: &ArgMatches<'_>) -> Result<Request
     ensures ok { IfOk result (IsAskedBy verb (rows_of (found_of given.now))) }
     ensures why { IfErr result (IsFaultUnless (AreProper (rows_of (found_of given.now)))) }
 {
-    let (Some(file), Some(limit), Some(charge), Some(edges), Some(processors), Some(workers)) = (
+    let (
+        Some(file),
+        Some(limit),
+        Some(charge),
+        Some(edges),
+        Some(processors),
+        Some(top),
+        Some(workers),
+    ) = (
         given.get_str("FILE"),
         number_of(given, LIMIT),
         number_of(given, BURDEN),
         edges_of(given),
         number_of(given, PROCESSORS),
+        number_of(given, TOP),
         number_of(given, WORKERS),
     ) else {
         return Err(Fault::Arguments);
@@ -100,7 +109,7 @@ fn asked_by(alloc: Global, verb: Verb, given: &ArgMatches<'_>) -> Result<Request
     let args = args_of(alloc, given.get_strs("ARGS").unwrap_or(&[]))?;
     let file = String::from_str(alloc, file)?;
     let options = Options {
-        mode: mode_of(verb, processors),
+        mode: mode_of(verb, processors, top),
         limit,
         burden: Burden { charge, edges },
     };

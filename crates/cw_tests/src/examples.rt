@@ -37,6 +37,7 @@ pub struct Example {
     pub run: &'static str,
     pub scale: &'static str,
     pub sites: &'static str,
+    pub gain: &'static str,
     pub greedy: &'static str,
 }
 
@@ -85,5 +86,6 @@ pub fn holds<R: Abort + AllocGlobal + Threads + Wait + Copy + Drop + Send + 'sta
     reports(rt, "run ", example, example.run)?;
     reports(rt, "scale ", example, example.scale)?;
     reports(rt, "sites ", example, example.sites)?;
+    reports(rt, "gain ", example, example.gain)?;
     reports(rt, "greedy 8 ", example, example.greedy)
 }

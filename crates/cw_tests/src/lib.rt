@@ -10,6 +10,8 @@ mod examples;
 #[cfg(test)]
 mod explained;
 #[cfg(test)]
+mod gains;
+#[cfg(test)]
 mod generated;
 #[cfg(test)]
 mod greedy;

@@ -102,6 +102,22 @@ const REQUESTS: &[Reading] = &[
         Edges::Spawn,
     ),
     (
+        "gain f.cilk 3",
+        Mode::Gain(10),
+        &[3],
+        1_000_000_000,
+        15_000,
+        Edges::Spawn,
+    ),
+    (
+        "gain --top 064 f.cilk --edges both --burden=7 --limit 9",
+        Mode::Gain(64),
+        &[],
+        9,
+        7,
+        Edges::Both,
+    ),
+    (
         "greedy 2 f.cilk",
         Mode::Greedy(2),
         &[],
@@ -279,6 +295,15 @@ const NO_TABLES: &[Misuse] = &[
         "error: unexpected argument '--burden' found\n",
     ),
     (
+        "gain",
+        "error: the following required arguments were not provided:\n",
+    ),
+    ("gain f --top", "error: a value is required for '--top <N>'"),
+    (
+        "sites f --top 3",
+        "error: unexpected argument '--top' found\n",
+    ),
+    (
         "scale f --edges",
         "error: a value is required for '--edges <E>'",
     ),
@@ -331,6 +356,7 @@ const PROGRAM: &[Help] = &[(
         "PREFIX/share/doc/cilkwork",
         "  4  over limit ",
         "  sites  ",
+        "  gain   ",
         "may take some seconds",
         "  --explain  ",
         "  --edges   spawn, or both",
@@ -371,6 +397,11 @@ const COMMANDS: &[Help] = &[
     ),
     ("sites --help", "Runs a program", &["  own_span  "]),
     ("help sites", "Runs a program", &["GUIDE.md"]),
+    (
+        "gain --help",
+        "Runs a program",
+        &["  span_if_free  ", "--top <N>", "[default: 10]"],
+    ),
     (
         "greedy --help",
         "Runs a program",
@@ -442,6 +473,7 @@ const STATUSLESS: &[&str] = &[
     "run --help",
     "scale --help",
     "sites --help",
+    "gain --help",
     "greedy --help",
 ];
 

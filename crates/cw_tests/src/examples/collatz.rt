@@ -47,6 +47,11 @@ return 0
 0,root,19,main,1,64,33,412,184
 1,spawn,22,collatz,5,348,151,348,348
 ",
+    gain: "function,line,calls,own_work,own_span,span_if_free,parallelism_if_free,burdened_span_if_free
+,0,0,412,184,184,2.239,75064
+collatz,6,5,348,151,64,6.437,75064
+main,19,1,64,33,151,2.728,75000
+",
     greedy: "processors,work,span,greedy
 8,412,184,184
 ",

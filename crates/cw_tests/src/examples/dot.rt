@@ -61,6 +61,11 @@ return 0
 3,spawn,35,dot,1,31,0,34345,4359
 4,call,36,dot,1,31,31,34345,4359
 ",
+    gain: "function,line,calls,own_work,own_span,span_if_free,parallelism_if_free,burdened_span_if_free
+,0,0,119058,10747,10747,11.078,115747
+main,26,1,50368,6388,4359,27.313,109359
+dot,8,30,68690,4359,6388,18.637,111388
+",
     greedy: "processors,work,span,greedy
 8,119058,10747,15029
 ",

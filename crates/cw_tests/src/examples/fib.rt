@@ -39,6 +39,11 @@ int main(int n) {
 2,call,13,fib,10945,128370,6,295116,2783
 3,call,20,fib,1,21,17,295521,333
 ",
+    gain: "function,line,calls,own_work,own_span,span_if_free,parallelism_if_free,burdened_span_if_free
+,0,0,295527,339,339,871.761,150222
+fib,6,21891,295521,333,6,49254.500,150006
+main,18,1,6,6,333,887.468,150216
+",
     greedy: "processors,work,span,greedy
 8,295527,339,37026
 ",

@@ -53,6 +53,12 @@ int main(int n) {
 5,call,24,fib,33,504,0,275076,65069
 6,call,31,fib,1,21,17,285017,9913
 ",
+    gain: "function,line,calls,own_work,own_span,span_if_free,parallelism_if_free,burdened_span_if_free
+,0,0,285023,9919,9919,28.735,66140
+serial,5,21858,283916,9782,141,2021.439,60102
+fib,16,67,1101,131,9788,29.119,66044
+main,29,1,6,6,9913,28.752,66134
+",
     greedy: "processors,work,span,greedy
 8,285023,9919,39332
 ",

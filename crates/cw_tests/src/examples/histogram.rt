@@ -47,6 +47,10 @@ return 0
     sites: "site,kind,line,callee,calls,own_work,own_span,work,span
 0,root,11,main,1,33104,1149,33104,1149
 ",
+    gain: "function,line,calls,own_work,own_span,span_if_free,parallelism_if_free,burdened_span_if_free
+,0,0,33104,1149,1149,28.811,76149
+main,11,1,33104,1149,0,0.000,75000
+",
     greedy: "processors,work,span,greedy
 8,33104,1149,4278
 ",

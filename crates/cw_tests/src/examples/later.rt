@@ -38,6 +38,12 @@ int main(int a, int b) {
 2,spawn,16,first,1,2,2,2,2
 3,call,19,second,1,2,2,2,2
 ",
+    gain: "function,line,calls,own_work,own_span,span_if_free,parallelism_if_free,burdened_span_if_free
+,0,0,24,22,22,1.090,30020
+main,12,1,18,18,4,6.000,30002
+first,4,1,2,2,20,1.200,30020
+second,8,2,4,2,20,1.200,30018
+",
     greedy: "processors,work,span,greedy
 8,24,22,22
 ",

@@ -48,6 +48,11 @@ return 0
 0,root,26,main,1,17466,263,1362043,19359
 1,call,28,chain,1000,1344577,19096,1344577,1344577
 ",
+    gain: "function,line,calls,own_work,own_span,span_if_free,parallelism_if_free,burdened_span_if_free
+,0,0,1362043,19359,19359,70.357,115345
+chain,11,1000,1344577,19096,272,5007.511,105272
+main,26,1,17466,263,19096,71.326,115073
+",
     greedy: "processors,work,span,greedy
 8,1362043,19359,176546
 ",

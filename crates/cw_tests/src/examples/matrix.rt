@@ -45,6 +45,10 @@ return 0
     sites: "site,kind,line,callee,calls,own_work,own_span,work,span
 0,root,7,main,1,86977,5819,86977,5819
 ",
+    gain: "function,line,calls,own_work,own_span,span_if_free,parallelism_if_free,burdened_span_if_free
+,0,0,86977,5819,5819,14.947,65819
+main,7,1,86977,5819,0,0.000,60000
+",
     greedy: "processors,work,span,greedy
 8,86977,5819,11221
 ",

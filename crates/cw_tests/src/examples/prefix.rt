@@ -66,6 +66,12 @@ return 0
 6,call,40,add,1,16,16,60416,3825
 7,call,41,sums,1,20,20,192812,19713
 ",
+    gain: "function,line,calls,own_work,own_span,span_if_free,parallelism_if_free,burdened_span_if_free
+,0,0,253240,23550,23550,10.753,233550
+add,6,80,181040,18965,4585,55.232,214585
+sums,21,31,72188,4573,18977,13.344,228977
+main,38,1,12,12,23538,10.758,233538
+",
     greedy: "processors,work,span,greedy
 8,253240,23550,43123
 ",

@@ -60,6 +60,12 @@ int main(int n) {
 3,call,33,primes,63,9091,113,111814,10036
 4,call,40,primes,1,29,29,112584,2765
 ",
+    gain: "function,line,calls,own_work,own_span,span_if_free,parallelism_if_free,burdened_span_if_free
+,0,0,112591,2772,2772,40.617,92275
+is_prime,5,1000,94733,2356,437,257.645,90437
+primes,19,127,17851,409,2363,47.647,91845
+main,38,1,7,7,2765,40.720,92268
+",
     greedy: "processors,work,span,greedy
 8,112591,2772,15062
 ",

@@ -46,6 +46,11 @@ return 0
 0,root,22,main,1,22009,22000,257707,22746
 1,spawn,25,test,2000,235698,746,235698,235698
 ",
+    gain: "function,line,calls,own_work,own_span,span_if_free,parallelism_if_free,burdened_span_if_free
+,0,0,257707,22746,22746,11.329,30022009
+main,22,1,22009,22000,746,345.451,30000000
+test,8,2000,235698,746,22009,11.709,30022009
+",
     greedy: "processors,work,span,greedy
 8,257707,22746,34053
 ",

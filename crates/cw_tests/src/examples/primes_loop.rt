@@ -42,6 +42,11 @@ return 0
 0,root,21,main,1,26544,1728,262242,21022
 1,call,23,test,2000,235698,19294,235698,235698
 ",
+    gain: "function,line,calls,own_work,own_span,span_if_free,parallelism_if_free,burdened_span_if_free
+,0,0,262242,21022,21022,12.474,81022
+test,7,2000,235698,19294,1728,151.760,61728
+main,21,1,26544,1728,19294,13.591,79294
+",
     greedy: "processors,work,span,greedy
 8,262242,21022,38006
 ",

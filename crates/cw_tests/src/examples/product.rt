@@ -90,6 +90,12 @@ multiply,336785,42156,7.989,87156,3.864
 3,call,36,product,7,142,68,294629,126303
 4,call,59,product,1,26,26,336782,42153
 ",
+    gain: "function,line,calls,own_work,own_span,span_if_free,parallelism_if_free,burdened_span_if_free
+,0,0,359292,64663,64663,5.556,109663
+rows,10,8,336472,42059,22604,15.895,67604
+main,40,1,22510,22510,42153,8.523,87153
+product,28,15,310,94,64569,5.564,109569
+",
     greedy: "processors,work,span,greedy
 8,359292,64663,64663
 ",

@@ -112,6 +112,12 @@ product,328652,20666,15.903,290666,1.130
 17,call,53,add_product,9,99,63,76971,46203
 18,call,68,add_product,1,51,51,328651,20665
 ",
+    gain: "function,line,calls,own_work,own_span,span_if_free,parallelism_if_free,burdened_span_if_free
+,0,0,360431,52445,52445,6.872,322445
+main,57,1,31780,31780,20665,17.441,290665
+add_serially,12,4672,327808,20488,31957,11.278,301957
+add_product,36,73,843,177,52268,6.895,322268
+",
     greedy: "processors,work,span,greedy
 8,360431,52445,72985
 ",

@@ -75,6 +75,12 @@ return 0
 4,call,48,search,3072,178257,743,630485,9409
 5,call,53,search,1,39,39,630739,2475
 ",
+    gain: "function,line,calls,own_work,own_span,span_if_free,parallelism_if_free,burdened_span_if_free
+,0,0,630747,2483,2483,254.026,212429
+search,26,6656,366987,1774,736,856.993,210645
+is_free,9,3584,263752,701,1792,351.979,211792
+main,51,1,8,8,2475,254.847,212421
+",
     greedy: "processors,work,span,greedy
 8,630747,2483,79224
 ",

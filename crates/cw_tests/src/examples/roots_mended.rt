@@ -48,6 +48,11 @@ find_roots,742548,23294,31.877,98293,7.554
 0,root,22,main,1,93106,2992,742552,23298
 1,call,26,root,4000,649446,20306,649446,649446
 ",
+    gain: "function,line,calls,own_work,own_span,span_if_free,parallelism_if_free,burdened_span_if_free
+,0,0,742552,23298,23298,31.871,98297
+root,8,4000,649446,20306,3001,247.434,78001
+main,22,1,93106,2992,20306,36.568,95296
+",
     greedy: "processors,work,span,greedy
 8,742552,23298,92888
 ",

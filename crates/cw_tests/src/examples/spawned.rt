@@ -31,6 +31,11 @@ int main() {
 1,spawn,11,same,1,2,0,2,2
 2,call,12,same,1,2,2,2,2
 ",
+    gain: "function,line,calls,own_work,own_span,span_if_free,parallelism_if_free,burdened_span_if_free
+,0,0,15,13,13,1.153,15013
+main,8,1,11,11,2,7.500,15002
+same,4,2,4,2,11,1.363,15011
+",
     greedy: "processors,work,span,greedy
 8,15,13,13
 ",

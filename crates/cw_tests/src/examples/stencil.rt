@@ -67,6 +67,11 @@ return 0
 2,call,31,step,60,640840,320680,961000,640840
 3,call,40,step,20,520,520,1282200,321200
 ",
+    gain: "function,line,calls,own_work,own_span,span_if_free,parallelism_if_free,burdened_span_if_free
+,0,0,1314757,325555,325555,4.038,970555
+step,10,140,1282200,321200,4355,301.895,649355
+main,35,1,32557,4355,321200,4.093,966200
+",
     greedy: "processors,work,span,greedy
 8,1314757,325555,325555
 ",

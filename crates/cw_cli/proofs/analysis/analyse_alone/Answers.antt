@@ -15,28 +15,36 @@ run_is_no_check e = cc
 schedule_is_no_check : {p : ℕ} → mode.Greedy p ≡ mode.Check → ⊥
 schedule_is_no_check e = cc
 
+gain_is_no_check : {top : ℕ} → mode.Gain top ≡ mode.Check → ⊥
+gain_is_no_check e = cc
+
 has_tables : (m : Mode) → (m ≡ mode.Scale) ⊎ (m ≡ mode.Sites) → HasTables m
 has_tables m (inl is) = subst HasTables (sym is) tt
 has_tables m (inr is) = subst HasTables (sym is) tt
 
-pub returns-in_err-code : goal.returns-in_err-code
-returns-in_err-code g c = refusal g.W.Sink.seen c.args.out.now c.args.bytes.now c.args.args.now c.args.options _ c.in_err-code.ensures c.from_residual.result (search rules)
+pub returns-in_err-made : goal.returns-in_err-made
+returns-in_err-made g c = refusal g.W.Sink.seen c.args.out.now c.args.bytes.now c.args.args.now c.args.options _ c.in_err-made.ensures c.from_residual.result (search rules)
 
 pub returns-in-Check : goal.returns-in-Check
-returns-in-Check g c = checked g.W.Sink.seen c.args.out.now c.ok.new.to c.args.bytes.now c.args.args.now c.args.options _ c.in_ok-code.ensures c.in-Check.is c.ok.result c.ok.ensures
+returns-in-Check g c = checked g.W.Sink.seen c.args.out.now c.ok.new.to c.args.bytes.now c.args.args.now c.args.options _ c.in_ok-made.ensures.compiled c.in-Check.is c.ok.result c.ok.ensures
 
 pub returns-in-Run : goal.returns-in-Run
 returns-in-Run g c =
     let runs = running c.args.options.mode mode.Run c.in-Run.is run_is_no_check in
-    run_is g.W.Sink.seen c.args.out.now c.run_plain.new.out c.args.bytes.now c.args.args.now c.args.options runs c.run_plain.result (c.run_plain.ensures c.args.bytes.now c.in-Run.is c.in_ok-code.ensures)
+    run_is g.W.Sink.seen c.args.out.now c.run_plain.new.out c.args.bytes.now c.args.args.now c.args.options runs c.run_plain.result (c.run_plain.ensures c.args.bytes.now c.in-Run.is c.in_ok-made.ensures.compiled)
 
 pub returns-in-Scale : goal.returns-in-Scale
 returns-in-Scale g c =
     let has = has_tables c.args.options.mode c.in-Scale.is in
     let runs : c.args.options.mode ≢ mode.Check = λ check. subst HasTables check has in
-    run_is g.W.Sink.seen c.args.out.now c.run.new.out c.args.bytes.now c.args.args.now c.args.options runs c.run.result (c.run.ensures c.args.bytes.now has c.in_ok-code.ensures)
+    run_is g.W.Sink.seen c.args.out.now c.run.new.out c.args.bytes.now c.args.args.now c.args.options runs c.run.result (c.run.ensures c.args.bytes.now has c.in_ok-made.ensures.compiled)
+
+pub returns-in-Gain : goal.returns-in-Gain
+returns-in-Gain g c =
+    let runs = running c.args.options.mode (mode.Gain c.in-Gain.top) c.in-Gain.is gain_is_no_check in
+    run_is g.W.Sink.seen c.args.out.now c.run_gain.new.out c.args.bytes.now c.args.args.now c.args.options runs c.run_gain.result (c.run_gain.ensures c.args.bytes.now c.in-Gain.is c.in_ok-made.ensures)
 
 pub returns-in-Greedy : goal.returns-in-Greedy
 returns-in-Greedy g c =
     let runs = running c.args.options.mode (mode.Greedy c.in-Greedy.processors) c.in-Greedy.is schedule_is_no_check in
-    run_is g.W.Sink.seen c.args.out.now c.run_greedy.new.out c.args.bytes.now c.args.args.now c.args.options runs c.run_greedy.result (c.run_greedy.ensures c.args.bytes.now c.in-Greedy.is c.in_ok-code.ensures)
+    run_is g.W.Sink.seen c.args.out.now c.run_greedy.new.out c.args.bytes.now c.args.args.now c.args.options runs c.run_greedy.result (c.run_greedy.ensures c.args.bytes.now c.in-Greedy.is c.in_ok-made.ensures.compiled)

@@ -1,6 +1,7 @@
 use Rattle.std.proofs.Common.{◌≡◌, ◌∙◌, ap, ap₂, rules, false}
 use Rattle.clap.specs.Simple.{app_of_fields}
 use Rattle.clap.specs.Words.{App, app_of, new_app, with_rule, with_subcommand}
+use Rattle.clap.specs.declared.builder.Command.TheViews.{out-Command}
 use Rattle.cw_cli.specs.Command.{running_line}
 use Rattle.cw_cli.proofs.command.running_command.Goals as goal
 
@@ -20,4 +21,5 @@ returns c =
     ∙ ap₂ with_rule (c.in_ok-arg-3.ensures.shape limit_is_local
     ∙ ap₂ with_rule (c.in_ok-arg-2.ensures.shape args_is_local
     ∙ ap₂ with_rule (c.in_ok-arg.ensures.shape file_is_local ∙ ap₂ with_rule new_is c.file.ensures.rule) c.main_args.ensures.rule) c.number.ensures.rule) c.number-2.ensures.rule) c.edges.ensures.rule) c.number-3.ensures.rule in
-    record { shape = shape; below = λ above whole adds. adds.shape (search (rules, args_is_local, file_is_local, limit_is_local, burden_is_local, edges_is_local, workers_is_local, c.in_ok-command.ensures.globals, c.in_ok-arg-5.ensures.globals, c.in_ok-arg-4.ensures.globals, c.in_ok-arg-3.ensures.globals, c.in_ok-arg-2.ensures.globals, c.in_ok-arg.ensures.globals, c.after_help.ensures, c.about.ensures, c.new.ensures)) ∙ ap (λ (a : App). with_subcommand (app_of above) a.top) shape }
+    let local : (out-Command c.in_ok-command.command).has_globals ≡ false = search (rules, args_is_local, file_is_local, limit_is_local, burden_is_local, edges_is_local, workers_is_local, c.in_ok-command.ensures.globals, c.in_ok-arg-5.ensures.globals, c.in_ok-arg-4.ensures.globals, c.in_ok-arg-3.ensures.globals, c.in_ok-arg-2.ensures.globals, c.in_ok-arg.ensures.globals, c.after_help.ensures, c.about.ensures, c.new.ensures) in
+    record { shape = shape; local = local; below = λ above whole adds. adds.shape local ∙ ap (λ (a : App). with_subcommand (app_of above) a.top) shape }

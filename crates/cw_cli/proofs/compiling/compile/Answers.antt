@@ -1,9 +1,9 @@
-use Rattle.std.proofs.Common.{rules, sym, subst, ◌∙◌}
+use Rattle.std.proofs.Common.{rules, ap, map, ◌∙◌}
 use Rattle.cw_tree.specs.SyntaxView as parsed
-use Rattle.cw_code.specs.Code.{code_view}
+use Rattle.cw_tree.specs.ResolvedView.{function_of}
 use Rattle.cw_cli.specs.Sources.{IsSourceOf}
-use Rattle.cw_cli.specs.Compiled.{IsCompiled}
-use Rattle.cw_cli.proofs.Refusals.{handed_on, tree_refused, source_of, types_refused, tree_disowned, tree_has_many_loops, tree_too_large, numbered, source_like, not_unfit, compiled}
+use Rattle.cw_cli.specs.Compiled.{head_of}
+use Rattle.cw_cli.proofs.Refusals.{handed_on, tree_refused, source_of, types_refused, tree_disowned, tree_has_many_loops, tree_too_large, numbered, source_like, not_unfit, made}
 use Rattle.cw_cli.proofs.compiling.compile.Goals as goal
 
 pub returns-in_err-ast : goal.returns-in_err-ast
@@ -57,5 +57,8 @@ pub returns : goal.returns
 returns c =
     let source : IsSourceOf c.args.bytes.now (parsed.program_of c.in_ok-ast.ast) =
     source_of c.args.bytes.now c.in_ok-source.source c.in_ok-tokens.tokens.items c.as_slice.result.now c.in_ok-source.ensures c.as_slice.ensures.value (search rules) c.in_ok-tokens.ensures _ c.in_ok-ast.ensures in
-    subst (λ made. IsCompiled c.args.bytes.now (code_view made)) (sym c.in_ok-verified.ensures.0)
-    (compiled c.args.bytes.now _ source c.in_ok-typed.typed.tree c.in_ok-typed.ensures c.in_ok-core.core.source.typed.tree (c.in_ok-core.ensures.same_source ∙ c.in_ok-owned.ensures) c.in_ok-core.core.source.owned c.in_ok-core.core.few _ c.in_ok-code.ensures)
+    let tree = c.in_ok-core.core.source.typed.tree in
+    let same = c.in_ok-core.ensures.same_source ∙ c.in_ok-owned.ensures in
+    let heads = c.in_ok-heads.ensures ∙ ap (λ fs. map head_of (map function_of fs)) c.deref.ensures.value in
+    made c.args.bytes.now _ source c.in_ok-typed.typed.tree c.in_ok-typed.ensures tree same c.in_ok-core.core.source.owned c.in_ok-core.core.few
+    c.in_ok-code.code c.in_ok-code.ensures c.in_ok-verified.verified c.in_ok-verified.ensures.0 c.in_ok-heads.heads heads
