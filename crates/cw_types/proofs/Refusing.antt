@@ -15,6 +15,11 @@ pub answered : (program : Program) (found : Refusal) (f : Fault) → IsRefused p
 answered program (refusal.TooLarge at) f h same = subst (IsIllTyped program) (sym same) h.0
 answered program (refusal.IllTyped at) f h same = subst (IsIllTyped program) (sym same) h.0
 
+-- what is refused is refused so
+pub refused_so : (program : Program) (found : Option Refusal) (r : Refusal) → found ≡ Some r →
+    MatchOption found (IsAccepted program) (IsRefused program) → IsRefused program r
+refused_so program found r is h = subst (λ (o : Option Refusal). MatchOption o (IsAccepted program) (IsRefused program)) is h
+
 -- what is not refused is accepted
 pub accepted : (program : Program) (found : Option Refusal) → ((r : Refusal) → found ≡ Some r → ⊥) →
     MatchOption found (IsAccepted program) (IsRefused program) → IsAccepted program

@@ -159,9 +159,15 @@ more_earlier u g xs i x here earlier d h at is further found =
         subst (λ (e : Name × ℕ). Contains (before ++ g (u x) ∷ []) e) (sym is ∙ same) (Contains-append_right before (g (u x) ∷ []) (g (u x)) (0, omega arith, refl))
     either (suc k) bound same = Contains-append_left before (g (u x) ∷ []) d (further (k, omega (arith, bound), same))
 
+-- what is read does not depend on what would be read outside
+pub same_get : {X : Type 0} (xs : List X) (i : ℕ) (d e : X) → i < length xs → get_or xs i d ≡ get_or xs i e
+same_get [] i d e h = absurd (omega (arith, h))
+same_get (x ∷ xs) zero d e h = refl
+same_get (x ∷ xs) (suc i) d e h = same_get xs i d e (omega (arith, h))
+
 -- an earlier name is there again
 pub repeated_true : (all : List (Name × ℕ)) (earlier : List Declared) (name : Name) (line : ℕ) (found : Option IllTyped) →
-    ((other : ℕ) → Contains (map (λ (e : Declared). (e.name, e.line)) earlier) (name, other) → AreBothIn all (name, other) (name, line)) →
+    ((other : ℕ) → Contains {X = Name × ℕ} (map (λ (e : Declared). (e.name, e.line)) earlier) (name, other) → AreBothIn all (name, other) (name, line)) →
     IfSome found (IsRepeatedOf earlier name) → IfSome found (IsRepeatedIn all line)
 repeated_true all earlier name line None both h = h
 repeated_true all earlier name line (Some r) both h = h all line both

@@ -10,8 +10,8 @@ use Rattle.cw_types.specs.declared.told.Told.{Told}
 
 -- what is true of more is told of more
 pub weaken : {R : Type 0} (Such More : ℕ → R → Type 0) (a b : Told R) → ((line : ℕ) (r : R) → Such line r → More line r) → Tells Such a b → Tells More a b
-weaken Such More a b f (AsBefore same) = AsBefore same
-weaken Such More a b f (Anew holds) = Anew (lift b.first holds)
+weaken {R} Such More a b f (AsBefore same) = AsBefore same
+weaken {R} Such More a b f (Anew holds) = Anew (lift b.first holds)
   where
     lift : (o : Option (At R)) → IfSome o (λ at. Such at.line at.reason) → IfSome o (λ at. More at.line at.reason)
     lift None h = h
@@ -19,43 +19,45 @@ weaken Such More a b f (Anew holds) = Anew (lift b.first holds)
 
 -- what is told is still told
 pub still : {R : Type 0} (Such : ℕ → R → Type 0) (a b : Told R) → b.first ≡ a.first → IsOf Such a → IsOf Such b
-still Such a b same holds = subst (λ (o : Option (At R)). IfSome o (λ at. Such at.line at.reason)) (sym same) holds
+still {R} Such a b same holds = subst (λ (o : Option (At R)). IfSome o (λ at. Such at.line at.reason)) (sym same) holds
 
 -- one thing after another
 pub and_then : {R : Type 0} (Such : ℕ → R → Type 0) (a b c : Told R) → Tells Such a b → Tells Such b c → Tells Such a c
-and_then Such a b c (AsBefore first) (AsBefore second) = AsBefore (second ∙ first)
-and_then Such a b c (Anew first) (AsBefore second) = Anew (still Such b c second first)
-and_then Such a b c first (Anew second) = Anew second
+and_then {R} Such a b c (AsBefore first) (AsBefore second) = AsBefore (second ∙ first)
+and_then {R} Such a b c (Anew first) (AsBefore second) = Anew (still Such b c second first)
+and_then {R} Such a b c first (Anew second) = Anew second
 
 -- nothing more was told
 pub nothing_more : {R : Type 0} (Such : ℕ → R → Type 0) (a b : Told R) → b ≡ a → Tells Such a b
-nothing_more Such a b same = AsBefore (ap (λ t. t.first) same)
+nothing_more {R} Such a b same = AsBefore (ap (λ t. t.first) same)
 
 -- a reason that was found is told where it is true
 pub found_true : {R : Type 0} (Such : ℕ → R → Type 0) (a b : Told R) (line : ℕ) (found : Option R) → IfSome found (Such line) →
     Tells (IsTheOne line found) a b → Tells Such a b
-found_true Such a b line None holds told = weaken (IsTheOne line None) Such a b (λ at r h. cc (h.1)) told
-found_true Such a b line (Some reason) holds told = weaken (IsTheOne line (Some reason)) Such a b (λ at r h. rw h.0 (same r h.1)) told
+found_true {R} Such a b line None holds told = weaken (IsTheOne line None) Such a b (λ at r h. cc (h.1)) told
+found_true {R} Such a b line (Some reason) holds told = weaken (IsTheOne line (Some reason)) Such a b (λ at r h. rw h.0 (same r h.1)) told
   where
     same : (r : R) → Some reason ≡ Some r → Such line r
-    same r e = cc (e, holds)
+    same r e =
+        let is : reason ≡ r = cc e in
+        subst (λ (q : R). Such line q) is holds
 
 -- the least of some lines is one of them
 pub least_true : {R : Type 0} (Such : ℕ → R → Type 0) (a b : Told R) (least : Option ℕ) (lines : List ℕ) (reason : R) → least ≡ lowest None lines →
     ((line : ℕ) → Contains lines line → Such line reason) → Tells (IsTheLeast least reason) a b → Tells Such a b
-least_true Such a b least lines reason is holds told =
+least_true {R} Such a b least lines reason is holds told =
     weaken (IsTheLeast least reason) Such a b (λ at r h. rw h.1 (holds at (least_line lines at (sym is ∙ h.0)).there)) told
 
 -- all that is told is true, where nothing was told before
 pub all_true : {R : Type 0} (Such : ℕ → R → Type 0) (a b : Told R) → a.first ≡ None → Tells Such a b → IsOf Such b
-all_true Such a b none (AsBefore same) = subst (λ (o : Option (At R)). IfSome o (λ at. Such at.line at.reason)) (sym (same ∙ none)) tt
-all_true Such a b none (Anew holds) = holds
+all_true {R} Such a b none (AsBefore same) = subst (λ (o : Option (At R)). IfSome o (λ at. Such at.line at.reason)) (sym (same ∙ none)) tt
+all_true {R} Such a b none (Anew holds) = holds
 
 -- nothing is told where nothing was found
 pub nothing_told : {R : Type 0} (told : Told R) → ((at : At R) → told.first ≡ Some at → ⊥) → line_told told ≡ None
-nothing_told told h = none told.first h
+nothing_told {R} told h = none told.first h
   where
-    none : (o : Option (At _)) → ((at : At _) → o ≡ Some at → ⊥) → option_map (λ at. at.line) o ≡ None
+    none : (o : Option (At R)) → ((at : At R) → o ≡ Some at → ⊥) → option_map (λ at. at.line) o ≡ None
     none None h = refl
     none (Some at) h = absurd (h at refl)
 

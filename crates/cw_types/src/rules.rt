@@ -221,7 +221,7 @@ fn of_declared<'a>(globals: &Globals<'a>, known: &Known<'a>, name: &'a Name) -> 
 }
 
 /// A function or a reducer has the name.
-#[tactic(auto, using(crate::proofs::Walking::among_append))]
+#[tactic(auto, using(crate::proofs::Noting::among_append))]
 pub fn of_global<'a>(globals: &Globals<'a>, name: &'a Name) -> Option<IllTyped<'a>>
     ensures decides { is_some result
         ≡ is_among name.now (rule.globals (program_of globals.now.ast.now)) }

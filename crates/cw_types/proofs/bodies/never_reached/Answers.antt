@@ -10,4 +10,4 @@ returns-clause-holds c =
     let behind = c.args.behind.now in
     let some : (length behind == 0) ≡ false = sym c.if-is_empty.ensures in
     let sure : surely_returns (stmt_of c.args.line.now.stmt) ≡ true = grind (arith, common_steps) in
-    (sure, begins behind c.index-behind-0.result some)
+    λ returns known. (sure, begins behind c.index-behind-0.result some)

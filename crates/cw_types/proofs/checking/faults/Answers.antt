@@ -1,4 +1,4 @@
-use Rattle.std.proofs.Common.{◌≡◌, ℕ, ◌++◌, List, [], map, flat_map, is_some, not, Option, None, ap, sym, subst, refl, ◌∙◌, arith}
+use Rattle.std.proofs.Common.{◌≡◌, ℕ, ◌++◌, List, [], map, flat_map, is_some, not, IfSome, Option, None, ap, sym, subst, refl, ◌∙◌, arith}
 use Rattle.std.proofs.lemmas.List.{length-map}
 use Rattle.cw_model.specs.Answers.{main_name}
 use Rattle.cw_model.specs.Lines.{lowest, unless}

@@ -1,9 +1,10 @@
-use Rattle.std.proofs.Common.{◌≡◌, ℕ, ◌∷◌, ◌++◌, ◌+◌, [], List, Contains, Option, Some, None, IfSome, is_some, not, drop, take, map, ap, sym, subst, ◌∙◌, arith}
+use Rattle.std.proofs.Common.{◌≡◌, ℕ, ◌∷◌, ◌++◌, ◌+◌, [], List, Contains, Option, Some, None, IfSome, is_some, not, drop, take, map, ap, sym, subst, refl, ◌∙◌, arith}
 use Rattle.std.proofs.lemmas.Grind.{common_steps}
 use Rattle.cw_model.specs.Lines.{lowest, unless}
 use Rattle.cw_model.specs.Names.{is_among}
 use Rattle.cw_model.specs.Syntax.{Name, Function}
 use Rattle.cw_model.specs.Typing.{repeated}
+use Rattle.cw_model.specs.declared.syntax.NameKind.TheVariants as name_kind
 use Rattle.cw_model.specs.lemmas.Lowest.{lowest-append}
 use Rattle.cw_tree.specs.SyntaxView.{function_of}
 use Rattle.cw_types.specs.Named.{functions_named}
@@ -30,7 +31,7 @@ loop-function-preserved c =
     let split : functions_named (map function_of (drop i xs)) ≡ here ∷ rest = grind (arith, common_steps) in
     let p = line_told c.loop-function.told in
     let found : is_some c.repeated.result ≡ is_among name names = c.repeated.ensures.decides in
-    let declared = c.in_ok-declare.ensures in
+    let declared = c.in_ok-declare.ensures ∙ ap (λ (n : Name). with_local n name_kind.Integer line c.loop-function.earlier) c.as_bytes.ensures in
     record {
       same =
           ap (λ (ds : List Declared). lowest (line_told c.note.new.self) (repeated rest (known_names (kinds ds)))) declared
@@ -38,7 +39,7 @@ loop-function-preserved c =
           ∙ sym (lowest-append p (unless (not (is_among name names)) line) (repeated rest (name ∷ names)))
           ∙ ap (λ ds. lowest p (repeated ds names)) (sym split)
           ∙ c.loop-function.invariant.same;
-      there = λ d h. more_earlier function_of (λ (g : Function). (g.name, g.line)) xs i x here (map (λ (e : Declared). (e.name, e.line)) c.loop-function.earlier) d c.loop-function-test.true c.function-item.is
+      there = λ d h. more_earlier function_of (λ (g : Function). (g.name, g.line)) xs i x here (map (λ (e : Declared). (e.name, e.line)) c.loop-function.earlier) d c.loop-function-test.true c.function-item.is refl
           (c.loop-function.invariant.there d) (subst (λ (ds : List Declared). Contains (map (λ (e : Declared). (e.name, e.line)) ds) d) declared h);
       told =
           and_then (IsRepeatedIn all) c.args.told.now c.loop-function.told c.note.new.self c.loop-function.invariant.told

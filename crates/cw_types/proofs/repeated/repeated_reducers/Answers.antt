@@ -1,9 +1,10 @@
-use Rattle.std.proofs.Common.{◌≡◌, ℕ, ◌∷◌, ◌++◌, ◌+◌, [], List, Contains, Option, Some, None, IfSome, is_some, not, drop, take, map, ap, sym, subst, ◌∙◌, arith}
+use Rattle.std.proofs.Common.{◌≡◌, ℕ, ◌∷◌, ◌++◌, ◌+◌, [], List, Contains, Option, Some, None, IfSome, is_some, not, drop, take, map, ap, sym, subst, refl, ◌∙◌, arith}
 use Rattle.std.proofs.lemmas.Grind.{common_steps}
 use Rattle.cw_model.specs.Lines.{lowest, unless}
 use Rattle.cw_model.specs.Names.{is_among}
 use Rattle.cw_model.specs.Syntax.{Name, Reducer}
 use Rattle.cw_model.specs.Typing.{repeated}
+use Rattle.cw_model.specs.declared.syntax.NameKind.TheVariants as name_kind
 use Rattle.cw_model.specs.lemmas.Lowest.{lowest-append}
 use Rattle.cw_tree.specs.SyntaxView.{reducer_of}
 use Rattle.cw_types.specs.Named.{reducers_named}
@@ -30,7 +31,7 @@ loop-reducer-preserved c =
     let split : reducers_named (map reducer_of (drop i xs)) ≡ here ∷ rest = grind (arith, common_steps) in
     let p = line_told c.loop-reducer.told in
     let found : is_some c.repeated.result ≡ is_among name names = c.repeated.ensures.decides in
-    let declared = c.in_ok-declare.ensures in
+    let declared = c.in_ok-declare.ensures ∙ ap (λ (n : Name). with_local n name_kind.Integer line c.loop-reducer.earlier) c.as_bytes.ensures in
     record {
       same =
           ap (λ (ds : List Declared). lowest (line_told c.note.new.self) (repeated rest (known_names (kinds ds)))) declared
@@ -38,7 +39,7 @@ loop-reducer-preserved c =
           ∙ sym (lowest-append p (unless (not (is_among name names)) line) (repeated rest (name ∷ names)))
           ∙ ap (λ ds. lowest p (repeated ds names)) (sym split)
           ∙ c.loop-reducer.invariant.same;
-      there = λ d h. more_earlier reducer_of (λ (g : Reducer). (g.name, g.line)) xs i x here (map (λ (e : Declared). (e.name, e.line)) c.loop-reducer.earlier) d c.loop-reducer-test.true c.reducer-item.is
+      there = λ d h. more_earlier reducer_of (λ (g : Reducer). (g.name, g.line)) xs i x here (map (λ (e : Declared). (e.name, e.line)) c.loop-reducer.earlier) d c.loop-reducer-test.true c.reducer-item.is refl
           (c.loop-reducer.invariant.there d) (subst (λ (ds : List Declared). Contains (map (λ (e : Declared). (e.name, e.line)) ds) d) declared h);
       told =
           and_then (IsRepeatedIn all) c.args.told.now c.loop-reducer.told c.note.new.self c.loop-reducer.invariant.told
