@@ -1,9 +1,2 @@
-mod Breaking
-mod Heading
-mod Misuse
 mod Nesting
-mod Passing
 mod Pieces
-mod Repeating
-mod Telling
-mod Walking

@@ -5,10 +5,26 @@ use Rattle.cw_model.specs.declared.limits.TheConstants.{MOST_OPEN_BRACKETS, MOST
 use Rattle.cw_model.specs.declared.token.Token.{Token}
 use Rattle.cw_model.specs.Lines.{unless}
 use Rattle.cw_model.specs.Sizes.{open_after, row_after, token_faults}
-use Rattle.cw_explain.specs.Limits.{IsPassedByTokens, IsTooNested, Nesting, nestings}
+use Rattle.cw_explain.specs.Limits.{IsPassedByTokens, IsTooNested, Nesting, has_line, nestings}
 use Rattle.cw_explain.specs.declared.limits.TooLarge.{TooLarge}
-use Rattle.cw_explain.specs.Rules.{has_line}
-use Rattle.cw_explain.proofs.Breaking.{has_append, has_unless}
+
+-- lines in two lists
+pub has_append : (line : ℕ) (xs ys : List ℕ) → has_line line (xs ++ ys) ≡ (has_line line xs || has_line line ys)
+has_append line [] ys = refl
+has_append line (x ∷ xs) ys = ap (λ b. (x == line) || b) (has_append line xs ys) ∙ grouped (x == line) (has_line line xs) (has_line line ys)
+  where
+    grouped : (a b c : Bool) → (a || (b || c)) ≡ ((a || b) || c)
+    grouped true b c = refl
+    grouped false b c = refl
+
+-- a line where a rule is kept, or is not
+pub has_unless : (line : ℕ) (kept : Bool) (l : ℕ) → has_line line (unless kept l) ≡ (not kept && (l == line))
+has_unless line true l = refl
+has_unless line false l = grouped (l == line)
+  where
+    grouped : (a : Bool) → (a || false) ≡ a
+    grouped true = refl
+    grouped false = refl
 
 -- a token, and those behind it
 pub has_token : (line brackets row : ℕ) (t : Token) (ts : List Token) → has_line line (token_faults brackets row (t ∷ ts))

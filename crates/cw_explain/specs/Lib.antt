@@ -1,12 +1,3 @@
 pub mod Limits
 pub mod Lines
-pub mod Names
-pub mod Parts
-pub mod Places
-pub mod Reasons
-pub mod Regions
-pub mod Rules
-pub mod Standing
-pub mod Told
 pub mod Unread
-pub mod Uses

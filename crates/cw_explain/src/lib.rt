@@ -2,19 +2,17 @@
 #![tactic(auto)]
 
 mod excerpt;
-mod known;
 mod lexical;
 mod limits;
-mod rules;
-mod statements;
+mod parts;
 mod traps;
 mod typing;
 mod word;
 
 pub use excerpt::{add_lines, line_of};
 pub use lexical::{Unreadable, no_token, not_ascii};
-pub use limits::{TooLarge, passed_by_code, passed_by_parts, passed_by_tokens};
-pub use rules::broken_rule;
+pub use limits::{TooLarge, passed_by_code, passed_by_tokens};
+pub use parts::Passed;
 pub use traps::Trapped;
-pub use typing::IllTyped;
+pub use typing::Untyped;
 pub use word::Word;

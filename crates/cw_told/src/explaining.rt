@@ -6,8 +6,8 @@ ghost use Rattle.cw_model.specs.Tokens.{IsTokenCut};
 use crate::owning::Unowned;
 use crate::unparsed::first_unparsed;
 use cw_explain::{
-    Trapped, Unreadable, add_lines, broken_rule, line_of, no_token, not_ascii, passed_by_code,
-    passed_by_parts, passed_by_tokens,
+    Passed, Trapped, Unreadable, Untyped, add_lines, line_of, no_token, not_ascii, passed_by_code,
+    passed_by_tokens,
 };
 use cw_lex::lex;
 use cw_model::limits::MOST_SOURCE_BYTES;
@@ -16,7 +16,7 @@ use cw_own::disowned;
 use cw_parse::parse;
 use cw_text::{Fault, Source};
 use cw_tree::syntax::Ast;
-use cw_types::check;
+use cw_types::{Refusal, check, refused};
 use std::alloc::Global;
 
 /// Why these bytes are refused with this fault, or trapped: the rule that is broken, in words, with its names, on one
@@ -82,12 +82,13 @@ fn of_grammar(alloc: Global, out: &mut String, bytes: &[u8], line: u32) -> Resul
 // Of names and types.
 fn of_types(alloc: Global, out: &mut String, bytes: &[u8], line: u32) -> Result<(), Fault> {
     let ast = tree_of(alloc, bytes)?;
-    match broken_rule(alloc, &ast, line)? {
-        Some(reason) => {
+    match refused(alloc, &ast)? {
+        Some(Refusal::IllTyped(at)) => {
+            let reason = Untyped { reason: at.reason };
             write!(out, "{reason}\n")?;
             add_lines(out, bytes, line, reason.other_line())?;
         }
-        None => {
+        Some(Refusal::TooLarge(_)) | None => {
             out.push_str("a rule of names and types is broken\n")?;
             add_lines(out, bytes, line, None)?;
         }
@@ -161,16 +162,19 @@ fn of_tokens(
         }
         None => {
             let ast = parse(alloc, source, tokens)?;
-            of_parts(alloc, out, &ast, line)
+            of_parts(alloc, out, &ast)
         }
     }
 }
 
 // Of parts and code.
-fn of_parts(alloc: Global, out: &mut String, ast: &Ast, line: u32) -> Result<(), Fault> {
-    match passed_by_parts(alloc, ast, line)? {
-        Some(reason) => write!(out, "{reason}\n")?,
-        None => {
+fn of_parts(alloc: Global, out: &mut String, ast: &Ast) -> Result<(), Fault> {
+    match refused(alloc, ast)? {
+        Some(Refusal::TooLarge(at)) => {
+            let limit = Passed { limit: at.reason };
+            write!(out, "{limit}\n")?;
+        }
+        Some(Refusal::IllTyped(_)) | None => {
             let reason = passed_by_code(alloc, ast)?;
             write!(out, "{reason}\n")?;
         }

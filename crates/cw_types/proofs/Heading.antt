@@ -1,10 +1,10 @@
 -- The heads of functions.
-use Rattle.std.proofs.Common.{◌≡◌, Bool, true, false, not, ◌&&◌, ◌||◌, if◌then◌else◌, List, [], ◌∷◌, map, refl, ap, ◌∙◌}
+use Rattle.std.proofs.Common.{◌≡◌, Bool, true, false, not, ◌&&◌, ◌||◌, if◌then◌else◌, List, [], ◌∷◌, map, refl, sym, ap, ◌∙◌}
 use Rattle.std.specs.List.{list_any}
 use Rattle.cw_model.specs.Names.{same_name, is_among, differ}
 use Rattle.cw_model.specs.Syntax.{Name, Param, Function, Program}
 use Rattle.cw_model.specs.Typing.{Known, globals, is_head}
-use Rattle.cw_types.specs.Typing.{are_new, keeps_head}
+use Rattle.cw_types.specs.Typing.{are_new, is_right_main, returns_well}
 use Rattle.cw_types.proofs.Places.{turned}
 
 abbrev names_of : List Param → List Name
@@ -60,11 +60,13 @@ nothing_apart [] = refl
 nothing_apart (x ∷ xs) = nothing_apart xs
 
 -- the head of a function, by what is tested of it
-pub head_by_parts : (program : Program) (f : Function) → (are_new program [] f.params && keeps_head f) ≡ is_head program f
+pub head_by_parts : (program : Program) (f : Function) →
+    is_head program f ≡ (are_new program [] f.params && (returns_well f && is_right_main f))
 head_by_parts program f =
-    ap (λ b. b && keeps_head f) (new_all program [] f.params ∙ ap (λ b. b && (differ (names_of f.params) && none_global (globals program) f.params)) (nothing_apart (names_of f.params)))
-    ∙ grouped (differ (names_of f.params) && none_global (globals program) f.params) _ _
+    grouped (differ (names_of f.params) && none_global (globals program) f.params) (returns_well f) (is_right_main f)
+    ∙ ap (λ b. (b && (differ (names_of f.params) && none_global (globals program) f.params)) && (returns_well f && is_right_main f)) (sym (nothing_apart (names_of f.params)))
+    ∙ ap (λ b. b && (returns_well f && is_right_main f)) (sym (new_all program [] f.params))
   where
-    grouped : (a b c : Bool) → (a && (b && c)) ≡ ((a && b) && c)
+    grouped : (a b c : Bool) → ((a && b) && c) ≡ (a && (b && c))
     grouped true b c = refl
     grouped false b c = refl

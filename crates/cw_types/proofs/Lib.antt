@@ -1,7 +1,13 @@
 pub mod Places
 pub mod Newest
 pub mod Noting
+pub mod Walking
 pub mod Reading
 pub mod Joined
 pub mod Pushed
 pub mod Heading
+pub mod Misuse
+pub mod Repeating
+pub mod Telling
+pub mod Among
+pub mod Refusing

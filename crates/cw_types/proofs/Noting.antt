@@ -1,7 +1,9 @@
 -- The lines that break a rule of names and types, in the order in which the code finds them.
-use Rattle.std.proofs.Common.{Bor, ◌==◌, ◌&&◌, ◌||◌, get_or, zero, option_map, option_copied, ◌≡◌, ℕ, suc, ◌-◌, ◌≤◌, Bool, true, false, if◌then◌else◌, List, [], ◌∷◌, ◌++◌, length, map, drop, Option, Some, None, slice_get, refl, sym, ap, ◌∙◌, arith}
+use Rattle.std.proofs.Common.{Bor, ◌==◌, ◌&&◌, ◌||◌, get_or, zero, option_map, option_copied, ◌≡◌, ℕ, suc, ◌-◌, ◌≤◌, Bool, true, false, if◌then◌else◌, List, [], ◌∷◌, ◌++◌, length, map, drop, Option, Some, None, slice_get, MatchOption, IfSome, is_some, Contains, refl, sym, ap, ◌∙◌, arith}
 use Rattle.std.proofs.lemmas.List.{append-nil}
 use Rattle.std.proofs.lemmas.Bool.Decides.{nat_tests}
+use Rattle.std.proofs.lemmas.List.Elements.{Contains-append_left, Contains-append_right}
+use Rattle.std.proofs.lemmas.Slice.Eq.{bytes_eq-Decides}
 use Rattle.cw_model.specs.Lines.{unless, lowest}
 use Rattle.cw_model.specs.Names.{same_name, is_among}
 use Rattle.cw_model.specs.Meaning.{function_named}
@@ -14,9 +16,11 @@ use Rattle.cw_tree.specs.declared.syntax.Function.{Function as CodeFunction}
 use Rattle.cw_tree.specs.declared.syntax.Reducer.{Reducer as CodeReducer}
 use Rattle.cw_tree.specs.declared.syntax.Line.{Line, the_lemmas}
 use Rattle.cw_tree.specs.SyntaxView.{function_of, reducer_of, block_of, stmt_of}
+use Rattle.cw_types.specs.Names.{function_names as names_of}
+use Rattle.cw_types.specs.Scope.{name_and_line}
 use Rattle.cw_types.specs.Globals.{option_function, params_in, option_reducer}
 use Rattle.cw_tree.specs.Resolved.{slot_of, function_names, reducer_names}
-use Rattle.cw_types.specs.Typing.{keeps_rules, faults_inside, oldest}
+use Rattle.cw_types.specs.Typing.{keeps_rules, faults_inside}
 
 pub by_parts : (program : Program) (returns : Returns) (known : Known) (line : ℕ) (s : Stmt) →
     faults_in program returns known line s ≡ unless (keeps_rules program returns known s) line ++ faults_inside program returns known s
@@ -38,52 +42,6 @@ by_parts program returns known line (Cut a e l r b) = refl
 by_parts program returns known line (Region tag b) = refl
 by_parts program returns known line (Print e) = sym (append-nil (unless (keeps_rules program returns known (Print e)) line))
 by_parts program returns known line (Return e) = sym (append-nil (unless (keeps_rules program returns known (Return e)) line))
-
--- what a statement declares is newer
-pub oldest_more : (k : Name × NameKind) (ks : Known) (n : ℕ) → n ≤ length ks → oldest n (k ∷ ks) ≡ oldest n ks
-oldest_more k ks n h =
-    let more : length (k ∷ ks) - n ≡ suc (length ks - n) = omega arith in
-    ap (λ i. drop i (k ∷ ks)) more
-
-pub oldest_declares : (s : Stmt) (ks : Known) (n : ℕ) → n ≤ length ks → oldest n (declares s ks) ≡ oldest n ks
-oldest_declares (Declare x e) ks n h = oldest_more (x, name_kind.Integer) ks n h
-oldest_declares (DeclareArray a e) ks n h = oldest_more (a, name_kind.Array) ks n h
-oldest_declares (Assign x e) ks n h = refl
-oldest_declares (AssignElement a i e) ks n h = refl
-oldest_declares (Reduce how s e) ks n h = refl
-oldest_declares (Call kind site target f es) ks n h = refl
-oldest_declares (Start kind f es) ks n h = refl
-oldest_declares (Begin f from to captured over) ks n h = refl
-oldest_declares Sync ks n h = refl
-oldest_declares (If e b) ks n h = refl
-oldest_declares (IfElse e b c) ks n h = refl
-oldest_declares (While e b) ks n h = refl
-oldest_declares (For x y z from to grain over b) ks n h = refl
-oldest_declares (Scope b) ks n h = refl
-oldest_declares (Cut a e l r b) ks n h = refl
-oldest_declares (Region tag b) ks n h = refl
-oldest_declares (Print e) ks n h = refl
-oldest_declares (Return e) ks n h = refl
-
-pub longer_declares : (s : Stmt) (ks : Known) (n : ℕ) → n ≤ length ks → n ≤ length (declares s ks)
-longer_declares (Declare x e) ks n h = omega arith
-longer_declares (DeclareArray a e) ks n h = omega arith
-longer_declares (Assign x e) ks n h = h
-longer_declares (AssignElement a i e) ks n h = h
-longer_declares (Reduce how s e) ks n h = h
-longer_declares (Call kind site target f es) ks n h = h
-longer_declares (Start kind f es) ks n h = h
-longer_declares (Begin f from to captured over) ks n h = h
-longer_declares Sync ks n h = h
-longer_declares (If e b) ks n h = h
-longer_declares (IfElse e b c) ks n h = h
-longer_declares (While e b) ks n h = h
-longer_declares (For x y z from to grain over b) ks n h = h
-longer_declares (Scope b) ks n h = h
-longer_declares (Cut a e l r b) ks n h = h
-longer_declares (Region tag b) ks n h = h
-longer_declares (Print e) ks n h = h
-longer_declares (Return e) ks n h = h
 
 -- a statement and those after it, as they are noted
 pub noted : (keeps rest_stands : Bool) (line : ℕ) (inner rest : List ℕ) (p q r s t : Option ℕ) →
@@ -175,6 +133,58 @@ found_reducer rs i r h = as_copied r ∙ ap (option_map reducer_of) h ∙ mapped
     mapped [] i = refl
     mapped (r ∷ rs) zero = refl
     mapped (r ∷ rs) (suc i) = mapped rs i
+
+-- a name is that of a function where one is called so
+pub called_among : (x : Name) (fs : List Function) → is_some (called x fs) ≡ is_among x (names_of fs)
+called_among x [] = refl
+called_among x (f ∷ fs) = first (same_name x f.name) (called_among x fs)
+  where
+    first : (b : Bool) → is_some (called x fs) ≡ is_among x (names_of fs) →
+        is_some (if b then Some f else called x fs) ≡ (if b then true else is_among x (names_of fs))
+    first true h = refl
+    first false h = h
+
+-- and that of a reducer
+pub reducer_among : (x : Name) (rs : List Reducer) → is_some (reducer_called x rs) ≡ is_among x (map (λ (r : Reducer). r.name) rs)
+reducer_among x [] = refl
+reducer_among x (r ∷ rs) = first (same_name x r.name) (reducer_among x rs)
+  where
+    first : (b : Bool) → is_some (reducer_called x rs) ≡ is_among x (map (λ (s : Reducer). s.name) rs) →
+        is_some (if b then Some r else reducer_called x rs) ≡ (if b then true else is_among x (map (λ (s : Reducer). s.name) rs))
+    first true h = refl
+    first false h = h
+
+pub as_some : {X Y : Type 0} (g : X → Y) (o : Option X) → is_some o ≡ is_some (option_map g o)
+as_some g None = refl
+as_some g (Some x) = refl
+
+-- a function that was found is the first of its name
+pub first_function : (x : Name) (fs : List Function) (found : Option (Bor CodeFunction)) → option_function found ≡ called x fs →
+    MatchOption found (called x fs ≡ None) (λ f. called x fs ≡ Some (function_of f.now))
+first_function x fs None h = sym h
+first_function x fs (Some f) h = sym h
+
+-- a reducer that is called so is there, with its line
+pub reducer_there : (x : Name) (rs : List Reducer) (found : Option (Bor CodeReducer)) → option_reducer found ≡ reducer_called x rs →
+    IfSome found (λ r. Contains (map name_and_line rs) (x, r.now.line))
+reducer_there x rs None h = tt
+reducer_there x rs (Some found) h = search rs (sym h)
+  where
+    as_named : (r : Reducer) → x ≡ r.name → r ≡ reducer_of found.now → ◌≡◌ {A = Name × ℕ} (name_and_line r) (x, found.now.line)
+    as_named r same is =
+        let with_name : Name → Name × ℕ = λ n. (n, r.line) in
+        let with_line : Reducer → Name × ℕ = λ (o : Reducer). (x, o.line) in
+        ap with_name (sym same) ∙ ap with_line is
+
+    search : (ss : List Reducer) → reducer_called x ss ≡ Some (reducer_of found.now) → Contains (map name_and_line ss) (x, found.now.line)
+    search [] e = cc
+    search (r ∷ ss) e = first (same_name x r.name) refl e (search ss)
+      where
+        first : (b : Bool) → b ≡ same_name x r.name → (if b then Some r else reducer_called x ss) ≡ Some (reducer_of found.now) →
+            (reducer_called x ss ≡ Some (reducer_of found.now) → Contains (map name_and_line ss) (x, found.now.line)) → Contains (map name_and_line (r ∷ ss)) (x, found.now.line)
+        first true b k further =
+            Contains-append_left (name_and_line r ∷ []) (map name_and_line ss) (x, found.now.line) (0, omega arith, as_named r ((bytes_eq-Decides x r.name).0 (sym b)) (cc k))
+        first false b k further = Contains-append_right (name_and_line r ∷ []) (map name_and_line ss) (x, found.now.line) (further k)
 
 -- the last statement of a block
 pub last_returns : (ls : List Line) (k : ℕ) (d : Line) → suc k ≡ length ls → block_returns (block_of ls) ≡ surely_returns (stmt_of (get_or ls k d).stmt)

@@ -9,6 +9,10 @@ use Rattle.cw_tree.specs.declared.typed.Typed.{Typed}
 use Rattle.cw_tree.specs.ResolvedView.{program_of}
 use Rattle.cw_text.specs.declared.fault.Fault.{Fault}
 use Rattle.cw_text.specs.declared.fault.Fault.TheVariants as fault
+use Rattle.cw_types.specs.Limits.{IsPassedByParts}
+use Rattle.cw_types.specs.Told.{IsTold}
+use Rattle.cw_types.specs.declared.checking.Refusal.{Refusal}
+use Rattle.cw_types.specs.declared.checking.Refusal.TheVariants as refusal
 
 -- a line breaks a rule of names and types, where no limit is passed
 pub record IsFirstTypeFault (program : Program) (line : ℕ) : Type 0 where
@@ -24,6 +28,22 @@ pub record IsTyped (program : Program) (tree : Tree) : Type 0 where
 -- a tree of this program that the check accepts
 abbrev pub IsTypedOf : Program → Typed → Type 0
 IsTypedOf program found = IsTyped program found.tree
+
+-- no limit is passed, and no rule of names and types is broken
+abbrev pub IsAccepted : Program → Type 0
+IsAccepted program = (limit_faults program ≡ []) × (type_faults program ≡ [])
+
+-- the program is refused so: at the least line that passes a limit, and for a limit that it passes, or else at the
+-- least line that breaks a rule, and for a rule that it breaks
+abbrev pub IsRefused : Program → Refusal → Type 0
+IsRefused program (refusal.TooLarge at) =
+    IsLeastLine (limit_faults program) at.line × IsPassedByParts program at.line at.reason
+IsRefused program (refusal.IllTyped at) = IsFirstTypeFault program at.line × IsTold program at.line at.reason
+
+-- the fault that is answered for the refusal
+abbrev pub fault_of : Refusal → Fault
+fault_of (refusal.TooLarge at) = fault.Size (record { line = at.line })
+fault_of (refusal.IllTyped at) = fault.Types (record { line = at.line })
 
 -- what must hold of the program where this fault is answered for it
 abbrev pub IsIllTyped : Program → Fault → Type 0

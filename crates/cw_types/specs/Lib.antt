@@ -1,4 +1,7 @@
 pub mod Places
+pub mod Scope
+pub mod Names
+pub mod Uses
 pub mod Typing
 pub mod Shadows
 pub mod Regions
@@ -8,7 +11,13 @@ pub mod Locals
 pub mod Heads
 pub mod Found
 pub mod Named
+pub mod Reasons
+pub mod Parts
+pub mod Standing
+pub mod Told
+pub mod Telling
 pub mod Noted
+pub mod Limits
 pub mod Within
 pub mod Faults
 pub mod Grows

@@ -4,11 +4,12 @@ use Rattle.cw_model.specs.declared.limits.TheConstants.{MOST_FUNCTIONS, MOST_RED
 use Rattle.cw_model.specs.Lines.{lowest, unless}
 use Rattle.cw_model.specs.Sizes.{first_places, lines_beyond}
 use Rattle.cw_model.specs.Syntax.{Name}
-use Rattle.cw_model.specs.Typing.{Known}
 use Rattle.cw_tree.specs.declared.syntax.Function.{Function}
 use Rattle.cw_tree.specs.declared.syntax.Reducer.{Reducer}
 use Rattle.cw_tree.specs.SyntaxView.{function_of, reducer_of}
 use Rattle.cw_text.specs.declared.least.LeastLine.{LeastLine}
+use Rattle.cw_types.specs.Names.{known_names}
+use Rattle.cw_types.specs.Scope.{Declared, kinds}
 use Rattle.cw_types.specs.declared.regions.Marked.{Marked}
 use Rattle.cw_types.specs.Regions.{region_of}
 
@@ -37,11 +38,11 @@ abbrev pub tags_past : List (Name × ℕ) → List ℕ
 tags_past regions = lines_beyond MOST_TAGS (map (λ d. d.1) (first_places regions []))
 
 -- the lines of the first places of tags behind those that were seen
-abbrev pub places_behind : Known → List (Name × ℕ) → List ℕ
-places_behind seen regions = map (λ d. d.1) (first_places regions (map (λ k. k.0) seen))
+abbrev pub places_behind : List Declared → List (Name × ℕ) → List ℕ
+places_behind seen regions = map (λ d. d.1) (first_places regions (known_names (kinds seen)))
 
 -- of the first places of tags, before which there is this room, one region's was noted where it is past it
-abbrev pub TakesTag : (room : ℕ) → Marked → (seen after_seen : Known) → (before after : LeastLine) → (left : ℕ) → Type 0
+abbrev pub TakesTag : (room : ℕ) → Marked → (seen after_seen : List Declared) → (before after : LeastLine) → (left : ℕ) → Type 0
 TakesTag room region seen after_seen before after left =
     (more : List (Name × ℕ)) →
     lowest after.line (drop left (places_behind after_seen more))

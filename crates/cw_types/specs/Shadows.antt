@@ -1,25 +1,33 @@
 -- Known names in a vector and a map.
-use Rattle.std.specs.Prelude.{◌≡◌, ℕ, bytes_eq, List, [], ◌∷◌}
+use Rattle.std.specs.Prelude.{◌≡◌, ℕ, bytes_eq, if◌then◌else◌, List, [], ◌∷◌, Option, Some, None}
 use Rattle.std.specs.Borrow.{Bor}
 use Rattle.std.specs.HashMap.{HashMap, get_by}
-use Rattle.cw_model.specs.declared.syntax.NameKind.{NameKind}
+use Rattle.cw_model.specs.Names.{same_name}
 use Rattle.cw_model.specs.Syntax.{Name}
-use Rattle.cw_model.specs.Typing.{Known}
+use Rattle.cw_types.specs.Scope.{Declared, with_local}
 use Rattle.cw_types.specs.declared.known.Entry.{Entry}
-use Rattle.cw_types.specs.Typing.{kind_of}
+use Rattle.cw_types.specs.declared.known.Local.{Local}
+
+-- what the newest name that is spelled so stands for, and since which line, if there is one
+abbrev pub local_of : Name → List Declared → Option Local
+local_of x [] = None
+local_of x (d ∷ ds) = if same_name x d.name then Some (record { kind = d.kind; line = d.line }) else local_of x ds
+
+-- these names and an entry's
+abbrev pub with_entry : Entry → List Declared → List Declared
+with_entry e known = with_local e.name.now e.local.kind e.local.line known
 
 -- the known names with these behind them, the newest first
-abbrev pub known_from : Known → List Entry → Known
+abbrev pub known_from : List Declared → List Entry → List Declared
 known_from known [] = known
-known_from known (e ∷ es) = known_from ((e.name.now, e.kind) ∷ known) es
+known_from known (e ∷ es) = known_from (with_entry e known) es
 
--- each entry keeps the kind that its name had before it
-abbrev pub ShadowsRight : Known → List Entry → Type 0
+-- each entry keeps what its name stood for before it
+abbrev pub ShadowsRight : List Declared → List Entry → Type 0
 ShadowsRight known [] = Unit {0}
-ShadowsRight known (e ∷ es) =
-    (e.shadowed ≡ kind_of e.name.now known) × ShadowsRight ((e.name.now, e.kind) ∷ known) es
+ShadowsRight known (e ∷ es) = (e.shadowed ≡ local_of e.name.now known) × ShadowsRight (with_entry e known) es
 
--- the map has the newest kind of each name, and the entries what they hide
-pub record AreKinds {S : Type 0} (kinds : HashMap (Bor (List ℕ)) NameKind S) (entries : List Entry) : Type 0 where
-  pub kinds_right : (x : Name) → get_by (λ k. bytes_eq x k.now) kinds ≡ kind_of x (known_from [] entries)
+-- the map has what the newest of each name stands for, and the entries what they hide
+pub record AreNewest {S : Type 0} (newest : HashMap (Bor (List ℕ)) Local S) (entries : List Entry) : Type 0 where
+  pub newest_right : (x : Name) → get_by (λ k. bytes_eq x k.now) newest ≡ local_of x (known_from [] entries)
   pub hidden_right : ShadowsRight [] entries

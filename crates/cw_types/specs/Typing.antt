@@ -1,32 +1,19 @@
 -- The rules of names and types by the parts that the code tests them in.
-use Rattle.std.specs.Prelude.{ℕ, ◌-◌, Bool, true, false, not, ◌&&◌, ◌||◌, List, [], ◌∷◌, ◌++◌, length, map, drop}
-use Rattle.std.specs.Prelude.{Option, Some, None, if◌then◌else◌}
-use Rattle.cw_model.specs.Syntax.{Name, Param, Function, Program, Stmt, Declare, DeclareArray, Assign, AssignElement}
-use Rattle.cw_model.specs.Syntax.{Reduce, Call, Start, Begin, Sync, If, IfElse, While, For, Scope, Cut, Region, Print}
-use Rattle.cw_model.specs.Syntax.{Return, wants_array}
-use Rattle.cw_model.specs.declared.syntax.NameKind.{NameKind}
-use Rattle.cw_model.specs.declared.syntax.NameKind.TheVariants as name_kind
-use Rattle.cw_model.specs.Names.{same_name}
-use Rattle.cw_model.specs.Typing.{Known, Returns, Nowhere, is_fine, is_new, is_int, is_writable, is_reducer, is_call}
-use Rattle.cw_model.specs.Typing.{called, are_arguments, is_head_of_loop, is_cut, may_return, block_returns}
-use Rattle.cw_model.specs.Typing.{faults_in_block}
+use Rattle.std.specs.Prelude.{ℕ, nat_le, Bool, true, false, not, ◌&&◌, ◌||◌, List, [], ◌∷◌, ◌++◌}
+use Rattle.std.specs.Prelude.{Some, if◌then◌else◌}
 use Rattle.std.specs.List.{list_any}
 use Rattle.cw_model.specs.Answers.{main_name}
+use Rattle.cw_model.specs.declared.syntax.NameKind.TheVariants as name_kind
+use Rattle.cw_model.specs.Names.{same_name}
+use Rattle.cw_model.specs.Syntax.{Param, Function, Program, Stmt, Declare, DeclareArray, Assign, AssignElement}
+use Rattle.cw_model.specs.Syntax.{Reduce, Call, Start, Begin, Sync, If, IfElse, While, For, Scope, Cut, Region, Print}
+use Rattle.cw_model.specs.Syntax.{Return, wants_array}
+use Rattle.cw_model.specs.Typing.{Known, Returns, Nowhere, is_fine, is_new, is_int, is_writable, is_reducer, is_call}
+use Rattle.cw_model.specs.Typing.{called, is_head_of_loop, is_cut, may_return, block_returns, faults_in_block}
 use Rattle.cw_tree.specs.declared.syntax.Call.{Call as Made}
-use Rattle.cw_tree.specs.declared.syntax.Expr.{Expr}
 use Rattle.cw_tree.specs.declared.syntax.Head.{Head}
 use Rattle.cw_tree.specs.declared.syntax.Cut.{Cut as Parts}
-use Rattle.cw_tree.specs.declared.syntax.Param as code_param
-use Rattle.cw_tree.specs.SyntaxView.{param_of, expr_of, exprs_of}
-
--- what the newest name that is spelled so stands for, if there is one
-abbrev pub kind_of : Name → Known → Option NameKind
-kind_of x [] = None
-kind_of x (k ∷ ks) = if same_name x k.0 then Some k.1 else kind_of x ks
-
--- the oldest so many names
-abbrev pub oldest : ℕ → Known → Known
-oldest n known = drop (length known - n) known
+use Rattle.cw_tree.specs.SyntaxView.{expr_of, exprs_of}
 
 -- the head of a loop of the code keeps the rules
 abbrev pub is_head : Program → Known → Head → Bool
@@ -37,9 +24,9 @@ is_head program known h =
 abbrev pub calls : Program → Known → Made → Bool
 calls program known c = is_call known c.target (called c.callee program.functions) (exprs_of c.arguments.items)
 
--- expressions of the code may be passed as these parameters
-abbrev pub are_passed : Known → List code_param.Param → List Expr → Bool
-are_passed known params es = are_arguments known (map param_of params) (exprs_of es)
+-- it does so as a call of this function
+abbrev pub calls_of : Known → Function → Made → Bool
+calls_of known f c = is_call known c.target (Some f) (exprs_of c.arguments.items)
 
 -- a cut of the code keeps the rules
 abbrev pub cuts : Program → Known → Parts → Bool
@@ -86,8 +73,18 @@ abbrev pub are_new : Program → Known → List Param → Bool
 are_new program known [] = true
 are_new program known (p ∷ ps) = is_new program known p.name && are_new program ((p.name, p.kind) ∷ known) ps
 
--- a function that gives an integer surely returns, and main is one of integers alone
-abbrev pub keeps_head : Function → Bool
-keeps_head f =
-    (not f.gives_int || block_returns f.body)
-    && (not (same_name f.name main_name) || (f.gives_int && not (list_any (λ p. wants_array p) f.params)))
+-- a function that gives an integer surely returns
+abbrev pub returns_well : Function → Bool
+returns_well f = not f.gives_int || block_returns f.body
+
+-- main is an int function of integers
+abbrev pub is_right_main : Function → Bool
+is_right_main f = not (same_name f.name main_name) || (f.gives_int && not (list_any (λ p. wants_array p) f.params))
+
+-- the later of two lines
+abbrev pub later_line : ℕ → ℕ → ℕ
+later_line line other = if nat_le line other then other else line
+
+-- the earlier of two lines
+abbrev pub earlier_line : ℕ → ℕ → ℕ
+earlier_line line other = if nat_le line other then line else other

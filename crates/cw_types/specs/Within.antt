@@ -1,56 +1,75 @@
--- Rules of names and types within a program that the code holds.
-use Rattle.std.specs.Prelude.{ℕ, Bool, List, map, flat_map, Result}
+-- Rules of names and types, and reasons, within a program that the code holds.
+use Rattle.std.specs.Prelude.{ℕ, List, map, flat_map, Result}
 use Rattle.cw_model.specs.Syntax.{Program}
-use Rattle.cw_model.specs.Typing.{Known, faults_of, faults_in_block}
+use Rattle.cw_model.specs.Typing as rule
+use Rattle.cw_model.specs.Typing.{faults_of, faults_in_block}
 use Rattle.cw_tree.specs.declared.syntax.Function.{Function}
 use Rattle.cw_tree.specs.declared.syntax.Line.{Line}
-use Rattle.cw_tree.specs.declared.syntax.Param.{Param}
-use Rattle.cw_tree.specs.declared.syntax.Stmt.{Stmt}
-use Rattle.cw_tree.specs.SyntaxView.{program_of, function_of, param_of, stmt_of, block_of}
-use Rattle.cw_text.specs.declared.least.LeastLine.{LeastLine}
+use Rattle.cw_tree.specs.SyntaxView.{program_of, function_of, stmt_of, block_of}
 use Rattle.cw_types.specs.declared.globals.Globals.{Globals}
+use Rattle.cw_types.specs.declared.reason.IllTyped.{IllTyped}
 use Rattle.cw_types.specs.declared.rules.Returns.{Returns}
-use Rattle.cw_text.specs.Noted.{Notes}
+use Rattle.cw_types.specs.declared.told.Told.{Told}
 use Rattle.cw_types.specs.Returned.{returns_of}
-use Rattle.cw_types.specs.Typing.{are_new, keeps_rules, faults_inside}
+use Rattle.cw_types.specs.Scope.{Declared, kinds}
+use Rattle.cw_types.specs.Standing.{Standing, standing_at, standing_in, standing_inside}
+use Rattle.cw_types.specs.Telling.{Notes, Tells}
+use Rattle.cw_types.specs.Told.{IsNeverReached, IsToldAmong, IsToldOf}
+use Rattle.cw_types.specs.Typing.{faults_inside}
+
+-- the program that the code holds
+abbrev pub program_in : Globals → Program
+program_in globals = program_of globals.ast.now
 
 -- the lines that break a rule in the functions of a program
 abbrev pub faults_of_all : Program → List ℕ
 faults_of_all program = flat_map (faults_of program) program.functions
 
--- those of the program that the code holds
-abbrev pub faults_in_all : Globals → List ℕ
-faults_in_all globals = faults_of_all (program_of globals.ast.now)
-
 -- those of one function
 abbrev pub faults_in_function : Globals → Function → List ℕ
-faults_in_function globals f = faults_of (program_of globals.ast.now) (function_of f)
-
--- parameters are new names that differ
-abbrev pub params_are_new : Globals → Known → List Param → Bool
-params_are_new globals known params = are_new (program_of globals.ast.now) known (map param_of params)
+faults_in_function globals f = faults_of (program_in globals) (function_of f)
 
 -- the lines of a block that break a rule, where these returns may stand and these names are known
-abbrev pub block_faults : Globals → Returns → Known → List Line → List ℕ
+abbrev pub block_faults : Globals → Returns → List Declared → List Line → List ℕ
 block_faults globals returns known lines =
-    faults_in_block (program_of globals.ast.now) (returns_of returns) known (block_of lines)
+    faults_in_block (program_in globals) (returns_of returns) (kinds known) (block_of lines)
 
--- those of the blocks in a statement
-abbrev pub inner_faults : Globals → Returns → Known → Stmt → List ℕ
-inner_faults globals returns known stmt =
-    faults_inside (program_of globals.ast.now) (returns_of returns) known (stmt_of stmt)
+-- those of the blocks in the statement of a line
+abbrev pub inner_faults : Globals → Returns → List Declared → Line → List ℕ
+inner_faults globals returns known line =
+    faults_inside (program_in globals) (returns_of returns) (kinds known) (stmt_of line.stmt)
 
 -- the lines of a block that break a rule were noted, where memory did not run out
-abbrev pub NotesBlock : {R E : Type 0} → Globals → Returns → Known → List Line → (before after : LeastLine) →
-    Result R E → Type 0
+abbrev pub NotesBlock : {R E : Type 0} → Globals → Returns → List Declared → List Line →
+    (before after : Told IllTyped) → Result R E → Type 0
 NotesBlock globals returns known lines before after r = Notes (block_faults globals returns known lines) before after r
 
--- the same of those of the blocks in a statement
-abbrev pub NotesInner : {R E : Type 0} → Globals → Returns → Known → Stmt → (before after : LeastLine) → Result R E →
-    Type 0
-NotesInner globals returns known stmt before after r = Notes (inner_faults globals returns known stmt) before after r
+-- the same of those of the blocks in the statement of a line
+abbrev pub NotesInner : {R E : Type 0} → Globals → Returns → List Declared → Line →
+    (before after : Told IllTyped) → Result R E → Type 0
+NotesInner globals returns known line before after r = Notes (inner_faults globals returns known line) before after r
 
--- what stands in the line of a statement itself keeps the rules, the blocks in it aside
-abbrev pub line_keeps : Globals → Returns → Known → Stmt → Bool
-line_keeps globals returns known stmt =
-    keeps_rules (program_of globals.ast.now) (returns_of returns) known (stmt_of stmt)
+-- the reason is true of one of these statements, at its line
+abbrev pub IsAmong : Globals → List Standing → (ℕ → IllTyped → Type 0)
+IsAmong globals statements = λ line r. IsToldAmong (program_in globals) line statements r
+
+-- the reason is true of this function, at a line of it
+abbrev pub IsToldIn : Globals → Function → (ℕ → IllTyped → Type 0)
+IsToldIn globals f = λ line r. IsToldOf (program_in globals) line (function_of f) r
+
+-- what is told of such statements
+abbrev pub TellsAmong : Globals → List Standing → (before after : Told IllTyped) → Type 0
+TellsAmong globals statements before after = Tells (IsAmong globals statements) before after
+
+-- the statements of a block, and all that is inside of them
+abbrev pub all_in : Returns → List Declared → List Line → List Standing
+all_in returns known lines = standing_in (returns_of returns) known (block_of lines)
+
+-- the statements inside of that of a line
+abbrev pub all_inside : Returns → List Declared → Line → List Standing
+all_inside returns known line = standing_inside (returns_of returns) known line.line (stmt_of line.stmt)
+
+-- what stands behind a line is never reached, wherever both stand
+abbrev pub NeverReached : Line → List Line → IllTyped → Type 0
+NeverReached line behind r =
+    (returns : rule.Returns) → (known : List Declared) → IsNeverReached (standing_at returns known line behind) r

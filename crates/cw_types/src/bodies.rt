@@ -1,37 +1,41 @@
 //! The rules of names and types in whole bodies.
 
-ghost use Rattle.std.specs.Prelude.{◌≡◌, not, ◌||◌, OnOk};
-ghost use Rattle.cw_model.specs.Typing.{declares, surely_returns, ends_block};
+ghost use Rattle.std.specs.Prelude.{◌≡◌, not, ◌||◌, IfSome, OnOk, is_some};
+ghost use Rattle.cw_model.specs.Typing.{surely_returns, ends_block};
 ghost use Rattle.cw_tree.specs.SyntaxView.{stmt_of, block_of};
-ghost use Rattle.cw_types.specs.Within.{NotesBlock, NotesInner};
+ghost use Rattle.cw_types.specs.Scope.{after_stmt};
+ghost use Rattle.cw_types.specs.Within.{NeverReached, NotesBlock, NotesInner, TellsAmong, all_in, all_inside};
 
 use crate::globals::Globals;
 use crate::known::Known;
-use crate::rules::{Returns, keeps_rules, surely_returns};
+use crate::reason::IllTyped;
+use crate::rules::{Returns, of_stmt, surely_returns};
+use crate::told::Told;
 use cw_model::syntax::NameKind;
-use cw_text::LeastLine;
 use cw_tree::syntax::{Line, Stmt};
 use std::alloc::AllocError;
 
 /// Notes the lines of a block that break a rule, where these names are known before it and after it.
 #[cycle(bodies)]
 pub fn block<'a>(
-    globals: &Globals,
+    globals: &Globals<'a>,
     returns: Returns,
     known: &mut Known<'a>,
     lines: &'a [Line],
-    least: &mut LeastLine,
+    told: &mut Told<IllTyped<'a>>,
 ) -> Result<(), AllocError>
-    ensures lines { NotesBlock globals.now returns known.old lines.now least.old least.new result }
+    ensures lines { NotesBlock globals.now returns known.old lines.now told.old told.new result }
+    ensures told { OnOk result
+        (TellsAmong globals.now (all_in returns known.old lines.now) told.old told.new) }
     ensures known { OnOk result (known.new ≡ known.old) }
 {
     let before = known.len();
     for i in 0..lines.len() {
         let line = &lines[i];
-        least.note(keeps_rules(globals, returns, known, &line.stmt), line.line);
-        inside(globals, returns, known, &line.stmt, least)?;
-        least.note(may_precede(&line.stmt, &lines[i + 1..]), line.line);
-        declare(known, &line.stmt)?;
+        told.note(of_stmt(globals, returns, known, &line.stmt), line.line);
+        inside(globals, returns, known, line, told)?;
+        told.note(never_reached(line, &lines[i + 1..]), line.line);
+        declare(known, line)?;
     }
     known.leave(before);
     Ok(())
@@ -40,33 +44,35 @@ pub fn block<'a>(
 // Notes the lines of the blocks in a statement that break a rule.
 #[cycle(bodies)]
 fn inside<'a>(
-    globals: &Globals,
+    globals: &Globals<'a>,
     returns: Returns,
     known: &mut Known<'a>,
-    stmt: &'a Stmt,
-    least: &mut LeastLine,
+    line: &'a Line,
+    told: &mut Told<IllTyped<'a>>,
 ) -> Result<(), AllocError>
-    ensures lines { NotesInner globals.now returns known.old stmt.now least.old least.new result }
+    ensures lines { NotesInner globals.now returns known.old line.now told.old told.new result }
+    ensures told { OnOk result
+        (TellsAmong globals.now (all_inside returns known.old line.now) told.old told.new) }
     ensures known { OnOk result (known.new ≡ known.old) }
 {
-    match stmt {
-        Stmt::If(_, b) | Stmt::While(_, b) => block(globals, returns, known, b, least),
+    match &line.stmt {
+        Stmt::If(_, b) | Stmt::While(_, b) => block(globals, returns, known, b, told),
         Stmt::IfElse(_, b, c) => {
-            block(globals, returns, known, b, least)?;
-            block(globals, returns, known, c, least)?;
+            block(globals, returns, known, b, told)?;
+            block(globals, returns, known, c, told)?;
             Ok(())
         }
         Stmt::For(head, b) => {
-            known.declare(head.variable.as_bytes(), NameKind::Integer)?;
-            block(globals, Returns::Nowhere, known, b, least)?;
+            known.declare(head.variable.as_bytes(), NameKind::Integer, line.line)?;
+            block(globals, Returns::Nowhere, known, b, told)?;
             known.forget();
             Ok(())
         }
-        Stmt::Scope(b) | Stmt::Region(_, b) => block(globals, Returns::Nowhere, known, b, least),
+        Stmt::Scope(b) | Stmt::Region(_, b) => block(globals, Returns::Nowhere, known, b, told),
         Stmt::Cut(cut, b) => {
-            known.declare(cut.left.as_bytes(), NameKind::Array)?;
-            known.declare(cut.right.as_bytes(), NameKind::Array)?;
-            block(globals, Returns::Nowhere, known, b, least)?;
+            known.declare(cut.left.as_bytes(), NameKind::Array, line.line)?;
+            known.declare(cut.right.as_bytes(), NameKind::Array, line.line)?;
+            block(globals, Returns::Nowhere, known, b, told)?;
             known.forget();
             known.forget();
             Ok(())
@@ -83,28 +89,29 @@ fn inside<'a>(
     }
 }
 
-// Whether nothing follows.
+// The line of what follows a statement that surely returns: nothing may.
 #[tactic(auto, using(crate::proofs::Noting::ends, std::proofs::lemmas::Grind::common_steps))]
-fn is_end(rest: &[Line]) -> bool
-    ensures { result ≡ ends_block (block_of rest.now) }
+fn never_reached<'a>(line: &Line, behind: &[Line]) -> Option<IllTyped<'a>>
+    ensures decides { is_some result
+        ≡ not (not (surely_returns (stmt_of line.now.stmt)) || ends_block (block_of behind.now)) }
+    ensures holds { IfSome result (NeverReached line.now behind.now) }
 {
-    rest.is_empty()
-}
-
-// Whether these may stand behind a statement: none may behind one that surely returns.
-fn may_precede(stmt: &Stmt, rest: &[Line]) -> bool
-    ensures { result ≡ (not (surely_returns (stmt_of stmt.now)) || ends_block (block_of rest.now)) }
-{
-    !surely_returns(stmt) || is_end(rest)
+    if !surely_returns(&line.stmt) {
+        return None;
+    }
+    if behind.is_empty() {
+        return None;
+    }
+    Some(IllTyped::NeverReached(behind[0].line))
 }
 
 // Declares the name that the statement declares, if it declares one.
-fn declare<'a>(known: &mut Known<'a>, stmt: &'a Stmt) -> Result<(), AllocError>
-    ensures { OnOk result (known.new ≡ declares (stmt_of stmt.now) known.old) }
+fn declare<'a>(known: &mut Known<'a>, line: &'a Line) -> Result<(), AllocError>
+    ensures { OnOk result (known.new ≡ after_stmt line.now.line (stmt_of line.now.stmt) known.old) }
 {
-    match stmt {
-        Stmt::Declare(x, _) => known.declare(x.as_bytes(), NameKind::Integer),
-        Stmt::DeclareArray(a, _) => known.declare(a.as_bytes(), NameKind::Array),
+    match &line.stmt {
+        Stmt::Declare(x, _) => known.declare(x.as_bytes(), NameKind::Integer, line.line),
+        Stmt::DeclareArray(a, _) => known.declare(a.as_bytes(), NameKind::Array, line.line),
         _ => Ok(()),
     }
 }

@@ -1,53 +1,70 @@
 //! The rules of names and types in functions.
 
-ghost use Rattle.std.specs.Prelude.{◌≡◌, ◌++◌, ◌&&◌, map, IfOk, OnOk};
+ghost use Rattle.std.specs.Prelude.{◌≡◌, [], Contains, IfOk, IfSome, OnOk, is_some, map, not, true};
 ghost use Rattle.std.specs.List.{list_any};
-ghost use Rattle.cw_model.specs.Syntax.{wants_array};
-ghost use Rattle.cw_model.specs.Typing.{known_of};
-ghost use Rattle.cw_tree.specs.SyntaxView.{function_of, param_of};
-ghost use Rattle.cw_text.specs.Noted.{Notes};
+ghost use Rattle.cw_model.specs.Names.{is_among};
+ghost use Rattle.cw_model.specs.Syntax as model;
+ghost use Rattle.cw_model.specs.Typing as rule;
+ghost use Rattle.cw_tree.specs.SyntaxView.{function_of, param_of, program_of};
+ghost use Rattle.cw_types.specs.Names.{param_names};
 ghost use Rattle.cw_types.specs.Returned as returned;
-ghost use Rattle.cw_types.specs.Typing as spec;
-ghost use Rattle.cw_types.specs.Within.{faults_in_all, faults_in_function, params_are_new};
+ghost use Rattle.cw_types.specs.Scope.{with_params};
+ghost use Rattle.cw_types.specs.Telling.{Notes, Tells};
+ghost use Rattle.cw_types.specs.Told.{IsTold, IsWrongFunction, IsWrongMain, IsWrongParams, are_arrays};
+ghost use Rattle.cw_types.specs.Typing.{are_new, is_right_main, returns_well};
+ghost use Rattle.cw_types.specs.Within.{IsToldIn, faults_in_function, faults_of_all, program_in};
 
 use crate::bodies::block;
 use crate::globals::Globals;
 use crate::known::Known;
-use crate::rules::{Returns, block_returns, is_main, is_new};
-use cw_model::syntax::NameKind;
-use cw_text::LeastLine;
-use cw_tree::syntax::{Function, Param};
+use crate::reason::IllTyped;
+use crate::rules::{Returns, block_returns, is_array, is_main, of_global};
+use crate::told::Told;
+use cw_tree::syntax::{Function, Name, Param};
 use std::alloc::{AllocError, Global};
 
 /// Notes the lines of all functions that break a rule.
-pub fn functions_faults(
+pub fn functions_faults<'a>(
     alloc: Global,
-    globals: &Globals,
-    least: &mut LeastLine,
+    globals: &Globals<'a>,
+    told: &mut Told<IllTyped<'a>>,
 ) -> Result<(), AllocError>
-    ensures { Notes (faults_in_all globals.now) least.old least.new result }
+    ensures lines { Notes (faults_of_all (program_in globals.now)) told.old told.new result }
+    ensures told { OnOk result (Tells (IsTold (program_in globals.now)) told.old told.new) }
 {
-    for function in &globals.ast.functions {
-        function_faults(alloc, globals, function, least)?;
+    for function in globals.ast.functions.as_slice() {
+        function_faults(alloc, globals, function, told)?;
     }
     Ok(())
 }
 
 // The same of one function.
-fn function_faults(
+fn function_faults<'a>(
     alloc: Global,
-    globals: &Globals,
-    function: &Function,
-    least: &mut LeastLine,
+    globals: &Globals<'a>,
+    function: &'a Function,
+    told: &mut Told<IllTyped<'a>>,
 ) -> Result<(), AllocError>
-    ensures { Notes (faults_in_function globals.now function.now) least.old least.new result }
+    ensures lines { Notes (faults_in_function globals.now function.now) told.old told.new result }
+    ensures told { OnOk result
+        (Tells (IsToldIn globals.now function.now) told.old told.new) }
+{
+    told.note(of_head(globals, function), function.line);
+    let mut known = known_in(alloc, function)?;
+    block(globals, returns_of(function), &mut known, function.body.as_slice(), told)?;
+    Ok(())
+}
+
+// The parameters of a function, at the line of its head.
+fn known_in<'a>(alloc: Global, function: &'a Function) -> Result<Known<'a>, AllocError>
+    ensures { IfOk result (λ known.
+        known ≡ with_params function.now.line (map param_of function.now.params.items) []) }
 {
     let mut known = Known::new(alloc);
-    let are_new = declare_params(globals, &mut known, &function.params)?;
-    least.note(keeps_head(function, are_new), function.line);
-    let returns = returns_of(function);
-    block(globals, returns, &mut known, &function.body, least)?;
-    Ok(())
+    for param in function.params.as_slice() {
+        known.declare(param.name.as_bytes(), param.kind, function.line)?;
+    }
+    Ok(known)
 }
 
 // Which returns may stand in the body of a function.
@@ -60,42 +77,89 @@ fn returns_of(function: &Function) -> Returns
     Returns::Alone
 }
 
-// Declares the parameters, and says whether they are new names that differ.
-fn declare_params<'a>(
-    globals: &Globals,
-    known: &mut Known<'a>,
-    params: &'a [Param],
-) -> Result<bool, AllocError>
-    ensures known { OnOk result (known.new ≡ known_of (map param_of params.now) ++ known.old) }
-    ensures new { IfOk result (λ new. new ≡ params_are_new globals.now known.old params.now) }
+// A rule that the head of a function breaks.
+fn of_head<'a>(globals: &Globals<'a>, function: &'a Function) -> Option<IllTyped<'a>>
+    ensures decides { is_some result
+        ≡ not (rule.is_head (program_of globals.now.ast.now) (function_of function.now)) }
+    ensures holds { IfSome result
+        (IsWrongFunction (program_of globals.now.ast.now) (function_of function.now)) }
 {
-    let mut new = true;
-    for param in params {
-        new = new && is_new(globals, known, &param.name);
-        known.declare(param.name.as_bytes(), param.kind)?;
+    if let Some(reason) = of_params(globals, function.params.as_slice()) {
+        return Some(reason);
     }
-    Ok(new)
+    if may_end(function) {
+        return Some(IllTyped::MayNotReturn(&function.name));
+    }
+    if let Some(reason) = of_main(function) {
+        return Some(reason);
+    }
+    None
 }
 
-// Whether its parameters are new, a function that gives an integer surely returns, and `main` is one
-// of integers alone.
-fn keeps_head(function: &Function, are_new: bool) -> bool
-    ensures { result ≡ (are_new && spec.keeps_head (function_of function.now)) }
+// Whether an int function does not surely return.
+fn may_end(function: &Function) -> bool
+    ensures { result ≡ not (returns_well (function_of function.now)) }
 {
-    are_new
-        && (!function.gives_int || block_returns(&function.body))
-        && (!is_main(function) || (function.gives_int && !has_array(&function.params)))
+    let returns = block_returns(function.body.as_slice());
+    function.gives_int && !returns
 }
 
-// Whether a parameter is an array.
-fn has_array(params: &[Param]) -> bool
-    ensures { result ≡ list_any (λ p. wants_array p) (map param_of params.now) }
+// A rule that a parameter of a function breaks.
+fn of_params<'a>(globals: &Globals<'a>, params: &'a [Param]) -> Option<IllTyped<'a>>
+    ensures decides { is_some result
+        ≡ not (are_new (program_of globals.now.ast.now) [] (map param_of params.now)) }
+    ensures holds { IfSome result (IsWrongParams (program_of globals.now.ast.now) (map param_of params.now)) }
+{
+    for i in 0..params.len() {
+        let param = &params[i];
+        if is_param(&params[..i], &param.name) {
+            return Some(IllTyped::ParameterTwice(&param.name));
+        }
+        if let Some(reason) = of_global(globals, &param.name) {
+            return Some(reason);
+        }
+    }
+    None
+}
+
+// Whether one of these parameters has the name.
+fn is_param(params: &[Param], name: &Name) -> bool
+    ensures { result ≡ is_among name.now (param_names (map param_of params.now)) }
 {
     for param in params {
-        match param.kind {
-            NameKind::Integer => {}
-            NameKind::Array | NameKind::Const => return true,
+        if name.as_bytes() == param.name.as_bytes() {
+            return true;
         }
     }
     false
+}
+
+// A rule that the head of main breaks.
+fn of_main(function: &Function) -> Option<IllTyped<'_>>
+    ensures decides { is_some result ≡ not (is_right_main (function_of function.now)) }
+    ensures holds { IfSome result (IsWrongMain (function_of function.now)) }
+{
+    if !is_main(function) {
+        return None;
+    }
+    if !function.gives_int {
+        return Some(IllTyped::MainGivesNothing);
+    }
+    let array = first_array(function.params.as_slice())?;
+    Some(IllTyped::MainTakesArray(array))
+}
+
+// The first of these parameters that is an array.
+fn first_array(params: &[Param]) -> Option<&Name>
+    ensures decides { is_some result
+        ≡ list_any (λ p. model.wants_array p) (map param_of params.now) }
+    ensures holds { IfSome result (λ name.
+        Contains (are_arrays (map param_of params.now)) (name.now, true)) }
+{
+    for param in params {
+        if is_array(param.kind) {
+            return Some(&param.name);
+        }
+    }
+    None
 }

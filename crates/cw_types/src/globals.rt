@@ -1,11 +1,12 @@
 //! The names of a whole program.
 
-ghost use Rattle.std.specs.Prelude.{◌≡◌, ◌<◌, ◌≤◌, ◌^◌, length, map, IfOk, OnOk, option_copied, IfSome};
+ghost use Rattle.std.specs.Prelude.{◌≡◌, ◌<◌, ◌^◌, Contains, IfOk, IfSome, MatchOption, None, Some, is_some, length, map, option_map};
 ghost use Rattle.cw_model.specs.Names.{is_among};
 ghost use Rattle.cw_model.specs.Typing.{globals as globals_of, called, reducer_called};
 ghost use Rattle.cw_tree.specs.SyntaxView.{program_of, function_of, reducer_of};
-ghost use Rattle.cw_types.specs.Globals.{option_function, option_reducer};
 ghost use Rattle.cw_tree.specs.Resolved as spec;
+ghost use Rattle.cw_types.specs.Names.{function_names as names_of_functions};
+ghost use Rattle.cw_types.specs.Scope.{name_and_line};
 
 use crate::table::Table;
 use cw_tree::syntax::{Ast, Function, Reducer};
@@ -47,7 +48,12 @@ impl<'a> Globals<'a> {
 
     /// The first function of a name, if there is one.
     pub fn function(&self, name: &[u8]) -> Option<&'a Function>
-        ensures { option_function result ≡ called name.now (program_of self.now.ast.now).functions }
+        ensures there { is_some result
+            ≡ is_among name.now (names_of_functions (program_of self.now.ast.now).functions) }
+        ensures first { MatchOption result
+            (called name.now (program_of self.now.ast.now).functions ≡ None)
+            (λ function. called name.now (program_of self.now.ast.now).functions
+            ≡ Some (function_of function.now)) }
     {
         let index = self.functions.find(name) as usize;
         self.ast.functions.get(index)
@@ -55,7 +61,13 @@ impl<'a> Globals<'a> {
 
     /// The first reducer of a name, if there is one.
     pub fn reducer(&self, name: &[u8]) -> Option<&'a Reducer>
-        ensures { option_reducer result ≡ reducer_called name.now (program_of self.now.ast.now).reducers }
+        ensures there { is_some result
+            ≡ is_among name.now (map (λ r. r.name) (program_of self.now.ast.now).reducers) }
+        ensures is { option_map (λ r. reducer_of r.now) result
+            ≡ reducer_called name.now (program_of self.now.ast.now).reducers }
+        ensures of_line { IfSome result (λ reducer.
+            Contains (map name_and_line (program_of self.now.ast.now).reducers)
+            (name.now, reducer.now.line)) }
     {
         let index = self.reducers.find(name) as usize;
         self.ast.reducers.get(index)

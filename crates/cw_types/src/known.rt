@@ -1,23 +1,31 @@
 //! The names that are known, the newest before older ones of its spelling.
 
-ghost use Rattle.std.specs.Prelude.{◌≡◌, ◌≤◌, ◌-◌, ◌∷◌, [], length, map};
+ghost use Rattle.std.specs.Prelude.{◌≡◌, ◌≤◌, ◌-◌, [], length, is_some, option_map};
+ghost use Rattle.std.specs.Prelude.{MatchOption, None, Some};
 ghost use Rattle.cw_model.specs.Names.{is_among};
-ghost use Rattle.cw_model.specs.Typing.{is_int, is_array, is_writable};
 ghost use Rattle.cw_types.specs.Grows.{Becomes};
-ghost use Rattle.cw_types.specs.Typing.{kind_of, oldest};
+ghost use Rattle.cw_types.specs.Names.{IsUnknown, known_as, known_names};
+ghost use Rattle.cw_types.specs.Scope.{kind_and_line, kinds, newest, oldest, with_local};
 
 use cw_model::syntax::NameKind;
 use std::alloc::{AllocError, Global};
 use std::collections::HashMap;
 use std::marker::Model;
 
+/// What a name stands for, and the line of its declaration.
+#[derive(Clone, Copy, Debug)]
+pub struct Local {
+    pub kind: NameKind,
+    pub line: u32,
+}
+
 // A name that is known.
 #[derive(Clone, Copy)]
 struct Entry<'a> {
     name: &'a [u8],
-    kind: NameKind,
-    // The kind of an older name of this spelling.
-    shadowed: Option<NameKind>,
+    local: Local,
+    // An older name of this spelling.
+    shadowed: Option<Local>,
 }
 
 /// Names in the order in which they came to be known, each with what it stands for, and the newest of
@@ -25,19 +33,19 @@ struct Entry<'a> {
 #[derive(Drop)]
 pub struct Known<'a> {
     entries: Vec<Entry<'a>>,
-    kinds: HashMap<&'a [u8], NameKind>,
+    newest: HashMap<&'a [u8], Local>,
 }
 
 impl<'a> Model for Known<'a> {
-    ghost use Rattle.std.specs.Prelude.{List, ℕ, []};
-    ghost use Rattle.cw_model.specs.declared.syntax.NameKind.{NameKind};
-    ghost use Rattle.cw_types.specs.Shadows.{AreKinds, known_from};
+    ghost use Rattle.std.specs.Prelude.{List, []};
+    ghost use Rattle.cw_types.specs.Scope.{Declared};
+    ghost use Rattle.cw_types.specs.Shadows.{AreNewest, known_from};
 
-    ghost Value = { List (List ℕ × NameKind) };
+    ghost Value = { List Declared };
 
     ghost view = { λ t. known_from [] t.entries.items };
 
-    ghost invariant = { λ t. AreKinds t.kinds t.entries.items };
+    ghost invariant = { λ t. AreNewest t.newest t.entries.items };
 }
 
 impl<'a> Known<'a> {
@@ -47,55 +55,27 @@ impl<'a> Known<'a> {
     {
         Known {
             entries: Vec::new(alloc),
-            kinds: HashMap::new(alloc),
+            newest: HashMap::new(alloc),
         }
     }
 
-    // What the newest name of this spelling stands for, if there is one.
-    fn kind(&self, name: &[u8]) -> Option<NameKind>
-        ensures { result ≡ kind_of name.now self.now }
+    /// What the newest name of this spelling stands for, if there is one.
+    pub fn newest(&self, name: &[u8]) -> Option<Local>
+        ensures there { is_some result ≡ is_among name.now (known_names (kinds self.now)) }
+        ensures kinds { MatchOption result (IsUnknown name.now (kinds self.now))
+            (λ local. known_as name.now local.kind (kinds self.now)) }
+        ensures newest { MatchOption result (newest name.now self.now ≡ None)
+            (λ local. option_map kind_and_line (newest name.now self.now)
+            ≡ Some (local.kind, local.line)) }
     {
-        self.kinds.get(name).copied()
-    }
-
-    /// Whether the newest name of this spelling is an integer.
-    #[tactic(auto, using(crate::proofs::Newest::known, std::proofs::lemmas::Grind::common_steps))]
-    pub fn is_int(&self, name: &[u8]) -> bool
-        ensures { result ≡ is_int self.now name.now }
-    {
-        match self.kind(name) {
-            Some(NameKind::Integer) => true,
-            Some(NameKind::Array | NameKind::Const) | None => false,
-        }
-    }
-
-    /// Whether the newest name of this spelling is an array.
-    #[tactic(auto, using(crate::proofs::Newest::known, std::proofs::lemmas::Grind::common_steps))]
-    pub fn is_array(&self, name: &[u8]) -> bool
-        ensures { result ≡ is_array self.now name.now }
-    {
-        match self.kind(name) {
-            Some(NameKind::Array | NameKind::Const) => true,
-            Some(NameKind::Integer) | None => false,
-        }
-    }
-
-    /// Whether the newest name of this spelling is an array that may be written.
-    #[tactic(auto, using(crate::proofs::Newest::known, std::proofs::lemmas::Grind::common_steps))]
-    pub fn is_writable(&self, name: &[u8]) -> bool
-        ensures { result ≡ is_writable self.now name.now }
-    {
-        match self.kind(name) {
-            Some(NameKind::Array) => true,
-            Some(NameKind::Integer | NameKind::Const) | None => false,
-        }
+        self.newest.get(name).copied()
     }
 
     /// Whether a name of this spelling is there.
     pub fn has(&self, name: &[u8]) -> bool
-        ensures { result ≡ is_among name.now (map (λ k. k.0) self.now) }
+        ensures { result ≡ is_among name.now (known_names (kinds self.now)) }
     {
-        self.kinds.contains_key(name)
+        self.newest.contains_key(name)
     }
 
     /// How many names there are.
@@ -106,16 +86,22 @@ impl<'a> Known<'a> {
     }
 
     /// One name more. Where memory runs out the names are as they were.
-    pub fn declare(&mut self, name: &'a [u8], kind: NameKind) -> Result<(), AllocError>
-        ensures { Becomes ((name.now, kind) ∷ self.old) self.old self.new result }
+    pub fn declare(
+        &mut self,
+        name: &'a [u8],
+        kind: NameKind,
+        line: u32,
+    ) -> Result<(), AllocError>
+        ensures { Becomes (with_local name.now kind line self.old) self.old self.new result }
     {
-        let shadowed = self.kinds.get(name).copied();
+        let local = Local { kind, line };
+        let shadowed = self.newest.get(name).copied();
         self.entries.push(Entry {
             name,
-            kind,
+            local,
             shadowed,
         })?;
-        match self.kinds.insert(name, kind) {
+        match self.newest.insert(name, local) {
             Ok(_) => Ok(()),
             Err(_) => {
                 self.entries.pop();
@@ -131,12 +117,12 @@ impl<'a> Known<'a> {
     {
         if let Some(entry) = self.entries.pop() {
             match entry.shadowed {
-                Some(kind) => {
+                Some(local) => {
                     // the spelling has an entry, so this cannot fail
-                    let _again = self.kinds.insert(entry.name, kind);
+                    let _again = self.newest.insert(entry.name, local);
                 }
                 None => {
-                    self.kinds.remove(entry.name);
+                    self.newest.remove(entry.name);
                 }
             }
         }

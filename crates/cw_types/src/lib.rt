@@ -13,6 +13,7 @@ mod limits;
 mod lists;
 mod locals;
 mod program;
+mod reason;
 mod regions;
 mod repeated;
 mod resolve;
@@ -20,5 +21,8 @@ mod rules;
 mod statements;
 mod table;
 mod tags;
+mod told;
 
-pub use checking::check;
+pub use checking::{Refusal, check, refused};
+pub use reason::{IllTyped, Other, TooLarge};
+pub use told::At;

@@ -1,17 +1,22 @@
 //! The limits of a program.
 
-ghost use Rattle.std.specs.Prelude.{◌≡◌, ◌∷◌, [], None, map, flat_map, IfOk};
+ghost use Rattle.std.specs.Prelude.{◌≡◌, ◌∷◌, [], None, map, flat_map, is_some, length, nat_le, not, IfOk, IfSome};
 ghost use Rattle.cw_model.specs.Lines.{lowest};
 ghost use Rattle.cw_model.specs.Sizes.{limit_faults, function_limits as limits_of};
 ghost use Rattle.cw_model.specs.Sizes.{declaring_lines, declaring_lines_in};
 ghost use Rattle.cw_tree.specs.SyntaxView.{program_of, function_of, block_of, stmt_of};
-ghost use Rattle.cw_text.specs.Noted.{Noted, Notes, TakesRoom};
+ghost use Rattle.cw_text.specs.Noted.{TakesRoom};
+ghost use Rattle.cw_types.specs.Limits.{IsLongTag, IsPassedByFunction, IsPassedByOne, IsPassedByParts};
+ghost use Rattle.cw_types.specs.Limits.{IsPassedByRegions, declared_past};
 ghost use Rattle.cw_types.specs.Noted.{TakesTag};
 ghost use Rattle.cw_types.specs.Noted.{functions_past, reducers_past, long_tag, tags_past};
 ghost use Rattle.cw_types.specs.Regions.{regions_of};
+ghost use Rattle.cw_types.specs.Telling.{IsOf, Noted, Tells, line_told};
 
 use crate::known::Known;
+use crate::reason::TooLarge;
 use crate::regions::{Marked, regions};
+use crate::told::Told;
 use cw_model::limits::{
     MOST_DECLARED, MOST_FUNCTIONS, MOST_PARAMETERS, MOST_REDUCERS, MOST_TAG_BYTES, MOST_TAGS,
 };
@@ -20,59 +25,90 @@ use cw_text::LeastLine;
 use cw_tree::syntax::{Ast, Function, Line, Param, Reducer, Stmt};
 use std::alloc::{AllocError, Global};
 
-/// The least line that passes a limit: that of the 1,025th function or a later one, of the 33rd
-/// reducer or a later one, of a function with more than 16 parameters, of what declares the 257th
+/// The least line that passes a limit, and which: that of the 1,025th function or a later one, of the
+/// 33rd reducer or a later one, of a function with more than 16 parameters, of what declares the 257th
 /// name of a function or a later one, of a tag with more than 32 bytes, or of the first place of the
 /// 65th different tag or a later one.
-pub fn limits(alloc: Global, ast: &Ast) -> Result<LeastLine, AllocError>
-    ensures { IfOk result (λ least. least.line ≡ lowest None (limit_faults (program_of ast.now))) }
+pub fn limits<'a>(alloc: Global, ast: &'a Ast) -> Result<Told<TooLarge<'a>>, AllocError>
+    ensures lines { IfOk result (λ told.
+        line_told told ≡ lowest None (limit_faults (program_of ast.now))) }
+    ensures holds { IfOk result (λ told. IsOf (IsPassedByParts (program_of ast.now)) told) }
 {
-    let mut least = LeastLine::new();
-    functions_beyond(&ast.functions, &mut least);
-    reducers_beyond(&ast.reducers, &mut least);
-    functions_limits(&ast.functions, &mut least);
+    let mut told = Told::new();
+    told.note_least(functions_beyond(&ast.functions), TooLarge::Functions);
+    told.note_least(reducers_beyond(&ast.reducers), TooLarge::Reducers);
+    functions_limits(&ast.functions, &mut told);
     let regions = regions(alloc, &ast.functions)?;
-    long_tags(&regions, &mut least);
-    tags_beyond(alloc, &regions, &mut least)?;
-    Ok(least)
+    long_tags(&regions, &mut told);
+    told.note_least(tags_beyond(alloc, &regions)?, TooLarge::Tags);
+    Ok(told)
 }
 
-// Notes the lines of the functions behind the most of them.
-fn functions_beyond(functions: &[Function], least: &mut LeastLine)
-    ensures { Noted (functions_past functions.now) least.old least.new }
+// The least line of the functions behind the most of them.
+fn functions_beyond(functions: &[Function]) -> LeastLine
+    ensures { result.line ≡ lowest None (functions_past functions.now) }
 {
+    let mut least = LeastLine::new();
     let mut room = MOST_FUNCTIONS;
     for function in functions {
         room = least.note_past(room, function.line);
     }
+    least
 }
 
-// Notes the lines of the reducers behind the most of them.
-fn reducers_beyond(reducers: &[Reducer], least: &mut LeastLine)
-    ensures { Noted (reducers_past reducers.now) least.old least.new }
+// The least line of the reducers behind the most of them.
+fn reducers_beyond(reducers: &[Reducer]) -> LeastLine
+    ensures { result.line ≡ lowest None (reducers_past reducers.now) }
 {
+    let mut least = LeastLine::new();
     let mut room = MOST_REDUCERS;
     for reducer in reducers {
         room = least.note_past(room, reducer.line);
     }
+    least
 }
 
 // Notes the lines that pass a limit of one function.
-fn functions_limits(functions: &[Function], least: &mut LeastLine)
-    ensures { Noted (flat_map limits_of (map function_of functions.now)) least.old least.new }
+fn functions_limits<'a>(functions: &'a [Function], told: &mut Told<TooLarge<'a>>)
+    ensures lines { Noted (flat_map limits_of (map function_of functions.now)) told.old told.new }
+    ensures told { Tells (IsPassedByOne (map function_of functions.now)) told.old told.new }
 {
     for function in functions {
-        function_limits(function, least);
+        function_limits(function, told);
     }
 }
 
 // The same of one of the functions.
-fn function_limits(function: &Function, least: &mut LeastLine)
-    ensures { least.new.line ≡ lowest least.old.line (limits_of (function_of function.now)) }
+fn function_limits<'a>(function: &'a Function, told: &mut Told<TooLarge<'a>>)
+    ensures lines { Noted (limits_of (function_of function.now)) told.old told.new }
+    ensures told { Tells (IsPassedByFunction (function_of function.now)) told.old told.new }
 {
-    least.note(function.params.len() <= MOST_PARAMETERS, function.line);
-    let room = params_beyond(MOST_DECLARED, function.line, &function.params, least);
-    block_beyond(room, &function.body, least);
+    told.note(many_params(function), function.line);
+    told.note_least(declared_beyond(function), TooLarge::Declared(&function.name));
+}
+
+// A function has too many parameters.
+fn many_params<'a>(function: &'a Function) -> Option<TooLarge<'a>>
+    ensures decides { is_some result
+        ≡ not (nat_le (length (function_of function.now).params) MOST_PARAMETERS) }
+    ensures holds { IfSome result
+        (IsPassedByFunction (function_of function.now) function.now.line) }
+{
+    let count = function.params.len();
+    if count <= MOST_PARAMETERS {
+        return None;
+    }
+    Some(TooLarge::Parameters(&function.name, count))
+}
+
+// The least line of what a function declares behind the most of it, its parameters first.
+fn declared_beyond(function: &Function) -> LeastLine
+    ensures { result.line ≡ lowest None (declared_past (function_of function.now)) }
+{
+    let mut least = LeastLine::new();
+    let room = params_beyond(MOST_DECLARED, function.line, &function.params, &mut least);
+    block_beyond(room, &function.body, &mut least);
+    least
 }
 
 // What room is left after the parameters.
@@ -132,24 +168,38 @@ fn statement_beyond(room: usize, line: u32, stmt: &Stmt, least: &mut LeastLine) 
 }
 
 // Notes the lines of regions whose tags are too long.
-fn long_tags(regions: &[Marked], least: &mut LeastLine)
-    ensures { Noted (flat_map long_tag (regions_of regions.now)) least.old least.new }
+fn long_tags<'a>(regions: &[Marked<'a>], told: &mut Told<TooLarge<'a>>)
+    ensures lines { Noted (flat_map long_tag (regions_of regions.now)) told.old told.new }
+    ensures told { Tells (IsPassedByRegions (regions_of regions.now)) told.old told.new }
 {
     for region in regions {
-        least.note(region.tag.len() <= MOST_TAG_BYTES, region.line);
+        told.note(long_tag(*region), region.line);
     }
 }
 
-// Notes the lines of the first places of tags behind the most of them.
-fn tags_beyond(alloc: Global, regions: &[Marked], least: &mut LeastLine) -> Result<(), AllocError>
-    ensures { Notes (tags_past (regions_of regions.now)) least.old least.new result }
+// The tag of a region is too long.
+fn long_tag<'a>(region: Marked<'a>) -> Option<TooLarge<'a>>
+    ensures decides { is_some result ≡ not (nat_le (length region.entry.tag.now) MOST_TAG_BYTES) }
+    ensures holds { IfSome result (IsLongTag region.entry.tag.now) }
 {
+    if region.tag.len() <= MOST_TAG_BYTES {
+        return None;
+    }
+    Some(TooLarge::TagBytes(region.tag))
+}
+
+// The least line of the first places of tags behind the most of them.
+fn tags_beyond(alloc: Global, regions: &[Marked]) -> Result<LeastLine, AllocError>
+    ensures { IfOk result (λ least.
+        least.line ≡ lowest None (tags_past (regions_of regions.now))) }
+{
+    let mut least = LeastLine::new();
     let mut seen = Known::new(alloc);
     let mut room = MOST_TAGS;
     for region in regions {
-        room = tag_beyond(&mut seen, room, *region, least)?;
+        room = tag_beyond(&mut seen, room, *region, &mut least)?;
     }
-    Ok(())
+    Ok(least)
 }
 
 // One region more; what room for tags is left then.
@@ -165,6 +215,6 @@ fn tag_beyond<'a>(
         return Ok(room);
     }
     let left = least.note_past(room, region.line);
-    seen.declare(region.tag, NameKind::Integer)?;
+    seen.declare(region.tag, NameKind::Integer, region.line)?;
     Ok(left)
 }

@@ -1,72 +1,123 @@
 //! Names of functions and reducers that are there twice.
 
-ghost use Rattle.std.specs.Prelude.{◌≡◌, [], nat_le, if◌then◌else◌};
+ghost use Rattle.std.specs.Prelude.{ℕ, ◌≡◌, ◌++◌, [], Contains, IfSome, List, OnOk, is_some};
+ghost use Rattle.cw_model.specs.Names.{is_among, same_name};
+ghost use Rattle.cw_model.specs.Syntax.{Name};
 ghost use Rattle.cw_model.specs.Typing.{repeated};
 ghost use Rattle.cw_types.specs.Named.{listed_functions, listed_reducers, shared_lines, lines_shared_by};
-ghost use Rattle.cw_text.specs.Noted.{Noted, Notes};
+ghost use Rattle.cw_types.specs.Names.{known_names};
+ghost use Rattle.cw_types.specs.Scope.{kinds};
+ghost use Rattle.cw_types.specs.Telling.{Noted, Notes, Tells};
+ghost use Rattle.cw_types.specs.Told.{IsRepeatedIn, IsRepeatedOf, IsRepeating};
+ghost use Rattle.cw_types.specs.Typing.{earlier_line, later_line};
 
 use crate::known::Known;
+use crate::reason::IllTyped;
+use crate::told::Told;
 use cw_model::syntax::NameKind;
-use cw_text::LeastLine;
-use cw_tree::syntax::{Function, Reducer};
+use cw_tree::syntax::{Function, Name, Reducer};
 use std::alloc::{AllocError, Global};
 
 /// Notes the line of each function whose name an earlier one has.
-pub fn repeated_functions(
+pub fn repeated_functions<'a>(
     alloc: Global,
-    functions: &[Function],
-    least: &mut LeastLine,
+    functions: &'a [Function],
+    told: &mut Told<IllTyped<'a>>,
 ) -> Result<(), AllocError>
-    ensures { Notes (repeated (listed_functions functions.now) []) least.old least.new result }
+    ensures lines { Notes (repeated (listed_functions functions.now) []) told.old told.new result }
+    ensures told { OnOk result
+        (Tells (IsRepeatedIn (listed_functions functions.now)) told.old told.new) }
 {
     let mut earlier = Known::new(alloc);
     for function in functions {
-        let name = function.name.as_bytes();
-        least.note(!earlier.has(name), function.line);
-        earlier.declare(name, NameKind::Integer)?;
+        told.note(repeated(&earlier, &function.name), function.line);
+        earlier.declare(function.name.as_bytes(), NameKind::Integer, function.line)?;
     }
     Ok(())
 }
 
 /// Notes the line of each reducer whose name an earlier one has.
-pub fn repeated_reducers(
+pub fn repeated_reducers<'a>(
     alloc: Global,
-    reducers: &[Reducer],
-    least: &mut LeastLine,
+    reducers: &'a [Reducer],
+    told: &mut Told<IllTyped<'a>>,
 ) -> Result<(), AllocError>
-    ensures { Notes (repeated (listed_reducers reducers.now) []) least.old least.new result }
+    ensures lines { Notes (repeated (listed_reducers reducers.now) []) told.old told.new result }
+    ensures told { OnOk result
+        (Tells (IsRepeatedIn (listed_reducers reducers.now)) told.old told.new) }
 {
     let mut earlier = Known::new(alloc);
     for reducer in reducers {
-        let name = reducer.name.as_bytes();
-        least.note(!earlier.has(name), reducer.line);
-        earlier.declare(name, NameKind::Integer)?;
+        told.note(repeated(&earlier, &reducer.name), reducer.line);
+        earlier.declare(reducer.name.as_bytes(), NameKind::Integer, reducer.line)?;
     }
     Ok(())
 }
 
+// An earlier one has the name.
+fn repeated<'a>(earlier: &Known<'a>, name: &'a Name) -> Option<IllTyped<'a>>
+    ensures decides { is_some result ≡ is_among name.now (known_names (kinds earlier.now)) }
+    ensures holds { IfSome result (IsRepeatedOf earlier.now name.now) }
+{
+    let first = earlier.newest(name.as_bytes())?;
+    Some(IllTyped::Repeated(name, first.line))
+}
+
 /// Notes of each reducer and each function of its name the later line.
-pub fn shared_names(functions: &[Function], reducers: &[Reducer], least: &mut LeastLine)
-    ensures { Noted (shared_lines functions.now reducers.now) least.old least.new }
+pub fn shared_names<'a>(
+    functions: &'a [Function],
+    reducers: &'a [Reducer],
+    told: &mut Told<IllTyped<'a>>,
+)
+    ensures lines { Noted (shared_lines functions.now reducers.now) told.old told.new }
+    ensures told { Tells
+        (IsRepeatedIn (listed_functions functions.now ++ listed_reducers reducers.now))
+        told.old told.new }
 {
     for reducer in reducers {
-        shared_name(functions, reducer, least);
+        shared_name(functions, reducer, told);
     }
 }
 
 // The same of one reducer.
-fn shared_name(functions: &[Function], reducer: &Reducer, least: &mut LeastLine)
-    ensures { Noted (lines_shared_by functions.now reducer.now) least.old least.new }
+fn shared_name<'a>(
+    functions: &'a [Function],
+    reducer: &'a Reducer,
+    told: &mut Told<IllTyped<'a>>,
+)
+    ensures lines { Noted (lines_shared_by functions.now reducer.now) told.old told.new }
+    ensures told { (reducers : List (Name × ℕ)) →
+        Contains reducers (reducer.now.name, reducer.now.line) →
+        Tells (IsRepeatedIn (listed_functions functions.now ++ reducers)) told.old told.new }
 {
     for function in functions {
-        let differ = !(reducer.name.as_bytes() == function.name.as_bytes());
-        least.note(differ, later(reducer.line, function.line));
+        told.note(shared(function, reducer), later(reducer.line, function.line));
     }
+}
+
+// A function has the name of a reducer.
+fn shared<'a>(function: &Function, reducer: &'a Reducer) -> Option<IllTyped<'a>>
+    ensures decides { is_some result ≡ same_name reducer.now.name function.now.name }
+    ensures holds { IfSome result (IsRepeating reducer.now.name
+        (earlier_line reducer.now.line function.now.line)) }
+{
+    if reducer.name.as_bytes() != function.name.as_bytes() {
+        return None;
+    }
+    let first = earlier(reducer.line, function.line);
+    Some(IllTyped::Repeated(&reducer.name, first))
 }
 
 // The later of two lines.
 fn later(line: u32, other: u32) -> u32
-    ensures { result ≡ (if nat_le line other then other else line) }
+    ensures { result ≡ later_line line other }
 {
     if line <= other { other } else { line }
+}
+
+// The earlier of two lines.
+fn earlier(line: u32, other: u32) -> u32
+    ensures { result ≡ earlier_line line other }
+{
+    if line <= other { line } else { other }
 }

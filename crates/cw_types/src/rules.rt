@@ -1,18 +1,48 @@
-//! The rules of names and types, statement by statement.
+//! The rules of names and types, statement by statement: for which reason one is broken.
 
-ghost use Rattle.std.specs.Prelude.{◌≡◌, true, false, not, ◌||◌};
+ghost use Rattle.std.specs.Prelude.{
+  ◌≡◌,
+  ◌∷◌,
+  ◌++◌,
+  ◌&&◌,
+  ◌||◌,
+  [],
+  IfSome,
+  List,
+  Some,
+  is_some,
+  not,
+  option_map,
+};
 ghost use Rattle.std.specs.List.{list_all};
-ghost use Rattle.cw_model.specs.Names.{same_name};
+ghost use Rattle.cw_types.specs.Names.{IsUnknown, may_stand};
+ghost use Rattle.cw_types.specs.Scope.{Declared, kinds};
+ghost use Rattle.cw_types.specs.Reasons.{
+  IsBroken,
+  IsMisuse,
+  IsMisuseIn,
+  IsNaming,
+  IsNoReducer,
+  IsNotNew,
+  IsOther,
+  IsUsing,
+  IsWrongHead,
+  is_name,
+};
+ghost use Rattle.cw_types.specs.Parts.{IsBrokenCall, IsBrokenCut, IsBrokenHead, IsBrokenList};
+ghost use Rattle.cw_types.specs.Returned.{returns_of};
+ghost use Rattle.cw_types.specs.Typing.{calls, calls_of, cuts, is_head, keeps_rules};
+ghost use Rattle.cw_types.specs.Uses.{as_arrays, uses_in, uses_in_argument};
+ghost use Rattle.cw_model.specs.declared.syntax.NameKind.TheVariants as name_kind;
 ghost use Rattle.cw_model.specs.Answers.{main_name};
+ghost use Rattle.cw_model.specs.Names.{is_among, same_name};
+ghost use Rattle.cw_model.specs.Syntax as model;
 ghost use Rattle.cw_model.specs.Typing as rule;
-ghost use Rattle.cw_tree.specs.SyntaxView.{program_of, function_of, param_of, expr_of, stmt_of, block_of};
-ghost use Rattle.cw_tree.specs.declared.syntax.Stmt.TheOpen.{Stmt-F};
-ghost use Rattle.cw_types.specs.Returned.{may_give};
-ghost use Rattle.cw_types.specs.Typing as spec;
-ghost use Rattle.cw_types.specs.Within.{line_keeps};
+ghost use Rattle.cw_tree.specs.SyntaxView.{block_of, expr_of, exprs_of, function_of, program_of, stmt_of};
 
 use crate::globals::Globals;
 use crate::known::Known;
+use crate::reason::{IllTyped, Other};
 use cw_model::limits::MOST_GRAIN;
 use cw_model::syntax::{NameKind, Reduction};
 use cw_tree::syntax::{Call, Cut, Expr, Function, Head, Line, Name, Param, Stmt};
@@ -23,92 +53,324 @@ pub const MAIN: &[u8] = b"main";
 /// Which returns may stand in a block.
 #[derive(Clone, Copy)]
 pub enum Returns {
-    /// None.
     Nowhere,
-    /// Those of an integer.
     WithInt,
-    /// Those of nothing.
     Alone,
 }
 
-// Whether a name is that of a known integer.
-fn is_int(known: &Known, name: &Name) -> bool
-    ensures { result ≡ rule.is_int known.now name.now }
+/// A rule that a statement breaks, the blocks in it aside, where these returns may stand.
+pub fn of_stmt<'a>(
+    globals: &Globals<'a>,
+    returns: Returns,
+    known: &Known<'a>,
+    stmt: &'a Stmt,
+) -> Option<IllTyped<'a>>
+    ensures decides { is_some result
+        ≡ not (keeps_rules (program_of globals.now.ast.now) (returns_of returns) (kinds known.now)
+        (stmt_of stmt.now)) }
+    ensures holds { IfSome result
+        (IsBroken (program_of globals.now.ast.now) (returns_of returns) known.now
+        (stmt_of stmt.now)) }
 {
-    known.is_int(name.as_bytes())
+    match stmt {
+        Stmt::Declare(x, e) => Some(of_declare(globals, known, x, e)?),
+        Stmt::DeclareArray(a, e) => Some(of_declare(globals, known, a, e)?),
+        Stmt::Assign(x, e) => Some(of_name_and(globals, known, x, NameKind::Integer, e)?),
+        Stmt::AssignElement(a, i, e) => Some(of_assign_element(globals, known, a, i, e)?),
+        Stmt::Reduce(how, s, e) => Some(of_reduce(globals, known, *how, s, e)?),
+        Stmt::If(e, _) => Some(of_expr(globals, known, e)?),
+        Stmt::IfElse(e, _, _) => Some(of_expr(globals, known, e)?),
+        Stmt::While(e, _) => Some(of_expr(globals, known, e)?),
+        Stmt::Print(e) => Some(of_expr(globals, known, e)?),
+        Stmt::Call(call) => Some(of_call(globals, known, call)?),
+        Stmt::For(head, _) => Some(of_loop(globals, known, head)?),
+        Stmt::Cut(cut, _) => Some(of_cut(globals, known, cut)?),
+        Stmt::Return(value) => Some(of_return(globals, returns, known, value)?),
+        Stmt::Sync | Stmt::Scope(_) | Stmt::Region(_, _) => None,
+    }
 }
 
-// Whether a name is that of a known array.
-fn is_array(known: &Known, name: &Name) -> bool
-    ensures { result ≡ rule.is_array known.now name.now }
+// A name stands where an integer or an array must, and is none.
+fn of_use<'a>(
+    globals: &Globals<'a>,
+    known: &Known<'a>,
+    name: &'a Name,
+    wanted: NameKind,
+) -> Option<IllTyped<'a>>
+    ensures decides { is_some result
+        ≡ not (rule.is_known name.now (may_stand wanted) (kinds known.now)) }
+    ensures holds { IfSome result
+        (IsMisuse (program_of globals.now.ast.now) known.now (name.now, wanted)) }
 {
-    known.is_array(name.as_bytes())
+    match known.newest(name.as_bytes()) {
+        None => Some(of_unknown(globals, name, wanted)),
+        Some(local) => match (wanted, local.kind) {
+            (NameKind::Integer, NameKind::Integer)
+            | (NameKind::Array, NameKind::Array)
+            | (NameKind::Const, NameKind::Array)
+            | (NameKind::Const, NameKind::Const) => None,
+            (NameKind::Integer, NameKind::Array) => Some(IllTyped::NotInteger(
+                name,
+                Other::Array,
+                local.line,
+            )),
+            (NameKind::Integer, NameKind::Const) => Some(IllTyped::NotInteger(
+                name,
+                Other::Const,
+                local.line,
+            )),
+            (NameKind::Array, NameKind::Integer) => Some(IllTyped::NotArray(
+                name,
+                Other::Integer,
+                local.line,
+            )),
+            (NameKind::Const, NameKind::Integer) => Some(IllTyped::NotArray(
+                name,
+                Other::Integer,
+                local.line,
+            )),
+            (NameKind::Array, NameKind::Const) => {
+                Some(IllTyped::OnlyRead(name, local.line))
+            }
+        },
+    }
 }
 
-// Whether a name is that of a known array that may be written.
-fn is_writable(known: &Known, name: &Name) -> bool
-    ensures { result ≡ rule.is_writable known.now name.now }
+// A name that no local has stands where an integer or an array must.
+fn of_unknown<'a>(globals: &Globals<'a>, name: &'a Name, wanted: NameKind) -> IllTyped<'a>
+    ensures { (locals : List Declared) → IsUnknown name.now (kinds locals) →
+        IsMisuse (program_of globals.now.ast.now) locals (name.now, wanted) result }
 {
-    known.is_writable(name.as_bytes())
+    if let Some(function) = globals.function(name.as_bytes()) {
+        return misused(globals, name, wanted, Other::Function, function.line);
+    }
+    if let Some(reducer) = globals.reducer(name.as_bytes()) {
+        return misused(globals, name, wanted, Other::Reducer, reducer.line);
+    }
+    IllTyped::Unknown(name)
 }
 
-/// Whether a name may be declared: it is not known, and no function or reducer has it.
-pub fn is_new(globals: &Globals, known: &Known, name: &Name) -> bool
-    ensures { result ≡ rule.is_new (program_of globals.now.ast.now) known.now name.now }
+// A name is something else than what must stand there.
+fn misused<'a>(
+    globals: &Globals<'a>,
+    name: &'a Name,
+    wanted: NameKind,
+    other: Other,
+    line: u32,
+) -> IllTyped<'a>
+    ensures { (locals : List Declared) → IsUnknown name.now (kinds locals) →
+        IsOther (program_of globals.now.ast.now) locals name.now other line →
+        IsMisuse (program_of globals.now.ast.now) locals (name.now, wanted) result }
 {
-    let name = name.as_bytes();
-    !(known.has(name) || globals.has(name))
+    match wanted {
+        NameKind::Integer => IllTyped::NotInteger(name, other, line),
+        NameKind::Array | NameKind::Const => IllTyped::NotArray(name, other, line),
+    }
 }
 
-// Whether an expression is one of integers.
-fn is_fine(known: &Known, e: &Expr) -> bool
-    ensures { result ≡ rule.is_fine known.now (expr_of e.now) }
+// A name in an expression is not what must stand there.
+fn of_expr<'a>(globals: &Globals<'a>, known: &Known<'a>, e: &'a Expr) -> Option<IllTyped<'a>>
+    ensures decides { is_some result
+        ≡ not (rule.is_fine (kinds known.now) (expr_of e.now)) }
+    ensures holds { IfSome result
+        (IsMisuseIn (program_of globals.now.ast.now) known.now (uses_in (expr_of e.now))) }
 {
     match e {
-        Expr::Number(_) => true,
-        Expr::Variable(x) => is_int(known, x),
-        Expr::Element(a, e) => is_array(known, a) && is_fine(known, e),
-        Expr::Length(a) => is_array(known, a),
-        Expr::Negative(e) | Expr::Not(e) => is_fine(known, e),
-        Expr::Binary(_, d, e) => is_fine(known, d) && is_fine(known, e),
-    }
-}
-
-// Whether an argument fits a parameter: an expression an integer, and an array alone an array, which may be written
-// unless the parameter only reads it.
-fn is_argument(known: &Known, param: &Param, e: &Expr) -> bool
-    ensures { result ≡ rule.is_argument known.now (param_of param.now).kind (expr_of e.now) }
-{
-    match (param.kind, e) {
-        (NameKind::Integer, _) => is_fine(known, e),
-        (NameKind::Array, Expr::Variable(a)) => is_writable(known, a),
-        (NameKind::Const, Expr::Variable(a)) => is_array(known, a),
-        (NameKind::Array | NameKind::Const, _) => false,
-    }
-}
-
-// Whether there is one argument for each parameter.
-fn are_arguments(known: &Known, params: &[Param], arguments: &[Expr]) -> bool
-    ensures { result ≡ spec.are_passed known.now params.now arguments.now }
-{
-    if params.len() != arguments.len() {
-        return false;
-    }
-    for i in 0..params.len() {
-        if !is_argument(known, &params[i], &arguments[i]) {
-            return false;
+        Expr::Number(_) => None,
+        Expr::Variable(x) => Some(of_use(globals, known, x, NameKind::Integer)?),
+        Expr::Length(a) => Some(of_use(globals, known, a, NameKind::Const)?),
+        Expr::Negative(e) => {
+            let reason = of_expr(globals, known, e)?;
+            Some(reason)
+        }
+        Expr::Not(e) => {
+            let reason = of_expr(globals, known, e)?;
+            Some(reason)
+        }
+        Expr::Element(a, e) => {
+            if let Some(reason) = of_use(globals, known, a, NameKind::Const) {
+                return Some(reason);
+            }
+            let reason = of_expr(globals, known, e)?;
+            Some(reason)
+        }
+        Expr::Binary(_, d, e) => {
+            if let Some(reason) = of_expr(globals, known, d) {
+                return Some(reason);
+            }
+            let reason = of_expr(globals, known, e)?;
+            Some(reason)
         }
     }
-    true
 }
 
-// Whether the target of a call is an integer, and the function gives one.
-fn is_target(known: &Known, function: &Function, target: &Option<Name>) -> bool
-    ensures { result ≡ rule.is_target known.now (function_of function.now) target.now }
+// A name may not be declared.
+fn of_declared<'a>(globals: &Globals<'a>, known: &Known<'a>, name: &'a Name) -> Option<IllTyped<'a>>
+    ensures decides { is_some result
+        ≡ not (rule.is_new (program_of globals.now.ast.now) (kinds known.now) name.now) }
+    ensures holds { IfSome result
+        (IsNotNew (program_of globals.now.ast.now) known.now name.now) }
 {
-    match target {
-        None => true,
-        Some(x) => is_int(known, x) && function.gives_int,
+    match known.newest(name.as_bytes()) {
+        Some(local) => Some(IllTyped::Known(name, local.line)),
+        None => {
+            let reason = of_global(globals, name)?;
+            Some(reason)
+        }
+    }
+}
+
+/// A function or a reducer has the name.
+#[tactic(auto, using(crate::proofs::Noting::among_append))]
+pub fn of_global<'a>(globals: &Globals<'a>, name: &'a Name) -> Option<IllTyped<'a>>
+    ensures decides { is_some result
+        ≡ is_among name.now (rule.globals (program_of globals.now.ast.now)) }
+    ensures holds { IfSome result (λ r. (locals : List Declared) →
+        IsNotNew (program_of globals.now.ast.now) locals name.now r) }
+{
+    if let Some(function) = globals.function(name.as_bytes()) {
+        return Some(IllTyped::Global(name, Other::Function, function.line));
+    }
+    if let Some(reducer) = globals.reducer(name.as_bytes()) {
+        return Some(IllTyped::Global(name, Other::Reducer, reducer.line));
+    }
+    None
+}
+
+// A declaration names what it may not, or declares what it may not.
+fn of_declare<'a>(globals: &Globals<'a>, known: &Known<'a>, x: &'a Name, e: &'a Expr) -> Option<IllTyped<'a>>
+    ensures decides { is_some result
+        ≡ not (rule.is_fine (kinds known.now) (expr_of e.now)
+        && rule.is_new (program_of globals.now.ast.now) (kinds known.now) x.now) }
+    ensures holds { IfSome result (IsNaming (program_of globals.now.ast.now) known.now
+        (uses_in (expr_of e.now)) (x.now ∷ [])) }
+{
+    if let Some(reason) = of_expr(globals, known, e) {
+        return Some(reason);
+    }
+    let reason = of_declared(globals, known, x)?;
+    Some(reason)
+}
+
+// A name that must be an array, or an integer, or an expression beside it is not what must stand there.
+fn of_name_and<'a>(
+    globals: &Globals<'a>,
+    known: &Known<'a>,
+    x: &'a Name,
+    wanted: NameKind,
+    e: &'a Expr,
+) -> Option<IllTyped<'a>>
+    ensures decides { is_some result
+        ≡ not (rule.is_known x.now (may_stand wanted) (kinds known.now)
+        && rule.is_fine (kinds known.now) (expr_of e.now)) }
+    ensures holds { IfSome result (IsMisuseIn (program_of globals.now.ast.now) known.now
+        ((x.now, wanted) ∷ uses_in (expr_of e.now))) }
+{
+    if let Some(reason) = of_use(globals, known, x, wanted) {
+        return Some(reason);
+    }
+    let reason = of_expr(globals, known, e)?;
+    Some(reason)
+}
+
+// The array, the index or the value of an element that is assigned to names what it may not.
+fn of_assign_element<'a>(
+    globals: &Globals<'a>,
+    known: &Known<'a>,
+    a: &'a Name,
+    i: &'a Expr,
+    e: &'a Expr,
+) -> Option<IllTyped<'a>>
+    ensures decides { is_some result
+        ≡ not (rule.is_writable (kinds known.now) a.now
+        && rule.is_fine (kinds known.now) (expr_of i.now)
+        && rule.is_fine (kinds known.now) (expr_of e.now)) }
+    ensures holds { IfSome result (IsMisuseIn (program_of globals.now.ast.now) known.now
+        ((a.now, name_kind.Array) ∷ (uses_in (expr_of i.now) ++ uses_in (expr_of e.now)))) }
+{
+    if let Some(reason) = of_use(globals, known, a, NameKind::Array) {
+        return Some(reason);
+    }
+    let reason = of_two(globals, known, i, e)?;
+    Some(reason)
+}
+
+// One of two expressions names what it may not.
+fn of_two<'a>(globals: &Globals<'a>, known: &Known<'a>, d: &'a Expr, e: &'a Expr) -> Option<IllTyped<'a>>
+    ensures decides { is_some result
+        ≡ not (rule.is_fine (kinds known.now) (expr_of d.now)
+        && rule.is_fine (kinds known.now) (expr_of e.now)) }
+    ensures holds { IfSome result (IsMisuseIn (program_of globals.now.ast.now) known.now
+        (uses_in (expr_of d.now) ++ uses_in (expr_of e.now))) }
+{
+    if let Some(reason) = of_expr(globals, known, d) {
+        return Some(reason);
+    }
+    let reason = of_expr(globals, known, e)?;
+    Some(reason)
+}
+
+// One way to reduce is another.
+fn same_reduction(how: Reduction, other: Reduction) -> bool
+    ensures { result ≡ rule.same_reduction how other }
+{
+    match (how, other) {
+        (Reduction::Sum, Reduction::Sum) => true,
+        (Reduction::Max, Reduction::Max) => true,
+        _ => false,
+    }
+}
+
+// A name is that of no reducer which reduces so.
+fn of_reducer<'a>(globals: &Globals<'a>, how: Reduction, name: &'a Name) -> Option<IllTyped<'a>>
+    ensures decides { is_some result ≡ not (rule.is_reducer (program_of globals.now.ast.now) how name.now) }
+    ensures holds { IfSome result (IsNoReducer (program_of globals.now.ast.now) how name.now) }
+{
+    match globals.reducer(name.as_bytes()) {
+        None => Some(IllTyped::NotReducer(name, how)),
+        Some(reducer) => {
+            if same_reduction(how, reducer.how) {
+                return None;
+            }
+            Some(IllTyped::ReducesOtherwise(name, how, reducer.line))
+        }
+    }
+}
+
+// A value is told to no reducer that reduces so, or names what it may not.
+fn of_reduce<'a>(
+    globals: &Globals<'a>,
+    known: &Known<'a>,
+    how: Reduction,
+    s: &'a Name,
+    e: &'a Expr,
+) -> Option<IllTyped<'a>>
+    ensures decides { is_some result
+        ≡ not (rule.is_reducer (program_of globals.now.ast.now) how s.now
+        && rule.is_fine (kinds known.now) (expr_of e.now)) }
+    ensures holds { IfSome result (IsUsing (program_of globals.now.ast.now) known.now
+        (uses_in (expr_of e.now)) (IsNoReducer (program_of globals.now.ast.now) how s.now)) }
+{
+    if let Some(reason) = of_reducer(globals, how, s) {
+        return Some(reason);
+    }
+    let reason = of_expr(globals, known, e)?;
+    Some(reason)
+}
+
+// A call is of no function, or does not fit it.
+fn of_call<'a>(globals: &Globals<'a>, known: &Known<'a>, call: &'a Call) -> Option<IllTyped<'a>>
+    ensures decides { is_some result
+        ≡ not (calls (program_of globals.now.ast.now) (kinds known.now) call.now) }
+    ensures holds { IfSome result (IsBrokenCall (program_of globals.now.ast.now) known.now
+        call.now.target call.now.callee (exprs_of call.now.arguments.items)) }
+{
+    match globals.function(call.callee.as_bytes()) {
+        None => Some(IllTyped::NoFunction(&call.callee)),
+        Some(function) => {
+            let reason = of_called(globals, known, function, call)?;
+            Some(reason)
+        }
     }
 }
 
@@ -119,110 +381,233 @@ pub fn is_main(function: &Function) -> bool
     function.name.as_bytes() == MAIN
 }
 
-// Whether a call is of a function that is there and is not main, and fits it.
-fn is_call(globals: &Globals, known: &Known, call: &Call) -> bool
-    ensures { result ≡ spec.calls (program_of globals.now.ast.now) known.now call.now }
+// A call does not fit its function.
+fn of_called<'a>(
+    globals: &Globals<'a>,
+    known: &Known<'a>,
+    function: &'a Function,
+    call: &'a Call,
+) -> Option<IllTyped<'a>>
+    requires { rule.called call.now.callee (program_of globals.now.ast.now).functions
+        ≡ Some (function_of function.now) }
+    ensures decides { is_some result
+        ≡ not (calls_of (kinds known.now) (function_of function.now) call.now) }
+    ensures holds { IfSome result (IsBrokenCall (program_of globals.now.ast.now) known.now
+        call.now.target call.now.callee (exprs_of call.now.arguments.items)) }
 {
-    match globals.function(call.callee.as_bytes()) {
-        None => false,
-        Some(function) => {
-            is_target(known, function, &call.target)
-                && are_arguments(known, &function.params, &call.arguments)
-                && !is_main(function)
+    if is_main(function) {
+        return Some(IllTyped::CallsMain);
+    }
+    if let Some(reason) = of_target(globals, known, function, call) {
+        return Some(reason);
+    }
+    let reason = of_arguments(globals, known, function, call.arguments.as_slice())?;
+    Some(reason)
+}
+
+// The target of a call is no integer, or its function gives none.
+fn of_target<'a>(
+    globals: &Globals<'a>,
+    known: &Known<'a>,
+    function: &'a Function,
+    call: &'a Call,
+) -> Option<IllTyped<'a>>
+    requires { rule.called call.now.callee (program_of globals.now.ast.now).functions
+        ≡ Some (function_of function.now) }
+    ensures decides { is_some result
+        ≡ not (rule.is_target (kinds known.now) (function_of function.now) call.now.target) }
+    ensures holds { IfSome result (IsBrokenCall (program_of globals.now.ast.now) known.now
+        call.now.target call.now.callee (exprs_of call.now.arguments.items)) }
+{
+    let Some(target) = &call.target else {
+        return None;
+    };
+    if let Some(reason) = of_use(globals, known, target, NameKind::Integer) {
+        return Some(reason);
+    }
+    if !function.gives_int {
+        return Some(IllTyped::GivesNothing(&call.callee, function.line));
+    }
+    None
+}
+
+// Arguments do not fit the parameters.
+fn of_arguments<'a>(
+    globals: &Globals<'a>,
+    known: &Known<'a>,
+    function: &'a Function,
+    arguments: &'a [Expr],
+) -> Option<IllTyped<'a>>
+    ensures decides { is_some result
+        ≡ not (rule.are_arguments (kinds known.now) (function_of function.now).params
+        (exprs_of arguments.now)) }
+    ensures holds { IfSome result (IsBrokenList (program_of globals.now.ast.now) known.now
+        (function_of function.now) (exprs_of arguments.now)) }
+{
+    let name = &function.name;
+    let params = function.params.as_slice();
+    if params.len() != arguments.len() {
+        return Some(IllTyped::Count(name, arguments.len(), params.len(), function.line));
+    }
+    for i in 0..params.len() {
+        let param = &params[i];
+        let argument = &arguments[i];
+        if let Some(reason) = of_argument(globals, known, param, argument) {
+            return Some(reason);
+        }
+        if is_array(param.kind) && !is_name(argument) {
+            let wanted = &param.name;
+            return Some(IllTyped::ArgumentNotArray(i + 1, name, wanted, function.line));
         }
     }
+    None
 }
 
-// Whether one way to reduce is another.
-fn same_reduction(how: Reduction, other: Reduction) -> bool
-    ensures { result ≡ rule.same_reduction how other }
+/// Whether a name of this kind is an array.
+pub fn is_array(kind: NameKind) -> bool
+    ensures { result ≡ model.is_array_kind kind }
 {
-    match (how, other) {
-        (Reduction::Sum, Reduction::Sum) | (Reduction::Max, Reduction::Max) => true,
-        (_, _) => false,
+    match kind {
+        NameKind::Integer => false,
+        NameKind::Array | NameKind::Const => true,
     }
 }
 
-// Whether there is a reducer of the name, and the first of them reduces so.
-fn is_reducer(globals: &Globals, how: Reduction, name: &Name) -> bool
-    ensures { result ≡ rule.is_reducer (program_of globals.now.ast.now) how name.now }
+// Whether an expression is a name alone.
+fn is_name(e: &Expr) -> bool
+    ensures { result ≡ is_name (expr_of e.now) }
 {
-    match globals.reducer(name.as_bytes()) {
-        None => false,
-        Some(reducer) => same_reduction(how, reducer.how),
+    match e {
+        Expr::Variable(_) => true,
+        _ => false,
     }
 }
 
-// Whether the names are all of known arrays that may be written.
-fn are_arrays(known: &Known, names: &[Name]) -> bool
-    ensures { result ≡ list_all (λ a. rule.is_writable known.now a) names.now }
+// A name in an argument is not what must stand there.
+#[tactic(auto, using(crate::proofs::Misuse::argument_named))]
+fn of_argument<'a>(
+    globals: &Globals<'a>,
+    known: &Known<'a>,
+    param: &Param,
+    e: &'a Expr,
+) -> Option<IllTyped<'a>>
+    ensures decides { is_some result
+        ≡ not (rule.is_argument (kinds known.now) param.now.kind (expr_of e.now)
+        || (model.is_array_kind param.now.kind && not (is_name (expr_of e.now)))) }
+    ensures holds { IfSome result (IsMisuseIn (program_of globals.now.ast.now) known.now
+        (uses_in_argument param.now.kind (expr_of e.now))) }
 {
-    for name in names {
-        if !is_writable(known, name) {
-            return false;
+    if !is_array(param.kind) {
+        let reason = of_expr(globals, known, e)?;
+        return Some(reason);
+    }
+    match e {
+        Expr::Variable(a) => Some(of_use(globals, known, a, param.kind)?),
+        _ => None,
+    }
+}
+
+// The head of a loop breaks a rule.
+fn of_loop<'a>(globals: &Globals<'a>, known: &Known<'a>, head: &'a Head) -> Option<IllTyped<'a>>
+    ensures decides { is_some result
+        ≡ not (is_head (program_of globals.now.ast.now) (kinds known.now) head.now) }
+    ensures holds { IfSome result (IsBrokenHead (program_of globals.now.ast.now) known.now
+        head.now.variable head.now.tested head.now.stepped
+        (expr_of head.now.from) (expr_of head.now.to)
+        head.now.grain head.now.over.items) }
+{
+    if let Some(reason) = of_other_name(head) {
+        return Some(reason);
+    }
+    if head.grain < 1 || head.grain > MOST_GRAIN {
+        return Some(IllTyped::Grain(head.grain));
+    }
+    if let Some(reason) = of_arrays(globals, known, head.over.as_slice()) {
+        return Some(reason);
+    }
+    if let Some(reason) = of_declared(globals, known, &head.variable) {
+        return Some(reason);
+    }
+    let reason = of_two(globals, known, &head.from, &head.to)?;
+    Some(reason)
+}
+
+// The head of a loop has another name in place of its variable's.
+fn of_other_name<'a>(head: &'a Head) -> Option<IllTyped<'a>>
+    ensures decides { is_some result
+        ≡ not (same_name head.now.tested head.now.variable
+        && same_name head.now.stepped head.now.variable) }
+    ensures holds { IfSome result
+        (IsWrongHead head.now.variable head.now.tested head.now.stepped head.now.grain) }
+{
+    let variable = &head.variable;
+    if head.tested.as_bytes() != head.variable.as_bytes() {
+        return Some(IllTyped::HeadNames(variable, &head.tested));
+    }
+    if head.stepped.as_bytes() != head.variable.as_bytes() {
+        return Some(IllTyped::HeadNames(variable, &head.stepped));
+    }
+    None
+}
+
+// One of these names is no array.
+fn of_arrays<'a>(globals: &Globals<'a>, known: &Known<'a>, names: &'a [Name]) -> Option<IllTyped<'a>>
+    ensures decides { is_some result
+        ≡ not (list_all (λ a. rule.is_writable (kinds known.now) a) names.now) }
+    ensures holds { IfSome result
+        (IsMisuseIn (program_of globals.now.ast.now) known.now (as_arrays names.now)) }
+{
+    for a in names {
+        if let Some(reason) = of_use(globals, known, a, NameKind::Array) {
+            return Some(reason);
         }
     }
-    true
+    None
 }
 
-// Whether the three names of a loop's head are one new name, its ends are integers, its grain is in
-// range, and it is over arrays that may be written.
-fn is_head(globals: &Globals, known: &Known, head: &Head) -> bool
-    ensures { result ≡ spec.is_head (program_of globals.now.ast.now) known.now head.now }
+// A cut breaks a rule.
+fn of_cut<'a>(globals: &Globals<'a>, known: &Known<'a>, cut: &'a Cut) -> Option<IllTyped<'a>>
+    ensures decides { is_some result
+        ≡ not (cuts (program_of globals.now.ast.now) (kinds known.now) cut.now) }
+    ensures holds { IfSome result (IsBrokenCut (program_of globals.now.ast.now) known.now
+        cut.now.array (expr_of cut.now.at) cut.now.left cut.now.right) }
 {
-    is_new(globals, known, &head.variable)
-        && head.tested.as_bytes() == head.variable.as_bytes()
-        && head.stepped.as_bytes() == head.variable.as_bytes()
-        && is_fine(known, &head.from)
-        && is_fine(known, &head.to)
-        && 1 <= head.grain
-        && head.grain <= MOST_GRAIN
-        && are_arrays(known, &head.over)
+    if cut.left.as_bytes() == cut.right.as_bytes() {
+        return Some(IllTyped::PartsAlike(&cut.left));
+    }
+    if let Some(reason) = of_name_and(globals, known, &cut.array, NameKind::Array, &cut.at) {
+        return Some(reason);
+    }
+    if let Some(reason) = of_declared(globals, known, &cut.left) {
+        return Some(reason);
+    }
+    let reason = of_declared(globals, known, &cut.right)?;
+    Some(reason)
 }
 
-// Whether an array that may be written is cut at an integer into two new names that differ.
-fn is_cut(globals: &Globals, known: &Known, cut: &Cut) -> bool
-    ensures { result ≡ spec.cuts (program_of globals.now.ast.now) known.now cut.now }
-{
-    is_writable(known, &cut.array)
-        && is_fine(known, &cut.at)
-        && is_new(globals, known, &cut.left)
-        && is_new(globals, known, &cut.right)
-        && !(cut.left.as_bytes() == cut.right.as_bytes())
-}
-
-// Whether a return may stand here.
-fn may_return(returns: Returns, known: &Known, value: &Option<Expr>) -> bool
-    ensures { result ≡ may_give returns known.now value.now }
+// A return may not stand here.
+fn of_return<'a>(
+    globals: &Globals<'a>,
+    returns: Returns,
+    known: &Known<'a>,
+    value: &'a Option<Expr>,
+) -> Option<IllTyped<'a>>
+    ensures decides { is_some result
+        ≡ not (rule.may_return (returns_of returns) (kinds known.now)
+        (option_map expr_of value.now)) }
+    ensures holds { IfSome result
+        (IsBroken (program_of globals.now.ast.now) (returns_of returns) known.now
+        (model.Return (option_map expr_of value.now))) }
 {
     match (returns, value) {
-        (Returns::WithInt, Some(e)) => is_fine(known, e),
-        (Returns::Alone, None) => true,
-        (_, _) => false,
-    }
-}
-
-/// Whether what stands in the line of a statement itself keeps the rules, the blocks in it aside.
-pub fn keeps_rules(globals: &Globals, returns: Returns, known: &Known, stmt: &Stmt) -> bool
-    ensures { result ≡ line_keeps globals.now returns known.now stmt.now }
-{
-    match stmt {
-        Stmt::Declare(x, e) | Stmt::DeclareArray(x, e) => {
-            is_fine(known, e) && is_new(globals, known, x)
+        (Returns::Nowhere, _) => Some(IllTyped::ReturnInside),
+        (Returns::WithInt, None) => Some(IllTyped::ReturnsNothing),
+        (Returns::Alone, Some(_)) => Some(IllTyped::ReturnsValue),
+        (Returns::WithInt, Some(e)) => {
+            let reason = of_expr(globals, known, e)?;
+            Some(reason)
         }
-        Stmt::Assign(x, e) => is_int(known, x) && is_fine(known, e),
-        Stmt::AssignElement(a, i, e) => is_writable(known, a)
-            && is_fine(known, i)
-            && is_fine(known, e),
-        Stmt::Reduce(how, s, e) => is_reducer(globals, *how, s) && is_fine(known, e),
-        Stmt::Call(call) => is_call(globals, known, call),
-        Stmt::If(e, _) | Stmt::IfElse(e, _, _) | Stmt::While(e, _) | Stmt::Print(e) => {
-            is_fine(known, e)
-        }
-        Stmt::For(head, _) => is_head(globals, known, head),
-        Stmt::Cut(cut, _) => is_cut(globals, known, cut),
-        Stmt::Sync | Stmt::Scope(_) | Stmt::Region(_, _) => true,
-        Stmt::Return(value) => may_return(returns, known, value),
+        (Returns::Alone, None) => None,
     }
 }
 

@@ -18,7 +18,7 @@ pub fn different<'a>(alloc: Global, regions: &[Marked<'a>]) -> Result<Vec<Marked
     let mut found = Vec::new(alloc);
     for region in regions {
         if !seen.has(region.tag) {
-            seen.declare(region.tag, NameKind::Integer)?;
+            seen.declare(region.tag, NameKind::Integer, region.line)?;
             found.push(*region)?;
         }
     }

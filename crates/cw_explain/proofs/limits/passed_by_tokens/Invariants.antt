@@ -1,7 +1,6 @@
 use Rattle.std.proofs.Common.{◌≡◌, ◌≤◌, Contains, drop}
 use Rattle.cw_model.specs.Sizes.{token_faults}
-use Rattle.cw_explain.specs.Limits.{Nesting, nestings}
-use Rattle.cw_explain.specs.Rules.{has_line}
+use Rattle.cw_explain.specs.Limits.{Nesting, has_line, nestings}
 use Rattle.cw_explain.proofs.limits.passed_by_tokens.Given as goal
 
 abbrev pub invariant-loop-token : goal.invariant-loop-token

@@ -1,55 +1,37 @@
-use Rattle.std.proofs.Common.{◌≡◌, ℕ, refl, sym, ap, ◌∙◌, Option, Some, None}
+use Rattle.std.proofs.Common.{ap, ◌∙◌}
 use Rattle.cw_model.specs.Sizes.{limit_faults}
 use Rattle.cw_model.specs.Typing.{type_faults}
-use Rattle.cw_model.specs.lemmas.Lowest.{no_lines, least_line}
 use Rattle.cw_tree.specs.SyntaxView.{program_of}
 use Rattle.cw_tree.specs.Bounds.{is_fitting}
 use Rattle.cw_tree.specs.Resolved.{plain}
 use Rattle.cw_tree.specs.Slots.{is_resolved}
+use Rattle.cw_types.proofs.Refusing.{accepted, answered, refused_so}
 use Rattle.cw_types.proofs.checking.check.Goals as goal
 
-not_some : (o : Option ℕ) → ((n : ℕ) → o ≡ Some n → ⊥) → o ≡ None
-not_some None h = refl
-not_some (Some n) h = absurd (h n refl)
-
 pub returns-in-Some : goal.returns-in-Some
-returns-in-Some c = least_line (limit_faults (program_of c.args.ast)) c.in-Some.line (sym c.in_ok-size.ensures ∙ c.in-Some.is)
-
-pub faults-requires : goal.faults-requires
-faults-requires c =
-    no_lines (limit_faults (program_of c.args.ast)) (sym c.in_ok-size.ensures ∙ not_some c.in_ok-size.size.line c.in_default.not-Some)
+returns-in-Some c = answered (program_of c.args.ast) c.in-Some.found c.fault_of.result (refused_so (program_of c.args.ast) c.in_ok-found.field-0 c.in-Some.found c.in-Some.is c.in_ok-found.ensures) c.fault_of.ensures
 
 pub resolve-requires : goal.resolve-requires
-resolve-requires c =
-    no_lines (limit_faults (program_of c.args.ast)) (sym c.in_ok-size.ensures ∙ not_some c.in_ok-size.size.line c.in_default.not-Some)
-
-pub returns-in-Some-line : goal.returns-in-Some-line
-returns-in-Some-line c =
-    let program = program_of c.args.ast in
-    record {
-      within = no_lines (limit_faults program) (sym c.in_ok-size.ensures ∙ not_some c.in_ok-size.size.line c.in_default.not-Some);
-      least = least_line (type_faults program) c.in-Some-line.line (sym c.in_ok-types.ensures ∙ c.in-Some-line.is);
-    }
+resolve-requires c = (accepted (program_of c.args.ast) c.in_ok-found.field-0 c.in_default.not-Some c.in_ok-found.ensures).0
 
 pub invariant_of-result : goal.invariant_of-result
 invariant_of-result c =
     let program = program_of c.args.ast in
-    let within = no_lines (limit_faults program) (sym c.in_ok-size.ensures ∙ not_some c.in_ok-size.size.line c.in_default.not-Some) in
-    let none = no_lines (type_faults program) (sym c.in_ok-types.ensures ∙ not_some c.in_ok-types.types.line c.in_default-line.not-Some) in
-    let same = ap plain c.in_ok-tree.ensures ∙ c.plain_of_resolved.ensures program none in
+    let fine = accepted program c.in_ok-found.field-0 c.in_default.not-Some c.in_ok-found.ensures in
+    let same = ap plain c.in_ok-tree.ensures ∙ c.plain_of_resolved.ensures program fine.1 in
     record {
-      resolved = ap is_resolved c.in_ok-tree.ensures ∙ c.resolved_is_right.ensures program none;
-      within = ap limit_faults same ∙ within;
-      typed = ap type_faults same ∙ none;
-      fitting = ap is_fitting c.in_ok-tree.ensures ∙ c.resolved_is_fitting.ensures program within none;
+      resolved = ap is_resolved c.in_ok-tree.ensures ∙ c.resolved_is_right.ensures program fine.1;
+      within = ap limit_faults same ∙ fine.0;
+      typed = ap type_faults same ∙ fine.1;
+      fitting = ap is_fitting c.in_ok-tree.ensures ∙ c.resolved_is_fitting.ensures program fine.0 fine.1;
     }
 
 pub returns : goal.returns
 returns c =
     let program = program_of c.args.ast in
-    let none = no_lines (type_faults program) (sym c.in_ok-types.ensures ∙ not_some c.in_ok-types.types.line c.in_default-line.not-Some) in
+    let fine = accepted program c.in_ok-found.field-0 c.in_default.not-Some c.in_ok-found.ensures in
     record {
-      same = ap plain c.in_ok-tree.ensures ∙ c.plain_of_resolved.ensures program none;
-      within = no_lines (limit_faults program) (sym c.in_ok-size.ensures ∙ not_some c.in_ok-size.size.line c.in_default.not-Some);
-      typed = none;
+      same = ap plain c.in_ok-tree.ensures ∙ c.plain_of_resolved.ensures program fine.1;
+      within = fine.0;
+      typed = fine.1;
     }

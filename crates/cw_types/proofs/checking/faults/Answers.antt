@@ -1,15 +1,23 @@
-use Rattle.std.proofs.Common.{◌≡◌, ℕ, ◌++◌, List, [], map, flat_map, Option, None, ap, sym, ◌∙◌, arith}
+use Rattle.std.proofs.Common.{◌≡◌, ℕ, ◌++◌, List, [], map, flat_map, is_some, not, IfSome, Option, None, ap, sym, subst, refl, ◌∙◌, arith}
 use Rattle.std.proofs.lemmas.List.{length-map}
 use Rattle.cw_model.specs.Answers.{main_name}
 use Rattle.cw_model.specs.Lines.{lowest, unless}
 use Rattle.cw_model.specs.Names.{is_among}
-use Rattle.cw_model.specs.Syntax.{Program}
+use Rattle.cw_model.specs.Syntax.{Name, Program}
 use Rattle.cw_model.specs.Typing.{repeated, of_both_kinds, faults_of}
 use Rattle.cw_model.specs.lemmas.Lowest.{lowest-append}
+use Rattle.cw_tree.specs.declared.syntax.Function.{Function as CodeFunction}
+use Rattle.cw_tree.specs.declared.syntax.Reducer.{Reducer as CodeReducer}
 use Rattle.cw_tree.specs.SyntaxView.{program_of, function_of, reducer_of}
 use Rattle.cw_types.specs.Named.{functions_named, reducers_named}
-use Rattle.cw_tree.specs.Resolved.{function_names}
+use Rattle.cw_types.specs.Names.{function_names}
+use Rattle.cw_types.specs.Telling.{Tells, line_told}
+use Rattle.cw_types.specs.Told.{IsNoMain, IsRepeatedIn, IsTold, OfNames}
+use Rattle.cw_types.specs.Within.{faults_of_all}
 use Rattle.cw_tree.specs.lemmas.Few.{functions_few, reducers_few}
+use Rattle.cw_types.proofs.Among.{denied}
+use Rattle.cw_types.proofs.Refusing.{no_main_true, of_functions, of_reducers}
+use Rattle.cw_types.proofs.Telling.{all_true, and_then, found_true, weaken}
 use Rattle.cw_types.proofs.checking.faults.Goals as goal
 
 pub new-requires-clause-few_functions : goal.new-requires-clause-few_functions
@@ -31,21 +39,47 @@ five a b c d e p q r s t u none first second third fourth fifth =
     ∙ sym (lowest-append (lowest None a) (b ++ (c ++ d)) e)
     ∙ sym (lowest-append None a ((b ++ (c ++ d)) ++ e))
 
-pub returns : goal.returns
-returns c =
+pub returns-clause-lines : goal.returns-clause-lines
+returns-clause-lines c =
     let P = program_of c.args.ast.now in
     let fs = P.functions in
     let rs = P.reducers in
     let same : program_of c.in_ok-globals.globals.ast.now ≡ P = ap program_of c.in_ok-globals.ensures in
-    let main : c.has.result ≡ is_among main_name (function_names fs) =
-    c.has.ensures ∙ ap (is_among main_name) c.in_ok-globals.globals.functions_named ∙ ap (λ p. is_among main_name (function_names p.functions)) same in
-    five (unless (is_among main_name (function_names fs)) 1) (repeated (functions_named fs) []) (repeated (reducers_named rs) []) (flat_map (of_both_kinds (functions_named fs)) (reducers_named rs)) (flat_map (faults_of P) fs)
-    c.new-least.result.line c.note.new.self.line c.repeated_functions.new.least.line c.repeated_reducers.new.least.line c.shared_names.new.least.line c.functions_faults.new.least.line
-    c.new-least.ensures
-    (c.note.ensures ∙ ap (λ b. lowest c.new-least.result.line (unless b 1)) main)
-    (c.in_ok-repeated_functions.ensures ∙ ap (λ gs. lowest c.note.new.self.line (repeated (functions_named (map function_of gs)) [])) c.deref.ensures.value)
-    (c.in_ok-repeated_reducers.ensures ∙ ap (λ gs. lowest c.repeated_functions.new.least.line (repeated (reducers_named (map reducer_of gs)) [])) c.deref-2.ensures.value)
-    (c.shared_names.ensures
-    ∙ ap (λ gs. lowest c.repeated_reducers.new.least.line (flat_map (of_both_kinds (functions_named (map function_of gs))) (reducers_named (map reducer_of c.deref-4.result.now)))) c.deref-3.ensures.value
-    ∙ ap (λ gs. lowest c.repeated_reducers.new.least.line (flat_map (of_both_kinds (functions_named fs)) (reducers_named (map reducer_of gs)))) c.deref-4.ensures.value)
-    (c.in_ok-functions_faults.ensures ∙ ap (λ (p : Program). lowest c.shared_names.new.least.line (flat_map (faults_of p) p.functions)) same)
+    let main = is_among main_name (function_names fs) in
+    let start = line_told c.new-told.result in
+    let none : is_some c.no_main.result ≡ not main = c.no_main.ensures.decides ∙ ap (λ (p : Program). not (is_among main_name (function_names p.functions))) same in
+    five (unless main 1) (repeated (functions_named fs) []) (repeated (reducers_named rs) []) (flat_map (of_both_kinds (functions_named fs)) (reducers_named rs)) (flat_map (faults_of P) fs)
+    start (line_told c.note.new.self) (line_told c.repeated_functions.new.told) (line_told c.repeated_reducers.new.told) (line_told c.shared_names.new.told) (line_told c.functions_faults.new.told)
+    (ap (λ o. line_told (record { first = o })) c.new-told.ensures)
+    (c.note.ensures.lines ∙ ap (λ b. lowest start (unless b 1)) (denied (is_some c.no_main.result) main none))
+    (c.in_ok-repeated_functions.ensures.lines ∙ ap (λ gs. lowest (line_told c.note.new.self) (repeated (functions_named (map function_of gs)) [])) c.deref.ensures.value)
+    (c.in_ok-repeated_reducers.ensures.lines ∙ ap (λ gs. lowest (line_told c.repeated_functions.new.told) (repeated (reducers_named (map reducer_of gs)) [])) c.deref-2.ensures.value)
+    (c.shared_names.ensures.lines
+    ∙ ap (λ gs. lowest (line_told c.repeated_reducers.new.told) (flat_map (of_both_kinds (functions_named (map function_of gs))) (reducers_named (map reducer_of c.deref-4.result.now)))) c.deref-3.ensures.value
+    ∙ ap (λ gs. lowest (line_told c.repeated_reducers.new.told) (flat_map (of_both_kinds (functions_named fs)) (reducers_named (map reducer_of gs)))) c.deref-4.ensures.value)
+    (c.in_ok-functions_faults.ensures.lines ∙ ap (λ (p : Program). lowest (line_told c.shared_names.new.told) (faults_of_all p)) same)
+
+pub returns-clause-holds : goal.returns-clause-holds
+returns-clause-holds c =
+    let P = program_of c.args.ast.now in
+    let fs = functions_named P.functions in
+    let rs = reducers_named P.reducers in
+    let same : program_of c.in_ok-globals.globals.ast.now ≡ P = ap program_of c.in_ok-globals.ensures in
+    let Such = IsTold P in
+    let start = c.new-told.result in
+    let first = subst (λ (gs : List CodeFunction). Tells (IsRepeatedIn (functions_named (map function_of gs))) c.note.new.self c.repeated_functions.new.told) c.deref.ensures.value c.in_ok-repeated_functions.ensures.told in
+    let second = subst (λ (gs : List CodeReducer). Tells (IsRepeatedIn (reducers_named (map reducer_of gs))) c.repeated_functions.new.told c.repeated_reducers.new.told) c.deref-2.ensures.value c.in_ok-repeated_reducers.ensures.told in
+    let third = subst (λ (gs : List CodeFunction). Tells (IsRepeatedIn (functions_named (map function_of gs) ++ reducers_named (map reducer_of c.deref-4.result.now))) c.repeated_reducers.new.told c.shared_names.new.told) c.deref-3.ensures.value c.shared_names.ensures.told in
+    let both = subst (λ (gs : List CodeReducer). Tells (IsRepeatedIn (fs ++ reducers_named (map reducer_of gs))) c.repeated_reducers.new.told c.shared_names.new.told) c.deref-4.ensures.value third in
+    let rest = subst (λ (p : Program). Tells (IsTold p) c.shared_names.new.told c.functions_faults.new.told) same c.in_ok-functions_faults.ensures.told in
+    let main = subst (λ (p : Program). IfSome c.no_main.result (IsNoMain p)) same c.no_main.ensures.holds in
+    all_true Such start c.functions_faults.new.told c.new-told.ensures
+    (and_then Such start c.note.new.self c.functions_faults.new.told
+    (found_true Such start c.note.new.self 1 c.no_main.result (no_main_true P c.no_main.result main) c.note.ensures.told)
+    (and_then Such c.note.new.self c.repeated_functions.new.told c.functions_faults.new.told
+    (weaken (IsRepeatedIn fs) Such c.note.new.self c.repeated_functions.new.told (of_functions P) first)
+    (and_then Such c.repeated_functions.new.told c.repeated_reducers.new.told c.functions_faults.new.told
+    (weaken (IsRepeatedIn rs) Such c.repeated_functions.new.told c.repeated_reducers.new.told (of_reducers P) second)
+    (and_then Such c.repeated_reducers.new.told c.shared_names.new.told c.functions_faults.new.told
+    (weaken (IsRepeatedIn (fs ++ rs)) Such c.repeated_reducers.new.told c.shared_names.new.told (λ line r h. OfNames h) both)
+    rest))))

@@ -1,29 +1,55 @@
-use Rattle.std.proofs.Common.{if◌then◌else◌, ◌≡◌, ◌++◌, ◌&&◌, [], map, ap, sym, ◌∙◌}
+use Rattle.std.proofs.Common.{if◌then◌else◌, ◌≡◌, ◌++◌, ◌∙◌, [], List, Option, Some, None, IfSome, is_some, map, ap, sym, subst, refl}
 use Rattle.std.proofs.lemmas.List.{append-nil}
 use Rattle.cw_model.specs.Lines.{lowest, unless}
-use Rattle.cw_model.specs.Typing.{known_of, faults_in_block, is_head, WithInt, Alone}
+use Rattle.cw_model.specs.Typing as rule
+use Rattle.cw_model.specs.Typing.{known_of, faults_in_block, is_head}
 use Rattle.cw_model.specs.lemmas.Lowest.{lowest-append}
+use Rattle.cw_tree.specs.declared.syntax.Line.{Line}
 use Rattle.cw_tree.specs.SyntaxView.{program_of, function_of, param_of, block_of}
-use Rattle.cw_types.specs.Typing.{are_new, keeps_head}
-use Rattle.cw_types.proofs.Heading.{head_by_parts}
+use Rattle.cw_types.specs.declared.reason.IllTyped.{IllTyped}
+use Rattle.cw_types.specs.Returned.{returns_in}
+use Rattle.cw_types.specs.Scope.{Declared, kinds, with_params}
+use Rattle.cw_types.specs.Standing.{standing_in, standing_of}
+use Rattle.cw_types.specs.Telling.{line_told}
+use Rattle.cw_types.specs.Told.{IsToldOf, IsWrongFunction, OfHead, OfStatement}
+use Rattle.cw_types.specs.Within.{IsAmong, IsToldIn, TellsAmong}
+use Rattle.cw_types.proofs.Among.{denied}
+use Rattle.cw_types.proofs.Telling.{and_then, found_true, weaken}
+use Rattle.cw_types.proofs.Walking.{kinds_of_params}
 use Rattle.cw_types.proofs.functions.function_faults.Goals as goal
 
-pub returns : goal.returns
-returns c =
+pub returns-clause-lines : goal.returns-clause-lines
+returns-clause-lines c =
     let P = program_of c.args.globals.now.ast.now in
     let f = function_of c.args.function.now in
-    let old = c.args.least.now.line in
-    let ps = map param_of c.deref.result.now in
-    let known : c.declare_params.new.known ≡ known_of f.params =
-    c.in_ok-are_new.ensures.known ∙ ap (λ ks. known_of ps ++ ks) c.new-known.ensures ∙ append-nil (known_of ps)
-    ∙ ap (λ qs. known_of (map param_of qs)) c.deref.ensures.value in
-    let new : c.in_ok-are_new.are_new ≡ are_new P [] f.params =
-    c.in_ok-are_new.ensures.new ∙ ap (λ ks. are_new P ks ps) c.new-known.ensures ∙ ap (λ qs. are_new P [] (map param_of qs)) c.deref.ensures.value in
-    let head : c.keeps_head.result ≡ is_head P f = c.keeps_head.ensures ∙ ap (λ b. b && keeps_head f) new ∙ head_by_parts P f in
-    let n = c.note.new.self.line in
+    let old = line_told c.args.told.now in
+    let ps = map param_of c.args.function.now.params.items in
+    let known : kinds c.in_ok-known.known ≡ known_of ps =
+    ap kinds c.in_ok-known.ensures ∙ kinds_of_params f.line ps [] ∙ append-nil (known_of ps) in
+    let head : line_told c.note.new.self ≡ lowest old (unless (is_head P f) f.line) =
+    c.note.ensures.lines ∙ ap (λ b. lowest old (unless b f.line)) (denied (is_some c.of_head.result) (is_head P f) c.of_head.ensures.decides) in
+    let n = line_told c.note.new.self in
     c.in_ok-block.ensures.lines
-    ∙ ap (λ r. lowest n (faults_in_block P r c.declare_params.new.known (block_of c.deref-2.result.now))) c.returns_of-returns.ensures
-    ∙ ap (λ ks. lowest n (faults_in_block P (if f.gives_int then WithInt else Alone) ks (block_of c.deref-2.result.now))) known
-    ∙ ap (λ ls. lowest n (faults_in_block P (if f.gives_int then WithInt else Alone) (known_of f.params) (block_of ls))) c.deref-2.ensures.value
-    ∙ ap (λ o. lowest o (faults_in_block P (if f.gives_int then WithInt else Alone) (known_of f.params) f.body)) (c.note.ensures ∙ ap (λ b. lowest old (unless b f.line)) head)
-    ∙ sym (lowest-append old (unless (is_head P f) f.line) (faults_in_block P (if f.gives_int then WithInt else Alone) (known_of f.params) f.body))
+    ∙ ap (λ r. lowest n (faults_in_block P r (kinds c.in_ok-known.known) (block_of c.as_slice.result.now))) c.returns_of.ensures
+    ∙ ap (λ ks. lowest n (faults_in_block P (returns_in f) ks (block_of c.as_slice.result.now))) known
+    ∙ ap (λ ls. lowest n (faults_in_block P (returns_in f) (known_of ps) (block_of ls))) c.as_slice.ensures.value
+    ∙ ap (λ o. lowest o (faults_in_block P (returns_in f) (known_of f.params) f.body)) head
+    ∙ sym (lowest-append old (unless (is_head P f) f.line) (faults_in_block P (returns_in f) (known_of f.params) f.body))
+
+pub returns-clause-told : goal.returns-clause-told
+returns-clause-told c =
+    let G = c.args.globals.now in
+    let f = function_of c.args.function.now in
+    let ps = map param_of c.args.function.now.params.items in
+    let Such = IsToldIn G c.args.function.now in
+    let seen = subst (λ (r : rule.Returns). TellsAmong G (standing_in r c.in_ok-known.known (block_of c.as_slice.result.now)) c.note.new.self c.block.new.told) c.returns_of.ensures c.in_ok-block.ensures.told in
+    let known = subst (λ (ds : List Declared). TellsAmong G (standing_in (returns_in f) ds (block_of c.as_slice.result.now)) c.note.new.self c.block.new.told) c.in_ok-known.ensures seen in
+    let body = subst (λ (ls : List Line). TellsAmong G (standing_in (returns_in f) (with_params f.line ps []) (block_of ls)) c.note.new.self c.block.new.told) c.as_slice.ensures.value known in
+    and_then Such c.args.told.now c.note.new.self c.block.new.told
+    (found_true Such c.args.told.now c.note.new.self f.line c.of_head.result (headed c.of_head.result c.of_head.ensures.holds) c.note.ensures.told)
+    (weaken (IsAmong G (standing_of f)) Such c.note.new.self c.block.new.told (λ line r h. OfStatement h) body)
+  where
+    headed : (found : Option IllTyped) → IfSome found (IsWrongFunction (program_of c.args.globals.now.ast.now) (function_of c.args.function.now)) →
+        IfSome found (IsToldIn c.args.globals.now c.args.function.now c.args.function.now.line)
+    headed None h = h
+    headed (Some r) h = OfHead refl h

@@ -1,38 +1,32 @@
-use Rattle.std.proofs.Common.{◌≡◌, ℕ, zero, suc, List, [], ◌∷◌, ◌++◌, map, drop, length, nat_le, ap, sym, refl, ◌∙◌, arith}
-use Rattle.std.proofs.lemmas.List.{length-map, append-nil}
-use Rattle.cw_model.specs.declared.limits.TheConstants.{MOST_DECLARED}
-use Rattle.cw_model.specs.Lines.{unless}
-use Rattle.cw_model.specs.Sizes.{declaring_lines_in}
-use Rattle.cw_tree.specs.SyntaxView.{param_of, block_of}
-use Rattle.cw_tree.specs.declared.syntax.Param.{Param}
-use Rattle.cw_model.specs.Lines.{lowest}
+use Rattle.std.proofs.Common.{◌≡◌, ℕ, not, nat_le, Option, Some, None, IfSome, is_some, length, ap, sym, refl, ◌∙◌}
+use Rattle.std.specs.Option.{option_to_list}
+use Rattle.cw_model.specs.declared.limits.TheConstants.{MOST_PARAMETERS}
+use Rattle.cw_model.specs.Lines.{lowest, unless}
 use Rattle.cw_model.specs.lemmas.Lowest.{lowest-append}
+use Rattle.cw_tree.specs.SyntaxView.{function_of}
+use Rattle.cw_types.specs.Limits.{IsPassedByFunction, declared_past}
+use Rattle.cw_types.specs.Telling.{line_told}
+use Rattle.cw_types.proofs.Among.{denied}
+use Rattle.cw_types.proofs.Telling.{and_then, found_true, least_true, lowest_least}
 use Rattle.cw_types.proofs.limits.function_limits.Goals as goal
 
-heads : (line : ℕ) (ps : List Param) → map (λ _. line) ps ≡ map (λ _. line) (map param_of ps)
-heads line [] = refl
-heads line (p ∷ ps) = ap (λ ls. line ∷ ls) (heads line ps)
+pub returns-clause-lines : goal.returns-clause-lines
+returns-clause-lines c =
+    let f = function_of c.args.function.now in
+    let old = line_told c.args.told.now in
+    let few = nat_le (length f.params) MOST_PARAMETERS in
+    let past = declared_past f in
+    let n = line_told c.note.new.self in
+    c.note_least.ensures.lines
+    ∙ ap (λ o. lowest n (option_to_list o)) c.declared_beyond.ensures
+    ∙ lowest_least n past
+    ∙ ap (λ o. lowest o past) (c.note.ensures.lines ∙ ap (λ b. lowest old (unless b f.line)) (denied (is_some c.many_params.result) few c.many_params.ensures.decides))
+    ∙ sym (lowest-append old (unless few f.line) past)
 
-dropped : (n : ℕ) → drop {A = ℕ} n [] ≡ []
-dropped zero = refl
-dropped (suc n) = refl
-
-pub returns : goal.returns
-returns c =
-    let ps = c.args.function.now.params.items in
-    let line = c.args.function.now.line in
-    let old = c.args.least.now.line in
-    let lines = declaring_lines_in (block_of c.args.function.now.body.items) in
-    let count : c.len.result ≡ length (map param_of ps) = grind (arith, length-map) in
-    let room = drop MOST_DECLARED (map (λ _. line) (map param_of ps) ++ lines) in
-    let nothing : drop c.block_beyond.result [] ≡ [] = dropped c.block_beyond.result in
-    sym (ap (lowest c.block_beyond.new.least.line) nothing)
-    ∙ c.block_beyond.ensures []
-    ∙ ap (λ ls. lowest c.params_beyond-room.new.least.line (drop c.params_beyond-room.result ls)) (append-nil (declaring_lines_in (block_of c.deref-2.result.now)))
-    ∙ ap (λ b. lowest c.params_beyond-room.new.least.line (drop c.params_beyond-room.result (declaring_lines_in (block_of b)))) c.deref-2.ensures.value
-    ∙ c.params_beyond-room.ensures lines
-    ∙ ap (λ l. lowest c.note.new.self.line (drop MOST_DECLARED (map (λ _. line) l ++ lines))) c.deref.ensures.value
-    ∙ ap (λ l. lowest c.note.new.self.line (drop MOST_DECLARED (l ++ lines))) (heads line ps)
-    ∙ ap (λ o. lowest o room) c.note.ensures
-    ∙ ap (λ n. lowest (lowest old (unless (nat_le n 16) line)) room) count
-    ∙ sym (lowest-append old (unless (nat_le (length (map param_of ps)) 16) line) room)
+pub returns-clause-told : goal.returns-clause-told
+returns-clause-told c =
+    let f = function_of c.args.function.now in
+    let Such = IsPassedByFunction f in
+    and_then Such c.args.told.now c.note.new.self c.note_least.new.self
+    (found_true Such c.args.told.now c.note.new.self f.line c.many_params.result c.many_params.ensures.holds c.note.ensures.told)
+    (least_true Such c.note.new.self c.note_least.new.self c.declared_beyond.result.line (declared_past f) _ c.declared_beyond.ensures (λ line h. (refl, h)) c.note_least.ensures.told)

@@ -5,14 +5,29 @@ use Rattle.cw_model.specs.Sizes.{function_limits}
 use Rattle.cw_tree.specs.SyntaxView.{function_of}
 use Rattle.cw_model.specs.Lines.{lowest}
 use Rattle.cw_model.specs.lemmas.Lowest.{lowest-append}
+use Rattle.cw_types.specs.Limits.{IsPassedByFunction, IsPassedByOne}
+use Rattle.cw_types.specs.Telling.{line_told}
+use Rattle.cw_types.proofs.Repeating.{in_map}
+use Rattle.cw_types.proofs.Telling.{and_then, weaken}
 use Rattle.cw_types.proofs.limits.functions_limits.Goals as goal
 
 pub loop-function-preserved : goal.loop-function-preserved
 loop-function-preserved c =
+    let fs = c.args.functions.now in
+    let i = c.loop-function.function-index in
     let f = function_of c.function-item.result in
-    let rest = map function_of (drop (c.loop-function.function-index + 1) c.args.functions.now) in
-    let split : map function_of (drop c.loop-function.function-index c.args.functions.now) ≡ f ∷ rest = grind (arith, common_steps) in
-    ap (λ o. lowest o (flat_map function_limits rest)) c.function_limits.ensures
-    ∙ sym (lowest-append c.loop-function.least.line (function_limits f) (flat_map function_limits rest))
-    ∙ ap (λ (fs : List Function). lowest c.loop-function.least.line (flat_map function_limits fs)) (sym split)
-    ∙ c.loop-function.invariant
+    let rest = map function_of (drop (i + 1) fs) in
+    let split : map function_of (drop i fs) ≡ f ∷ rest = grind (arith, common_steps) in
+    let p = line_told c.loop-function.told in
+    let there = in_map function_of fs i c.function-item.result c.loop-function-test.true c.function-item.is in
+    record {
+      same =
+          ap (λ o. lowest o (flat_map function_limits rest)) c.function_limits.ensures.lines
+          ∙ sym (lowest-append p (function_limits f) (flat_map function_limits rest))
+          ∙ ap (λ (gs : List Function). lowest p (flat_map function_limits gs)) (sym split)
+          ∙ c.loop-function.invariant.same;
+      told =
+          and_then (IsPassedByOne (map function_of fs)) c.args.told.now c.loop-function.told c.function_limits.new.told c.loop-function.invariant.told
+          (weaken (IsPassedByFunction f) (IsPassedByOne (map function_of fs)) c.loop-function.told c.function_limits.new.told
+          (λ line r h. record { one = f; there = there; passed = h }) c.function_limits.ensures.told);
+    }

@@ -1,11 +1,17 @@
-use Rattle.std.proofs.Common.{◌≡◌, ℕ, List, [], ◌++◌, map, flat_map, length, nat_le, Option, None, ap, sym, ◌∙◌}
+use Rattle.std.proofs.Common.{◌≡◌, ℕ, List, [], ◌++◌, map, flat_map, length, nat_le, Option, None, ap, sym, subst, ◌∙◌}
+use Rattle.std.specs.Option.{option_to_list}
 use Rattle.cw_model.specs.Syntax.{Name, Function, Reducer}
 use Rattle.cw_model.specs.declared.limits.TheConstants.{MOST_FUNCTIONS, MOST_REDUCERS, MOST_TAGS, MOST_TAG_BYTES}
 use Rattle.cw_model.specs.Lines.{lowest, unless}
-use Rattle.cw_model.specs.Sizes.{function_limits, lines_beyond, first_places, regions_in_block}
+use Rattle.cw_model.specs.Sizes.{function_limits, lines_beyond, first_places, regions_in_block, regions_of as regions_in}
 use Rattle.cw_model.specs.lemmas.Lowest.{lowest-append}
-use Rattle.cw_tree.specs.SyntaxView.{function_of, reducer_of}
+use Rattle.cw_tree.specs.declared.syntax.Function.{Function as CodeFunction}
+use Rattle.cw_tree.specs.SyntaxView.{function_of, program_of, reducer_of}
+use Rattle.cw_types.specs.Limits.{ByCount, ByFunction, ByRegions, IsPassedByOne, IsPassedByParts, IsPassedByRegions}
+use Rattle.cw_types.specs.Noted.{tags_past}
 use Rattle.cw_types.specs.Regions.{regions_of}
+use Rattle.cw_types.specs.Telling.{Tells, line_told}
+use Rattle.cw_types.proofs.Telling.{all_true, and_then, least_true, lowest_least, weaken}
 use Rattle.cw_types.proofs.limits.limits.Goals as goal
 
 five : (a b c d e : List ℕ) (p q r s t u : Option ℕ) → p ≡ None → q ≡ lowest p a → r ≡ lowest q b → s ≡ lowest r c → t ≡ lowest s d → u ≡ lowest t e →
@@ -22,18 +28,49 @@ five a b c d e p q r s t u none first second third fourth fifth =
     ∙ sym (lowest-append (lowest None a) b (c ++ (d ++ e)))
     ∙ sym (lowest-append None a (b ++ (c ++ (d ++ e))))
 
-pub returns : goal.returns
-returns c =
+-- the least of lines, noted at once, by what is said of it
+once : (p q least : Option ℕ) (lines : List ℕ) → q ≡ lowest p (option_to_list least) → least ≡ lowest None lines → q ≡ lowest p lines
+once p q least lines noted is = noted ∙ ap (λ o. lowest p (option_to_list o)) is ∙ lowest_least p lines
+
+pub returns-clause-lines : goal.returns-clause-lines
+returns-clause-lines c =
     let fs = map function_of c.args.ast.now.functions.items in
     let rs = map reducer_of c.args.ast.now.reducers.items in
     let marks : List (Name × ℕ) = flat_map (λ (f : Function). regions_in_block f.body) fs in
     let found = c.in_ok-regions.ensures ∙ ap (λ gs. flat_map (λ (f : Function). regions_in_block f.body) (map function_of gs)) c.deref-4.ensures.value in
+    let functions = c.functions_beyond.ensures ∙ ap (λ gs. lowest None (lines_beyond MOST_FUNCTIONS (map (λ (f : Function). f.line) (map function_of gs)))) c.deref.ensures.value in
+    let reducers = c.reducers_beyond.ensures ∙ ap (λ gs. lowest None (lines_beyond MOST_REDUCERS (map (λ (r : Reducer). r.line) (map reducer_of gs)))) c.deref-2.ensures.value in
+    let tags = c.in_ok-tags_beyond.ensures ∙ ap (λ ms. lowest None (tags_past ms)) (ap regions_of c.deref-6.ensures.value ∙ found) in
     five (lines_beyond MOST_FUNCTIONS (map (λ (f : Function). f.line) fs)) (lines_beyond MOST_REDUCERS (map (λ (r : Reducer). r.line) rs)) (flat_map function_limits fs)
-    (flat_map (λ (d : Name × ℕ). unless (nat_le (length d.0) MOST_TAG_BYTES) d.1) marks) (lines_beyond MOST_TAGS (map (λ (d : Name × ℕ). d.1) (first_places marks [])))
-    c.new-least.result.line c.functions_beyond.new.least.line c.reducers_beyond.new.least.line c.functions_limits.new.least.line c.long_tags.new.least.line c.tags_beyond.new.least.line
-    c.new-least.ensures
-    (c.functions_beyond.ensures ∙ ap (λ gs. lowest c.new-least.result.line (lines_beyond MOST_FUNCTIONS (map (λ (f : Function). f.line) (map function_of gs)))) c.deref.ensures.value)
-    (c.reducers_beyond.ensures ∙ ap (λ gs. lowest c.functions_beyond.new.least.line (lines_beyond MOST_REDUCERS (map (λ (r : Reducer). r.line) (map reducer_of gs)))) c.deref-2.ensures.value)
-    (c.functions_limits.ensures ∙ ap (λ gs. lowest c.reducers_beyond.new.least.line (flat_map function_limits (map function_of gs))) c.deref-3.ensures.value)
-    (c.long_tags.ensures ∙ ap (λ ms. lowest c.functions_limits.new.least.line (flat_map (λ (d : Name × ℕ). unless (nat_le (length d.0) MOST_TAG_BYTES) d.1) ms)) (ap regions_of c.deref-5.ensures.value ∙ found))
-    (c.in_ok-tags_beyond.ensures ∙ ap (λ ms. lowest c.long_tags.new.least.line (lines_beyond MOST_TAGS (map (λ (d : Name × ℕ). d.1) (first_places ms [])))) (ap regions_of c.deref-6.ensures.value ∙ found))
+    (flat_map (λ (d : Name × ℕ). unless (nat_le (length d.0) MOST_TAG_BYTES) d.1) marks) (tags_past marks)
+    (line_told c.new-told.result) (line_told c.note_least.new.self) (line_told c.note_least-2.new.self) (line_told c.functions_limits.new.told) (line_told c.long_tags.new.told) (line_told c.note_least-3.new.self)
+    (ap (λ o. line_told (record { first = o })) c.new-told.ensures)
+    (once (line_told c.new-told.result) (line_told c.note_least.new.self) c.functions_beyond.result.line (lines_beyond MOST_FUNCTIONS (map (λ (f : Function). f.line) fs)) c.note_least.ensures.lines functions)
+    (once (line_told c.note_least.new.self) (line_told c.note_least-2.new.self) c.reducers_beyond.result.line (lines_beyond MOST_REDUCERS (map (λ (r : Reducer). r.line) rs)) c.note_least-2.ensures.lines reducers)
+    (c.functions_limits.ensures.lines ∙ ap (λ gs. lowest (line_told c.note_least-2.new.self) (flat_map function_limits (map function_of gs))) c.deref-3.ensures.value)
+    (c.long_tags.ensures.lines ∙ ap (λ ms. lowest (line_told c.functions_limits.new.told) (flat_map (λ (d : Name × ℕ). unless (nat_le (length d.0) MOST_TAG_BYTES) d.1) ms)) (ap regions_of c.deref-5.ensures.value ∙ found))
+    (once (line_told c.long_tags.new.told) (line_told c.note_least-3.new.self) c.in_ok-tags_beyond.field-0.line (tags_past marks) c.note_least-3.ensures.lines tags)
+
+pub returns-clause-holds : goal.returns-clause-holds
+returns-clause-holds c =
+    let P = program_of c.args.ast.now in
+    let fs = map function_of c.args.ast.now.functions.items in
+    let rs = map reducer_of c.args.ast.now.reducers.items in
+    let marks : List (Name × ℕ) = flat_map (λ (f : Function). regions_in_block f.body) fs in
+    let found = c.in_ok-regions.ensures ∙ ap (λ gs. flat_map (λ (f : Function). regions_in_block f.body) (map function_of gs)) c.deref-4.ensures.value in
+    let functions = c.functions_beyond.ensures ∙ ap (λ gs. lowest None (lines_beyond MOST_FUNCTIONS (map (λ (f : Function). f.line) (map function_of gs)))) c.deref.ensures.value in
+    let reducers = c.reducers_beyond.ensures ∙ ap (λ gs. lowest None (lines_beyond MOST_REDUCERS (map (λ (r : Reducer). r.line) (map reducer_of gs)))) c.deref-2.ensures.value in
+    let tags = c.in_ok-tags_beyond.ensures ∙ ap (λ ms. lowest None (tags_past ms)) (ap regions_of c.deref-6.ensures.value ∙ found) in
+    let Such = IsPassedByParts P in
+    let one = subst (λ (gs : List CodeFunction). Tells (IsPassedByOne (map function_of gs)) c.note_least-2.new.self c.functions_limits.new.told) c.deref-3.ensures.value c.functions_limits.ensures.told in
+    let long = subst (λ (ms : List (Name × ℕ)). Tells (IsPassedByRegions ms) c.functions_limits.new.told c.long_tags.new.told) (ap regions_of c.deref-5.ensures.value ∙ found) c.long_tags.ensures.told in
+    all_true Such c.new-told.result c.note_least-3.new.self c.new-told.ensures
+    (and_then Such c.new-told.result c.note_least.new.self c.note_least-3.new.self
+    (least_true Such c.new-told.result c.note_least.new.self c.functions_beyond.result.line (lines_beyond MOST_FUNCTIONS (map (λ (f : Function). f.line) fs)) _ functions (λ line h. ByCount h) c.note_least.ensures.told)
+    (and_then Such c.note_least.new.self c.note_least-2.new.self c.note_least-3.new.self
+    (least_true Such c.note_least.new.self c.note_least-2.new.self c.reducers_beyond.result.line (lines_beyond MOST_REDUCERS (map (λ (r : Reducer). r.line) rs)) _ reducers (λ line h. ByCount h) c.note_least-2.ensures.told)
+    (and_then Such c.note_least-2.new.self c.functions_limits.new.told c.note_least-3.new.self
+    (weaken (IsPassedByOne fs) Such c.note_least-2.new.self c.functions_limits.new.told (λ line r h. ByFunction h) one)
+    (and_then Such c.functions_limits.new.told c.long_tags.new.told c.note_least-3.new.self
+    (weaken (IsPassedByRegions marks) Such c.functions_limits.new.told c.long_tags.new.told (λ line r h. ByRegions h) long)
+    (least_true Such c.long_tags.new.told c.note_least-3.new.self c.in_ok-tags_beyond.field-0.line (tags_past marks) _ tags (λ line h. ByRegions h) c.note_least-3.ensures.told)))))

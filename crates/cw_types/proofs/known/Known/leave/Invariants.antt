@@ -1,5 +1,5 @@
 use Rattle.std.proofs.Common.{◌≡◌, ◌≤◌, length}
-use Rattle.cw_types.specs.Typing.{oldest}
+use Rattle.cw_types.specs.Scope.{oldest}
 use Rattle.cw_types.proofs.known.Known.leave.Given as goal
 
 abbrev pub invariant-loop-self : goal.invariant-loop-self

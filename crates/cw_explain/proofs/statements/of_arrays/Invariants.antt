@@ -1,9 +1,0 @@
-use Rattle.std.proofs.Common.{◌≡◌, drop}
-use Rattle.std.specs.List.{list_all}
-use Rattle.cw_model.specs.Typing.{is_writable}
-use Rattle.cw_explain.specs.Names.{names_of}
-use Rattle.cw_explain.proofs.statements.of_arrays.Given as goal
-
-abbrev pub invariant-loop-a : goal.invariant-loop-a
-invariant-loop-a l =
-    list_all (λ a. is_writable (names_of l.known) a) (drop l.a-index l.names) ≡ list_all (λ a. is_writable (names_of l.known) a) l.names

@@ -1,0 +1,43 @@
+-- A reason that is true of one statement is true of one among others.
+use Rattle.std.proofs.Common.{Bool, true, false, not, ◌≡◌, ℕ, List, Contains, Option, Some, None, IfSome, refl}
+use Rattle.cw_model.specs.Typing.{Returns}
+use Rattle.cw_tree.specs.declared.syntax.Line.{Line}
+use Rattle.cw_types.specs.declared.globals.Globals.{Globals}
+use Rattle.cw_types.specs.declared.reason.IllTyped.{IllTyped}
+use Rattle.cw_types.specs.declared.told.Told.{Told}
+use Rattle.cw_types.specs.Reasons.{IsBroken}
+use Rattle.cw_types.specs.Scope.{Declared}
+use Rattle.cw_types.specs.Standing.{Standing, standing_at}
+use Rattle.cw_types.specs.Telling.{Tells}
+use Rattle.cw_types.specs.Told.{Breaks, Ends, IsNeverReached, IsToldAmong}
+use Rattle.cw_types.specs.Within.{IsAmong, NeverReached, program_in}
+use Rattle.cw_types.proofs.Telling.{weaken}
+
+pub broken_among : (globals : Globals) (s : Standing) (all : List Standing) (found : Option IllTyped) → Contains all s →
+    IfSome found (IsBroken (program_in globals) s.returns s.locals s.stmt) → IfSome found (IsAmong globals all s.line)
+broken_among globals s all None there h = h
+broken_among globals s all (Some r) there h = record { statement = s; there = there; at_line = refl; wrong = Breaks h }
+
+pub ended_among : (globals : Globals) (s : Standing) (all : List Standing) (found : Option IllTyped) → Contains all s →
+    IfSome found (IsNeverReached s) → IfSome found (IsAmong globals all s.line)
+ended_among globals s all None there h = h
+ended_among globals s all (Some r) there h = record { statement = s; there = there; at_line = refl; wrong = Ends h }
+
+-- what is never reached behind a line is so where the line stands
+pub ended_there : (returns : Returns) (known : List Declared) (line : Line) (behind : List Line) (found : Option IllTyped) →
+    IfSome found (NeverReached line behind) → IfSome found (IsNeverReached (standing_at returns known line behind))
+ended_there returns known line behind None h = h
+ended_there returns known line behind (Some r) h = h returns known
+
+pub among_more : (globals : Globals) (xs ys : List Standing) (a b : Told IllTyped) → ((s : Standing) → Contains xs s → Contains ys s) →
+    Tells (IsAmong globals xs) a b → Tells (IsAmong globals ys) a b
+among_more globals xs ys a b within told =
+    weaken (IsAmong globals xs) (IsAmong globals ys) a b
+    (λ line r h. record { statement = h.statement; there = within h.statement h.there; at_line = h.at_line; wrong = h.wrong }) told
+
+-- a rule is kept where no reason is found
+pub denied : (found kept : Bool) → found ≡ not kept → not found ≡ kept
+denied true true h = cc
+denied true false h = refl
+denied false true h = refl
+denied false false h = cc

@@ -1,0 +1,90 @@
+-- What is told of lines that are noted one after another.
+use Rattle.std.proofs.Common.{Bool, true, false, not, ◌||◌, ◌≡◌, ℕ, nat_le, if◌then◌else◌, arith, List, [], ◌∷◌,  Contains, Option, Some, None, IfSome, option_map, refl, sym, ap, ◌∙◌, subst}
+use Rattle.std.proofs.lemmas.Bool.Decides.{nat_tests}
+use Rattle.std.specs.Option.{option_to_list}
+use Rattle.cw_model.specs.Lines.{lesser, lowest}
+use Rattle.cw_model.specs.lemmas.Lowest.{least_line}
+use Rattle.cw_types.specs.Telling.{AsBefore, Anew, IsOf, IsTheLeast, IsTheOne, Tells, line_told}
+use Rattle.cw_types.specs.declared.told.At.{At}
+use Rattle.cw_types.specs.declared.told.Told.{Told}
+
+-- what is true of more is told of more
+pub weaken : {R : Type 0} (Such More : ℕ → R → Type 0) (a b : Told R) → ((line : ℕ) (r : R) → Such line r → More line r) → Tells Such a b → Tells More a b
+weaken {R} Such More a b f (AsBefore same) = AsBefore same
+weaken {R} Such More a b f (Anew holds) = Anew (lift b.first holds)
+  where
+    lift : (o : Option (At R)) → IfSome o (λ at. Such at.line at.reason) → IfSome o (λ at. More at.line at.reason)
+    lift None h = h
+    lift (Some at) h = f at.line at.reason h
+
+-- what is told is still told
+pub still : {R : Type 0} (Such : ℕ → R → Type 0) (a b : Told R) → b.first ≡ a.first → IsOf Such a → IsOf Such b
+still {R} Such a b same holds = subst (λ (o : Option (At R)). IfSome o (λ at. Such at.line at.reason)) (sym same) holds
+
+-- one thing after another
+pub and_then : {R : Type 0} (Such : ℕ → R → Type 0) (a b c : Told R) → Tells Such a b → Tells Such b c → Tells Such a c
+and_then {R} Such a b c (AsBefore first) (AsBefore second) = AsBefore (second ∙ first)
+and_then {R} Such a b c (Anew first) (AsBefore second) = Anew (still Such b c second first)
+and_then {R} Such a b c first (Anew second) = Anew second
+
+-- nothing more was told
+pub nothing_more : {R : Type 0} (Such : ℕ → R → Type 0) (a b : Told R) → b ≡ a → Tells Such a b
+nothing_more {R} Such a b same = AsBefore (ap (λ t. t.first) same)
+
+-- a reason that was found is told where it is true
+pub found_true : {R : Type 0} (Such : ℕ → R → Type 0) (a b : Told R) (line : ℕ) (found : Option R) → IfSome found (Such line) →
+    Tells (IsTheOne line found) a b → Tells Such a b
+found_true {R} Such a b line None holds told = weaken (IsTheOne line None) Such a b (λ at r h. cc (h.1)) told
+found_true {R} Such a b line (Some reason) holds told = weaken (IsTheOne line (Some reason)) Such a b (λ at r h. rw h.0 (same r h.1)) told
+  where
+    same : (r : R) → Some reason ≡ Some r → Such line r
+    same r e =
+        let is : reason ≡ r = cc e in
+        subst (λ (q : R). Such line q) is holds
+
+-- the least of some lines is one of them
+pub least_true : {R : Type 0} (Such : ℕ → R → Type 0) (a b : Told R) (least : Option ℕ) (lines : List ℕ) (reason : R) → least ≡ lowest None lines →
+    ((line : ℕ) → Contains lines line → Such line reason) → Tells (IsTheLeast least reason) a b → Tells Such a b
+least_true {R} Such a b least lines reason is holds told =
+    weaken (IsTheLeast least reason) Such a b (λ at r h. rw h.1 (holds at (least_line lines at (sym is ∙ h.0)).there)) told
+
+-- all that is told is true, where nothing was told before
+pub all_true : {R : Type 0} (Such : ℕ → R → Type 0) (a b : Told R) → a.first ≡ None → Tells Such a b → IsOf Such b
+all_true {R} Such a b none (AsBefore same) = subst (λ (o : Option (At R)). IfSome o (λ at. Such at.line at.reason)) (sym (same ∙ none)) tt
+all_true {R} Such a b none (Anew holds) = holds
+
+-- nothing is told where nothing was found
+pub nothing_told : {R : Type 0} (told : Told R) → ((at : At R) → told.first ≡ Some at → ⊥) → line_told told ≡ None
+nothing_told {R} told h = none told.first h
+  where
+    none : (o : Option (At R)) → ((at : At R) → o ≡ Some at → ⊥) → option_map (λ at. at.line) o ≡ None
+    none None h = refl
+    none (Some at) h = absurd (h at refl)
+
+lesser_twice : (o : Option ℕ) (m y : ℕ) → lesser o (if nat_le m y then m else y) ≡ lesser (lesser o m) y
+lesser_twice None m y = refl
+lesser_twice (Some k) m y = ap Some (grind (arith, nat_tests))
+
+-- the least of lines, noted at once
+pub lowest_least : (o : Option ℕ) (lines : List ℕ) → lowest o (option_to_list (lowest None lines)) ≡ lowest o lines
+lowest_least o lines = after None lines
+  where
+    one : (p : Option ℕ) (y : ℕ) → lowest o (option_to_list (lesser p y)) ≡ lesser (lowest o (option_to_list p)) y
+    one None y = refl
+    one (Some m) y = lesser_twice o m y
+
+    after : (p : Option ℕ) (ys : List ℕ) → lowest o (option_to_list (lowest p ys)) ≡ lowest (lowest o (option_to_list p)) ys
+    after p [] = refl
+    after p (y ∷ ys) = after (lesser p y) ys ∙ ap (λ q. lowest q ys) (one p y)
+
+pub kept : (b : Bool) → false ≡ not b → b ≡ true
+kept true h = refl
+kept false h = h
+
+pub broken : (b : Bool) → true ≡ not b → b ≡ false
+broken true h = h
+broken false h = refl
+
+pub both_sides : (g b : Bool) → (not g || b) ≡ false → (g ≡ true) × (b ≡ false)
+both_sides true b h = (refl, h)
+both_sides false b h = cc

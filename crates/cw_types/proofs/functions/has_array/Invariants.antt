@@ -1,9 +1,0 @@
-use Rattle.std.proofs.Common.{◌≡◌, drop, map}
-use Rattle.std.specs.List.{list_any}
-use Rattle.cw_model.specs.Syntax.{wants_array}
-use Rattle.cw_tree.specs.SyntaxView.{param_of}
-use Rattle.cw_types.proofs.functions.has_array.Given as goal
-
-abbrev pub invariant-loop-param : goal.invariant-loop-param
-invariant-loop-param l =
-    list_any (λ p. wants_array p) (map param_of (drop l.param-index l.params)) ≡ list_any (λ p. wants_array p) (map param_of l.params)

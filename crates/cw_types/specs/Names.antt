@@ -1,0 +1,32 @@
+-- What a name is where it stands, and the names of what is declared.
+use Rattle.std.specs.Prelude.{◌≡◌, Bool, false, not, List, map}
+use Rattle.cw_model.specs.declared.syntax.NameKind.{NameKind}
+use Rattle.cw_model.specs.declared.syntax.NameKind.TheVariants.{Integer, Array, Const}
+use Rattle.cw_model.specs.Syntax.{Name, Param, Function, is_array_kind, is_written_kind}
+use Rattle.cw_model.specs.Typing.{Known, is_known}
+
+-- what may stand where a name of this kind must: an integer, an array that may be written, or any array
+abbrev pub may_stand : NameKind → (NameKind → Bool)
+may_stand Integer = λ kind. not (is_array_kind kind)
+may_stand Array = is_written_kind
+may_stand Const = is_array_kind
+
+-- the name is neither a known integer nor a known array
+abbrev pub IsUnknown : Name → Known → Type 0
+IsUnknown x known = (wanted : NameKind) → is_known x (may_stand wanted) known ≡ false
+
+-- the newest of this spelling is of this kind, and so stands where that may
+abbrev pub known_as : Name → NameKind → Known → Type 0
+known_as x kind known = (wanted : NameKind) → is_known x (may_stand wanted) known ≡ may_stand wanted kind
+
+-- the names alone
+abbrev pub known_names : Known → List Name
+known_names known = map (λ k. k.0) known
+
+-- the names of functions
+abbrev pub function_names : List Function → List Name
+function_names functions = map (λ f. f.name) functions
+
+-- the names of parameters
+abbrev pub param_names : List Param → List Name
+param_names params = map (λ p. p.name) params

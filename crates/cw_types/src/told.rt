@@ -1,0 +1,57 @@
+//! The least line that is refused, and why.
+
+ghost use Rattle.std.specs.Prelude.{◌≡◌, None, is_some, not};
+ghost use Rattle.cw_model.specs.Lines.{unless};
+ghost use Rattle.cw_types.specs.Telling.{IsTheLeast, IsTheOne, Noted, NotesLeast, Tells};
+
+use cw_text::LeastLine;
+
+/// A line that is refused, and why.
+#[derive(Clone, Copy, Debug)]
+pub struct At<R> {
+    pub line: u32,
+    pub reason: R,
+}
+
+/// The least line so far that is refused, with the reason that was found for it first.
+#[derive(Clone, Copy, Debug)]
+pub struct Told<R> {
+    pub first: Option<At<R>>,
+}
+
+impl<R: Copy> Told<R> {
+    /// No line so far.
+    pub fn new() -> Told<R>
+        ensures { result.first ≡ None }
+    {
+        Told { first: None }
+    }
+
+    /// One line more, where there is a reason against it.
+    pub fn note(&mut self, found: Option<R>, line: u32)
+        ensures lines { Noted (unless (not (is_some found)) line) self.old self.new }
+        ensures told { Tells (IsTheOne line found) self.old self.new }
+    {
+        let Some(reason) = found else {
+            return;
+        };
+        match self.first {
+            None => self.first = Some(At { line, reason }),
+            Some(first) => {
+                if line < first.line {
+                    self.first = Some(At { line, reason });
+                }
+            }
+        }
+    }
+
+    /// The least of some lines more, where there is one; this is the reason against each of them.
+    pub fn note_least(&mut self, least: LeastLine, reason: R)
+        ensures lines { NotesLeast least.line self.old self.new }
+        ensures told { Tells (IsTheLeast least.line reason) self.old self.new }
+    {
+        if let Some(line) = least.line {
+            self.note(Some(reason), line);
+        }
+    }
+}
