@@ -10,5 +10,6 @@ mod Stages
 mod Rows
 mod Scheduling
 mod Runs
+mod Moved
 mod Tools
 pub mod ReadWords
