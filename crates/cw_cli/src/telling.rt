@@ -71,9 +71,10 @@ pub fn tool<
 {
     let failures = source.failed_reads();
     let mut bytes = Vec::new(alloc);
-    if let Err(error) = (&mut *source).take(MOST_READ).read_to_end(&mut bytes) {
+    let read = (&mut *source).take(MOST_READ).read_to_end(&mut bytes);
+    if read.is_err() {
         if source.failed_reads() > failures {
-            return tell_file(alloc, asked, error.kind(), err);
+            return tell_file(alloc, asked, kind_of(&read), err);
         }
         return refuse(&Fault::Memory, err);
     }
@@ -90,6 +91,14 @@ pub fn tool<
     ) {
         Ok(()) => 0,
         Err(fault) => tell(alloc, asked, bytes.as_slice(), &fault, err),
+    }
+}
+
+// Why a read failed.
+fn kind_of(read: &io::Result<usize>) -> io::ErrorKind {
+    match read {
+        Ok(_) => io::ErrorKind::Other,
+        Err(error) => error.kind(),
     }
 }
 
