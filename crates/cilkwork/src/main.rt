@@ -6,7 +6,8 @@ ghost use Rattle.std.specs.IoError.{error_kind};
 ghost use Rattle.cilkwork.specs.Words.{unread_fault};
 
 use cw_cli::{
-    Request, crew_of, is_version, refuse, request, say, take_explain, tool, unread, version,
+    Request, crew_of, is_version, refuse, request, say, say_why, take_explain, tool, unread,
+    version,
 };
 use cw_pool::gate::Quiet;
 use cw_report::{Counted, Input, Sink};
@@ -38,16 +39,21 @@ fn main(rt: HostRuntime) -> ExitCode {
                 say(&version(alloc), &mut out, &mut err)
             } else {
                 match request(alloc, words.as_slice()) {
+                    Err(said) if explain => {
+                        say_why(alloc, words.as_slice(), &said, &mut out, &mut err)
+                    }
                     Err(said) => say(&said, &mut out, &mut err),
-                    Ok(asked) => match File::open(&rt, asked.file.as_str()) {
-                        Err(error) => unread(&error, &mut err),
-                        Ok(file) => {
-                            let mut asked = asked;
-                            asked.explain = explain;
-                            let mut source = Counted::new(file);
-                            answer(&rt, alloc, &asked, &mut source, &mut out, &mut err)
+                    Ok(asked) => {
+                        let mut asked = asked;
+                        asked.explain = explain;
+                        match File::open(&rt, asked.file.as_str()) {
+                            Err(error) => unread(alloc, &asked, &error, &mut err),
+                            Ok(file) => {
+                                let mut source = Counted::new(file);
+                                answer(&rt, alloc, &asked, &mut source, &mut out, &mut err)
+                            }
                         }
-                    },
+                    }
                 }
             }
         }

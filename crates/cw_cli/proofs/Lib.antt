@@ -11,5 +11,6 @@ mod Rows
 mod Scheduling
 mod Gaining
 mod Runs
+mod Moved
 mod Tools
 pub mod ReadWords

@@ -1,5 +1,5 @@
 -- What the program answers on a source: an exit status, a line on standard error, and what standard output took.
-use Rattle.std.specs.Prelude.{◌≡◌, ◌≢◌, ◌<◌, ℕ, Bool, false, List, [], ◌++◌, ◌⊎◌, codes, string_bytes, Option, Some}
+use Rattle.std.specs.Prelude.{◌≡◌, ◌≢◌, ◌<◌, ℕ, Bool, true, false, List, [], ◌++◌, ◌⊎◌, codes, string_bytes, Option, Some}
 use Rattle.std.specs.Prelude.{None, Result, Ok, Err}
 use Rattle.std.specs.declared.io.ErrorKind.{ErrorKind}
 use Rattle.std.specs.declared.io.ErrorKind.TheVariants as kind
@@ -39,15 +39,15 @@ pub record IsRefusal {E : Type 0} (seen : E → Seen) (old new : E) (f : Fault) 
   pub line : TriesText seen old new (fault_text f ++ codes "\n")
   pub status_is : status ≡ fault_status f
 
--- standard error was given the word for a source that cannot be read
-pub record IsFileAnswer {E : Type 0} (seen : E → Seen) (old new : E) (status : ℕ) : Type 0 where
-  pub line : TriesText seen old new (codes "file" ++ codes "\n")
+-- standard error was given the word for a source that cannot be read, and behind it, where that is asked for, a further text
+pub record IsFileAnswer {E : Type 0} (seen : E → Seen) (old new : E) (explain : Bool) (status : ℕ) : Type 0 where
+  pub told : IsTold seen old new explain (codes "file" ++ codes "\n")
   pub status_is : status ≡ 5
 
 -- a source cannot be opened for a reason of this kind: want of memory is told as that
-pub record IsUnreadAnswer {E : Type 0} (seen : E → Seen) (old new : E) (reason : ErrorKind) (status : ℕ) : Type 0 where
+pub record IsUnreadAnswer {E : Type 0} (seen : E → Seen) (old new : E) (explain : Bool) (reason : ErrorKind) (status : ℕ) : Type 0 where
   pub memory : reason ≡ kind.OutOfMemory → IsRefusal seen old new fault.Memory status
-  pub file : reason ≢ kind.OutOfMemory → IsFileAnswer seen old new status
+  pub file : reason ≢ kind.OutOfMemory → IsFileAnswer seen old new explain status
 
 -- a reader that tells its bytes has these
 abbrev pub IsReadOf : Option (List ℕ) → List ℕ → Type 0
@@ -65,7 +65,7 @@ module _ {W E : Type 0} (seen : W → Seen) (old new : W) (seen' : E → Seen) (
     -- standard error got the fault's line, and behind it an explanation where one is asked for
     pub data IsToolAnswer : ℕ → Type 0 where
       unread : {status : ℕ} → reads_failed_before < reads_failed_after → new ≡ old
-          → IsFileAnswer seen' old' new' status → IsToolAnswer status
+          → IsFileAnswer seen' old' new' asked.explain status → IsToolAnswer status
       analysed : (r : Result (Unit {0}) Fault) → IsAnalysed seen old new bytes asked.args.items asked.options r
           → IsTold seen' old' new' asked.explain (line_of r) →
           IsToolAnswer (status_of r)
@@ -91,3 +91,15 @@ module _ {W E : Type 0} (seen : W → Seen) (old new : W) (seen' : E → Seen) (
   IsSaidAnswer (said.Help text) = IsHelpAnswer (string_bytes text)
   IsSaidAnswer (said.Misuse text) = IsMisuseAnswer (string_bytes text)
   IsSaidAnswer (said.Fault f) = IsFaultAnswer f
+
+  -- standard error was given the line of the fault, and behind it a further text
+  pub record IsFaultTold (f : Fault) (status : ℕ) : Type 0 where
+    pub untouched : new ≡ old
+    pub told : IsTold seen' old' new' true (fault_text f ++ codes "\n")
+    pub status_is : status ≡ fault_status f
+
+  -- the same as `IsSaidAnswer`, but for a fault, whose line has its reason behind it
+  abbrev pub IsWhyAnswer : Said → ℕ → Type 0
+  IsWhyAnswer (said.Help text) = IsHelpAnswer (string_bytes text)
+  IsWhyAnswer (said.Misuse text) = IsMisuseAnswer (string_bytes text)
+  IsWhyAnswer (said.Fault f) = IsFaultTold f

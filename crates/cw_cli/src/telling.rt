@@ -1,6 +1,6 @@
 //! What the program answers on a source, and what it says in place of a run.
 
-ghost use Rattle.std.specs.Prelude.{◌≡◌, ◌<◌, ◌≤◌, ◌-◌, ◌^◌, ◌++◌, codes, length};
+ghost use Rattle.std.specs.Prelude.{◌≡◌, ◌<◌, ◌≤◌, ◌-◌, ◌^◌, ◌++◌, codes, length, true};
 ghost use Rattle.std.specs.IoError.{error_kind};
 ghost use Rattle.cw_pool.specs.declared.run.TheConstants.{MOST_BODIES};
 ghost use Rattle.cw_text.specs.Faults.{fault_status, fault_text};
@@ -11,17 +11,20 @@ ghost use Rattle.cw_cli.specs.Tools.{
   IsTold,
   IsToolAnswer,
   IsUnreadAnswer,
+  IsWhyAnswer,
   OnItsBytes,
 };
 
 use crate::analysis::analyse;
 use crate::asked::{Request, Said};
+use crate::misuse::misused;
+use cw_greedy::code::MOST_STRANDS;
 use cw_model::limits::MOST_SOURCE_BYTES;
 use cw_pool::crew::Body;
 use cw_pool::gate::Gate;
 use cw_report::{Input, Sink, write_fault, write_text};
 use cw_text::Fault;
-use cw_told::explain;
+use cw_told::{Refused, explain, explain_unread};
 use std::alloc::Global;
 use std::io;
 use std::io::Read;
@@ -68,13 +71,10 @@ pub fn tool<
 {
     let failures = source.failed_reads();
     let mut bytes = Vec::new(alloc);
-    if (&mut *source)
-        .take(MOST_READ)
-        .read_to_end(&mut bytes)
-        .is_err()
-    {
+    let read = (&mut *source).take(MOST_READ).read_to_end(&mut bytes);
+    if read.is_err() {
         if source.failed_reads() > failures {
-            return tell_file(err);
+            return tell_file(alloc, asked, kind_of(&read), err);
         }
         return refuse(&Fault::Memory, err);
     }
@@ -90,49 +90,87 @@ pub fn tool<
         out,
     ) {
         Ok(()) => 0,
-        Err(fault) => tell(alloc, asked.explain, bytes.as_slice(), &fault, err),
+        Err(fault) => tell(alloc, asked, bytes.as_slice(), &fault, err),
+    }
+}
+
+// Why a read failed.
+fn kind_of(read: &io::Result<usize>) -> io::ErrorKind {
+    match read {
+        Ok(_) => io::ErrorKind::Other,
+        Err(error) => error.kind(),
     }
 }
 
 // Writes the line of a fault to `err` and, where it is asked for, why these bytes have the fault; gives the exit status.
 // Of an explanation that there is no memory for nothing is written, and none behind a line that was not.
-fn tell<E: Sink>(alloc: Global, explained: bool, bytes: &[u8], fault: &Fault, err: &mut E) -> u8
+fn tell<E: Sink>(alloc: Global, asked: &Request, bytes: &[u8], fault: &Fault, err: &mut E) -> u8
     requires { (E.seen err.old).failures < 2 ^ 64 - 1 }
-    ensures told { IsTold E.seen err.old err.new explained (fault_text fault.now ++ codes "\n") }
+    ensures told { IsTold E.seen err.old err.new asked.now.explain (fault_text fault.now ++ codes "\n") }
     ensures status { result ≡ fault_status fault.now }
 {
-    if !explained {
+    if !asked.explain {
         return refuse(fault, err);
     }
     let status = fault.status();
     if write_fault(err, fault).is_err() {
         return status;
     }
-    let Ok(text) = explain(alloc, bytes, fault) else {
+    let refused = Refused {
+        file: asked.file.as_str(),
+        bytes,
+        args: asked.args.len(),
+        limit: asked.options.limit,
+        strands: MOST_STRANDS,
+    };
+    let Ok(text) = explain(alloc, &refused, fault) else {
         return status;
     };
     let _ = write_text(err, text.as_bytes());
     status
 }
 
-/// Says that a source cannot be opened; gives the exit status: `file` and 5, or, where that is for
-/// want of memory, `memory` and 6. Whether the write to `err` fails changes nothing.
-pub fn unread<E: Sink>(error: &io::Error, err: &mut E) -> u8
+// Writes the line of a fault of these words to `err`, and behind it which of them it is for; gives the exit status.
+fn tell_words<E: Sink>(alloc: Global, words: &[String], fault: &Fault, err: &mut E) -> u8
     requires { (E.seen err.old).failures < 2 ^ 64 - 1 }
-    ensures { IsUnreadAnswer E.seen err.old err.new (error_kind error.now) result }
+    ensures told { IsTold E.seen err.old err.new true (fault_text fault.now ++ codes "\n") }
+    ensures status { result ≡ fault_status fault.now }
+{
+    let status = fault.status();
+    if write_fault(err, fault).is_err() {
+        return status;
+    }
+    let Ok(text) = misused(alloc, words) else {
+        return status;
+    };
+    let _ = write_text(err, text.as_bytes());
+    status
+}
+
+/// Says that a source cannot be opened, and, where that is asked for, why; gives the exit status: `file` and 5, or, where that
+/// is for want of memory, `memory` and 6. Whether a write to `err` fails changes nothing.
+pub fn unread<E: Sink>(alloc: Global, asked: &Request, error: &io::Error, err: &mut E) -> u8
+    requires { (E.seen err.old).failures < 2 ^ 64 - 1 }
+    ensures { IsUnreadAnswer E.seen err.old err.new asked.now.explain (error_kind error.now) result }
 {
     if error.kind() == io::ErrorKind::OutOfMemory {
         return refuse(&Fault::Memory, err);
     }
-    tell_file(err)
+    tell_file(alloc, asked, error.kind(), err)
 }
 
-// Writes the line for a source that cannot be read; gives the exit status.
-fn tell_file<E: Sink>(err: &mut E) -> u8
+// Writes the line for a source that cannot be read and, where that is asked for, why; gives the exit status.
+fn tell_file<E: Sink>(alloc: Global, asked: &Request, kind: io::ErrorKind, err: &mut E) -> u8
     requires { (E.seen err.old).failures < 2 ^ 64 - 1 }
-    ensures { IsFileAnswer E.seen err.old err.new result }
+    ensures { IsFileAnswer E.seen err.old err.new asked.now.explain result }
 {
-    let _ = write_text(err, b"file\n");
+    if write_text(err, b"file\n").is_err() || !asked.explain {
+        return 5;
+    }
+    let Ok(text) = explain_unread(alloc, asked.file.as_str(), kind) else {
+        return 5;
+    };
+    let _ = write_text(err, text.as_bytes());
     5
 }
 
@@ -157,6 +195,24 @@ pub fn say<W: Sink, E: Sink>(said: &Said, out: &mut W, err: &mut E) -> u8
             5
         }
         Said::Fault(fault) => refuse(fault, err),
+    }
+}
+
+/// The same, and behind the line of a fault of these words which of them it is for.
+pub fn say_why<W: Sink, E: Sink>(
+    alloc: Global,
+    words: &[String],
+    said: &Said,
+    out: &mut W,
+    err: &mut E,
+) -> u8
+    requires out { (W.seen out.old).failures < 2 ^ 64 - 1 }
+    requires err { (E.seen err.old).failures < 2 ^ 64 - 1 }
+    ensures { IsWhyAnswer W.seen out.old out.new E.seen err.old err.new said.now result }
+{
+    match said {
+        Said::Fault(fault) => tell_words(alloc, words, fault, err),
+        Said::Help(_) | Said::Misuse(_) => say(said, out, err),
     }
 }
 

@@ -4,7 +4,11 @@
 #[cfg(test)]
 mod grammar;
 #[cfg(test)]
+mod habits;
+#[cfg(test)]
 mod limits;
+#[cfg(test)]
+mod others;
 #[cfg(test)]
 mod owning;
 #[cfg(test)]

@@ -1,6 +1,6 @@
 //! A row for each limit, and one for each trap.
 
-use crate::told::is_told;
+use crate::told::{is_told, refused};
 use cw_model::trap::Trap;
 use cw_text::Fault;
 use cw_told::explain;
@@ -68,15 +68,15 @@ fn text_of(alloc: Global, text: &Text) -> Result<String, AllocError> {
 static OF_TEXT: &[(Text, &str)] = &[
     (
         Text::Repeated("", "\n", 1_048_577, ""),
-        "refused 5 line 1\nthe source has 1048577 bytes: at most 1048576\n",
+        "refused 5 line 1\nt:1: the source has 1048577 bytes: at most 1048576\n",
     ),
     (
         Text::Repeated("int\n", "(", 65, ""),
-        "refused 5 line 2\nmore than 64 brackets are open at once in this line\n  2 | (((((((((((((((((((((((((((((((((((((((((((((((((((((((((((((((((\n",
+        "refused 5 line 2\nt:2: more than 64 brackets are open at once in this line\n  2 | (((((((((((((((((((((((((((((((((((((((((((((((((((((((((((((((((\n",
     ),
     (
         Text::Repeated("int main() {\nreturn 1", "\n+ 1", 128, ";\n}"),
-        "refused 5 line 130\nmore than 256 tokens stand in a row without a semicolon or a brace: take a name for a part\n  130 | + 1;\n",
+        "refused 5 line 130\nt:130: more than 256 tokens stand in a row without a semicolon or a brace: take a name for a part\n  130 | + 1;\n",
     ),
 ];
 
@@ -89,7 +89,7 @@ static OF_PARTS: &[(Text, &str)] = &[
             1_024,
             "",
         ),
-        "refused 5 line 1025\nthere are more than 1024 functions\n  1025 | void f1023() { }\n",
+        "refused 5 line 1025\nt:1025: there are more than 1024 functions\n  1025 | void f1023() { }\n",
     ),
     (
         Text::Numbered(
@@ -98,7 +98,7 @@ static OF_PARTS: &[(Text, &str)] = &[
             33,
             "",
         ),
-        "refused 5 line 34\nthere are more than 32 reducers\n  34 | reducer sum r32;\n",
+        "refused 5 line 34\nt:34: there are more than 32 reducers\n  34 | reducer sum r32;\n",
     ),
     // of both kinds, 32 in all
     (
@@ -108,7 +108,7 @@ static OF_PARTS: &[(Text, &str)] = &[
             32,
             "",
         ),
-        "refused 5 line 34\nthere are more than 32 reducers\n  34 | reducer max m31;\n",
+        "refused 5 line 34\nt:34: there are more than 32 reducers\n  34 | reducer max m31;\n",
     ),
     (
         Text::Numbered(
@@ -117,7 +117,7 @@ static OF_PARTS: &[(Text, &str)] = &[
             16,
             ")\n{ }\nint main() { return 0; }",
         ),
-        "refused 5 line 1\nf has 17 parameters: at most 16\n  1 | void f(int a, int b0, int b1, int b2, int b3, int b4, int b5, int b6, int b7, int b8, int b9, int b10, int b11, int b12, int b13, int b14, int b15)\n",
+        "refused 5 line 1\nt:1: f has 17 parameters: at most 16\n  1 | void f(int a, int b0, int b1, int b2, int b3, int b4, int b5, int b6, int b7, int b8, int b9, int b10, int b11, int b12, int b13, int b14, int b15)\n",
     ),
     (
         Text::Numbered(
@@ -126,7 +126,7 @@ static OF_PARTS: &[(Text, &str)] = &[
             256,
             "return 0; }",
         ),
-        "refused 5 line 257\nmain declares more than 256 names, its parameters among them: move a part into a function of its own\n  257 | int x255 = 0;\n",
+        "refused 5 line 257\nt:257: main declares more than 256 names, its parameters among them: move a part into a function of its own\n  257 | int x255 = 0;\n",
     ),
     (
         Text::Repeated(
@@ -135,18 +135,18 @@ static OF_PARTS: &[(Text, &str)] = &[
             1,
             "\n  return 0;\n}",
         ),
-        "refused 5 line 2\nthe tag t01234567890123456789012345678901 has 33 bytes: at most 32\n  2 |   region t01234567890123456789012345678901 { }\n",
+        "refused 5 line 2\nt:2: the tag t01234567890123456789012345678901 has 33 bytes: at most 32\n  2 |   region t01234567890123456789012345678901 { }\n",
     ),
     (
         Text::Numbered("int main() {\n", ("region t", " { }\n"), 65, "return 0; }"),
-        "refused 5 line 66\nthere are more than 64 different tags\n  66 | region t64 { }\n",
+        "refused 5 line 66\nt:66: there are more than 64 different tags\n  66 | region t64 { }\n",
     ),
 ];
 
 // The limit of loops, with what is told.
 static OF_LOOPS: &[(Text, &str)] = &[(
     Text::Loops,
-    "refused 5 line 4130\nthere are more than 4096 cilk_for statements\n  4130 |   cilk_for (int i = 0; i < 1; i++) { }\n",
+    "refused 5 line 4130\nt:4130: there are more than 4096 cilk_for statements\n  4130 |   cilk_for (int i = 0; i < 1; i++) { }\n",
 )];
 
 // Asserts that this is told of each of these texts.
@@ -178,27 +178,27 @@ fn the_limit_of_loops(rt: HostRuntime) -> Result<(), Fail> {
 static TRAPS: &[(Trap, &str)] = &[
     (
         Trap::Overflow,
-        "the result of an operation is no integer of 64 bits: it is below -2^63 or above 2^63 - 1\n  2 |   int x = 1 / 0;\n",
+        "t:2: the result of an operation is no integer of 64 bits: it is below -2^63 or above 2^63 - 1\n  2 |   int x = 1 / 0;\n",
     ),
     (
         Trap::DivisionByZero,
-        "a division or a remainder by 0\n  2 |   int x = 1 / 0;\n",
+        "t:2: a division or a remainder by 0\n  2 |   int x = 1 / 0;\n",
     ),
     (
         Trap::OutOfBounds,
-        "an index, the place of a cut or the range of a loop lies outside of its array\n  2 |   int x = 1 / 0;\n",
+        "t:2: an index, the place of a cut or the range of a loop lies outside of its array\n  2 |   int x = 1 / 0;\n",
     ),
     (
         Trap::BadLength,
-        "the length of an array is below 0 or above 16777216\n  2 |   int x = 1 / 0;\n",
+        "t:2: the length of an array is below 0 or above 16777216\n  2 |   int x = 1 / 0;\n",
     ),
     (
         Trap::TooManyTurns,
-        "a cilk_for has more than 2147483647 turns\n  2 |   int x = 1 / 0;\n",
+        "t:2: a cilk_for has more than 2147483647 turns\n  2 |   int x = 1 / 0;\n",
     ),
     (
         Trap::TooDeep,
-        "more than 10000 calls lie inside one another, that of main among them\n  2 |   int x = 1 / 0;\n",
+        "t:2: more than 10000 calls lie inside one another, that of main among them\n  2 |   int x = 1 / 0;\n",
     ),
 ];
 
@@ -211,7 +211,7 @@ fn is_trap_told(alloc: Global, code: Trap, wanted: &str) -> bool {
         output,
     };
     let source = b"int main() {\n  int x = 1 / 0;\n  return x; }";
-    match explain(alloc, source, &fault) {
+    match explain(alloc, &refused(source), &fault) {
         Ok(text) => text.as_str() == wanted,
         Err(_) => false,
     }

@@ -7,61 +7,61 @@ static TAKEN: &[(&str, &str)] = &[
     // the sample
     (
         "int fib(int n) {\n  if (n < 2) {\n    return n;\n  }\n  int x = 0;\n  int y = 0;\n  y = fib(n - 2);\n\n\n  x = cilk_spawn fib(n - 1);\n\n  print(x);\n  cilk_sync;\n  return x + y;\n}\nint main() { return 0; }",
-        "refused 4 line 12\nx is read in line 12, and the call spawned in line 10 gives its result at the next cilk_sync\n  10 |   x = cilk_spawn fib(n - 1);\n  12 |   print(x);\n",
+        "refused 4 line 12\nt:12: x is read in line 12, and the call spawned in line 10 gives its result at the next cilk_sync\n  10 |   x = cilk_spawn fib(n - 1);\n  12 |   print(x);\n",
     ),
     (
         "int f() { return 1; }\nint main() {\n  int x = 0;\n  x = cilk_spawn f();\n  x = 2;\n  cilk_sync;\n  return x;\n}",
-        "refused 4 line 5\nx is written in line 5, and the call spawned in line 4 gives its result at the next cilk_sync\n  4 |   x = cilk_spawn f();\n  5 |   x = 2;\n",
+        "refused 4 line 5\nt:5: x is written in line 5, and the call spawned in line 4 gives its result at the next cilk_sync\n  4 |   x = cilk_spawn f();\n  5 |   x = 2;\n",
     ),
     (
         "void f(int a[]) { }\nint main() {\n  int a[4];\n  cilk_spawn f(a);\n  print(len(a));\n  cilk_sync;\n  return 0;\n}",
-        "refused 4 line 5\na is read in line 5, and the call spawned in line 4 has it until the next cilk_sync\n  4 |   cilk_spawn f(a);\n  5 |   print(len(a));\n",
+        "refused 4 line 5\nt:5: a is read in line 5, and the call spawned in line 4 has it until the next cilk_sync\n  4 |   cilk_spawn f(a);\n  5 |   print(len(a));\n",
     ),
     (
         "void f(int a[]) { }\nint main() {\n  int a[4];\n  cilk_spawn f(a);\n  f(a);\n  cilk_sync;\n  return 0;\n}",
-        "refused 4 line 5\na is passed in line 5, and the call spawned in line 4 has it until the next cilk_sync; calls that run side by side share no array: cut a and pass its parts, or let one wait for the other\n  4 |   cilk_spawn f(a);\n  5 |   f(a);\n",
+        "refused 4 line 5\nt:5: a is passed in line 5, and the call spawned in line 4 has it until the next cilk_sync; calls that run side by side share no array: cut a and pass its parts, or let one wait for the other\n  4 |   cilk_spawn f(a);\n  5 |   f(a);\n",
     ),
     (
         "void f(int a[]) { }\nint main() {\n  int a[4];\n  cilk_spawn f(a);\n  cut a at 2 as l, r { }\n  cilk_sync;\n  return 0;\n}",
-        "refused 4 line 5\na is cut in line 5, and the call spawned in line 4 has it until the next cilk_sync\n  4 |   cilk_spawn f(a);\n  5 |   cut a at 2 as l, r { }\n",
+        "refused 4 line 5\nt:5: a is cut in line 5, and the call spawned in line 4 has it until the next cilk_sync\n  4 |   cilk_spawn f(a);\n  5 |   cut a at 2 as l, r { }\n",
     ),
     (
         "void f(int a[]) { }\nint main() {\n  int a[4];\n  cilk_spawn f(a);\n  cilk_for (int i = 0; i < 4; i++) over (a) { }\n  cilk_sync;\n  return 0;\n}",
-        "refused 4 line 5\na is named in over in line 5, and the call spawned in line 4 has it until the next cilk_sync\n  4 |   cilk_spawn f(a);\n  5 |   cilk_for (int i = 0; i < 4; i++) over (a) { }\n",
+        "refused 4 line 5\nt:5: a is named in over in line 5, and the call spawned in line 4 has it until the next cilk_sync\n  4 |   cilk_spawn f(a);\n  5 |   cilk_for (int i = 0; i < 4; i++) over (a) { }\n",
     ),
     (
         "int main() {\n  int a[4];\n  cut a at 2 as l, r {\n    a[0] = 1;\n  }\n  return 0;\n}",
-        "refused 4 line 4\na is written in line 4, and the cut in line 3 has it until its block ends: name its parts there\n  3 |   cut a at 2 as l, r {\n  4 |     a[0] = 1;\n",
+        "refused 4 line 4\nt:4: a is written in line 4, and the cut in line 3 has it until its block ends: name its parts there\n  3 |   cut a at 2 as l, r {\n  4 |     a[0] = 1;\n",
     ),
     (
         "int f() { return 1; }\nint main(int n) {\n  int x = 0;\n  while (n > 0) {\n    print(x);\n    x = cilk_spawn f();\n    n = n - 1;\n  }\n  cilk_sync;\n  return x;\n}",
-        "refused 4 line 5\nx is read in line 5, and the call spawned in line 6 gives its result at the next cilk_sync; a turn of the while before spawned it\n  5 |     print(x);\n  6 |     x = cilk_spawn f();\n",
+        "refused 4 line 5\nt:5: x is read in line 5, and the call spawned in line 6 gives its result at the next cilk_sync; a turn of the while before spawned it\n  5 |     print(x);\n  6 |     x = cilk_spawn f();\n",
     ),
     (
         "int f() { return 1; }\nint main(int n) {\n  if (n) {\n    int x = 0;\n    x = cilk_spawn f();\n  }\n  return 0;\n}",
-        "refused 4 line 4\nthe block of x, declared in line 4, ends, and the call spawned in line 5 gives its result at the next cilk_sync; put a cilk_sync before the end of the block; turns that run side by side are those of a cilk_for\n  4 |     int x = 0;\n  5 |     x = cilk_spawn f();\n",
+        "refused 4 line 4\nt:4: the block of x, declared in line 4, ends, and the call spawned in line 5 gives its result at the next cilk_sync; put a cilk_sync before the end of the block; turns that run side by side are those of a cilk_for\n  4 |     int x = 0;\n  5 |     x = cilk_spawn f();\n",
     ),
     // arrays that are only read
     (
         "int get(const int a[]) { return a[0]; }\nint main() {\n  int a[2];\n  int x = 0;\n  x = cilk_spawn get(a);\n  a[0] = 1;\n  cilk_sync;\n  return x;\n}",
-        "refused 4 line 6\na is written in line 6, and the call spawned in line 5 reads it until the next cilk_sync\n  5 |   x = cilk_spawn get(a);\n  6 |   a[0] = 1;\n",
+        "refused 4 line 6\nt:6: a is written in line 6, and the call spawned in line 5 reads it until the next cilk_sync\n  5 |   x = cilk_spawn get(a);\n  6 |   a[0] = 1;\n",
     ),
     (
         "void f(int a[]) { }\nint get(const int a[]) { return a[0]; }\nint main() {\n  int a[2];\n  int x = 0;\n  x = cilk_spawn get(a);\n  f(a);\n  cilk_sync;\n  return x;\n}",
-        "refused 4 line 7\na is passed in line 7, and the call spawned in line 6 reads it until the next cilk_sync; calls that run side by side may read one array, each as const, and none writes it meanwhile\n  6 |   x = cilk_spawn get(a);\n  7 |   f(a);\n",
+        "refused 4 line 7\nt:7: a is passed in line 7, and the call spawned in line 6 reads it until the next cilk_sync; calls that run side by side may read one array, each as const, and none writes it meanwhile\n  6 |   x = cilk_spawn get(a);\n  7 |   f(a);\n",
     ),
     (
         "void f(int a[]) { }\nint get(const int a[]) { return a[0]; }\nint main() {\n  int a[2];\n  int x = 0;\n  cilk_spawn f(a);\n  x = get(a);\n  cilk_sync;\n  return x;\n}",
-        "refused 4 line 7\na is read in line 7, and the call spawned in line 6 has it until the next cilk_sync\n  6 |   cilk_spawn f(a);\n  7 |   x = get(a);\n",
+        "refused 4 line 7\nt:7: a is read in line 7, and the call spawned in line 6 has it until the next cilk_sync\n  6 |   cilk_spawn f(a);\n  7 |   x = get(a);\n",
     ),
     (
         "int get(const int a[]) { return a[0]; }\nint main(int n) {\n  if (n) {\n    int a[2];\n    cilk_spawn get(a);\n  }\n  return 0;\n}",
-        "refused 4 line 4\nthe block of a, declared in line 4, ends, and the call spawned in line 5 reads it until the next cilk_sync; put a cilk_sync before the end of the block; turns that run side by side are those of a cilk_for\n  4 |     int a[2];\n  5 |     cilk_spawn get(a);\n",
+        "refused 4 line 4\nt:4: the block of a, declared in line 4, ends, and the call spawned in line 5 reads it until the next cilk_sync; put a cilk_sync before the end of the block; turns that run side by side are those of a cilk_for\n  4 |     int a[2];\n  5 |     cilk_spawn get(a);\n",
     ),
     // in one line nothing is said of turns
     (
         "int f() { return 1; }\nint main() {\n  int x = 0;\n  x = cilk_spawn f(); print(x);\n  cilk_sync;\n  return x;\n}",
-        "refused 4 line 4\nx is read in line 4, and the call spawned in line 4 gives its result at the next cilk_sync\n  4 |   x = cilk_spawn f(); print(x);\n",
+        "refused 4 line 4\nt:4: x is read in line 4, and the call spawned in line 4 gives its result at the next cilk_sync\n  4 |   x = cilk_spawn f(); print(x);\n",
     ),
 ];
 
@@ -70,51 +70,51 @@ static TAKERS: &[(&str, &str)] = &[
     // one branch joins its own, so the other's is told
     (
         "int f() { return 1; }\nint main(int n) {\n  int x = 0;\n  if (n) {\n    x = cilk_spawn f();\n  } else {\n    x = cilk_spawn f();\n    cilk_sync;\n  }\n  print(x);\n  cilk_sync;\n  return x;\n}",
-        "refused 4 line 10\nx is read in line 10, and the call spawned in line 5 gives its result at the next cilk_sync\n   5 |     x = cilk_spawn f();\n  10 |   print(x);\n",
+        "refused 4 line 10\nt:10: x is read in line 10, and the call spawned in line 5 gives its result at the next cilk_sync\n   5 |     x = cilk_spawn f();\n  10 |   print(x);\n",
     ),
     (
         "int f() { return 1; }\nint main(int n) {\n  int x = 0;\n  if (n) {\n    x = cilk_spawn f();\n    cilk_sync;\n  } else {\n    x = cilk_spawn f();\n  }\n  print(x);\n  cilk_sync;\n  return x;\n}",
-        "refused 4 line 10\nx is read in line 10, and the call spawned in line 8 gives its result at the next cilk_sync\n   8 |     x = cilk_spawn f();\n  10 |   print(x);\n",
+        "refused 4 line 10\nt:10: x is read in line 10, and the call spawned in line 8 gives its result at the next cilk_sync\n   8 |     x = cilk_spawn f();\n  10 |   print(x);\n",
     ),
     // one that was joined is not told, nor one behind the while
     (
         "int f() { return 1; }\nint main(int n) {\n  int x = 0;\n  x = cilk_spawn f();\n  cilk_sync;\n  while (n > 0) {\n    print(x);\n    x = cilk_spawn f();\n    n = n - 1;\n  }\n  cilk_sync;\n  x = cilk_spawn f();\n  cilk_sync;\n  return x;\n}",
-        "refused 4 line 7\nx is read in line 7, and the call spawned in line 8 gives its result at the next cilk_sync; a turn of the while before spawned it\n  7 |     print(x);\n  8 |     x = cilk_spawn f();\n",
+        "refused 4 line 7\nt:7: x is read in line 7, and the call spawned in line 8 gives its result at the next cilk_sync; a turn of the while before spawned it\n  7 |     print(x);\n  8 |     x = cilk_spawn f();\n",
     ),
     // names of two blocks, one behind the other
     (
         "int f() { return 1; }\nint main(int n) {\n  if (n) {\n    int x = 0;\n    x = cilk_spawn f();\n    cilk_sync;\n  }\n  if (n) {\n    int y = 0;\n    y = cilk_spawn f();\n    y = 1;\n    cilk_sync;\n  }\n  return 0;\n}",
-        "refused 4 line 11\ny is written in line 11, and the call spawned in line 10 gives its result at the next cilk_sync\n  10 |     y = cilk_spawn f();\n  11 |     y = 1;\n",
+        "refused 4 line 11\nt:11: y is written in line 11, and the call spawned in line 10 gives its result at the next cilk_sync\n  10 |     y = cilk_spawn f();\n  11 |     y = 1;\n",
     ),
     // a spawn outside of the block, in which another sync joins nothing of it
     (
         "int f() { return 1; }\nint main() {\n  int x = 0;\n  int y = 0;\n  x = cilk_spawn f();\n  cilk_scope {\n    y = cilk_spawn f();\n    cilk_sync;\n    print(y);\n    print(x);\n  }\n  cilk_sync;\n  return x;\n}",
-        "refused 4 line 10\nx is read in line 10, and the call spawned in line 5 gives its result at the next cilk_sync\n   5 |   x = cilk_spawn f();\n  10 |     print(x);\n",
+        "refused 4 line 10\nt:10: x is read in line 10, and the call spawned in line 5 gives its result at the next cilk_sync\n   5 |   x = cilk_spawn f();\n  10 |     print(x);\n",
     ),
     // a cut inside of another, and an array that a spawn of the inner one has
     (
         "void f(int a[]) { }\nint main() {\n  int a[8];\n  cut a at 4 as l, r {\n    cut l at 2 as ll, lr {\n      cilk_spawn f(ll);\n      f(lr);\n      f(l);\n    }\n  }\n  return 0;\n}",
-        "refused 4 line 8\nl is passed in line 8, and the cut in line 5 has it until its block ends: name its parts there\n  5 |     cut l at 2 as ll, lr {\n  8 |       f(l);\n",
+        "refused 4 line 8\nt:8: l is passed in line 8, and the cut in line 5 has it until its block ends: name its parts there\n  5 |     cut l at 2 as ll, lr {\n  8 |       f(l);\n",
     ),
     // what reads an array in one branch and has it in the other
     (
         "void f(int a[]) { }\nint get(const int a[]) { return a[0]; }\nint main(int n) {\n  int a[2];\n  if (n) {\n    cilk_spawn get(a);\n  } else {\n    cilk_spawn f(a);\n  }\n  print(a[0]);\n  cilk_sync;\n  return 0;\n}",
-        "refused 4 line 10\na is read in line 10, and the call spawned in line 8 has it until the next cilk_sync\n   8 |     cilk_spawn f(a);\n  10 |   print(a[0]);\n",
+        "refused 4 line 10\nt:10: a is read in line 10, and the call spawned in line 8 has it until the next cilk_sync\n   8 |     cilk_spawn f(a);\n  10 |   print(a[0]);\n",
     ),
 ];
 
 static TWICE: &[(&str, &str)] = &[
     (
         "void f(int a[], int b[]) { }\nint main() {\n  int a[4];\n  f(a, a);\n  return 0;\n}",
-        "refused 4 line 4\nf is given a twice: the arrays of a call differ; cut a and pass its parts\n  4 |   f(a, a);\n",
+        "refused 4 line 4\nt:4: f is given a twice: the arrays of a call differ; cut a and pass its parts\n  4 |   f(a, a);\n",
     ),
     (
         "void f(int a[], const int b[]) { }\nint main() {\n  int a[4];\n  f(a, a);\n  return 0;\n}",
-        "refused 4 line 4\nf is given a, and reads it as const besides: an array that a call may write stands once in it; copy it, or cut a and pass its parts\n  4 |   f(a, a);\n",
+        "refused 4 line 4\nt:4: f is given a, and reads it as const besides: an array that a call may write stands once in it; copy it, or cut a and pass its parts\n  4 |   f(a, a);\n",
     ),
     (
         "int main() {\n  int a[4];\n  cilk_for (int i = 0; i < 4; i++) over (a, a) { }\n  return 0;\n}",
-        "refused 4 line 3\na is named twice in over: a loop takes an array once\n  3 |   cilk_for (int i = 0; i < 4; i++) over (a, a) { }\n",
+        "refused 4 line 3\nt:3: a is named twice in over: a loop takes an array once\n  3 |   cilk_for (int i = 0; i < 4; i++) over (a, a) { }\n",
     ),
 ];
 
@@ -122,23 +122,23 @@ static TWICE: &[(&str, &str)] = &[
 static LOOPS: &[(&str, &str)] = &[
     (
         "int main() {\n  int x = 0;\n  cilk_for (int i = 0; i < 4; i++) {\n    x = x + i;\n  }\n  return x;\n}",
-        "refused 4 line 4\nx is written in line 4, and the body of the cilk_for in line 3 may only read it: its turns run side by side; add to a reducer, or write to an element of an array in over(..)\n  3 |   cilk_for (int i = 0; i < 4; i++) {\n  4 |     x = x + i;\n",
+        "refused 4 line 4\nt:4: x is written in line 4, and the body of the cilk_for in line 3 may only read it: its turns run side by side; add to a reducer, or write to an element of an array in over(..)\n  3 |   cilk_for (int i = 0; i < 4; i++) {\n  4 |     x = x + i;\n",
     ),
     (
         "int main() {\n  int a[4];\n  cilk_for (int i = 0; i < 4; i++) {\n    a[i] = i;\n  }\n  return 0;\n}",
-        "refused 4 line 4\na is from outside of the cilk_for in line 3: its body touches such an array only where over(a) names it, and then only the element of its own turn\n  3 |   cilk_for (int i = 0; i < 4; i++) {\n  4 |     a[i] = i;\n",
+        "refused 4 line 4\nt:4: a is from outside of the cilk_for in line 3: its body touches such an array only where over(a) names it, and then only the element of its own turn; where turns read all of it, halve the range by spawned calls that take a as const, in place of the loop\n  3 |   cilk_for (int i = 0; i < 4; i++) {\n  4 |     a[i] = i;\n",
     ),
     (
         "int get(const int a[]) { return a[0]; }\nint main() {\n  int a[4];\n  cilk_for (int i = 0; i < 4; i++) {\n    get(a);\n  }\n  return 0;\n}",
-        "refused 4 line 5\na is from outside of the cilk_for in line 4: its body touches such an array only where over(a) names it, and then only the element of its own turn\n  4 |   cilk_for (int i = 0; i < 4; i++) {\n  5 |     get(a);\n",
+        "refused 4 line 5\nt:5: a is from outside of the cilk_for in line 4: its body touches such an array only where over(a) names it, and then only the element of its own turn; where turns read all of it, halve the range by spawned calls that take a as const, in place of the loop\n  4 |   cilk_for (int i = 0; i < 4; i++) {\n  5 |     get(a);\n",
     ),
     (
         "int main() {\n  int a[4];\n  cilk_for (int i = 0; i < 4; i++) over (a) {\n    a[0] = i;\n  }\n  return 0;\n}",
-        "refused 4 line 4\na is an array of the cilk_for in line 3: its body names it only as a[i], the element of its own turn, and not in a further cilk_for; copy what other turns need before the loop\n  3 |   cilk_for (int i = 0; i < 4; i++) over (a) {\n  4 |     a[0] = i;\n",
+        "refused 4 line 4\nt:4: a is an array of the cilk_for in line 3: its body names it only as a[i], the element of its own turn, and not in a further cilk_for; copy what other turns need before the loop\n  3 |   cilk_for (int i = 0; i < 4; i++) over (a) {\n  4 |     a[0] = i;\n",
     ),
     (
         "int main() {\n  int a[4];\n  cilk_for (int i = 0; i < 4; i++) over (a) {\n    cilk_for (int j = 0; j < a[i]; j++) { }\n  }\n  return 0;\n}",
-        "refused 4 line 4\na is an array of the cilk_for in line 3: its body names it only as a[i], the element of its own turn, and not in a further cilk_for; copy what other turns need before the loop\n  3 |   cilk_for (int i = 0; i < 4; i++) over (a) {\n  4 |     cilk_for (int j = 0; j < a[i]; j++) { }\n",
+        "refused 4 line 4\nt:4: a is an array of the cilk_for in line 3: its body names it only as a[i], the element of its own turn, and not in a further cilk_for; copy what other turns need before the loop\n  3 |   cilk_for (int i = 0; i < 4; i++) over (a) {\n  4 |     cilk_for (int j = 0; j < a[i]; j++) { }\n",
     ),
 ];
 

@@ -128,27 +128,27 @@ int main(int n) {
 static PROGRAMS: &[(&str, &str)] = &[
     (
         QUEENS,
-        "refused 2 line 16\n( cannot stand here: is_safe(..) is a call, and a call is a statement of its own; give its result to an integer before, r = is_safe(..); and write r here\n  16 |     if (is_safe(rows, row, column)) {\n",
+        "refused 2 line 16\nt:16: ( cannot stand here: is_safe(..) is a call, and a call is a statement of its own; give its result to an integer before, r = is_safe(..); and write r here\n  16 |     if (is_safe(rows, row, column)) {\n",
     ),
     (
         STENCIL,
-        "refused 4 line 3\na is an array of the cilk_for in line 2: its body names it only as a[i], the element of its own turn, and not in a further cilk_for; copy what other turns need before the loop\n  2 |   cilk_for (int i = 0; i < len(b) - 1; i++) grain 100 over (a, b) {\n  3 |     b[i] = (a[i] + a[i + 1]) / 2;\n",
+        "refused 4 line 3\nt:3: a is an array of the cilk_for in line 2: its body names it only as a[i], the element of its own turn, and not in a further cilk_for; copy what other turns need before the loop\n  2 |   cilk_for (int i = 0; i < len(b) - 1; i++) grain 100 over (a, b) {\n  3 |     b[i] = (a[i] + a[i + 1]) / 2;\n",
     ),
     (
         QUARTERS,
-        "refused 4 line 7\nb is passed in line 7, and the call spawned in line 6 has it until the next cilk_sync; calls that run side by side share no array: cut b and pass its parts, or let one wait for the other\n  6 |   cilk_spawn multiply(a0, b, c0);\n  7 |   cilk_spawn multiply(a1, b, c1);\n",
+        "refused 4 line 7\nt:7: b is passed in line 7, and the call spawned in line 6 has it until the next cilk_sync; calls that run side by side share no array: cut b and pass its parts, or let one wait for the other\n  6 |   cilk_spawn multiply(a0, b, c0);\n  7 |   cilk_spawn multiply(a1, b, c1);\n",
     ),
     (
         HISTOGRAM,
-        "refused 4 line 9\nthe block of part, declared in line 9, ends, and the call spawned in line 10 gives its result at the next cilk_sync; put a cilk_sync before the end of the block; turns that run side by side are those of a cilk_for\n   9 |     int part = 0;\n  10 |     part = cilk_spawn count(i, i + 10);\n",
+        "refused 4 line 9\nt:9: the block of part, declared in line 9, ends, and the call spawned in line 10 gives its result at the next cilk_sync; put a cilk_sync before the end of the block; turns that run side by side are those of a cilk_for\n   9 |     int part = 0;\n  10 |     part = cilk_spawn count(i, i + 10);\n",
     ),
     (
         PIPELINE,
-        "refused 4 line 9\nfirst is read in line 9, and the call spawned in line 8 gives its result at the next cilk_sync\n  8 |   first = cilk_spawn stage(n);\n  9 |   second = stage(first);\n",
+        "refused 4 line 9\nt:9: first is read in line 9, and the call spawned in line 8 gives its result at the next cilk_sync\n  8 |   first = cilk_spawn stage(n);\n  9 |   second = stage(first);\n",
     ),
     (
         SUM,
-        "refused 2 line 1\nsum cannot stand here: sum is a word of the language, and no name; here can stand a name\n  1 | int sum(int n) {\n",
+        "refused 2 line 1\nt:1: sum cannot stand here: sum is a word of the language, and no name; here can stand a name\n  1 | int sum(int n) {\n",
     ),
 ];
 

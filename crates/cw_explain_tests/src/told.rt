@@ -5,7 +5,7 @@ use cw_loops::lower;
 use cw_own::own;
 use cw_parse::parse;
 use cw_text::{Fault, Source};
-use cw_told::explain;
+use cw_told::{Refused, explain};
 use cw_types::check;
 use std::alloc::Global;
 use std::process::Abort;
@@ -21,12 +21,23 @@ fn fault_of(alloc: Global, bytes: &[u8]) -> Result<(), Fault> {
     Ok(())
 }
 
+/// A source of these bytes, which is called t.
+pub fn refused(bytes: &[u8]) -> Refused<'_> {
+    Refused {
+        file: "t",
+        bytes,
+        args: 0,
+        limit: 1,
+        strands: 1,
+    }
+}
+
 // What standard error has of a text: the line of its first fault, and what is told of it.
 fn told(alloc: Global, bytes: &[u8]) -> Result<String, Fault> {
     match fault_of(alloc, bytes) {
         Ok(()) => Ok(String::from_str(alloc, "ok\n")?),
         Err(fault) => {
-            let text = explain(alloc, bytes, &fault)?;
+            let text = explain(alloc, &refused(bytes), &fault)?;
             Ok(format!(in alloc; "{fault}\n{text}")?)
         }
     }
@@ -45,5 +56,26 @@ pub fn all_told(rt: &impl Abort, alloc: Global, rows: &[(&str, &str)]) {
     for (text, wanted) in rows {
         let holds = is_told(alloc, text.as_bytes(), wanted);
         assert!(rt; holds, "{text}");
+    }
+}
+
+// What standard error has of a text between two others.
+fn told_between(alloc: Global, front: &str, text: &str, back: &str) -> Result<String, Fault> {
+    let whole = format!(in alloc; "{front}{text}{back}")?;
+    told(alloc, whole.as_bytes())
+}
+
+/// Whether what is told of a text between two others has one part, and not the other.
+pub fn is_said(
+    alloc: Global,
+    front: &str,
+    text: &str,
+    back: &str,
+    wanted: &str,
+    unwanted: &str,
+) -> bool {
+    match told_between(alloc, front, text, back) {
+        Ok(told) => told.as_str().contains(wanted) && !told.as_str().contains(unwanted),
+        Err(_) => false,
     }
 }

@@ -31,6 +31,10 @@ pub const ALL: &[Choice] = &[
         shown: "void",
     },
     Choice {
+        word: "const",
+        shown: "const",
+    },
+    Choice {
         word: "if",
         shown: "if",
     },

@@ -214,7 +214,7 @@ fn write_outer_array<W: fmt::Write>(
 ) -> fmt::Result {
     write!(
         f,
-        "{name} is from outside of the cilk_for in line {head}: its body touches such an array only where over({name}) names it, and then only the element of its own turn"
+        "{name} is from outside of the cilk_for in line {head}: its body touches such an array only where over({name}) names it, and then only the element of its own turn; where turns read all of it, halve the range by spawned calls that take {name} as const, in place of the loop"
     )
 }
 

@@ -6,8 +6,11 @@ ghost use Rattle.cw_model.specs.Text.{end_line};
 ghost use Rattle.cw_model.specs.Tokens.{IsTokenCut};
 ghost use Rattle.cw_model.specs.declared.limits.TheConstants.{MOST_SOURCE_BYTES};
 
+use crate::around::Around;
 use crate::grammar::{ALL, Choice, spelled};
+use crate::near::{is_near, nearest};
 use crate::shortened::Shortened;
+use crate::words::{INSIDE, ITEMS, MIDDLES, OUTSIDE, Row, STARTS, WORDS};
 use cw_explain::Word;
 use cw_lex::lex;
 use cw_model::token::{Kind, Token};
@@ -16,13 +19,28 @@ use cw_text::{Fault, Source};
 use std::alloc::Global;
 use std::fmt;
 
+/// Why a token cannot stand.
+#[derive(Clone, Copy)]
+enum Why<'a> {
+    /// This text, with its marks.
+    Says(&'static str),
+    /// A name that is near to this word.
+    Near(Word<'a>, &'static str),
+    /// This bracket is not closed.
+    Open(Token),
+    /// A block without braces.
+    Bare,
+    /// A semicolon is missing behind this token.
+    Unended(Token),
+    /// For no reason that is known.
+    Plain,
+}
+
 /// Where tokens are no source: the first that cannot go on, or their end, with what can stand there.
-#[derive(Drop, Debug)]
+#[derive(Drop)]
 pub struct Unparsed<'a> {
-    /// The token, if the source does not end there.
-    pub found: Option<(Kind, Word<'a>)>,
-    /// The name before it, if one stands there.
-    pub before: Option<Word<'a>>,
+    around: Around<'a>,
+    why: Why<'a>,
     /// What can stand in its place.
     pub expected: Vec<Choice>,
 }
@@ -88,15 +106,6 @@ fn shortened(alloc: Global, tokens: &[Token]) -> Result<Shortened, Fault> {
     Ok(short)
 }
 
-// The text of a token.
-fn word_of<'a>(text: &'a [u8], token: Token) -> Word<'a> {
-    let end = (token.end as usize).min(text.len());
-    let start = (token.start as usize).min(end);
-    Word {
-        text: &text[start..end],
-    }
-}
-
 // What can stand behind a text: with each of these a source goes on.
 fn choices(alloc: Global, text: &[u8]) -> Result<Vec<Choice>, Fault>
     ensures { IfOk result (λ chosen. All (λ choice. CanFollow text.now choice.word.now) chosen.items) }
@@ -111,26 +120,13 @@ fn choices(alloc: Global, text: &[u8]) -> Result<Vec<Choice>, Fault>
     Ok(expected)
 }
 
-// The name at the end of these tokens, if one stands there.
-fn last_name<'a>(text: &'a [u8], tokens: &[Token]) -> Option<Word<'a>> {
-    match tokens {
-        [.., token] => {
-            if token.kind == Kind::Name {
-                return Some(word_of(text, *token));
-            }
-            None
-        }
-        [] => None,
-    }
-}
-
 /// The first of these tokens of a text that no source goes on with, and what can stand in its place, if they are no source.
 /// That is asked of the tokens before it, shortened.
 pub fn first_unparsed<'a>(
     alloc: Global,
     source: &Source,
     text: &'a [u8],
-    tokens: &[Token],
+    tokens: &'a [Token],
 ) -> Result<Option<Unparsed<'a>>, Fault>
     requires { IsTokenCut source.now tokens.now }
 {
@@ -140,55 +136,171 @@ pub fn first_unparsed<'a>(
     let before = &tokens[..place.min(tokens.len())];
     let short = shortened(alloc, before)?;
     let expected = choices(alloc, short.text())?;
-    let found = tokens
-        .get(place)
-        .map(|token| (token.kind, word_of(text, *token)));
+    let around = Around::new(alloc, text, tokens, place)?;
+    let why = why_of(&around, expected.as_slice());
     Ok(Some(Unparsed {
-        found,
-        before: last_name(text, before),
+        around,
+        why,
         expected,
     }))
 }
 
-impl Unparsed<'_> {
-    // Whether a token of this word can stand there.
-    fn expects(&self, word: &str) -> bool {
-        for choice in self.expected.as_slice() {
-            if choice.word == word {
-                return true;
+// Whether a token of this word can stand there.
+fn expects(expected: &[Choice], word: &str) -> bool {
+    for choice in expected {
+        if choice.word == word {
+            return true;
+        }
+    }
+    false
+}
+
+/// What is said of a block without braces.
+pub const BARE: &str = "the block of @^ has braces, also where it is one statement: { .. }";
+
+// The text of the first row that fits.
+fn row_of(around: &Around<'_>, rows: &[Row]) -> Option<&'static str> {
+    for (front, before, from, says) in rows {
+        if around.is_like(front, before, from) {
+            return Some(*says);
+        }
+    }
+    None
+}
+
+// Why the source cannot go on.
+fn why_of<'a>(around: &Around<'a>, expected: &[Choice]) -> Why<'a> {
+    let Some(found) = around.found() else {
+        return match around.open {
+            Some(bracket) => Why::Open(bracket),
+            None => Why::Plain,
+        };
+    };
+    if let Some((name, word)) = near_of(around, found, expected) {
+        return Why::Near(name, word);
+    }
+    let rows = if around.is_inside { WORDS } else { OUTSIDE };
+    if let Some(says) = row_of(around, rows) {
+        return Why::Says(says);
+    }
+    if let Some(why) = missing(around, found, expected) {
+        return why;
+    }
+    let rows = if around.is_inside { INSIDE } else { ITEMS };
+    if let Some(says) = row_of(around, rows) {
+        return Why::Says(says);
+    }
+    match around.open {
+        Some(bracket) if is_behind(found.kind, bracket.kind) => Why::Open(bracket),
+        _ => Why::Plain,
+    }
+}
+
+// Whether a token of one kind says that a bracket of the other is closed, or was to be.
+fn is_behind(kind: Kind, bracket: Kind) -> bool {
+    match kind {
+        Kind::LeftBrace | Kind::RightBrace | Kind::Semicolon => bracket != Kind::LeftBrace,
+        Kind::RightParen => bracket == Kind::LeftBracket,
+        Kind::RightBracket => bracket == Kind::LeftParen,
+        _ => false,
+    }
+}
+
+// What is missing before the token: braces or a semicolon.
+fn missing<'a>(around: &Around<'a>, found: Token, expected: &[Choice]) -> Option<Why<'a>> {
+    if !around.is_inside {
+        return None;
+    }
+    if expects(expected, "{") && !around.is_like(&[], &[], &["operator"]) {
+        return Some(Why::Bare);
+    }
+    let last = around.before(1)?;
+    let is_next = match found.kind {
+        Kind::RightBrace => true,
+        Kind::Name => last.line < found.line,
+        _ => spelled(found.kind) && last.kind != Kind::Return,
+    };
+    if is_next && expects(expected, ";") {
+        return Some(Why::Unended(last));
+    }
+    None
+}
+
+// The name that is near to a word, with that word: the token itself, the first of its statement, or the one before it.
+fn near_of<'a>(
+    around: &Around<'a>,
+    found: Token,
+    expected: &[Choice],
+) -> Option<(Word<'a>, &'static str)> {
+    if let Some(name) = around.unknown(Some(found)) {
+        for choice in expected {
+            if is_near(name.text, choice.word.as_bytes()) {
+                return Some((name, choice.word));
             }
         }
-        false
+    }
+    if let Some(name) = around.unknown(around.front()) {
+        if let Some(word) = nearest(name, STARTS) {
+            return Some((name, word));
+        }
+    }
+    let name = around.unknown(around.before(1))?;
+    let word = nearest(name, MIDDLES)?;
+    Some((name, word))
+}
+
+impl Unparsed<'_> {
+    /// The other line that matters, if one does.
+    pub fn other_line(&self) -> Option<u32> {
+        match self.why {
+            Why::Open(bracket) => Some(bracket.line),
+            Why::Unended(token) => Some(token.line),
+            Why::Says(says) if says.contains("@{") => self.around.open.map(|token| token.line),
+            _ => None,
+        }
     }
 }
 
 impl fmt::Display for Unparsed<'_> {
     fn fmt<W: fmt::Write>(&self, f: &mut fmt::Formatter<W>) -> fmt::Result {
-        match &self.found {
-            None => write!(f, "the source ends here, and something must follow")?,
-            Some((kind, word)) => {
-                write!(f, "{word} cannot stand here")?;
-                if let (Kind::LeftParen, Some(name)) = (kind, self.before) {
-                    if name.is(b"for") {
-                        return write!(f, ": there is no for; write a while, or a cilk_for");
-                    }
-                    return write!(
-                        f,
-                        ": {name}(..) is a call, and a call is a statement of its own; give its result to an integer before, r = {name}(..); and write r here"
-                    );
-                }
-                if spelled(*kind) && self.expects("x") {
-                    write!(f, ": {word} is a word of the language, and no name")?;
-                }
-                if let Kind::Increment = kind {
-                    write!(
-                        f,
-                        ": ++ stands in the head of a cilk_for alone; write x = x + 1"
-                    )?;
-                }
+        let Some(found) = self.around.found() else {
+            write!(f, "the source ends here, and something must follow")?;
+            return fmt_why(self, f);
+        };
+        let word = self.around.word(found);
+        write!(f, "{word} cannot stand here")?;
+        if let Why::Plain = self.why {
+            if spelled(found.kind) && expects(self.expected.as_slice(), "x") {
+                write!(f, ": {word} is a word of the language, and no name")?;
             }
         }
-        fmt_expected(self.expected.as_slice(), f)
+        fmt_why(self, f)
+    }
+}
+
+// Why it cannot stand there.
+fn fmt_why<W: fmt::Write>(unparsed: &Unparsed<'_>, f: &mut fmt::Formatter<W>) -> fmt::Result {
+    let around = &unparsed.around;
+    match unparsed.why {
+        Why::Says(says) => {
+            write!(f, ": ")?;
+            around.write(f, says)
+        }
+        Why::Near(name, word) => write!(f, ": did you mean {word} in place of {name}?"),
+        Why::Open(bracket) => {
+            let mark = around.word(bracket);
+            let line = bracket.line;
+            write!(f, ": the {mark} of line {line} is not closed")
+        }
+        Why::Bare => {
+            write!(f, ": ")?;
+            around.write(f, BARE)
+        }
+        Why::Unended(token) => {
+            let line = token.line;
+            write!(f, ": a ; is missing before it, in line {line}")
+        }
+        Why::Plain => fmt_expected(unparsed.expected.as_slice(), f),
     }
 }
 

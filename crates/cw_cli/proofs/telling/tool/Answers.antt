@@ -13,13 +13,13 @@ returns-then-is_err g c =
 pub returns-in-Ok : goal.returns-in-Ok
 returns-in-Ok g c =
     answered g.W.Sink.seen g.E.Sink.seen c.args.out.now c.analyse.new.out c.args.err.now c.args.err.now c.args.asked.now _ _
-    g.D.Read.remaining c.args.source.now c.take.result.inner.now c.take.result.limit c.new-bytes.result.items c.read_to_end.new.buf.items c.as_slice.result.now c.as_slice-args.result.now
-    c.take.ensures.limit (ap (λ s. s.now) c.take.ensures.inner) c.new-bytes.ensures.items c.as_slice.ensures.value c.as_slice-args.ensures.value (on_ok c.read_to_end.result _ (search rules) c.read_to_end.ensures.bytes)
+    g.D.Read.remaining c.args.source.now c.take.result.inner.now c.take.result.limit c.new-bytes.result.items c.read_to_end-read.new.buf.items c.as_slice.result.now c.as_slice-args.result.now
+    c.take.ensures.limit (ap (λ s. s.now) c.take.ensures.inner) c.new-bytes.ensures.items c.as_slice.ensures.value c.as_slice-args.ensures.value (on_ok c.read_to_end-read.result _ (search rules) c.read_to_end-read.ensures.bytes)
     (Ok tt) 0 refl c.in-Ok.ensures (alone g.E.Sink.seen c.args.err.now c.args.err.now c.args.asked.now.explain [] (idle g.E.Sink.seen c.args.err.now))
 
 pub returns : goal.returns
 returns g c =
     answered g.W.Sink.seen g.E.Sink.seen c.args.out.now c.analyse.new.out c.args.err.now c.tell.new.err c.args.asked.now _ _
-    g.D.Read.remaining c.args.source.now c.take.result.inner.now c.take.result.limit c.new-bytes.result.items c.read_to_end.new.buf.items c.as_slice.result.now c.as_slice-args.result.now
-    c.take.ensures.limit (ap (λ s. s.now) c.take.ensures.inner) c.new-bytes.ensures.items c.as_slice.ensures.value c.as_slice-args.ensures.value (on_ok c.read_to_end.result _ (search rules) c.read_to_end.ensures.bytes)
+    g.D.Read.remaining c.args.source.now c.take.result.inner.now c.take.result.limit c.new-bytes.result.items c.read_to_end-read.new.buf.items c.as_slice.result.now c.as_slice-args.result.now
+    c.take.ensures.limit (ap (λ s. s.now) c.take.ensures.inner) c.new-bytes.ensures.items c.as_slice.ensures.value c.as_slice-args.ensures.value (on_ok c.read_to_end-read.result _ (search rules) c.read_to_end-read.ensures.bytes)
     (Err c.in-Err.fault) c.tell.result c.tell.ensures.status c.in-Err.ensures c.tell.ensures.told

@@ -1,0 +1,75 @@
+//! Which of the program's words are no numbers or out of range, in words.
+
+use crate::command::command;
+use crate::edges::{EDGES, USUAL_EDGES, edges_named};
+use crate::number::{BURDEN, LIMIT, NumberOption, PROCESSORS, WORKERS, read_number};
+use clap::ArgMatches;
+use cw_explain::Word;
+use cw_model::limits::MOST_NUMBER;
+use cw_text::Fault;
+use std::alloc::{AllocError, Global};
+
+/// No word more is told behind so many bytes.
+const MOST_BYTES: usize = 3_072;
+
+/// Each word that is the reason of `Arguments`, with the range that it has to be in, on a line of its own. Of words that the command
+/// line refuses in another way nothing is told. `Memory` where memory runs out.
+pub fn misused(alloc: Global, words: &[String]) -> Result<String, Fault> {
+    let mut out = String::new(alloc);
+    let Ok(matches) = command(alloc)?.try_get_matches_from(words) else {
+        return Ok(out);
+    };
+    if let Some((_, given)) = matches.subcommand() {
+        of_number(&mut out, given, PROCESSORS)?;
+        of_number(&mut out, given, LIMIT)?;
+        of_number(&mut out, given, BURDEN)?;
+        of_number(&mut out, given, WORKERS)?;
+        of_edges(&mut out, given)?;
+        for text in given.get_strs("ARGS").unwrap_or(&[]) {
+            of_range(&mut out, "an argument of main", text, 0, MOST_NUMBER)?;
+        }
+    }
+    Ok(out)
+}
+
+// A number that is given.
+fn of_number(
+    out: &mut String,
+    given: &ArgMatches<'_>,
+    option: NumberOption,
+) -> Result<(), AllocError> {
+    let text = given.get_str(option.name).unwrap_or(option.usual);
+    of_range(out, option.name, text, option.least, option.most)
+}
+
+// A number with its range.
+fn of_range(
+    out: &mut String,
+    name: &str,
+    text: &str,
+    least: u64,
+    most: u64,
+) -> Result<(), AllocError> {
+    if out.len() < MOST_BYTES && read_number(text, least, most).is_none() {
+        let word = Word {
+            text: text.as_bytes(),
+        };
+        write!(
+            out,
+            "cilkwork: {name} is '{word}': it is a number from {least} to {most}, in decimal digits alone\n"
+        )?;
+    }
+    Ok(())
+}
+
+// The word for the edges.
+fn of_edges(out: &mut String, given: &ArgMatches<'_>) -> Result<(), AllocError> {
+    let text = given.get_str(EDGES).unwrap_or(USUAL_EDGES);
+    if edges_named(text).is_none() {
+        let word = Word {
+            text: text.as_bytes(),
+        };
+        write!(out, "cilkwork: edges is '{word}': it is spawn or both\n")?;
+    }
+    Ok(())
+}
