@@ -1,4 +1,4 @@
-//! Which rule a line of a source breaks, for which names, in plain words: over its text, its tokens and its tree.
+//! Reasons in plain words: of names, types and limits, as they were found, and of text, tokens, code and traps.
 #![tactic(auto)]
 
 mod excerpt;

@@ -2,8 +2,7 @@
 
 use crate::word::Word;
 use cw_model::limits::{
-    MOST_DECLARED, MOST_FUNCTIONS, MOST_PARAMETERS, MOST_REDUCERS, MOST_TAG_BYTES,
-    MOST_TAGS,
+    MOST_DECLARED, MOST_FUNCTIONS, MOST_PARAMETERS, MOST_REDUCERS, MOST_TAG_BYTES, MOST_TAGS,
 };
 use cw_types::TooLarge;
 use std::fmt;

@@ -87,9 +87,9 @@ fn fmt_head<W: fmt::Write>(reason: &IllTyped<'_>, f: &mut fmt::Formatter<W>) -> 
         IllTyped::Repeated(name, line) => {
             let name = Word::of(name);
             write!(
-            f,
-            "{name} is the name of a function or reducer in line {line} already: their names differ"
-        )
+                f,
+                "{name} is the name of a function or reducer in line {line} already: their names differ"
+            )
         }
         IllTyped::ParameterTwice(name) => {
             let name = Word::of(name);
@@ -98,9 +98,9 @@ fn fmt_head<W: fmt::Write>(reason: &IllTyped<'_>, f: &mut fmt::Formatter<W>) -> 
         IllTyped::MayNotReturn(name) => {
             let name = Word::of(name);
             write!(
-            f,
-            "{name} is int, and its body may end without a return: its last statement is a return, or an if with else of which both blocks end so"
-        )
+                f,
+                "{name} is int, and its body may end without a return: its last statement is a return, or an if with else of which both blocks end so"
+            )
         }
         _ => Ok(()),
     }
@@ -112,9 +112,9 @@ fn fmt_name<W: fmt::Write>(reason: &IllTyped<'_>, f: &mut fmt::Formatter<W>) -> 
         IllTyped::Unknown(name) => {
             let name = Word::of(name);
             write!(
-            f,
-            "{name} is not known here: a name is known from its declaration to the end of its block"
-        )
+                f,
+                "{name} is not known here: a name is known from its declaration to the end of its block"
+            )
         }
         IllTyped::NotInteger(name, other, line) => {
             let name = Word::of(name);
@@ -135,27 +135,32 @@ fn fmt_name<W: fmt::Write>(reason: &IllTyped<'_>, f: &mut fmt::Formatter<W>) -> 
         IllTyped::OnlyRead(name, line) => {
             let name = Word::of(name);
             write!(
-            f,
-            "{name} in line {line} is const: it is read by {name}[..] and len({name}), and passed to a const parameter"
-        )
+                f,
+                "{name} in line {line} is const: it is read by {name}[..] and len({name}), and passed to a const parameter"
+            )
         }
         IllTyped::Known(name, line) => {
             let name = Word::of(name);
             write!(
-            f,
-            "{name} is declared where the {name} of line {line} is still known: take another name, or leave out 'int' to assign"
-        )
+                f,
+                "{name} is declared where the {name} of line {line} is still known: take another name, or leave out 'int' to assign"
+            )
         }
         IllTyped::Global(name, other, line) => {
             let name = Word::of(name);
             let other = words_of(*other);
             write!(
-            f,
-            "{name} is the name of {other} (line {line}): no local name is spelled like it"
-        )
+                f,
+                "{name} is the name of {other} (line {line}): no local name is spelled like it"
+            )
         }
         IllTyped::NotReducer(name, how) => fmt_no_reducer(Word::of(name), *how, f),
-        IllTyped::ReducesOtherwise(name, how, line) => fmt_other_reducer(Word::of(name), *how, *line, f),
+        IllTyped::ReducesOtherwise(name, how, line) => fmt_other_reducer(
+            Word::of(name),
+            *how,
+            *line,
+            f,
+        ),
         _ => Ok(()),
     }
 }
@@ -208,17 +213,17 @@ fn fmt_call<W: fmt::Write>(reason: &IllTyped<'_>, f: &mut fmt::Formatter<W>) -> 
         IllTyped::Count(name, given, wanted, line) => {
             let name = Word::of(name);
             write!(
-            f,
-            "{name} in line {line} has {wanted} parameters, and the arguments are {given}"
-        )
+                f,
+                "{name} in line {line} has {wanted} parameters, and the arguments are {given}"
+            )
         }
         IllTyped::ArgumentNotArray(place, name, param, line) => {
             let name = Word::of(name);
             let param = Word::of(param);
             write!(
-            f,
-            "argument {place} of {name} is the name of an array alone: {param} in line {line} is one"
-        )
+                f,
+                "argument {place} of {name} is the name of an array alone: {param} in line {line} is one"
+            )
         }
         IllTyped::GivesNothing(name, line) => {
             let name = Word::of(name);
@@ -250,9 +255,9 @@ fn fmt_statement<W: fmt::Write>(reason: &IllTyped<'_>, f: &mut fmt::Formatter<W>
             let variable = Word::of(variable);
             let other = Word::of(other);
             write!(
-            f,
-            "the head of a cilk_for has one name three times: here {variable}, and {other} in place of it"
-        )
+                f,
+                "the head of a cilk_for has one name three times: here {variable}, and {other} in place of it"
+            )
         }
         IllTyped::Grain(grain) => {
             write!(

@@ -1,5 +1,5 @@
 -- A reason that is true of one statement is true of one among others.
-use Rattle.std.proofs.Common.{Bool, true, false, not, ◌≡◌, ℕ, List, Contains, Option, Some, None, IfSome, refl}
+use Rattle.std.proofs.Common.{Bool, true, false, not, ◌≡◌, List, Contains, Option, Some, None, IfSome, refl}
 use Rattle.cw_model.specs.Typing.{Returns}
 use Rattle.cw_tree.specs.declared.syntax.Line.{Line}
 use Rattle.cw_types.specs.declared.globals.Globals.{Globals}
@@ -9,7 +9,7 @@ use Rattle.cw_types.specs.Reasons.{IsBroken}
 use Rattle.cw_types.specs.Scope.{Declared}
 use Rattle.cw_types.specs.Standing.{Standing, standing_at}
 use Rattle.cw_types.specs.Telling.{Tells}
-use Rattle.cw_types.specs.Told.{Breaks, Ends, IsNeverReached, IsToldAmong}
+use Rattle.cw_types.specs.Told.{Breaks, Ends, IsNeverReached}
 use Rattle.cw_types.specs.Within.{IsAmong, NeverReached, program_in}
 use Rattle.cw_types.proofs.Telling.{weaken}
 

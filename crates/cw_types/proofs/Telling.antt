@@ -1,5 +1,5 @@
 -- What is told of lines that are noted one after another.
-use Rattle.std.proofs.Common.{Bool, true, false, not, ◌||◌, ◌≡◌, ℕ, nat_le, if◌then◌else◌, arith, List, [], ◌∷◌,  Contains, Option, Some, None, IfSome, option_map, refl, sym, ap, ◌∙◌, subst}
+use Rattle.std.proofs.Common.{Bool, true, false, not, ◌||◌, ◌≡◌, ℕ, nat_le, if◌then◌else◌, arith, List, [], ◌∷◌, Contains, Option, Some, None, IfSome, option_map, refl, sym, ap, ◌∙◌, subst}
 use Rattle.std.proofs.lemmas.Bool.Decides.{nat_tests}
 use Rattle.std.specs.Option.{option_to_list}
 use Rattle.cw_model.specs.Lines.{lesser, lowest}

@@ -1,5 +1,5 @@
 -- Rules of names and types, and reasons, within a program that the code holds.
-use Rattle.std.specs.Prelude.{ℕ, List, map, flat_map, Result}
+use Rattle.std.specs.Prelude.{ℕ, List, flat_map, Result}
 use Rattle.cw_model.specs.Syntax.{Program}
 use Rattle.cw_model.specs.Typing as rule
 use Rattle.cw_model.specs.Typing.{faults_of, faults_in_block}

@@ -51,7 +51,13 @@ fn function_faults<'a>(
 {
     told.note(of_head(globals, function), function.line);
     let mut known = known_in(alloc, function)?;
-    block(globals, returns_of(function), &mut known, function.body.as_slice(), told)?;
+    block(
+        globals,
+        returns_of(function),
+        &mut known,
+        function.body.as_slice(),
+        told,
+    )?;
     Ok(())
 }
 
@@ -108,7 +114,8 @@ fn may_end(function: &Function) -> bool
 fn of_params<'a>(globals: &Globals<'a>, params: &'a [Param]) -> Option<IllTyped<'a>>
     ensures decides { is_some result
         ≡ not (are_new (program_of globals.now.ast.now) [] (map param_of params.now)) }
-    ensures holds { IfSome result (IsWrongParams (program_of globals.now.ast.now) (map param_of params.now)) }
+    ensures holds { IfSome result
+        (IsWrongParams (program_of globals.now.ast.now) (map param_of params.now)) }
 {
     for i in 0..params.len() {
         let param = &params[i];

@@ -86,12 +86,7 @@ impl<'a> Known<'a> {
     }
 
     /// One name more. Where memory runs out the names are as they were.
-    pub fn declare(
-        &mut self,
-        name: &'a [u8],
-        kind: NameKind,
-        line: u32,
-    ) -> Result<(), AllocError>
+    pub fn declare(&mut self, name: &'a [u8], kind: NameKind, line: u32) -> Result<(), AllocError>
         ensures { Becomes (with_local name.now kind line self.old) self.old self.new result }
     {
         let local = Local { kind, line };

@@ -84,7 +84,10 @@ fn function_limits<'a>(function: &'a Function, told: &mut Told<TooLarge<'a>>)
     ensures told { Tells (IsPassedByFunction (function_of function.now)) told.old told.new }
 {
     told.note(many_params(function), function.line);
-    told.note_least(declared_beyond(function), TooLarge::Declared(&function.name));
+    told.note_least(
+        declared_beyond(function),
+        TooLarge::Declared(&function.name),
+    );
 }
 
 // A function has too many parameters.

@@ -80,18 +80,17 @@ pub fn shared_names<'a>(
 }
 
 // The same of one reducer.
-fn shared_name<'a>(
-    functions: &'a [Function],
-    reducer: &'a Reducer,
-    told: &mut Told<IllTyped<'a>>,
-)
+fn shared_name<'a>(functions: &'a [Function], reducer: &'a Reducer, told: &mut Told<IllTyped<'a>>)
     ensures lines { Noted (lines_shared_by functions.now reducer.now) told.old told.new }
     ensures told { (reducers : List (Name × ℕ)) →
         Contains reducers (reducer.now.name, reducer.now.line) →
         Tells (IsRepeatedIn (listed_functions functions.now ++ reducers)) told.old told.new }
 {
     for function in functions {
-        told.note(shared(function, reducer), later(reducer.line, function.line));
+        told.note(
+            shared(function, reducer),
+            later(reducer.line, function.line),
+        );
     }
 }
 

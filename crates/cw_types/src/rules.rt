@@ -129,9 +129,7 @@ fn of_use<'a>(
                 Other::Integer,
                 local.line,
             )),
-            (NameKind::Array, NameKind::Const) => {
-                Some(IllTyped::OnlyRead(name, local.line))
-            }
+            (NameKind::Array, NameKind::Const) => { Some(IllTyped::OnlyRead(name, local.line)) }
         },
     }
 }
@@ -238,7 +236,12 @@ pub fn of_global<'a>(globals: &Globals<'a>, name: &'a Name) -> Option<IllTyped<'
 }
 
 // A declaration names what it may not, or declares what it may not.
-fn of_declare<'a>(globals: &Globals<'a>, known: &Known<'a>, x: &'a Name, e: &'a Expr) -> Option<IllTyped<'a>>
+fn of_declare<'a>(
+    globals: &Globals<'a>,
+    known: &Known<'a>,
+    x: &'a Name,
+    e: &'a Expr,
+) -> Option<IllTyped<'a>>
     ensures decides { is_some result
         ≡ not (rule.is_fine (kinds known.now) (expr_of e.now)
         && rule.is_new (program_of globals.now.ast.now) (kinds known.now) x.now) }
@@ -296,7 +299,12 @@ fn of_assign_element<'a>(
 }
 
 // One of two expressions names what it may not.
-fn of_two<'a>(globals: &Globals<'a>, known: &Known<'a>, d: &'a Expr, e: &'a Expr) -> Option<IllTyped<'a>>
+fn of_two<'a>(
+    globals: &Globals<'a>,
+    known: &Known<'a>,
+    d: &'a Expr,
+    e: &'a Expr,
+) -> Option<IllTyped<'a>>
     ensures decides { is_some result
         ≡ not (rule.is_fine (kinds known.now) (expr_of d.now)
         && rule.is_fine (kinds known.now) (expr_of e.now)) }
@@ -323,7 +331,8 @@ fn same_reduction(how: Reduction, other: Reduction) -> bool
 
 // A name is that of no reducer which reduces so.
 fn of_reducer<'a>(globals: &Globals<'a>, how: Reduction, name: &'a Name) -> Option<IllTyped<'a>>
-    ensures decides { is_some result ≡ not (rule.is_reducer (program_of globals.now.ast.now) how name.now) }
+    ensures decides { is_some result
+        ≡ not (rule.is_reducer (program_of globals.now.ast.now) how name.now) }
     ensures holds { IfSome result (IsNoReducer (program_of globals.now.ast.now) how name.now) }
 {
     match globals.reducer(name.as_bytes()) {
@@ -551,7 +560,11 @@ fn of_other_name<'a>(head: &'a Head) -> Option<IllTyped<'a>>
 }
 
 // One of these names is no array.
-fn of_arrays<'a>(globals: &Globals<'a>, known: &Known<'a>, names: &'a [Name]) -> Option<IllTyped<'a>>
+fn of_arrays<'a>(
+    globals: &Globals<'a>,
+    known: &Known<'a>,
+    names: &'a [Name],
+) -> Option<IllTyped<'a>>
     ensures decides { is_some result
         ≡ not (list_all (λ a. rule.is_writable (kinds known.now) a) names.now) }
     ensures holds { IfSome result

@@ -10,14 +10,14 @@ use Rattle.cw_tree.specs.declared.syntax.Stmt.{the_lemmas as stmt_lemmas}
 use Rattle.cw_tree.specs.SyntaxView.{program_of, block_of, stmt_of, expr_of}
 use Rattle.cw_types.specs.Returned.{returns_of}
 use Rattle.cw_types.specs.Scope.{Declared, after_stmt, kinds, oldest}
-use Rattle.cw_types.specs.Standing.{Standing, standing_at, standing_in, standing_inside}
+use Rattle.cw_types.specs.Standing.{Standing, standing_in, standing_inside}
 use Rattle.cw_types.specs.Telling.{line_told}
 use Rattle.cw_types.specs.Typing.{keeps_rules, faults_inside}
 use Rattle.cw_types.specs.Within.{IsAmong, NeverReached, TellsAmong}
 use Rattle.cw_model.specs.lemmas.Lowest.{lowest-append}
 use Rattle.cw_types.proofs.Among.{among_more, broken_among, denied, ended_among, ended_there}
 use Rattle.cw_types.proofs.Noting.{by_parts, noted}
-use Rattle.cw_types.proofs.Telling.{and_then, found_true, nothing_more}
+use Rattle.cw_types.proofs.Telling.{and_then, found_true}
 use Rattle.cw_types.proofs.Walking.{kinds_after, longer_after, oldest_after}
 use Rattle.cw_types.proofs.bodies.+bodies.Goals as goal
 

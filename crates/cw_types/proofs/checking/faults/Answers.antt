@@ -1,9 +1,9 @@
-use Rattle.std.proofs.Common.{◌≡◌, ℕ, ◌++◌, List, [], map, flat_map, is_some, not, IfSome, Option, None, ap, sym, subst, refl, ◌∙◌, arith}
+use Rattle.std.proofs.Common.{◌≡◌, ℕ, ◌++◌, List, [], map, flat_map, is_some, not, IfSome, Option, None, ap, sym, subst, ◌∙◌, arith}
 use Rattle.std.proofs.lemmas.List.{length-map}
 use Rattle.cw_model.specs.Answers.{main_name}
 use Rattle.cw_model.specs.Lines.{lowest, unless}
 use Rattle.cw_model.specs.Names.{is_among}
-use Rattle.cw_model.specs.Syntax.{Name, Program}
+use Rattle.cw_model.specs.Syntax.{Program}
 use Rattle.cw_model.specs.Typing.{repeated, of_both_kinds, faults_of}
 use Rattle.cw_model.specs.lemmas.Lowest.{lowest-append}
 use Rattle.cw_tree.specs.declared.syntax.Function.{Function as CodeFunction}

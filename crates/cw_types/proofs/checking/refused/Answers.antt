@@ -1,5 +1,4 @@
-use Rattle.std.proofs.Common.{◌≡◌, ℕ, IfSome, Option, Some, None, sym, ap, subst, ◌∙◌, option_map}
-use Rattle.cw_model.specs.Lines.{lowest}
+use Rattle.std.proofs.Common.{IfSome, Option, sym, ap, subst, ◌∙◌, option_map}
 use Rattle.cw_model.specs.Sizes.{limit_faults}
 use Rattle.cw_model.specs.Typing.{type_faults}
 use Rattle.cw_model.specs.lemmas.Lowest.{no_lines, least_line}

@@ -1,4 +1,4 @@
-use Rattle.std.proofs.Common.{if◌then◌else◌, ◌≡◌, ◌++◌, ◌∙◌, [], List, Option, Some, None, IfSome, is_some, map, ap, sym, subst, refl}
+use Rattle.std.proofs.Common.{◌≡◌, ◌∙◌, [], List, Option, Some, None, IfSome, is_some, map, ap, sym, subst, refl}
 use Rattle.std.proofs.lemmas.List.{append-nil}
 use Rattle.cw_model.specs.Lines.{lowest, unless}
 use Rattle.cw_model.specs.Typing as rule
@@ -11,7 +11,7 @@ use Rattle.cw_types.specs.Returned.{returns_in}
 use Rattle.cw_types.specs.Scope.{Declared, kinds, with_params}
 use Rattle.cw_types.specs.Standing.{standing_in, standing_of}
 use Rattle.cw_types.specs.Telling.{line_told}
-use Rattle.cw_types.specs.Told.{IsToldOf, IsWrongFunction, OfHead, OfStatement}
+use Rattle.cw_types.specs.Told.{IsWrongFunction, OfHead, OfStatement}
 use Rattle.cw_types.specs.Within.{IsAmong, IsToldIn, TellsAmong}
 use Rattle.cw_types.proofs.Among.{denied}
 use Rattle.cw_types.proofs.Telling.{and_then, found_true, weaken}

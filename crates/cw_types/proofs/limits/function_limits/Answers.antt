@@ -1,4 +1,4 @@
-use Rattle.std.proofs.Common.{◌≡◌, ℕ, not, nat_le, Option, Some, None, IfSome, is_some, length, ap, sym, refl, ◌∙◌}
+use Rattle.std.proofs.Common.{nat_le, is_some, length, ap, sym, refl, ◌∙◌}
 use Rattle.std.specs.Option.{option_to_list}
 use Rattle.cw_model.specs.declared.limits.TheConstants.{MOST_PARAMETERS}
 use Rattle.cw_model.specs.Lines.{lowest, unless}

@@ -1,9 +1,9 @@
-use Rattle.std.proofs.Common.{◌≡◌, ℕ, List, [], ◌++◌, map, flat_map, length, nat_le, Option, None, ap, sym, subst, ◌∙◌}
+use Rattle.std.proofs.Common.{◌≡◌, ℕ, List, ◌++◌, map, flat_map, length, nat_le, Option, None, ap, sym, subst, ◌∙◌}
 use Rattle.std.specs.Option.{option_to_list}
 use Rattle.cw_model.specs.Syntax.{Name, Function, Reducer}
-use Rattle.cw_model.specs.declared.limits.TheConstants.{MOST_FUNCTIONS, MOST_REDUCERS, MOST_TAGS, MOST_TAG_BYTES}
+use Rattle.cw_model.specs.declared.limits.TheConstants.{MOST_FUNCTIONS, MOST_REDUCERS, MOST_TAG_BYTES}
 use Rattle.cw_model.specs.Lines.{lowest, unless}
-use Rattle.cw_model.specs.Sizes.{function_limits, lines_beyond, first_places, regions_in_block, regions_of as regions_in}
+use Rattle.cw_model.specs.Sizes.{function_limits, lines_beyond, regions_in_block}
 use Rattle.cw_model.specs.lemmas.Lowest.{lowest-append}
 use Rattle.cw_tree.specs.declared.syntax.Function.{Function as CodeFunction}
 use Rattle.cw_tree.specs.SyntaxView.{function_of, program_of, reducer_of}

@@ -1,4 +1,4 @@
-use Rattle.std.proofs.Common.{◌≡◌, ℕ, [], ◌∷◌, ◌+◌, List, Contains, Option, Some, None, IfSome, is_some, nat_le, length, drop, get_or, flat_map, ap, sym, subst, ◌∙◌, arith}
+use Rattle.std.proofs.Common.{◌≡◌, ℕ, [], ◌∷◌, ◌+◌, List, Contains, Option, Some, None, IfSome, is_some, nat_le, length, drop, get_or, flat_map, ap, sym, ◌∙◌, arith}
 use Rattle.std.proofs.lemmas.Grind.{common_steps}
 use Rattle.cw_model.specs.declared.limits.TheConstants.{MOST_TAG_BYTES}
 use Rattle.cw_model.specs.Lines.{lowest, unless}

@@ -1,4 +1,4 @@
-use Rattle.std.proofs.Common.{◌≡◌, ℕ, ◌∷◌, ◌++◌, ◌+◌, [], List, Contains, Option, Some, None, IfSome, is_some, not, drop, take, map, ap, sym, subst, refl, ◌∙◌, arith}
+use Rattle.std.proofs.Common.{◌≡◌, ℕ, ◌∷◌, ◌+◌, List, Contains, is_some, not, drop, map, ap, sym, subst, refl, ◌∙◌, arith}
 use Rattle.std.proofs.lemmas.Grind.{common_steps}
 use Rattle.cw_model.specs.Lines.{lowest, unless}
 use Rattle.cw_model.specs.Names.{is_among}
@@ -12,8 +12,7 @@ use Rattle.cw_types.specs.Names.{known_names}
 use Rattle.cw_types.specs.Scope.{Declared, kinds, with_local}
 use Rattle.cw_types.specs.Telling.{line_told}
 use Rattle.cw_types.specs.Told.{IsRepeatedIn}
-use Rattle.cw_types.specs.declared.reason.IllTyped.{IllTyped}
-use Rattle.cw_types.proofs.Repeating.{both_mapped, more_earlier, one_more, repeated_true}
+use Rattle.cw_types.proofs.Repeating.{both_mapped, more_earlier, repeated_true}
 use Rattle.cw_types.proofs.Telling.{and_then, found_true}
 use Rattle.cw_types.proofs.repeated.repeated_functions.Goals as goal
 

@@ -1,5 +1,4 @@
-use Rattle.std.proofs.Common.{◌≡◌, ℕ, List, refl, sym, subst}
-use Rattle.cw_model.specs.Syntax.{Name}
+use Rattle.std.proofs.Common.{ℕ, refl, sym, subst}
 use Rattle.cw_types.specs.Told.{AreBothIn}
 use Rattle.cw_types.proofs.repeated.shared.Goals as goal
 

@@ -1,4 +1,4 @@
-use Rattle.std.proofs.Common.{Bool, true, false, not, if◌then◌else◌, ◌≡◌, ℕ, nat_le, ◌∷◌, ◌++◌, ◌+◌, List, Contains, is_some, drop, map, ap, sym, subst, ◌∙◌, arith}
+use Rattle.std.proofs.Common.{true, not, ◌≡◌, ℕ, ◌∷◌, ◌++◌, ◌+◌, Contains, is_some, drop, map, ap, sym, subst, ◌∙◌, arith}
 use Rattle.std.proofs.lemmas.Grind.{common_steps}
 use Rattle.std.proofs.lemmas.Slice.Eq.{bytes_eq-Decides}
 use Rattle.cw_model.specs.Lines.{lowest, unless}

@@ -3,7 +3,6 @@ use Rattle.std.proofs.lemmas.Grind.{common_steps}
 use Rattle.cw_model.specs.declared.syntax.NameKind.TheVariants as name_kind
 use Rattle.cw_types.specs.Uses.{uses_in}
 use Rattle.cw_tree.specs.SyntaxView.{expr_of, program_of}
-
 use Rattle.cw_types.proofs.Misuse.{in_first, in_right, in_rest}
 use Rattle.cw_types.proofs.rules.+of_expr.Goals as goal
 

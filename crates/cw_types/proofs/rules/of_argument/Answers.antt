@@ -3,7 +3,6 @@ use Rattle.std.proofs.lemmas.Grind.{common_steps}
 use Rattle.cw_model.specs.Syntax.{Variable, is_array_kind}
 use Rattle.cw_tree.specs.declared.syntax.Expr.{the_lemmas}
 use Rattle.cw_tree.specs.SyntaxView.{expr_of, program_of}
-
 use Rattle.cw_types.specs.Uses.{uses_in_argument}
 use Rattle.cw_types.proofs.Misuse.{in_first, used_alone}
 use Rattle.cw_types.proofs.rules.of_argument.Goals as goal

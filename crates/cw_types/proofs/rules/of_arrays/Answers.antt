@@ -2,7 +2,6 @@ use Rattle.std.proofs.Common.{subst}
 use Rattle.cw_model.specs.declared.syntax.NameKind.TheVariants as name_kind
 use Rattle.cw_model.specs.Syntax.{Name}
 use Rattle.cw_tree.specs.SyntaxView.{program_of}
-
 use Rattle.cw_types.specs.Reasons.{IsMisuse}
 use Rattle.cw_types.proofs.Misuse.{in_arrays}
 use Rattle.cw_types.proofs.rules.of_arrays.Goals as goal

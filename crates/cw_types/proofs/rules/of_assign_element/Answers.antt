@@ -2,7 +2,6 @@ use Rattle.std.proofs.Common.{◌∷◌, ◌++◌, refl}
 use Rattle.cw_model.specs.declared.syntax.NameKind.TheVariants as name_kind
 use Rattle.cw_types.specs.Uses.{Use, uses_in}
 use Rattle.cw_tree.specs.SyntaxView.{expr_of, program_of}
-
 use Rattle.cw_types.proofs.Misuse.{in_first, in_rest}
 use Rattle.cw_types.proofs.rules.of_assign_element.Goals as goal
 

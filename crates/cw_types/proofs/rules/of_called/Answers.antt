@@ -1,6 +1,5 @@
 use Rattle.std.proofs.Common.{sym}
 use Rattle.cw_tree.specs.SyntaxView.{exprs_of, function_of, program_of}
-
 use Rattle.cw_types.proofs.Misuse.{of_list}
 use Rattle.cw_types.proofs.rules.of_called.Goals as goal
 

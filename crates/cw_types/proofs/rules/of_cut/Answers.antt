@@ -1,6 +1,5 @@
 use Rattle.std.proofs.Common.{◌∷◌, [], refl}
 use Rattle.cw_tree.specs.SyntaxView.{program_of}
-
 use Rattle.cw_types.specs.Reasons.{Taken}
 use Rattle.cw_types.proofs.Misuse.{not_new_at}
 use Rattle.cw_types.proofs.rules.of_cut.Goals as goal

@@ -1,4 +1,3 @@
-
 use Rattle.std.proofs.Common.{◌≡◌, Some, option_map, refl, subst}
 use Rattle.cw_model.specs.Syntax.{Name}
 use Rattle.cw_types.specs.Scope.{kind_and_line, newest}

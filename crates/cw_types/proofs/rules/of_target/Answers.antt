@@ -3,7 +3,6 @@ use Rattle.std.proofs.lemmas.Grind.{common_steps}
 use Rattle.cw_model.specs.declared.syntax.NameKind.TheVariants as name_kind
 use Rattle.cw_model.specs.Typing.{called}
 use Rattle.cw_tree.specs.SyntaxView.{exprs_of, program_of}
-
 use Rattle.cw_types.specs.Reasons.{Misused}
 use Rattle.cw_types.specs.Uses.{Use, uses_as_target, uses_in_call}
 use Rattle.cw_types.proofs.Misuse.{in_first}

@@ -1,7 +1,6 @@
 use Rattle.std.proofs.Common.{◌++◌, refl}
 use Rattle.cw_types.specs.Uses.{uses_in}
 use Rattle.cw_tree.specs.SyntaxView.{expr_of, program_of}
-
 use Rattle.cw_types.proofs.Misuse.{in_right}
 use Rattle.cw_types.proofs.rules.of_two.Goals as goal
 

@@ -1,4 +1,4 @@
-use Rattle.std.proofs.Common.{◌≡◌, ◌++◌, drop, map, []}
+use Rattle.std.proofs.Common.{◌≡◌, ◌++◌, drop, []}
 use Rattle.cw_model.specs.Sizes.{first_places}
 use Rattle.cw_types.specs.Regions.{regions_of}
 use Rattle.cw_types.specs.Names.{known_names}

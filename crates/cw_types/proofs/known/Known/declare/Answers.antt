@@ -1,4 +1,4 @@
-use Rattle.std.proofs.Common.{[], ◌∷◌, sym, ap, ◌∙◌, subst, List}
+use Rattle.std.proofs.Common.{[], sym, ap, ◌∙◌, subst, List}
 use Rattle.cw_types.specs.declared.known.Entry.{Entry}
 use Rattle.cw_types.specs.Scope.{with_local}
 use Rattle.cw_types.specs.Shadows.{AreNewest, known_from}

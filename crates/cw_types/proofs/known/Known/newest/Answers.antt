@@ -1,9 +1,5 @@
-use Rattle.std.proofs.Common.{sym, ap, ◌∙◌, ◌≡◌, is_some, [], subst, List, Option, MatchOption, None, Some, option_map}
-use Rattle.cw_model.specs.Names.{is_among}
-use Rattle.cw_types.specs.Names.{known_names}
-use Rattle.cw_types.specs.Scope.{Declared, kinds}
-use Rattle.cw_types.specs.Shadows.{known_from, local_of}
-use Rattle.cw_types.specs.declared.known.Local.{Local}
+use Rattle.std.proofs.Common.{sym, ap, ◌∙◌, ◌≡◌, is_some}
+use Rattle.cw_types.specs.Shadows.{local_of}
 use Rattle.cw_types.proofs.Newest.{among_has_local, found_kinds, found_newest}
 use Rattle.cw_types.proofs.known.Known.newest.Goals as goal
 
