@@ -13,7 +13,7 @@ use Rattle.cw_tree.specs.ResolvedView.{program_of, resolved_of}
 use Rattle.cw_tree.specs.declared.resolved.Tree.{Tree}
 use Rattle.cw_own.specs.Faults.{BreaksOwnership}
 use Rattle.cw_gen.specs.Generates as gen
-use Rattle.cw_code.specs.Code.{Code, code_view}
+use Rattle.cw_code.specs.Code.{code_view}
 use Rattle.cw_code.specs.declared.code.Code as declared
 use Rattle.cw_code.specs.Fits.{Fits}
 use Rattle.cw_verify.specs.Table.{Fails}
@@ -24,7 +24,7 @@ use Rattle.cw_loops.specs.Seen.{WhyNotLowered}
 use Rattle.cw_loops.specs.SourceLike.{is_source_like}
 use Rattle.cw_loops.specs.LoweringLaws.{DerivedIsSourceLike}
 use Rattle.cw_cli.specs.Sources
-use Rattle.cw_cli.specs.Compiled.{IsCompiled, IsMade, head_of}
+use Rattle.cw_cli.specs.Compiled.{IsMade, head_of}
 use Rattle.std.specs.Global.{Vec}
 use Rattle.cw_tree.specs.Resolved.{Function, plain_function}
 use Rattle.cw_verify.specs.declared.verified.Verified.{Verified}
@@ -116,15 +116,13 @@ module _ (bytes : List ℕ) (program : Program) (source : Sources.IsSourceOf byt
       not_unfit code g fault.Memory h = tt
       not_unfit code g _ h = absurd h
 
-      pub compiled : (code : Code) → gen.Generates (program_of other) code → IsCompiled bytes code
-      compiled code h =
-          let g : gen.Generates program code = subst (λ p. gen.Generates p code) is_program h in
-          record { program = program; compiles = record { accepted = accepted; loops = few; small = g.small }; generates = g }
-
       -- what is made of the code, with the heads of the functions beside it
       pub made : (code : declared.Code) → gen.Generates (program_of other) (code_view code) → (verified : Verified) → verified.code ≡ code → (heads : Vec Head)
           → map head_view heads.items ≡ map head_of (resolved_of other).functions → IsMade bytes (record { code = verified; heads = heads })
-      made code h verified same_code heads are = record {
-        compiled = subst (λ c. IsCompiled bytes (code_view c)) (sym same_code) (compiled (code_view code) h);
-        heads = are ∙ plain_heads (resolved_of other).functions ∙ ap heads_of is_program;
-      }
+      made code h verified same_code heads are =
+          let of_program : gen.Generates program (code_view code) = subst (λ p. gen.Generates p (code_view code)) is_program h in
+          let g : gen.Generates program (code_view verified.code) = subst (λ c. gen.Generates program (code_view c)) (sym same_code) of_program in
+          record {
+            compiled = record { program = program; compiles = record { accepted = accepted; loops = few; small = g.small }; generates = g };
+            heads = are ∙ plain_heads (resolved_of other).functions ∙ ap heads_of is_program;
+          }

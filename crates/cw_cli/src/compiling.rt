@@ -63,7 +63,8 @@ pub fn compile(alloc: Global, bytes: &[u8]) -> Result<Compiled, Fault>
 
 // The heads of functions.
 fn heads_of(alloc: Global, functions: &[Function]) -> Result<Vec<Head>, AllocError>
-    ensures { IfOk result (λ heads. map head_view heads.items ≡ map head_of (map function_of functions.now)) }
+    ensures { IfOk result
+        (λ heads. map head_view heads.items ≡ map head_of (map function_of functions.now)) }
 {
     let mut heads = Vec::with_capacity(alloc, functions.len())?;
     for function in functions {

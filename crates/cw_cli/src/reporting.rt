@@ -75,9 +75,10 @@ pub(crate) fn write_gains<W: Sink>(
     out: &mut W,
 ) -> Result<(), Fault>
     requires { (W.seen out.old).failures < 2 ^ 64 - 1 }
-    ensures { (bytes : List ℕ) (made : Compiled) (top : ℕ) → options.mode ≡ mode.Gain top → IsModeInRange options.mode
-        → IsMade bytes made
-        → GainsAsCode (code_view made.code.code) made.heads.items args.now options.limit options.burden top gains
+    ensures { (bytes : List ℕ) (made : Compiled) (top : ℕ) → options.mode ≡ mode.Gain top
+        → IsModeInRange options.mode → IsMade bytes made
+        → GainsAsCode (code_view made.code.code) made.heads.items args.now
+        options.limit options.burden top gains
         → IsRun W.seen out.old out.new bytes args.now options result }
 {
     derived_sites_are_numbered();
