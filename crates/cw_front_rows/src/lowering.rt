@@ -1,42 +1,9 @@
-//! Lowering of whole sources: loops in their order, the slots of their functions and the limit of their number, by hand.
+//! Loops that are lowered: their bodies, with the slots and the arrays that are taken along, by hand.
 
-use crate::stages::{Rule, Stage, answers, lowered};
+use crate::answers::lowered;
 use cw_loops::Core;
-use cw_loops::tree::{Argument, Begin, Expr, Line, Loop, Stmt};
+use cw_loops::tree::{Argument, Begin, Expr, Line, Stmt};
 use std::alloc::{AllocError, Global};
-use std::test::Fail;
-
-// Line, grain, and counts of captured integers and of arrays.
-type Told = (u32, u64, u32, u32);
-
-// Whether these are the loops.
-fn are_told(loops: &[Loop], told: &[Told]) -> bool {
-    for (l, (line, grain, captured, over)) in loops.iter().zip(told) {
-        let same = l.line == *line && l.grain == *grain;
-        if !same || l.captured != *captured || l.over != *over {
-            return false;
-        }
-    }
-    loops.len() == told.len()
-}
-
-// Three loops, one in the body of another.
-const NESTED: &str = "int main() { int n = 3; int a[9];
-cilk_for (int i = 0; i < 9; i++) grain 2 over (a) {
-int b[n];
-cilk_for (int j = 0; j < n; j++) over (b) { b[j] = i + n; }
-a[i] = b[0]; }
-cilk_for (int k = 0; k < 2; k++) grain 5 { print(k); }
-return a[0]; }";
-
-#[test]
-fn a_loop_stands_behind_those_in_its_body(rt: HostRuntime) -> Result<(), Fail> {
-    let core = lowered(rt.alloc(), NESTED.as_bytes())?;
-    let told = [(4, 64, 2, 1), (2, 2, 1, 1), (6, 5, 0, 0)];
-    let holds = are_told(core.tree.loops.as_slice(), &told);
-    assert!(rt; holds);
-    Ok(())
-}
 
 // Whether the function 1 is begun, and the slots 1 alone are taken along.
 fn takes_the_slots_1(begin: &Begin) -> bool {
@@ -77,22 +44,25 @@ fn are_moved(lines: &[Line]) -> bool {
     true
 }
 
+// Whether the only function besides main begins the only loop, and it has these two statements.
+fn moves_slots(core: &Core) -> bool {
+    let ([body], [l]) = (core.tree.bodies.as_slice(), core.tree.loops.as_slice()) else {
+        return false;
+    };
+    begins(body.as_slice()) == 1 && l.body.len() == 2 && are_moved(l.body.as_slice())
+}
+
 // m has the slot 1 of main, and is the first integer that the loop takes along: slot 2 of its function; i is 3, t is 4
 const MOVED: &str = "int main() { int n = 3; int m = 4; int z[1]; int a[9];
 cilk_for (int i = 0; i < n; i++) over (a) { int t = m; a[i] = t; }
 return a[0]; }";
 
-#[test]
-fn slots_move_with_the_body(rt: HostRuntime) -> Result<(), Fail> {
-    let core = lowered(rt.alloc(), MOVED.as_bytes())?;
-    assert!(rt; core.tree.bodies.len() == 1 && core.tree.loops.len() == 1);
-    for body in &core.tree.bodies {
-        assert!(rt; begins(body.as_slice()) == 1);
+/// Whether slots move with the body of a loop.
+pub fn slots_move(alloc: Global) -> bool {
+    match lowered(alloc, MOVED.as_bytes()) {
+        Ok(core) => moves_slots(&core),
+        Err(_) => false,
     }
-    for l in &core.tree.loops {
-        assert!(rt; l.body.len() == 2 && are_moved(l.body.as_slice()));
-    }
-    Ok(())
 }
 
 // How each array is passed by calls in a row, with its slot: whether it is only read.
@@ -136,43 +106,14 @@ fill(a, z); cilk_spawn look(z, 1);
 cilk_for (int i = 0; i < 9; i++) over (a) { int t[2]; int u[3]; fill(u, t); cilk_spawn look(u, i); look(t, 1); }
 cilk_sync; return a[0]; }";
 
-#[test]
-fn arrays_are_given_away_or_only_read(rt: HostRuntime) -> Result<(), Fail> {
-    let core = lowered(rt.alloc(), GIVEN.as_bytes())?;
-    let holds = passes_both(rt.alloc(), &core)?;
-    assert!(rt; holds);
-    Ok(())
-}
-
-// A loop on a line of its own.
-const LOOP: &str = "\ncilk_for (int i = 0; i < 1; i++) { }";
-
-// So many functions of 64 loops each, and a main of so many loops more.
-fn empty_loops(alloc: Global, functions: u32, more: usize) -> Result<String, AllocError> {
-    let each = LOOP.repeat(alloc, 64)?;
-    let rest = LOOP.repeat(alloc, more)?;
-    let mut text = String::new(alloc);
-    for f in 0..functions {
-        let function = format!(in alloc; "void f_{f}() {{{each} }} ")?;
-        text.push_str(function.as_str())?;
+/// Whether arrays are given away or only read where they are passed.
+///
+/// # Errors
+///
+/// An `AllocError` where there is no memory to list them.
+pub fn arrays_are_passed(alloc: Global) -> Result<bool, AllocError> {
+    match lowered(alloc, GIVEN.as_bytes()) {
+        Ok(core) => passes_both(alloc, &core),
+        Err(_) => Ok(false),
     }
-    let main = format!(in alloc; "int main() {{{rest} return 0; }}")?;
-    text.push_str(main.as_str())?;
-    Ok(text)
-}
-
-#[test]
-fn as_many_loops_as_there_may_be_are_lowered(rt: HostRuntime) -> Result<(), Fail> {
-    let most = empty_loops(rt.alloc(), 64, 0)?;
-    let core = lowered(rt.alloc(), most.as_bytes())?;
-    assert!(rt; core.tree.loops.len() == 4_096);
-    Ok(())
-}
-
-#[test]
-fn the_4097th_loop_by_place_is_one_too_many(rt: HostRuntime) -> Result<(), Fail> {
-    let more = empty_loops(rt.alloc(), 63, 66)?;
-    let holds = answers(rt.alloc(), Stage::Loops, Rule::Size, 4_098, more.as_bytes());
-    assert!(rt; holds);
-    Ok(())
 }

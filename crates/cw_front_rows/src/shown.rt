@@ -1,17 +1,8 @@
-//! Trees as text, for tests.
+//! Trees as text.
 
-use crate::stages::tree_of;
 use cw_model::syntax::{CallKind, NameKind, Operator, Reduction};
-use cw_tree::syntax::{Ast, Call, Expr, Head, Line, Name, Stmt};
+use cw_tree::syntax::{Ast, Call, Expr, Function, Head, Line, Name, Param, Reducer, Stmt};
 use std::alloc::{AllocError, Global};
-
-/// Whether a text has a tree, and it is this one as text.
-pub(crate) fn has_tree(alloc: Global, text: &[u8], tree: &[u8]) -> Result<bool, AllocError> {
-    match tree_of(alloc, text) {
-        Ok(ast) => Ok(shown(alloc, &ast)?.as_bytes() == tree),
-        Err(_) => Ok(false),
-    }
-}
 
 // A part of a tree that is still to be shown.
 #[derive(Clone, Copy)]
@@ -23,6 +14,9 @@ enum Part<'t> {
     Stmt(&'t Stmt),
     Block(&'t [Line]),
     Lines(&'t [Line]),
+    Reducers(&'t [Reducer]),
+    Functions(&'t [Function]),
+    Params(&'t [Param]),
 }
 
 // Parts to be shown next, in this order.
@@ -260,77 +254,131 @@ fn show_name(out: &mut String, name: &Name) -> Result<(), AllocError> {
     Ok(())
 }
 
-/// "LINE STATEMENT; .." in braces.
-pub(crate) fn show_block(
-    alloc: Global,
-    out: &mut String,
-    block: &[Line],
-) -> Result<(), AllocError> {
-    let mut todo = Vec::new(alloc);
-    todo.push(Part::Block(block))?;
-    for _ in 0..10_000 {
-        let Some(part) = todo.pop() else {
-            return Ok(());
-        };
-        match part {
-            Part::Word(word) => out.push_str(word)?,
-            Part::Number(number) => out.push_str(number.to_string(alloc)?.as_str())?,
-            Part::Name(name) => show_name(out, name)?,
-            Part::Expr(expr) => parts_of_expr(&mut todo, expr)?,
-            Part::Stmt(stmt) => parts_of_stmt(&mut todo, stmt)?,
-            Part::Block(lines) => next(
-                &mut todo,
-                &[Part::Word("{"), Part::Lines(lines), Part::Word("}")],
-            )?,
-            Part::Lines(lines) => {
-                if let [first, rest @ ..] = lines {
-                    next(
-                        &mut todo,
-                        &[
-                            Part::Number(u64::from(first.line)),
-                            Part::Word(" "),
-                            Part::Stmt(&first.stmt),
-                            Part::Word(";"),
-                            Part::Lines(rest),
-                        ],
-                    )?;
-                }
-            }
-        }
-    }
-    Ok(())
+fn show_number(alloc: Global, out: &mut String, number: u64) -> Result<(), AllocError> {
+    let digits = number.to_string(alloc)?;
+    out.push_str(digits.as_str())
 }
 
-/// "LINE sum NAME" or "LINE max NAME", and "LINE int NAME PARAMETERS {..}" or "LINE void ..", a line each.
-pub(crate) fn shown(alloc: Global, ast: &Ast) -> Result<String, AllocError> {
-    let mut out = String::new(alloc);
-    for reducer in &ast.reducers {
-        out.push_str(reducer.line.to_string(alloc)?.as_str())?;
-        out.push_str(match reducer.how {
-            Reduction::Sum => " sum ",
-            Reduction::Max => " max ",
-        })?;
-        show_name(&mut out, &reducer.name)?;
-        out.push_str("\n")?;
+// "LINE STATEMENT;", and then the rest.
+fn parts_of_lines<'t>(todo: &mut Vec<Part<'t>>, lines: &'t [Line]) -> Result<(), AllocError> {
+    match lines {
+        [] => Ok(()),
+        [first, rest @ ..] => next(
+            todo,
+            &[
+                Part::Number(u64::from(first.line)),
+                Part::Word(" "),
+                Part::Stmt(&first.stmt),
+                Part::Word(";"),
+                Part::Lines(rest),
+            ],
+        ),
     }
-    for function in &ast.functions {
-        out.push_str(function.line.to_string(alloc)?.as_str())?;
-        out.push_str(if function.gives_int {
-            " int "
-        } else {
-            " void "
-        })?;
-        show_name(&mut out, &function.name)?;
-        for param in &function.params {
-            out.push_str(match param.kind {
-                NameKind::Integer => " ",
-                NameKind::Array => " []",
-                NameKind::Const => " const []",
-            })?;
-            show_name(&mut out, &param.name)?;
-        }
-        show_block(alloc, &mut out, function.body.as_slice())?;
-        out.push_str("\n")?;
+}
+
+// "LINE sum NAME" or "LINE max NAME", a line each.
+fn parts_of_reducers<'t>(
+    todo: &mut Vec<Part<'t>>,
+    reducers: &'t [Reducer],
+) -> Result<(), AllocError> {
+    match reducers {
+        [] => Ok(()),
+        [first, rest @ ..] => next(
+            todo,
+            &[
+                Part::Number(u64::from(first.line)),
+                Part::Word(match first.how {
+                    Reduction::Sum => " sum ",
+                    Reduction::Max => " max ",
+                }),
+                Part::Name(&first.name),
+                Part::Word("\n"),
+                Part::Reducers(rest),
+            ],
+        ),
+    }
+}
+
+// "LINE int NAME PARAMETERS {..}" or "LINE void ..", a line each.
+fn parts_of_functions<'t>(
+    todo: &mut Vec<Part<'t>>,
+    functions: &'t [Function],
+) -> Result<(), AllocError> {
+    match functions {
+        [] => Ok(()),
+        [first, rest @ ..] => next(
+            todo,
+            &[
+                Part::Number(u64::from(first.line)),
+                Part::Word(if first.gives_int { " int " } else { " void " }),
+                Part::Name(&first.name),
+                Part::Params(first.params.as_slice()),
+                Part::Block(first.body.as_slice()),
+                Part::Word("\n"),
+                Part::Functions(rest),
+            ],
+        ),
+    }
+}
+
+fn parts_of_params<'t>(todo: &mut Vec<Part<'t>>, params: &'t [Param]) -> Result<(), AllocError> {
+    match params {
+        [] => Ok(()),
+        [first, rest @ ..] => next(
+            todo,
+            &[
+                Part::Word(match first.kind {
+                    NameKind::Integer => " ",
+                    NameKind::Array => " []",
+                    NameKind::Const => " const []",
+                }),
+                Part::Name(&first.name),
+                Part::Params(rest),
+            ],
+        ),
+    }
+}
+
+// Shows a part, or leaves those that it has.
+fn show<'t>(
+    alloc: Global,
+    out: &mut String,
+    todo: &mut Vec<Part<'t>>,
+    part: Part<'t>,
+) -> Result<(), AllocError> {
+    match part {
+        Part::Word(word) => out.push_str(word),
+        Part::Number(number) => show_number(alloc, out, number),
+        Part::Name(name) => show_name(out, name),
+        Part::Expr(expr) => parts_of_expr(todo, expr),
+        Part::Stmt(stmt) => parts_of_stmt(todo, stmt),
+        Part::Block(lines) => next(
+            todo,
+            &[Part::Word("{"), Part::Lines(lines), Part::Word("}")],
+        ),
+        Part::Lines(lines) => parts_of_lines(todo, lines),
+        Part::Reducers(reducers) => parts_of_reducers(todo, reducers),
+        Part::Functions(functions) => parts_of_functions(todo, functions),
+        Part::Params(params) => parts_of_params(todo, params),
+    }
+}
+
+/// The reducers of a tree, "LINE sum NAME" or "LINE max NAME", and its functions, "LINE int NAME PARAMETERS {..}" or
+/// "LINE void ..", a line each; in braces "LINE STATEMENT; ..". A tree of more than 1,000,000 parts is not shown to its end.
+///
+/// # Errors
+///
+/// An `AllocError` where there is no memory for the text.
+pub fn shown(alloc: Global, ast: &Ast) -> Result<String, AllocError> {
+    let mut out = String::new(alloc);
+    let mut todo = Vec::new(alloc);
+    todo.push(Part::Functions(ast.functions.as_slice()))?;
+    todo.push(Part::Reducers(ast.reducers.as_slice()))?;
+    for _ in 0..1_000_000 {
+        let Some(part) = todo.pop() else {
+            return Ok(out);
+        };
+        show(alloc, &mut out, &mut todo, part)?;
     }
     Ok(out)
 }

@@ -1,12 +1,8 @@
-//! Sources: which bytes are read and which are refused at which line, and the number, status and text of each
-//! fault.
+//! The number, the status and the text of each fault.
 
-use crate::stages::{Rule, Stage, answers};
-use cw_model::limits::MOST_SOURCE_BYTES;
 use cw_model::trap::Trap;
-use cw_text::{Fault, Place, Source};
+use cw_text::{Fault, Place};
 use std::alloc::{AllocError, Global};
-use std::test::Fail;
 
 // A fault in brief.
 #[derive(Clone, Copy)]
@@ -82,64 +78,17 @@ fn is_told(
     Ok(fault.number() == number && fault.status() == status && shown.as_str() == text)
 }
 
-#[test]
-fn faults_have_numbers_statuses_and_texts(rt: HostRuntime) -> Result<(), Fail> {
+/// A line for each fault, whether it has its number, its status and its text.
+///
+/// # Errors
+///
+/// An `AllocError` where there is no memory for them.
+pub fn told(alloc: Global) -> Result<String, AllocError> {
+    let mut out = String::new(alloc);
     for (brief, number, status, text) in FAULTS {
-        let told = is_told(rt.alloc(), *brief, *number, *status, text)?;
-        assert!(rt; told, "{text}");
+        let is_told = is_told(alloc, *brief, *number, *status, text)?;
+        let line = format!(in alloc; "fault {text}: {is_told}\n")?;
+        out.push_str(line.as_str())?;
     }
-    Ok(())
-}
-
-// Whether a source has the bytes that it was read from.
-fn is_read(alloc: Global, bytes: &[u8]) -> bool {
-    match Source::read(alloc, bytes) {
-        Ok(source) => source.bytes() == bytes,
-        Err(_) => false,
-    }
-}
-
-// Sources of bytes that are no more than 127.
-static READ: &[&str] = &[
-    "",
-    "\n",
-    "int main() { return 0; }\n",
-    "// \u{7f} is the last one\r\n",
-];
-
-#[test]
-fn sources_are_read(rt: HostRuntime) {
-    for text in READ {
-        let holds = is_read(rt.alloc(), text.as_bytes());
-        assert!(rt; holds, "{text}");
-    }
-}
-
-// Sources with a byte above ASCII, and its line.
-static REFUSED: &[(&[u8], u32)] = &[
-    (b"\x80", 1),
-    (b"int x;\n\xff", 2),
-    (b"$\n\n// caf\xc3\xa9\n", 3),
-    (b"\r\n\r\n\n\xf0\n\xf0", 4),
-    (b"a\n// b\n\x80", 3),
-];
-
-#[test]
-fn bytes_above_ascii_are_refused_at_their_line(rt: HostRuntime) {
-    for (bytes, line) in REFUSED {
-        let holds = answers(rt.alloc(), Stage::Source, Rule::Lexical, *line, bytes);
-        assert!(rt; holds, "line {line}");
-    }
-}
-
-#[test]
-fn the_length_of_a_source_is_limited(rt: HostRuntime) -> Result<(), Fail> {
-    assert!(rt; MOST_SOURCE_BYTES == 1_048_576);
-    let mut bytes = vec![in rt.alloc(); b'\n'; MOST_SOURCE_BYTES]?;
-    let taken = is_read(rt.alloc(), bytes.as_slice());
-    assert!(rt; taken);
-    bytes.push(0xff)?;
-    let refused = answers(rt.alloc(), Stage::Source, Rule::Size, 1, bytes.as_slice());
-    assert!(rt; refused);
-    Ok(())
+    Ok(out)
 }

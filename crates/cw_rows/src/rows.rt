@@ -1,0 +1,231 @@
+//! A file of rows, as far as it is read.
+
+use crate::written::{Texts, Unread, read};
+use std::alloc::{AllocError, Global};
+use std::collections::BTreeMap;
+
+/// What is asked of each text of a table.
+#[derive(Drop)]
+struct Ask {
+    question: String,
+    // the answer of every text, if one is named
+    answer: Option<Vec<u8>>,
+    before: Vec<u8>,
+    behind: Vec<u8>,
+}
+
+/// A question that a row asks.
+#[derive(Drop)]
+pub struct Asked {
+    /// What is asked.
+    pub question: String,
+    /// What stands before the text of the row.
+    pub before: Vec<u8>,
+    /// The text of the row.
+    pub text: Vec<u8>,
+    /// What stands behind it.
+    pub behind: Vec<u8>,
+    /// The answer that is expected.
+    pub answer: Vec<u8>,
+}
+
+impl Asked {
+    /// The text of the row between the two others.
+    ///
+    /// # Errors
+    ///
+    /// An `AllocError` where there is no memory for it.
+    pub fn whole(&self, alloc: Global) -> Result<Vec<u8>, AllocError> {
+        let mut whole = Vec::new(alloc);
+        whole.extend_from_slice(self.before.as_slice())?;
+        whole.extend_from_slice(self.text.as_slice())?;
+        whole.extend_from_slice(self.behind.as_slice())?;
+        Ok(whole)
+    }
+}
+
+/// A file of rows, as far as it is read.
+#[derive(Drop)]
+pub struct Rows {
+    alloc: Global,
+    file: &'static str,
+    line: u32,
+    table: String,
+    // the name of the last text
+    text: String,
+    texts: Texts,
+    asks: Vec<Ask>,
+    rows: u32,
+    answers: u32,
+    differing: u32,
+    told: String,
+}
+
+impl Rows {
+    /// No line of this file is read.
+    pub fn new(alloc: Global, file: &'static str) -> Rows {
+        Rows {
+            alloc,
+            file,
+            line: 0,
+            table: String::new(alloc),
+            text: String::new(alloc),
+            texts: BTreeMap::new(alloc),
+            asks: Vec::new(alloc),
+            rows: 0,
+            answers: 0,
+            differing: 0,
+            told: String::new(alloc),
+        }
+    }
+
+    /// Reads the next line, and gives what it asks: nothing, unless it is a row. A line that is not written as the lines of such
+    /// files are, and a row of which nothing is asked, count as an answer that differs.
+    ///
+    /// # Errors
+    ///
+    /// An `AllocError` where there is no memory; a part of the line may be read then.
+    pub fn read(&mut self, line: &str) -> Result<Vec<Asked>, AllocError> {
+        self.line = self.line.saturating_add(1);
+        match self.take(line) {
+            Ok(asked) => Ok(asked),
+            Err(Unread::Memory(error)) => Err(error),
+            Err(Unread::Form) => {
+                self.tell(line, "no line of such a file")?;
+                Ok(Vec::new(self.alloc))
+            }
+        }
+    }
+
+    /// Compares what was answered with what the row expects, and keeps a line for it where they differ.
+    ///
+    /// # Errors
+    ///
+    /// An `AllocError` where there is no memory for the line; the answer is counted.
+    pub fn compare(&mut self, asked: &Asked, found: &str) -> Result<(), AllocError> {
+        self.answers = self.answers.saturating_add(1);
+        if asked.answer.as_slice() == found.as_bytes() {
+            Ok(())
+        } else {
+            self.differ(asked, found)
+        }
+    }
+
+    /// A line for each answer that differs, and one with the counts.
+    ///
+    /// # Errors
+    ///
+    /// An `AllocError` where there is no memory for them.
+    pub fn told(&self) -> Result<String, AllocError> {
+        format!(in self.alloc;
+            "{}{}: {} rows, {} answers, {} differ\n",
+            self.told, self.file, self.rows, self.answers, self.differing
+        )
+    }
+}
+
+impl Rows {
+    // A line of what is told at the end.
+    fn tell(&mut self, what: &str, why: &str) -> Result<(), AllocError> {
+        self.differing = self.differing.saturating_add(1);
+        let (file, line, table) = (self.file, self.line, self.table.as_str());
+        let told = format!(in self.alloc; "{file}:{line}: {table}: {what}: {why}\n")?;
+        self.told.push_str(told.as_str())
+    }
+
+    fn differ(&mut self, asked: &Asked, found: &str) -> Result<(), AllocError> {
+        let alloc = self.alloc;
+        let text = String::from_utf8_lossy(alloc, asked.text.as_slice())?;
+        let answer = String::from_utf8_lossy(alloc, asked.answer.as_slice())?;
+        let what = format!(in alloc; "{}: {text}", asked.question)?;
+        let why = format!(in alloc; "expected {answer}, found {found}")?;
+        self.tell(what.as_str(), why.as_str())
+    }
+
+    fn take(&mut self, line: &str) -> Result<Vec<Asked>, Unread> {
+        if line.is_empty() || line.strip_prefix('#').is_some() {
+            return Ok(Vec::new(self.alloc));
+        }
+        if let Some(rest) = line.strip_prefix('|') {
+            self.lengthen(rest.strip_prefix(' ').unwrap_or(rest))?;
+        } else if let Some(rest) = line.strip_prefix("text ") {
+            self.name(rest)?;
+        } else if let Some(rest) = line.strip_prefix("table ") {
+            self.table = rest.to_string(self.alloc)?;
+            self.asks.clear();
+        } else if let Some(rest) = line.strip_prefix("ask ") {
+            self.ask(rest)?;
+        } else {
+            let (answer, text) = line.split_once(" <- ").ok_or(Unread::Form)?;
+            return self.row(answer, text);
+        }
+        Ok(Vec::new(self.alloc))
+    }
+
+    // `NAME: TEXT`.
+    fn name(&mut self, rest: &str) -> Result<(), Unread> {
+        let (name, written) = rest.split_once(": ").ok_or(Unread::Form)?;
+        let text = read(self.alloc, &self.texts, written)?;
+        self.text = name.to_string(self.alloc)?;
+        self.texts.insert(name.to_string(self.alloc)?, text)?;
+        Ok(())
+    }
+
+    // One more line of the last text.
+    fn lengthen(&mut self, line: &str) -> Result<(), Unread> {
+        let text = self.texts.get_mut(self.text.as_str()).ok_or(Unread::Form)?;
+        text.extend_from_slice(line.as_bytes())?;
+        text.push(b'\n')?;
+        Ok(())
+    }
+
+    // `QUESTION: BEFORE\@BEHIND`, or `QUESTION, ANSWER: BEFORE\@BEHIND`.
+    fn ask(&mut self, rest: &str) -> Result<(), Unread> {
+        let (words, around) = rest.split_once(": ").ok_or(Unread::Form)?;
+        let (before, behind) = around.split_once("\\@").ok_or(Unread::Form)?;
+        let (question, answer) = match words.split_once(", ") {
+            None => (words, None),
+            Some((question, answer)) => (question, Some(read(self.alloc, &self.texts, answer)?)),
+        };
+        let ask = Ask {
+            question: question.to_string(self.alloc)?,
+            answer,
+            before: read(self.alloc, &self.texts, before)?,
+            behind: read(self.alloc, &self.texts, behind)?,
+        };
+        self.asks.push(ask)?;
+        Ok(())
+    }
+
+    // What a row asks.
+    fn row(&mut self, answer: &str, text: &str) -> Result<Vec<Asked>, Unread> {
+        let answer = read(self.alloc, &self.texts, answer)?;
+        let text = read(self.alloc, &self.texts, text)?;
+        if self.asks.is_empty() {
+            return Err(Unread::Form);
+        }
+        self.rows = self.rows.saturating_add(1);
+        let mut all = Vec::new(self.alloc);
+        for ask in &self.asks {
+            all.push(ask.of(self.alloc, text.as_slice(), answer.as_slice())?)?;
+        }
+        Ok(all)
+    }
+}
+
+impl Ask {
+    // The question of a row with this text and this answer.
+    fn of(&self, alloc: Global, text: &[u8], answer: &[u8]) -> Result<Asked, AllocError> {
+        let answer = match &self.answer {
+            Some(answer) => answer.clone()?,
+            None => Vec::from_slice(alloc, answer)?,
+        };
+        Ok(Asked {
+            question: self.question.clone()?,
+            before: self.before.clone()?,
+            text: Vec::from_slice(alloc, text)?,
+            behind: self.behind.clone()?,
+            answer,
+        })
+    }
+}
