@@ -4,7 +4,8 @@ ghost use Rattle.std.specs.Prelude.{◌≡◌, ◌∷◌, List, None, IfOk, IfSo
 ghost use Rattle.cw_jobs.specs.declared.job.Job as jobs;
 ghost use Rattle.cw_jobs.specs.Means.{IsMeaningOf};
 ghost use Rattle.cw_strand.specs.Holds.{outs, IsAtSync, IsRunning};
-ghost use Rattle.cw_strand.specs.Moves.{EndsBy, KeptBy};
+ghost use Rattle.cw_strand.specs.Moves.{KeptBy};
+ghost use Rattle.cw_strand.specs.declared.strand.Step.TheVariants as step;
 
 use cw_jobs::effect::Effect;
 use cw_jobs::job::Job;
@@ -168,7 +169,9 @@ fn run_apart(guide: &mut Guide, depth: u32, job: Job) -> Result<Effect, Lost>
 fn go_on(guide: &mut Guide, depth: u32, strand: &mut Strand) -> Result<Option<Effect>, Lost>
     requires running { IsRunning strand.old }
     ensures of { strand.new.of ≡ strand.old.of }
-    ensures ends { IfOk result (λ came. EndsBy came strand.old strand.new) }
+    ensures ends { IfOk result (λ came. IfSome came (λ e. KeptBy (step.Ended e) strand.old strand.new)) }
+    ensures running { IfOk result (λ came. came ≡ None → IsRunning strand.new) }
+    ensures outs { IfOk result (λ came. came ≡ None → outs strand.new ≡ outs strand.old) }
     ensures waits { IfOk result (λ came. came ≡ None → IsAtSync strand.new) }
 {
     if depth == 0 {
