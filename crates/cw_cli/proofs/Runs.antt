@@ -30,7 +30,7 @@ use Rattle.cw_text.specs.declared.fault.Fault.TheVariants as fault
 use Rattle.cw_report.specs.Seen.{Seen}
 use Rattle.cw_report.specs.Sinks.{Writes, WritesAll, WritesPart}
 use Rattle.cw_report.specs.Answers.{AnswersLess}
-use Rattle.cw_report.specs.Texts.{told_reducers, totals_text, handed_text, schedule_header, schedule_report, gain_report}
+use Rattle.cw_report.specs.Texts.{totals_text, handed_text, schedule_header, schedule_report, gain_report}
 use Rattle.cw_gen.specs.Emit.{coded_reducers}
 use Rattle.cw_gen.specs.Generates.{Generates}
 use Rattle.cw_cli.specs.Compiled.{IsCompiled}

@@ -1,4 +1,4 @@
-use Rattle.std.proofs.Common.{◌≡◌, ◌∙◌, sym, subst}
+use Rattle.std.proofs.Common.{sym, subst}
 use Rattle.cw_code.specs.Code.{code_view}
 use Rattle.cw_machine.specs.Runs.{RunsAsCode}
 use Rattle.cw_gains.specs.Gains.{GainsAsCode}
