@@ -10,7 +10,7 @@ ghost use Rattle.cw_cli.specs.Analyses.{IsAnalysed, IsRun};
 ghost use Rattle.cw_cli.specs.Told.{HasTables};
 
 use crate::asked::{Mode, Options};
-use crate::compiling::{Compiled, compile};
+use crate::compiling::{Compiled, compile_with_heads};
 use crate::reporting::{are_words, write_gains, write_tables, write_values};
 use cw_gains::gains::gains_of_run;
 use cw_machine::alone::run_alone;
@@ -48,7 +48,7 @@ pub fn analyse_alone<W: Sink>(
     requires { (W.seen out.old).failures < 2 ^ 64 - 1 }
     ensures { IsAnalysed W.seen out.old out.new bytes.now args.now options result }
 {
-    let made = compile(alloc, bytes)?;
+    let made = compile_with_heads(alloc, bytes)?;
     match options.mode {
         Mode::Check => ok(out),
         Mode::Run => run_plain(alloc, made.code, args, options, out),
@@ -88,7 +88,7 @@ pub fn analyse<
     if crew.is_empty() {
         return analyse_alone(alloc, bytes, args, options, out);
     }
-    let made = compile(alloc, bytes)?;
+    let made = compile_with_heads(alloc, bytes)?;
     match options.mode {
         Mode::Check => ok(out),
         Mode::Run => run_plain_with(rt, alloc, made.code, args, options, crew, gate, out),

@@ -3,7 +3,8 @@
 ghost use Rattle.std.specs.Prelude.{◌≡◌, IfOk, MatchResult, map};
 ghost use Rattle.cw_gains.specs.Counts.{head_view};
 ghost use Rattle.cw_tree.specs.ResolvedView.{function_of};
-ghost use Rattle.cw_cli.specs.Compiled.{IsMade, head_of};
+ghost use Rattle.cw_code.specs.Code.{code_view};
+ghost use Rattle.cw_cli.specs.Compiled.{IsCompiled, IsMade, head_of};
 ghost use Rattle.cw_cli.specs.Sources.{IsRefused};
 
 use cw_gains::counts::Head;
@@ -23,7 +24,7 @@ use std::alloc::{AllocError, Global};
 
 /// What a source is compiled to.
 #[derive(Debug, Drop)]
-pub struct Compiled {
+pub(crate) struct Compiled {
     /// The code of its program.
     pub code: Verified,
     /// The heads of its functions, by place.
@@ -31,14 +32,25 @@ pub struct Compiled {
 }
 
 /// The code of the program that these bytes are the source of: on all arguments and within all
-/// limits it does what the program's serial elision does. The heads of the program's functions stand beside it.
+/// limits it does what the program's serial elision does.
 ///
 /// The first stage that refuses the bytes decides, with its line: `Size` for too many bytes, else
 /// `Lexical` for one that is not ASCII; `Lexical` and `Size` for tokens; `Size` for too many
 /// brackets open or too many tokens in a row, else `Syntax`; `Size` for the parts of the program, and
 /// `Types`; `Ownership`; `Size` for too many loops, at the line of the 4,097th by place; and `Size` for
 /// its code, at line 1. `Memory` where memory runs out.
-pub fn compile(alloc: Global, bytes: &[u8]) -> Result<Compiled, Fault>
+pub fn compile(alloc: Global, bytes: &[u8]) -> Result<Verified, Fault>
+    ensures { MatchResult result
+        (λ made. IsCompiled bytes.now (code_view made.code)) (IsRefused bytes.now) }
+{
+    match compile_with_heads(alloc, bytes) {
+        Ok(made) => Ok(made.code),
+        Err(fault) => Err(fault),
+    }
+}
+
+/// The same, with the heads of the program's functions beside the code.
+pub(crate) fn compile_with_heads(alloc: Global, bytes: &[u8]) -> Result<Compiled, Fault>
     ensures { MatchResult result (IsMade bytes.now) (IsRefused bytes.now) }
 {
     derived_sites_are_numbered();

@@ -20,7 +20,7 @@ mod words;
 
 pub use analysis::{analyse, analyse_alone};
 pub use asked::{Mode, Options, Request, Said};
-pub use compiling::{Compiled, compile};
+pub use compiling::compile;
 pub use crews::crew_of;
 pub use explaining::take_explain;
 pub use release::{is_version, version};

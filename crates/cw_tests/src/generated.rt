@@ -8,7 +8,7 @@ use std::alloc::Global;
 // Whether a source has this code.
 fn has_instrs(alloc: Global, source: &[u8], instrs: &[Instr]) -> bool {
     match compile(alloc, source) {
-        Ok(made) => made.code.code.instrs.as_slice() == instrs,
+        Ok(verified) => verified.code.instrs.as_slice() == instrs,
         Err(_) => false,
     }
 }
@@ -277,7 +277,7 @@ fn has_funcs(code: &Code, funcs: &[Func], lists: &[&[u32]]) -> bool {
 #[test]
 fn a_loop_has_slots_and_lists_of_its_own(rt: HostRuntime) {
     match compile(rt.alloc(), LOOP) {
-        Ok(made) => assert!(rt; has_funcs(&made.code.code, LOOP_FUNCS, LOOP_LISTS)),
+        Ok(verified) => assert!(rt; has_funcs(&verified.code, LOOP_FUNCS, LOOP_LISTS)),
         Err(_) => assert!(rt; false),
     }
 }
