@@ -1,11 +1,12 @@
 #!/usr/bin/env python3
 """What the gate takes, crate by crate: runs `rt ci` and tells the processor time of its checks.
 
-    budget.py [NAME..]    rt ci, or rt ci NAME.., from the top of the repository; then a table: seconds of a processor that
+    budget.py [WORD..]    rt ci, with these words, from the top of the repository; then a table: seconds of a processor that
                           each crate's proof, its tests and its must-fail edits took (the proof before them in it), and sums
 
-What an earlier run on this machine passed is not proved again, and has no time: --anew as the only word proves all. The
-times are those of checks beside other checks, as the gate runs them; one that runs alone takes less. Reads /proc every
+Some kits keep what an earlier run on the machine passed: it is not proved again and has no time, names of crates as words
+prove these alone, and --anew as the only word proves all. Others prove all, and take no word. The times are those of checks
+beside other checks, as the gate runs them; one that runs alone takes less. Reads /proc every
 two seconds, so what is over sooner is left out. Ends with the status of `rt ci`; where it is interrupted, it ends `rt ci`
 and tells what was taken so far.
 """
