@@ -273,6 +273,14 @@ fn the_code_runs(rt: HostRuntime) -> Result<(), Fail> {
     Ok(())
 }
 
+// In place of the instruction that prints: the element and the 9 are left at the return, which gives the 0 above them.
+#[test]
+fn operands_may_be_left_at_a_return(rt: HostRuntime) -> Result<(), Fail> {
+    let left = run_with(rt.alloc(), 7, Instr::Push(9), 136)?;
+    assert!(rt; left == Came::Ended(0));
+    Ok(())
+}
+
 // How many of these are refused at this place; each is refused or runs.
 fn refused_at<R: Abort>(rt: &R, alloc: Global, place: usize, kinds: &[Instr]) -> Result<u32, Fail> {
     let mut refused: u32 = 0;

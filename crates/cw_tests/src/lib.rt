@@ -6,6 +6,8 @@ mod arrays;
 #[cfg(test)]
 mod codes;
 #[cfg(test)]
+mod crewed;
+#[cfg(test)]
 mod examples;
 #[cfg(test)]
 mod explained;
@@ -25,6 +27,8 @@ mod program;
 mod refusals;
 #[cfg(test)]
 mod rows;
+#[cfg(test)]
+mod silent;
 #[cfg(test)]
 mod sinks;
 #[cfg(test)]

@@ -1,0 +1,144 @@
+//! Runs that write nothing, on a sink that takes nothing.
+
+use cw_cli::{Mode, Options, analyse_alone};
+use cw_model::burden::{Burden, Edges};
+use cw_report::{Counted, Sink};
+use std::alloc::Global;
+use std::io;
+use std::io::Write;
+use std::process::Abort;
+use std::test::Fail;
+
+// Fails at each write.
+#[derive(Drop)]
+struct Shut;
+
+impl Write for Shut {
+    fn write(&mut self, _bytes: &[u8]) -> io::Result<usize> {
+        Err(io::Error::from(io::ErrorKind::BrokenPipe))
+    }
+
+    fn flush(&mut self) -> io::Result<()> {
+        Ok(())
+    }
+}
+
+// A run on one argument within a limit, in a mode, with the number of its fault: 7 over the limit, 8 a trap, 10 a write
+// that failed; and how many writes failed.
+#[derive(Clone, Copy)]
+struct Row {
+    source: &'static str,
+    arg: i64,
+    limit: u64,
+    mode: Mode,
+    fault: u8,
+    failures: u64,
+}
+
+// Prints its argument, and then divides by it.
+const DIVIDES: &str = "int main(int n) { print(n); int x = 100 / n; return x; }";
+
+// Prints for ever.
+const FOREVER: &str = "int main(int n) { while (1) { print(n); } return n; }";
+
+static ROWS: [Row; 9] = [
+    Row {
+        source: FOREVER,
+        arg: 1,
+        limit: 100,
+        mode: Mode::Run,
+        fault: 7,
+        failures: 0,
+    },
+    Row {
+        source: FOREVER,
+        arg: 1,
+        limit: 100,
+        mode: Mode::Scale,
+        fault: 7,
+        failures: 0,
+    },
+    Row {
+        source: FOREVER,
+        arg: 1,
+        limit: 100,
+        mode: Mode::Sites,
+        fault: 7,
+        failures: 0,
+    },
+    Row {
+        source: FOREVER,
+        arg: 1,
+        limit: 100,
+        mode: Mode::Greedy(2),
+        fault: 7,
+        failures: 0,
+    },
+    Row {
+        source: DIVIDES,
+        arg: 0,
+        limit: 100,
+        mode: Mode::Scale,
+        fault: 8,
+        failures: 0,
+    },
+    Row {
+        source: DIVIDES,
+        arg: 0,
+        limit: 100,
+        mode: Mode::Sites,
+        fault: 8,
+        failures: 0,
+    },
+    Row {
+        source: DIVIDES,
+        arg: 0,
+        limit: 100,
+        mode: Mode::Greedy(2),
+        fault: 8,
+        failures: 0,
+    },
+    Row {
+        source: DIVIDES,
+        arg: 0,
+        limit: 100,
+        mode: Mode::Run,
+        fault: 10,
+        failures: 1,
+    },
+    Row {
+        source: DIVIDES,
+        arg: 1,
+        limit: 100,
+        mode: Mode::Greedy(2),
+        fault: 10,
+        failures: 1,
+    },
+];
+
+// Whether a row fails so.
+fn fails_so(alloc: Global, row: &Row) -> bool {
+    let mut out = Counted::new(Shut);
+    let options = Options {
+        mode: row.mode,
+        limit: row.limit,
+        burden: Burden {
+            charge: 0,
+            edges: Edges::Spawn,
+        },
+    };
+    match analyse_alone(alloc, row.source.as_bytes(), &[row.arg], options, &mut out) {
+        Ok(()) => false,
+        Err(fault) => fault.number() == row.fault && out.failures() == row.failures,
+    }
+}
+
+// Where a run passes its limit, and where it traps after it has printed in a mode that tells no values, nothing is written;
+// what a run prints before its trap is, and so is a schedule.
+#[test]
+fn a_shut_sink_is_told_only_where_something_is_written(rt: HostRuntime) -> Result<(), Fail> {
+    for row in &ROWS {
+        assert!(rt; fails_so(rt.alloc(), row), "{}", row.source);
+    }
+    Ok(())
+}
