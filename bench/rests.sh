@@ -9,16 +9,10 @@ here=$(cd "$(dirname "$0")" && pwd)
 work=$(mktemp -d)
 trap 'rm -rf "$work"' EXIT
 
-# the line of crates.txt with the crates that cw_strand_tests stands on, each with its line
-libraries="$(sed -n 's/^cw_strand_tests: //p' "$here/../crates.txt")"
+# every crate; and what cw_strand_tests calls, whose files the bench has
+calls="$(sed -n 's/^cw_strand_tests: //p' "$here/../crates.txt")"
 program=$work/crates/rests_bench
-mkdir "$work/crates"
-cp "$here/../HANDLES" "$work/"
-for library in $libraries; do
-    [ -d "$here/../crates/$library" ] || continue
-    cp -a "$here/../crates/$library" "$work/crates/"
-    grep "^$library[ :]" "$here/../crates.txt" >>"$work/crates.txt"
-done
+cp -a "$here/../HANDLES" "$here/../crates.txt" "$here/../crates" "$work/"
 cp -a "$here/rests" "$program"
 find "$program" -name '*.txt' | while read -r file; do
     mv "$file" "${file%.txt}"
@@ -31,7 +25,7 @@ done
 grep -rl cw_strand_tests "$program/proofs" | while read -r file; do
     sed -i 's/cw_strand_tests/rests_bench/g' "$file"
 done
-echo "rests_bench: $libraries" >>"$work/crates.txt"
+echo "rests_bench: $calls" >>"$work/crates.txt"
 git -C "$work" init -q
 (cd "$program" && rt run rests_bench -- fib strands 10 0 1000000)
 bench=$program/out/rests_bench

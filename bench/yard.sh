@@ -9,20 +9,14 @@ races=${1:-20}
 work=$(mktemp -d)
 trap 'rm -rf "$work"' EXIT
 
-# the line of crates.txt with the crates that cw_yard stands on, each with its line
-libraries="$(sed -n 's/^cw_yard: //p' "$here/../crates.txt") cw_yard"
-mkdir "$work/crates"
-cp "$here/../HANDLES" "$work/"
-for library in $libraries; do
-    [ -d "$here/../crates/$library" ] || continue
-    cp -a "$here/../crates/$library" "$work/crates/"
-    grep "^$library[ :]" "$here/../crates.txt" >>"$work/crates.txt"
-done
+# every crate, as the bench may be built from nothing; what its own files call
+calls="cw_code cw_jobs cw_model cw_runnable cw_text cw_verify cw_yard"
+cp -a "$here/../HANDLES" "$here/../crates.txt" "$here/../crates" "$work/"
 cp -a "$here/yard" "$work/crates/yard_bench"
 find "$work/crates/yard_bench" -name '*.txt' | while read -r file; do
     mv "$file" "${file%.txt}"
 done
-echo "yard_bench may_wait=12: $libraries" >>"$work/crates.txt"
+echo "yard_bench may_wait=12: $calls" >>"$work/crates.txt"
 git -C "$work" init -q
 (cd "$work/crates/yard_bench" && rt run yard_bench -- race 2 1000 1)
 bench=$work/crates/yard_bench/out/yard_bench

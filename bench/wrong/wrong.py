@@ -66,6 +66,14 @@ def libraries_of():
     return {head.split()[0]: names.split() for head, _, names in split}
 
 
+def below(crate, uses):
+    """The libraries of the repository below a crate."""
+    found = [name for name in uses[crate] if name in uses]
+    for name in found:
+        found += [it for it in uses[name] if it in uses and it not in found]
+    return found
+
+
 def folder_of(crate):
     return os.path.join(TOP, "crates", crate)
 
@@ -134,13 +142,13 @@ def words_of(crate, libraries, only):
     words = [home + "/bin/rattle", "check", "--crate-name", crate]
     words += ["src/main.rt" if os.path.isfile(folder_of(crate) + "/src/main.rt") else "src/lib.rt"]
     of_kit = [name for name in uses[crate] if name not in uses]
-    own = {name: "%s/crates/%s/out/rlib" % (libraries, name) for name in uses[crate] if name in uses}
+    built = {name: "%s/crates/%s/out/rlib" % (libraries, name) for name in below(crate, uses)}
     for name in ["std", *of_kit]:
         words += ["--extern", "%s=%s/rlibs/%s.rlib" % (name, home, name)]
     words += ["-L", "dependency=%s/rlibs" % home]
-    for name, at in own.items():
-        words += ["--extern", "%s=%s/%s.rlib" % (name, at, name)]
-    for at in own.values():
+    for name in uses[crate]:
+        words += ["--extern", "%s=%s/%s.rlib" % (name, built[name], name)] * (name in built)
+    for at in built.values():
         words += ["-L", "dependency=" + at]
     words += ["--antt-project", home + "/rattle/logic/antt-project.json", "--logic-built", home + "/logic_built"]
     words += ["--jobs", "1", "--links", crate + "=", "--incremental", "kept"]
@@ -152,7 +160,7 @@ def words_of(crate, libraries, only):
 def lacking(crate, libraries):
     """The first library below a crate that is not built, if there is one."""
     uses = libraries_of()
-    formats = {name: "%s/crates/%s/out/rlib/%s.rlib/format" % (libraries, name, name) for name in uses[crate] if name in uses}
+    formats = {name: "%s/crates/%s/out/rlib/%s.rlib/format" % (libraries, name, name) for name in below(crate, uses)}
     return next((name for name, file in formats.items() if not os.path.isfile(file)), None)
 
 

@@ -27,7 +27,7 @@ use Rattle.cw_cli.specs.Sources
 use Rattle.cw_cli.specs.Compiled.{IsMade, head_of}
 use Rattle.std.specs.Global.{Vec}
 use Rattle.cw_tree.specs.Resolved.{Function, plain_function}
-use Rattle.cw_verify.specs.declared.verified.Verified.{Verified}
+use Rattle.cw_runnable.specs.declared.verified.Verified.{Verified}
 use Rattle.cw_gains.specs.Counts.{head_view}
 use Rattle.cw_gains.specs.declared.counts.Head.{Head}
 

@@ -2,7 +2,7 @@
 use Rattle.std.specs.Prelude.{ℕ, List, [], Result}
 use Rattle.cw_text.specs.declared.fault.Fault.{Fault}
 use Rattle.cw_code.specs.Code.{Code, code_view}
-use Rattle.cw_verify.specs.declared.verified.Verified.{Verified}
+use Rattle.cw_runnable.specs.declared.verified.Verified.{Verified}
 use Rattle.cw_machine.specs.declared.alone.Ended.{Ended}
 use Rattle.cw_report.specs.Texts.{scale_report, sites_of}
 use Rattle.cw_cli.specs.declared.asked.Mode.{Mode}

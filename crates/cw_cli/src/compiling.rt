@@ -15,10 +15,10 @@ use cw_loops::lower;
 use cw_model::laws::derived_sites_are_numbered;
 use cw_own::own;
 use cw_parse::parse;
+use cw_runnable::verified::Verified;
 use cw_text::{Fault, Source};
 use cw_tree::resolved::Function;
 use cw_types::check;
-use cw_verify::verified::Verified;
 use cw_verify::verify::verify;
 use std::alloc::{AllocError, Global};
 

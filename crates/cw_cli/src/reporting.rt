@@ -21,8 +21,8 @@ use cw_machine::alone::Ended;
 use cw_machine::values::Values;
 use cw_model::laws::derived_sites_are_numbered;
 use cw_report::{Sink, answer, gain, scale, sites};
+use cw_runnable::verified::Verified;
 use cw_text::Fault;
-use cw_verify::verified::Verified;
 use std::alloc::Global;
 
 // Writes the values of a run of this code.

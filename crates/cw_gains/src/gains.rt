@@ -12,8 +12,8 @@ use cw_machine::alone::Ended;
 use cw_machine::freed::freed_alone;
 use cw_meter::Readings;
 use cw_model::burden::Burden;
+use cw_runnable::verified::Verified;
 use cw_text::Fault;
-use cw_verify::verified::Verified;
 use std::alloc::{AllocError, Global};
 use std::sync::Arc;
 

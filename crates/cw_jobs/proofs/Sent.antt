@@ -7,13 +7,13 @@ use Rattle.std.proofs.Crossing.{crosses}
 use Rattle.cw_model.specs.contracts.syntax.Operator as operator
 use Rattle.cw_code.specs.contracts.code.UnaryOperator as unary
 use Rattle.cw_slices.specs.lemmas.Sent.{slice_send}
-use Rattle.cw_verify.specs.contracts.fast.CellSlot as cell_slot
-use Rattle.cw_verify.specs.contracts.fast.CellConstant as cell_constant
-use Rattle.cw_verify.specs.contracts.fast.CellSlots as cell_slots
-use Rattle.cw_verify.specs.contracts.fast.CellSlotConstant as cell_slot_constant
-use Rattle.cw_verify.specs.contracts.fast.CellTwice as cell_twice
-use Rattle.cw_verify.specs.contracts.fast.Fast as fast
-use Rattle.cw_verify.specs.contracts.verified.Verified as verified
+use Rattle.cw_runnable.specs.contracts.fast.CellSlot as cell_slot
+use Rattle.cw_runnable.specs.contracts.fast.CellConstant as cell_constant
+use Rattle.cw_runnable.specs.contracts.fast.CellSlots as cell_slots
+use Rattle.cw_runnable.specs.contracts.fast.CellSlotConstant as cell_slot_constant
+use Rattle.cw_runnable.specs.contracts.fast.CellTwice as cell_twice
+use Rattle.cw_runnable.specs.contracts.fast.Fast as fast
+use Rattle.cw_runnable.specs.contracts.verified.Verified as verified
 use Rattle.cw_jobs.specs.contracts.call.Parts as parts
 use Rattle.cw_jobs.specs.contracts.effect.Effect as effect
 use Rattle.cw_jobs.specs.contracts.job.Job as job

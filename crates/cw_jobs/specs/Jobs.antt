@@ -13,8 +13,8 @@ use Rattle.cw_code.specs.Run.{Slots, Around, Caller, Block, State, is_full}
 use Rattle.cw_code.specs.Fits.{Outer, Shape, main_params}
 use Rattle.cw_code.specs.Frozen.{all_frozen, IsFrozenIn}
 use Rattle.cw_code.specs.Good.{Seat, GoodState}
-use Rattle.cw_verify.specs.declared.verified.Verified.{Verified}
-use Rattle.cw_verify.specs.Resolved.{IsVerified}
+use Rattle.cw_runnable.specs.declared.verified.Verified.{Verified}
+use Rattle.cw_runnable.specs.Resolved.{IsVerified}
 use Rattle.cw_meter.specs.Origins.{Origin, Main, Rest}
 use Rattle.cw_strands.specs.Jobs.{Extent, WholeCall, ToJoin, Job, job_start, root_job}
 use Rattle.cw_strands.specs.Over.{under}

@@ -1,8 +1,8 @@
 //! What a job is made of.
 
 use cw_model::burden::Burden;
+use cw_runnable::verified::Verified;
 use cw_slices::Slice;
-use cw_verify::verified::Verified;
 use std::sync::Arc;
 
 /// How far the run of a job goes.

@@ -6,8 +6,8 @@ use crate::call::{Extent, Parts, Rest};
 use crate::effect::Effect;
 use crate::first::{first_rest, is_asked};
 use cw_model::burden::Burden;
+use cw_runnable::verified::Verified;
 use cw_text::Fault;
-use cw_verify::verified::Verified;
 use std::alloc::Global;
 use std::sync::Arc;
 

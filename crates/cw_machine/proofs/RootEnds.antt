@@ -21,7 +21,7 @@ use Rattle.cw_meter.specs.Whole.{AreMeasures}
 use Rattle.cw_meter.specs.Origins.{Main as MainOrigin}
 use Rattle.cw_meter.specs.Meters.{Meters}
 use Rattle.cw_metered.specs.Opens.{whole}
-use Rattle.cw_verify.specs.declared.verified.Verified.{Verified}
+use Rattle.cw_runnable.specs.declared.verified.Verified.{Verified}
 use Rattle.cw_jobs.specs.declared.effect.Effect.{Effect}
 use Rattle.cw_jobs.specs.declared.effect.Effect.TheVariants as effect
 use Rattle.cw_jobs.specs.declared.effect.Shown.{Shown}

@@ -19,7 +19,7 @@ use Rattle.cw_code.specs.Fits.{Row, Outer, is_full_in, slots_lent, with_gone, le
 use Rattle.cw_code.specs.Good.{Seat, GoodState}
 use Rattle.cw_strands.specs.Strands.{Goes, HandsOut, turn_of}
 use Rattle.cw_jobs.specs.Jobs.{IsFrozenBy}
-use Rattle.cw_verify.specs.declared.verified.Verified.{Verified}
+use Rattle.cw_runnable.specs.declared.verified.Verified.{Verified}
 use Rattle.cw_machine.specs.Arrays.{IsFit, is_among, slots_lent_by, KeepsLent}
 use Rattle.cw_machine.proofs.Decided.{eq_of}
 use Rattle.cw_machine.proofs.Order.{some_same}

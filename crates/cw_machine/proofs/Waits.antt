@@ -12,7 +12,7 @@ use Rattle.cw_code.specs.Run.{Results, Taken, slot_taken, Waiting, Around, Calle
 use Rattle.cw_code.specs.Fits.{Shape, gone_rows}
 use Rattle.cw_code.specs.Good.{IsNotAmong, slots_in, slot_cut, arrays_round, all_of, IsGiven, Resumed, Resumes, AllResume}
 use Rattle.cw_code.specs.Good.{Holds as HoldsSlots}
-use Rattle.cw_verify.specs.declared.verified.Verified.{Verified}
+use Rattle.cw_runnable.specs.declared.verified.Verified.{Verified}
 use Rattle.cw_machine.specs.declared.machine.Frame.{Frame}
 use Rattle.cw_machine.specs.declared.machine.Machine.{Machine}
 use Rattle.cw_machine.specs.Arrays.{ReadsAll, RoundReads, Ok, view, Memory, Has, HasComing, CutIn, taken_round, StandsOn, Floors, RoundOn}

@@ -9,7 +9,7 @@ use Rattle.cw_code.specs.Run.{Slots, Results, Around, Caller, Block, State, is_f
 use Rattle.cw_code.specs.Frozen.{AreBlocks}
 use Rattle.cw_code.specs.Good.{IsNotAmong, slots_in, Seat, GoodState}
 use Rattle.cw_strands.specs.Jobs.{Standing}
-use Rattle.cw_verify.specs.declared.verified.Verified.{Verified}
+use Rattle.cw_runnable.specs.declared.verified.Verified.{Verified}
 use Rattle.cw_jobs.specs.declared.call.Rest.{Rest}
 use Rattle.cw_jobs.specs.Calls.{placed, HasArrays, HoldsFrame}
 use Rattle.cw_jobs.specs.Jobs.{KeepsHomes, KeepsFixed, IsOwnIn, home_of}

@@ -17,7 +17,7 @@ use Rattle.cw_jobs.specs.Cuts.{cut_slots, AreNone, AreThere, RoundThere}
 use Rattle.cw_jobs.specs.Totals.{none_told}
 use Rattle.cw_jobs.specs.Jobs.{AreBlocks, IsOutermost, IsJob, own_or, home_of, IsOwnIn, KeepsHomes, KeepsEmpty}
 use Rattle.cw_jobs.specs.Jobs.{KeepsFixed, OwnsSlots}
-use Rattle.cw_verify.specs.declared.verified.Verified.{Verified}
+use Rattle.cw_runnable.specs.declared.verified.Verified.{Verified}
 use Rattle.cw_machine.specs.declared.machine.Machine.{Machine}
 use Rattle.cw_machine.specs.declared.machine.View.{View}
 use Rattle.cw_machine.specs.Arrays.{IsFit, Ok, view, block, IsBare, home_in}

@@ -4,7 +4,7 @@ use Rattle.cw_model.specs.declared.burden.Burden.{Burden}
 use Rattle.cw_text.specs.declared.fault.Fault.{Fault}
 use Rattle.cw_meter.specs.Origins.{main_open}
 use Rattle.cw_code.specs.Code.{code_view}
-use Rattle.cw_verify.specs.declared.verified.Verified.{Verified}
+use Rattle.cw_runnable.specs.declared.verified.Verified.{Verified}
 use Rattle.cw_machine.specs.declared.listener.Listened.{Listened}
 use Rattle.cw_machine.specs.declared.machine.Moved.{Moved}
 use Rattle.cw_machine.specs.Listening.{Keeping, DoesKept, IsGoing, ReachesAny, EndsRun}

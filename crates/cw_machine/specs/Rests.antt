@@ -4,7 +4,7 @@ use Rattle.std.specs.Prelude.{replicate, Some, slice_get, slice_set}
 use Rattle.cw_slices.specs.Placed.{Placed, after, shared_after}
 use Rattle.cw_slices.specs.Blocks.{Lodged, ins, patched, AreOut, AreHalved, Have}
 use Rattle.cw_code.specs.Run.{State}
-use Rattle.cw_verify.specs.declared.verified.Verified.{Verified}
+use Rattle.cw_runnable.specs.declared.verified.Verified.{Verified}
 use Rattle.cw_machine.specs.declared.machine.Machine.{Machine}
 use Rattle.cw_machine.specs.declared.machine.View.{View}
 use Rattle.cw_machine.specs.Arrays.{Out, Ok, AllAbove, view, block}

@@ -9,8 +9,8 @@ use Rattle.cw_code.specs.Run.{Around, Transition, On, Ends, Stops, Stuck}
 use Rattle.cw_measure.specs.OpenParts.{Open, closed}
 use Rattle.cw_meter.specs.Origins.{Main}
 use Rattle.cw_meter.specs.Meters.{ticked, synced, begun}
-use Rattle.cw_verify.specs.declared.op.Op.{Op}
-use Rattle.cw_verify.specs.declared.op.Op.TheVariants as op
+use Rattle.cw_runnable.specs.declared.op.Op.{Op}
+use Rattle.cw_runnable.specs.declared.op.Op.TheVariants as op
 use Rattle.cw_metered.specs.Opens as opens
 use Rattle.cw_metered.specs.Opens.{is_spawned}
 

@@ -11,9 +11,9 @@ ghost use Rattle.cw_machine.specs.Runs.{RunsAsCode};
 
 use crate::alone::{Ended, end_of};
 use cw_jobs::effect::Effect;
+use cw_runnable::verified::Verified;
 use cw_strands::laws::the_root_answers_what_the_code_gives;
 use cw_text::Fault;
-use cw_verify::verified::Verified;
 use std::alloc::Global;
 
 /// What a run of this code answers whose job, that of the whole run, came to this effect: as `run_alone` answers, whoever

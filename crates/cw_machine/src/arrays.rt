@@ -1,7 +1,7 @@
 //! What instructions on arrays do.
 
 ghost use Rattle.std.specs.Prelude.{◌≡◌, ◌+◌, ◌<◌, ◌^◌, ℤ, length, Some, slice_get, IfOk, OnOk};
-ghost use Rattle.cw_verify.specs.declared.op.Op.TheVariants as op;
+ghost use Rattle.cw_runnable.specs.declared.op.Op.TheVariants as op;
 ghost use Rattle.cw_machine.specs.Arrays as arrays;
 ghost use Rattle.cw_machine.specs.Shows.{HasRenewed, HasReviewed, StaysBut, IsAt, Does};
 
@@ -9,8 +9,8 @@ use crate::machine::{Machine, Moved, View};
 use cw_code::code::Halves;
 use cw_model::limits::MOST_ELEMENTS;
 use cw_model::trap::Trap;
+use cw_runnable::verified::Verified;
 use cw_slices::Block;
-use cw_verify::verified::Verified;
 use std::alloc::AllocError;
 
 // The greatest length of an array, as an operand.

@@ -8,9 +8,9 @@ use crate::listener::{Listener, listen};
 use cw_freed::{Freed, FreedMeter};
 use cw_model::burden::Burden;
 use cw_model::syntax::CallKind;
+use cw_runnable::op::Op;
+use cw_runnable::verified::Verified;
 use cw_text::Fault;
-use cw_verify::op::Op;
-use cw_verify::verified::Verified;
 use std::alloc::{AllocError, Global};
 use std::sync::Arc;
 

@@ -10,8 +10,8 @@ ghost use Rattle.cw_machine.specs.Hands.{stays_here, IsLast, MayLend, HasLentOut
 use crate::machine::{Frame, Machine};
 use cw_code::code::Loan;
 use cw_jobs::call::Rest;
+use cw_runnable::verified::Verified;
 use cw_slices::Slice;
-use cw_verify::verified::Verified;
 use std::alloc::AllocError;
 
 /// The call that a rest was handed out of.

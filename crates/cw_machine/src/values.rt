@@ -7,8 +7,8 @@ use crate::alone::{int_given, is_asked, main_takes};
 use crate::machine::{Machine, Moved};
 use cw_model::burden::Burden;
 use cw_model::total::Total;
+use cw_runnable::verified::Verified;
 use cw_text::Fault;
-use cw_verify::verified::Verified;
 use std::alloc::Global;
 use std::sync::Arc;
 

@@ -7,7 +7,7 @@ use Rattle.cw_code.specs.Code.{Code}
 use Rattle.cw_machine.specs.declared.alone.Ended as alone
 use Rattle.cw_machine.specs.declared.values.Values.{Values}
 use Rattle.cw_machine.specs.Runs.{GivesAsCode, IsFailure, RunsAsCode}
-use Rattle.cw_verify.specs.declared.verified.Verified.{Verified}
+use Rattle.cw_runnable.specs.declared.verified.Verified.{Verified}
 use Rattle.cw_jobs.specs.declared.effect.Effect.{Effect}
 use Rattle.cw_jobs.specs.declared.job.Job.{Job}
 use Rattle.cw_jobs.specs.Jobs.{IsRoot}

@@ -12,8 +12,8 @@ use cw_machine::alone::{Ended, run_alone};
 use cw_machine::answering::answer;
 use cw_machine::values::{Values, values_alone};
 use cw_model::burden::Burden;
+use cw_runnable::verified::Verified;
 use cw_text::Fault;
-use cw_verify::verified::Verified;
 use std::alloc::Global;
 use std::sync::Arc;
 

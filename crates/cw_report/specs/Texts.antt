@@ -15,7 +15,7 @@ use Rattle.cw_code.specs.declared.code.Reducer.{Reducer}
 use Rattle.cw_code.specs.declared.code.Site.{Site}
 use Rattle.cw_sites.specs.declared.table.SiteRow.{SiteRow}
 use Rattle.cw_regions.specs.declared.table.RegionRow.{RegionRow}
-use Rattle.cw_verify.specs.declared.verified.Verified.{Verified}
+use Rattle.cw_runnable.specs.declared.verified.Verified.{Verified}
 use Rattle.cw_machine.specs.declared.alone.Ended.{Ended}
 use Rattle.cw_machine.specs.declared.values.Values.{Values}
 use Rattle.cw_meter.specs.declared.meter.Readings.{Readings}

@@ -14,9 +14,9 @@ use crate::writing::write_text;
 use cw_gains::gains::Gains;
 use cw_machine::alone::Ended;
 use cw_machine::values::Values;
+use cw_runnable::verified::Verified;
 use cw_scheduled::schedules::Schedule;
 use cw_text::Fault;
-use cw_verify::verified::Verified;
 use std::alloc::Global;
 
 /// Writes the report of a check: `ok` and a line feed. No memory is taken.

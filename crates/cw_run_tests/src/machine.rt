@@ -22,8 +22,8 @@ use cw_machine::values::values_alone;
 use cw_model::burden::{Burden, Edges};
 use cw_model::syntax::{Operator, Reduction};
 use cw_model::total::Total;
+use cw_runnable::verified::Verified;
 use cw_text::Fault;
-use cw_verify::verified::Verified;
 use std::alloc::{AllocError, Global};
 use std::sync::Arc;
 

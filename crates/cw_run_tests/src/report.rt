@@ -9,8 +9,8 @@ mod tables;
 use crate::programs::{empty_code, place_reducers, place_tags};
 use cw_code::code::{Code, Func, Instr, Site};
 use cw_model::syntax::{CallKind, Name, Reduction};
+use cw_runnable::verified::Verified;
 use cw_text::Fault;
-use cw_verify::verified::Verified;
 use cw_verify::verify::verify;
 use std::alloc::{AllocError, Global};
 

@@ -9,9 +9,9 @@ use cw_machine::recorded::strands_alone;
 use cw_meter::Readings;
 use cw_model::burden::{Burden, Edges};
 use cw_model::limits::MOST_LIMIT;
+use cw_runnable::verified::Verified;
 use cw_schedule::schedule::greedy;
 use cw_text::Fault;
-use cw_verify::verified::Verified;
 use std::alloc::Global;
 use std::sync::Arc;
 

@@ -13,7 +13,7 @@ use Rattle.cw_strands.specs.Jobs.{has_come}
 use Rattle.cw_strands.specs.Over.{beneath, under}
 use Rattle.cw_strands.specs.Strands.{rest_of}
 use Rattle.cw_strands.specs.Steps.{CallsKeep}
-use Rattle.cw_verify.specs.declared.verified.Verified.{Verified}
+use Rattle.cw_runnable.specs.declared.verified.Verified.{Verified}
 use Rattle.cw_jobs.specs.declared.call.Parts.{Parts}
 use Rattle.cw_jobs.specs.Jobs.{IsJob, IsSound}
 use Rattle.cw_machine.specs.declared.run.Spawn.{Spawn}

@@ -9,7 +9,7 @@ use Rattle.cw_strands.specs.Jobs.{WholeCall, ToJoin, Standing, JobMeaning}
 use Rattle.cw_strands.specs.Strands.{Waits, Halted, cost_of}
 use Rattle.cw_strands.specs.Promises.{IsStrandOf}
 use Rattle.cw_strands.specs.Steps.{CallsKeep, give, given_to}
-use Rattle.cw_verify.specs.declared.verified.Verified.{Verified}
+use Rattle.cw_runnable.specs.declared.verified.Verified.{Verified}
 use Rattle.cw_jobs.specs.declared.call.Parts.{Parts}
 use Rattle.cw_jobs.specs.declared.effect.Effect.{Effect}
 use Rattle.cw_jobs.specs.declared.effect.Effect.TheVariants as effect

@@ -18,7 +18,7 @@ use Rattle.cw_strands.specs.Over.{under}
 use Rattle.cw_strands.specs.Strands.{Going, Waits, resumed}
 use Rattle.cw_strands.specs.Staying.{RestsStayInside}
 use Rattle.cw_strands.specs.Steps.{CallsKeep}
-use Rattle.cw_verify.specs.declared.verified.Verified.{Verified}
+use Rattle.cw_runnable.specs.declared.verified.Verified.{Verified}
 use Rattle.cw_jobs.specs.declared.call.Parts.{Parts}
 use Rattle.cw_jobs.specs.declared.call.Rest.{Rest}
 use Rattle.cw_jobs.specs.declared.effect.Effect.{Effect}

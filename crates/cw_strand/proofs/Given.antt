@@ -16,7 +16,7 @@ use Rattle.cw_strands.specs.Strands.{Waits, rest_of, rest_at, resumed}
 use Rattle.cw_strands.specs.Promises.{IsStrandOf}
 use Rattle.cw_strands.specs.Staying.{RestsStayInside}
 use Rattle.cw_strands.specs.lemmas.JobsFit.{Upon, Arrived, arrived, gives_fit}
-use Rattle.cw_verify.specs.declared.verified.Verified.{Verified}
+use Rattle.cw_runnable.specs.declared.verified.Verified.{Verified}
 use Rattle.cw_jobs.specs.declared.call.Parts.{Parts}
 use Rattle.cw_jobs.specs.declared.call.Rest.{Rest}
 use Rattle.cw_jobs.specs.declared.job.Job.{Job}

@@ -10,7 +10,7 @@ use Rattle.cw_strands.specs.Over.{under}
 use Rattle.cw_strands.specs.Strands as strands
 use Rattle.cw_strands.specs.Strands.{Going, Waits, Halted, ComesBack, outs_of}
 use Rattle.cw_strands.specs.Steps.{CallsKeep}
-use Rattle.cw_verify.specs.declared.verified.Verified.{Verified}
+use Rattle.cw_runnable.specs.declared.verified.Verified.{Verified}
 use Rattle.cw_jobs.specs.declared.call.Parts.{Parts}
 use Rattle.cw_jobs.specs.Jobs.{extent_of, code_of}
 use Rattle.cw_machine.specs.declared.run.Stop.{Stop}

@@ -12,7 +12,7 @@ use Rattle.cw_strands.specs.Over.{beneath}
 use Rattle.cw_strands.specs.Strands.{Going, HandsOut, rest_of, spawn_job}
 use Rattle.cw_strands.specs.Promises.{IsStrandOf}
 use Rattle.cw_strands.specs.Steps.{CallsKeep}
-use Rattle.cw_verify.specs.declared.verified.Verified.{Verified}
+use Rattle.cw_runnable.specs.declared.verified.Verified.{Verified}
 use Rattle.cw_jobs.specs.declared.call.Parts.{Parts}
 use Rattle.cw_jobs.specs.Jobs.{origin_of}
 use Rattle.cw_machine.specs.declared.hands.Lender.{Lender}

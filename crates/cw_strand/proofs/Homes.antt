@@ -8,7 +8,7 @@ use Rattle.cw_slices.specs.Placed.{Placed}
 use Rattle.cw_strands.specs.Jobs as jobs
 use Rattle.cw_strands.specs.Strands as strands
 use Rattle.cw_strands.specs.Strands.{Going, Waits, Halted}
-use Rattle.cw_verify.specs.declared.verified.Verified.{Verified}
+use Rattle.cw_runnable.specs.declared.verified.Verified.{Verified}
 use Rattle.cw_jobs.specs.declared.call.Parts.{Parts}
 use Rattle.cw_jobs.specs.declared.job.Job.{Job}
 use Rattle.cw_jobs.specs.Jobs.{KeepsHomes}

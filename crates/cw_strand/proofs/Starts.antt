@@ -11,7 +11,7 @@ use Rattle.cw_strands.specs.Over.{under}
 use Rattle.cw_strands.specs.Strands.{Going}
 use Rattle.cw_strands.specs.Steps.{CallsKeep}
 use Rattle.cw_metered.specs.Strands.{CallsKeepMeters, StartsFrom, TellsAll}
-use Rattle.cw_verify.specs.declared.verified.Verified.{Verified}
+use Rattle.cw_runnable.specs.declared.verified.Verified.{Verified}
 use Rattle.cw_jobs.specs.declared.call.Extent.{Extent}
 use Rattle.cw_jobs.specs.declared.call.Extent.TheVariants as extent
 use Rattle.cw_jobs.specs.declared.call.Parts.{Parts}

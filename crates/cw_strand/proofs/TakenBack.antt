@@ -10,7 +10,7 @@ use Rattle.cw_strands.specs.Over.{beneath, under}
 use Rattle.cw_strands.specs.Strands.{Going, Waits, rest_of}
 use Rattle.cw_strands.specs.Promises.{IsStrandOf}
 use Rattle.cw_strands.specs.Steps.{CallsKeep}
-use Rattle.cw_verify.specs.declared.verified.Verified.{Verified}
+use Rattle.cw_runnable.specs.declared.verified.Verified.{Verified}
 use Rattle.cw_jobs.specs.declared.call.Parts.{Parts}
 use Rattle.cw_jobs.specs.declared.job.Job.{Job}
 use Rattle.cw_jobs.specs.Jobs.{code_of}

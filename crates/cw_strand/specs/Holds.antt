@@ -13,7 +13,7 @@ use Rattle.cw_strands.specs.Promises.{IsStrandOf}
 use Rattle.cw_metered.specs.Strands.{IsFrom, site_at}
 use Rattle.cw_code.specs.Fits.{slots_lent}
 use Rattle.cw_machine.specs.Calls.{loans_of}
-use Rattle.cw_verify.specs.declared.verified.Verified.{Verified}
+use Rattle.cw_runnable.specs.declared.verified.Verified.{Verified}
 use Rattle.cw_jobs.specs.declared.call.Extent.{Extent}
 use Rattle.cw_jobs.specs.declared.call.Extent.TheVariants as extent
 use Rattle.cw_jobs.specs.declared.call.Parts.{Parts}

@@ -23,7 +23,7 @@ use Rattle.cw_machine.specs.Arrays.{Out, IsFit}
 use Rattle.cw_code.specs.Fits.{slots_lent}
 use Rattle.cw_machine.specs.declared.hands.Lender.{Lender}
 use Rattle.cw_machine.specs.declared.machine.Machine.{Machine}
-use Rattle.cw_verify.specs.declared.verified.Verified.{Verified}
+use Rattle.cw_runnable.specs.declared.verified.Verified.{Verified}
 use Rattle.cw_machine.specs.Calls.{listed, loans_of}
 use Rattle.cw_machine.specs.Shows.{StaysBut}
 use Rattle.cw_machine.specs.Hands.{HandsOut}

@@ -13,9 +13,9 @@ use cw_jobs::job::Job;
 use cw_machine::hands::Lender;
 use cw_machine::laws::machines_that_stop_remain;
 use cw_machine::machine::Machine;
+use cw_runnable::verified::Verified;
 use cw_slices::Slice;
 use cw_strands::laws::calls_on_a_strand_keep_its_job;
-use cw_verify::verified::Verified;
 
 // Where a job that was out comes back to.
 pub(crate) fn home_of(lent: Option<Lent>) -> Home

@@ -2,8 +2,8 @@
 
 use cw_code::code::{Code, Func, Instr, Loan, Reducer, Site};
 use cw_model::syntax::{CallKind, Name, Reduction};
+use cw_runnable::verified::Verified;
 use cw_text::Fault;
-use cw_verify::verified::Verified;
 use cw_verify::verify::verify;
 use std::alloc::{AllocError, Global};
 use std::sync::Arc;

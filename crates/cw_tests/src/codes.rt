@@ -4,8 +4,8 @@ use cw_code::code::{BlockKind, Callee, Code, Func, Halves, Inner, Instr, UnaryOp
 use cw_machine::alone::run_alone;
 use cw_model::burden::{Burden, Edges};
 use cw_model::syntax::{CallKind, Operator};
+use cw_runnable::verified::Verified;
 use cw_text::Fault;
-use cw_verify::verified::Verified;
 use cw_verify::verify::verify;
 use std::alloc::{AllocError, Global};
 use std::process::Abort;

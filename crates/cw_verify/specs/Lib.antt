@@ -1,10 +1,8 @@
-pub mod Fast
-pub mod FastLaws
+pub mod Fusing
 pub mod Table
 pub mod Meetings
 pub mod Numbers
-pub mod Reading
-pub mod Resolved
+pub mod Resolving
 pub mod Verifies
 pub mod Views
 pub mod Steps

@@ -1,7 +1,7 @@
 //! How many arrays are read at each place.
 
 ghost use Rattle.std.specs.Prelude.{◌≡◌, [], IfOk, OnOk};
-ghost use Rattle.cw_verify.specs.Reading as reading;
+ghost use Rattle.cw_runnable.specs.Reading as reading;
 
 use cw_code::code::Func;
 use std::alloc::{AllocError, Global};

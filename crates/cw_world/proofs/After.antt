@@ -3,7 +3,7 @@ use Rattle.std.proofs.Common.{◌≡◌, ◌∙◌, ◌↔◌, ℕ, ℤ, Bool, t
 use Rattle.std.specs.Prelude.{Result, Ok, Err, IfErr}
 use Rattle.std.specs.Arc.{arc_value}
 use Rattle.cw_model.specs.declared.burden.Burden.{Burden}
-use Rattle.cw_verify.specs.declared.verified.Verified.{Verified}
+use Rattle.cw_runnable.specs.declared.verified.Verified.{Verified}
 use Rattle.cw_world.specs.declared.event.Event.{Event}
 use Rattle.cw_world.specs.declared.event.Refused.{Refused}
 use Rattle.cw_world.specs.declared.event.Refused.TheVariants as refused

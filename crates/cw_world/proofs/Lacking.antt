@@ -3,7 +3,7 @@ use Rattle.std.proofs.Common.{◌≡◌, ◌⊎◌, ◌∙◌, ℕ, Bool, true, 
 use Rattle.std.specs.Prelude.{Result, Ok, Err, IsSome}
 use Rattle.cw_text.specs.declared.fault.Fault.{Fault}
 use Rattle.cw_text.specs.declared.fault.Fault.TheVariants as fault
-use Rattle.cw_verify.specs.declared.verified.Verified.{Verified}
+use Rattle.cw_runnable.specs.declared.verified.Verified.{Verified}
 use Rattle.cw_jobs.specs.declared.effect.Effect.{Effect}
 use Rattle.cw_jobs.specs.declared.effect.Effect.TheVariants as effect
 use Rattle.cw_machine.specs.declared.alone.Ended as alone

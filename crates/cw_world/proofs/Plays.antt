@@ -1,7 +1,7 @@
 -- A world on the way, by the events so far.
 use Rattle.std.proofs.Common.{◌≡◌, ℕ, zero, suc, ◌<◌, ◌≤◌, ℤ, List, [], ◌∷◌, refl, sym, subst, length, drop, slice_index_or, arith}
 use Rattle.cw_model.specs.declared.burden.Burden.{Burden}
-use Rattle.cw_verify.specs.declared.verified.Verified.{Verified}
+use Rattle.cw_runnable.specs.declared.verified.Verified.{Verified}
 use Rattle.cw_world.specs.declared.event.Event.{Event}
 use Rattle.cw_world.specs.declared.world.World.{World}
 use Rattle.cw_world.specs.Worlds.{IsWorldOf, IsStarted, Tries, Leads}

@@ -5,7 +5,7 @@ use Rattle.std.specs.Global.{Vec}
 use Rattle.std.specs.Vec.{vec_len, vec_capacity}
 use Rattle.cw_model.specs.declared.burden.Burden.{Burden}
 use Rattle.cw_code.specs.Code.{code_view}
-use Rattle.cw_verify.specs.declared.verified.Verified.{Verified}
+use Rattle.cw_runnable.specs.declared.verified.Verified.{Verified}
 use Rattle.cw_jobs.specs.Jobs.{IsRoot}
 use Rattle.cw_jobs.specs.Means.{IsMeaningOf}
 use Rattle.cw_machine.specs.Runs.{RunsAsCode}

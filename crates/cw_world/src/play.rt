@@ -6,8 +6,8 @@ use crate::event::Event;
 use crate::world::World;
 use cw_machine::alone::Ended;
 use cw_model::burden::Burden;
+use cw_runnable::verified::Verified;
 use cw_text::Fault;
-use cw_verify::verified::Verified;
 use std::alloc::Global;
 use std::sync::Arc;
 

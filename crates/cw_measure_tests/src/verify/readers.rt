@@ -6,8 +6,8 @@ use crate::verify::codes::{
 use Step::{Call, CallOnTwo, Cut, Just, Pass, Spawn, SpawnPassed, Start, TakeOne};
 use cw_code::code::{BlockKind, Callee, Code, Func, Halves, Inner, Instr, Loan};
 use cw_model::syntax::CallKind;
-use cw_verify::op::Op;
-use cw_verify::verified::Verified;
+use cw_runnable::op::Op;
+use cw_runnable::verified::Verified;
 use cw_verify::verify::verify;
 use std::alloc::{AllocError, Global};
 

@@ -5,8 +5,8 @@ use cw_code::code::Instr;
 use cw_machine::alone::run_alone;
 use cw_machine::values::values_alone;
 use cw_model::burden::{Burden, Edges};
+use cw_runnable::verified::Verified;
 use cw_text::Fault;
-use cw_verify::verified::Verified;
 use std::alloc::Global;
 use std::sync::Arc;
 

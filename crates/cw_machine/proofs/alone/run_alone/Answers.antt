@@ -8,8 +8,8 @@ use Rattle.cw_code.specs.declared.code.Func.{Func}
 use Rattle.cw_code.specs.Code.{code_view}
 use Rattle.cw_code.specs.Run.{first_state, code_serial}
 use Rattle.cw_text.specs.declared.fault.Fault.TheVariants as fault
-use Rattle.cw_verify.specs.declared.verified.Verified.{Verified}
-use Rattle.cw_verify.specs.Resolved.{room_of}
+use Rattle.cw_runnable.specs.declared.verified.Verified.{Verified}
+use Rattle.cw_runnable.specs.Resolved.{room_of}
 use Rattle.cw_machine.specs.declared.run.Run.{Run}
 use Rattle.cw_machine.specs.Metered.{IsNewRun, Reaches}
 use Rattle.cw_machine.specs.Runs.{is_asked, Runs, IsFailure}

@@ -5,7 +5,7 @@ use Rattle.cw_model.specs.Trees.{Tree}
 use Rattle.cw_freed.specs.Freeing.{AreFreed}
 use Rattle.cw_code.specs.Code.{code_view}
 use Rattle.cw_code.specs.Run.{code_serial}
-use Rattle.cw_verify.specs.declared.verified.Verified.{Verified}
+use Rattle.cw_runnable.specs.declared.verified.Verified.{Verified}
 use Rattle.cw_machine.specs.declared.freed.Freeing.{Freeing}
 use Rattle.cw_machine.specs.Freed.{is_freed, Asked, Frees, FreesRun}
 use Rattle.cw_machine.proofs.FromMain.{main_of, asked_of, asked_burden}

@@ -5,7 +5,7 @@ use Rattle.cw_model.specs.declared.burden.Burden.{Burden}
 use Rattle.cw_code.specs.Code.{code_view}
 use Rattle.cw_code.specs.Fits.{main_params}
 use Rattle.cw_code.specs.Run.{first_state, code_serial}
-use Rattle.cw_verify.specs.declared.verified.Verified.{Verified}
+use Rattle.cw_runnable.specs.declared.verified.Verified.{Verified}
 use Rattle.cw_machine.specs.declared.machine.Moved.TheVariants as moved
 use Rattle.cw_machine.specs.Arrays.{alone as from_main}
 use Rattle.cw_machine.specs.Runs.{is_asked, is_request}

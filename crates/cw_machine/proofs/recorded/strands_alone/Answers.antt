@@ -4,7 +4,7 @@ use Rattle.cw_model.specs.Trees.{Marked, Invocation, tree_of, normal}
 use Rattle.cw_recorded.specs.declared.recorder.Recorder.{Recorder}
 use Rattle.cw_code.specs.Code.{code_view}
 use Rattle.cw_code.specs.Run.{code_serial}
-use Rattle.cw_verify.specs.declared.verified.Verified.{Verified}
+use Rattle.cw_runnable.specs.declared.verified.Verified.{Verified}
 use Rattle.cw_machine.specs.Recorded.{Records, RecordsRun}
 use Rattle.cw_machine.proofs.EndsAs.{EndsAs-prop, did_end, ends_as}
 use Rattle.cw_machine.proofs.Strands.{KeepsStrands, strands_prop, kept_is, kept_as}

@@ -7,7 +7,7 @@ use Rattle.cw_code.specs.Code.{code_view}
 use Rattle.cw_code.specs.Fits.{main_params}
 use Rattle.cw_code.specs.Run.{first_state, code_serial}
 use Rattle.cw_text.specs.declared.fault.Fault.TheVariants as fault
-use Rattle.cw_verify.specs.declared.verified.Verified.{Verified}
+use Rattle.cw_runnable.specs.declared.verified.Verified.{Verified}
 use Rattle.cw_machine.specs.declared.machine.Machine.{Machine}
 use Rattle.cw_machine.specs.declared.machine.Moved.{Moved}
 use Rattle.cw_machine.specs.declared.values.Values.{Values}

@@ -2,7 +2,7 @@ use Rattle.std.proofs.Common.{rules, refl, ◌≡◌, true, false, sym, ◌∙�
 use Rattle.cw_model.specs.Burdens.{no_burden}
 use Rattle.cw_code.specs.Code.{code_view}
 use Rattle.cw_text.specs.declared.fault.Fault.TheVariants as fault
-use Rattle.cw_verify.specs.declared.verified.Verified.{Verified}
+use Rattle.cw_runnable.specs.declared.verified.Verified.{Verified}
 use Rattle.cw_machine.specs.Runs.{IsFailure}
 use Rattle.cw_scheduled.specs.Schedules.{is_asked, Measured}
 use Rattle.cw_scheduled.proofs.Told.{handed_on, kept_of, not_scheduled, record_kept}

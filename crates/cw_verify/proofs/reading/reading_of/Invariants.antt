@@ -1,5 +1,5 @@
 use Rattle.std.specs.Prelude.{◌≡◌, [], drop}
-use Rattle.cw_verify.specs.Reading.{reading_in}
+use Rattle.cw_runnable.specs.Reading.{reading_in}
 use Rattle.cw_verify.proofs.reading.reading_of.Given as goal
 
 abbrev pub invariant-loop-k : goal.invariant-loop-k

@@ -1,7 +1,7 @@
 use Rattle.std.proofs.Common.{◌≡◌, sym, subst}
 use Rattle.std.specs.Prelude.{IfSome}
 use Rattle.cw_machine.specs.Answering.{IsOfWhole}
-use Rattle.cw_verify.specs.declared.verified.Verified.{Verified}
+use Rattle.cw_runnable.specs.declared.verified.Verified.{Verified}
 use Rattle.cw_world.specs.Scenes.{posted, stage_of}
 use Rattle.cw_world.specs.Events.{IsBegun}
 use Rattle.cw_world.proofs.world.turn.Goals as goal

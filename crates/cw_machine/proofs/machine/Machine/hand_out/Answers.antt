@@ -1,6 +1,6 @@
 use Rattle.std.proofs.Common.{◌≡◌, ◌-◌, length, refl, sym, ap, ◌∙◌, subst, arith}
 use Rattle.cw_machine.specs.Hands.{MayHandArrays}
-use Rattle.cw_verify.specs.Reading.{readers_at}
+use Rattle.cw_runnable.specs.Reading.{readers_at}
 use Rattle.cw_machine.proofs.RestOut.{last_frame, first_le, array_le, cells_le, readers_le, may_arrays, slots_of, has_cells, handed_out}
 use Rattle.cw_machine.proofs.machine.Machine.hand_out.Goals as goal
 
