@@ -5,13 +5,11 @@ ghost use Rattle.std.specs.Prelude.{◌≡◌, ◌<◌, ◌-◌, ◌^◌};
 ghost use Rattle.std.specs.IoError.{error_kind};
 ghost use Rattle.cilkwork.specs.Words.{unread_fault};
 
-use cw_cli::{
-    Request, crew_of, is_version, refuse, request, say, say_why, take_explain, tool, unread,
-    version,
-};
+use cw_cli::{crew_of, refuse, say, say_why, tool, unread};
 use cw_pool::gate::Quiet;
 use cw_report::{Counted, Input, Sink};
 use cw_text::Fault;
+use cw_words::{Request, is_version, request, take_explain, version};
 use std::alloc::Global;
 use std::fs::File;
 use std::io::ErrorKind;

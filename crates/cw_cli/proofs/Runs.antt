@@ -36,10 +36,10 @@ use Rattle.cw_gen.specs.Generates.{Generates}
 use Rattle.cw_cli.specs.Compiled.{IsCompiled}
 use Rattle.cw_cli.specs.Sources.{IsRefused}
 use Rattle.cw_cli.specs.Analyses as analyses
-use Rattle.cw_cli.specs.declared.asked.Mode.{Mode}
-use Rattle.cw_cli.specs.declared.asked.Mode.TheVariants as mode
-use Rattle.cw_cli.specs.declared.asked.Options.{Options}
-use Rattle.cw_cli.specs.Requests.{IsModeInRange}
+use Rattle.cw_words.specs.declared.asked.Mode.{Mode}
+use Rattle.cw_words.specs.declared.asked.Mode.TheVariants as mode
+use Rattle.cw_words.specs.declared.asked.Options.{Options}
+use Rattle.cw_cli.specs.Analyses.{IsModeInRange}
 use Rattle.cw_cli.specs.Schedules.{HasTooManyStrands, IsScheduled, IsScheduledIn}
 use Rattle.cw_cli.specs.Told.{HasTables, told_of}
 use Rattle.cw_cli.proofs.Rows.{scale_is, sites_are, gains_are}

@@ -13,11 +13,11 @@ use Rattle.cw_report.specs.Sinks.{Writes}
 use Rattle.cw_cli.specs.Sources as sources
 use Rattle.cw_cli.specs.Analyses as analyses
 use Rattle.cw_cli.specs.Analyses.{IsAnalysed}
-use Rattle.cw_cli.specs.declared.asked.Mode.{Mode}
-use Rattle.cw_cli.specs.declared.asked.Mode.TheVariants as mode
+use Rattle.cw_words.specs.declared.asked.Mode.{Mode}
+use Rattle.cw_words.specs.declared.asked.Mode.TheVariants as mode
 use Rattle.cw_cli.specs.Tools as tools
-use Rattle.cw_cli.specs.declared.asked.Request.{Request}
-use Rattle.cw_cli.specs.declared.asked.Options.{Options}
+use Rattle.cw_words.specs.declared.asked.Request.{Request}
+use Rattle.cw_words.specs.declared.asked.Options.{Options}
 
 -- a write whose answer is dropped
 pub tries : {W A : Type 0} (seen : W → Seen) (old new : W) (text : List ℕ) (r : Result A Fault) → Writes (seen old) (seen new) text r → tools.TriesText seen old new text

@@ -1,6 +1,7 @@
 -- What an analysis of bytes answers, and what it writes.
-use Rattle.std.specs.Prelude.{◌≡◌, ◌≢◌, ℕ, ℤ, List, length, Result, MatchResult}
+use Rattle.std.specs.Prelude.{◌≡◌, ◌≢◌, ◌≤◌, ℕ, ℤ, List, length, Result, MatchResult}
 use Rattle.cw_model.specs.declared.burden.Burden.{Burden}
+use Rattle.cw_model.specs.declared.limits.TheConstants.{MOST_LIMIT, MOST_BURDEN, MOST_TOP}
 use Rattle.cw_model.specs.declared.trap.Trap.{Trap}
 use Rattle.cw_model.specs.Syntax.{Program}
 use Rattle.cw_model.specs.Meaning.{function_named}
@@ -9,14 +10,14 @@ use Rattle.cw_model.specs.Report as report
 use Rattle.cw_model.specs.Report.{report_text}
 use Rattle.cw_text.specs.declared.fault.Fault.{Fault}
 use Rattle.cw_text.specs.declared.fault.Fault.TheVariants as fault
+use Rattle.cw_scheduled.specs.declared.schedules.TheConstants.{MOST_PROCESSORS}
 use Rattle.cw_report.specs.Seen.{Seen}
 use Rattle.cw_report.specs.Sinks.{WritesAll, WritesPart}
-use Rattle.cw_cli.specs.Requests.{AreInRange}
 use Rattle.cw_cli.specs.Schedules.{greedy_text, IsScheduledIn, HasTooManyStrands}
 use Rattle.cw_cli.specs.Sources.{Compiles, IsRefused}
-use Rattle.cw_cli.specs.declared.asked.Mode.{Mode}
-use Rattle.cw_cli.specs.declared.asked.Mode.TheVariants as mode
-use Rattle.cw_cli.specs.declared.asked.Options.{Options}
+use Rattle.cw_words.specs.declared.asked.Mode.{Mode}
+use Rattle.cw_words.specs.declared.asked.Mode.TheVariants as mode
+use Rattle.cw_words.specs.declared.asked.Options.{Options}
 
 -- the report of an answer, in each mode
 abbrev pub text_in : Mode → Program → (burden : Burden) → Answer → List ℕ
@@ -26,6 +27,19 @@ text_in mode.Scale program burden answer = report_text report.Scale program burd
 text_in mode.Sites program burden answer = report_text report.Sites program burden answer
 text_in (mode.Gain top) program burden answer = report_text (report.Gain top) program burden answer
 text_in (mode.Greedy processors) program burden answer = greedy_text processors answer
+
+-- a schedule is for processors in range, and functions that are told are so many
+abbrev pub IsModeInRange : Mode → Type 0
+IsModeInRange (mode.Gain top) = (1 ≤ top) × (top ≤ MOST_TOP)
+IsModeInRange (mode.Greedy processors) = (1 ≤ processors) × (processors ≤ MOST_PROCESSORS)
+IsModeInRange _ = Unit {0}
+
+-- the limit and the burden are in range, and the number that a mode has
+pub record AreInRange (options : Options) : Type 0 where
+  pub mode : IsModeInRange options.mode
+  pub some_limit : 1 ≤ options.limit
+  pub limit : options.limit ≤ MOST_LIMIT
+  pub burden : options.burden.charge ≤ MOST_BURDEN
 
 -- main has so many parameters, and the options are in range
 pub record MayRun (program : Program) (args : List ℤ) (options : Options) : Type 0 where

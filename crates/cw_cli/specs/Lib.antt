@@ -1,7 +1,3 @@
-pub mod Numbers
-pub mod Command
-pub mod Requests
-pub mod Rows
 pub mod Schedules
 pub mod Sources
 pub mod Compiled
@@ -9,6 +5,4 @@ pub mod Analyses
 pub mod Told
 pub mod Tools
 pub mod Laws
-pub mod WordLaws
 pub mod Crews
-pub mod Explaining

@@ -8,8 +8,8 @@ use Rattle.cw_greedy.specs.Blocks.{strand_count}
 use Rattle.cw_greedy.specs.Greedy.{greedy_length}
 use Rattle.cw_schedule.specs.State.{IsWithin}
 use Rattle.cw_report.specs.Texts.{schedule_header}
-use Rattle.cw_cli.specs.declared.asked.Mode.{Mode}
-use Rattle.cw_cli.specs.declared.asked.Mode.TheVariants as mode
+use Rattle.cw_words.specs.declared.asked.Mode.{Mode}
+use Rattle.cw_words.specs.declared.asked.Mode.TheVariants as mode
 
 -- the row of a run with this strand tree: processors, work, span and the length of the greedy schedule
 abbrev pub greedy_row : ℕ → Tree → List ℕ

@@ -5,8 +5,8 @@ use Rattle.cw_code.specs.Code.{Code, code_view}
 use Rattle.cw_runnable.specs.declared.verified.Verified.{Verified}
 use Rattle.cw_machine.specs.declared.alone.Ended.{Ended}
 use Rattle.cw_report.specs.Texts.{scale_report, sites_of}
-use Rattle.cw_cli.specs.declared.asked.Mode.{Mode}
-use Rattle.cw_cli.specs.declared.asked.Mode.TheVariants as mode
+use Rattle.cw_words.specs.declared.asked.Mode.{Mode}
+use Rattle.cw_words.specs.declared.asked.Mode.TheVariants as mode
 
 -- the mode tells of what is counted of a run
 abbrev pub HasTables : Mode → Type 0

@@ -9,9 +9,9 @@ use Rattle.cw_text.specs.Faults.{fault_status, fault_text}
 use Rattle.cw_report.specs.Seen.{Seen}
 use Rattle.cw_report.specs.Sinks.{WritesAll, WritesPart}
 use Rattle.cw_cli.specs.Analyses.{IsAnalysed}
-use Rattle.cw_cli.specs.declared.asked.Request.{Request}
-use Rattle.cw_cli.specs.declared.asked.Said.{Said}
-use Rattle.cw_cli.specs.declared.asked.Said.TheVariants as said
+use Rattle.cw_words.specs.declared.asked.Request.{Request}
+use Rattle.cw_words.specs.declared.asked.Said.{Said}
+use Rattle.cw_words.specs.declared.asked.Said.TheVariants as said
 
 abbrev pub status_of : Result (Unit {0}) Fault → ℕ
 status_of (Ok done) = 0

@@ -3,13 +3,12 @@
 ghost use Rattle.std.specs.Prelude.{◌≡◌, ◌<◌, ◌≤◌, ◌-◌, ◌^◌, ℕ, List, MatchResult, length};
 ghost use Rattle.cw_code.specs.Code.{code_view};
 ghost use Rattle.cw_pool.specs.declared.run.TheConstants.{MOST_BODIES};
-ghost use Rattle.cw_cli.specs.declared.asked.Mode.TheVariants as mode;
+ghost use Rattle.cw_words.specs.declared.asked.Mode.TheVariants as mode;
 ghost use Rattle.cw_cli.specs.Compiled.{IsCompiled, IsMade};
-ghost use Rattle.cw_cli.specs.Requests.{IsModeInRange};
+ghost use Rattle.cw_cli.specs.Analyses.{IsModeInRange};
 ghost use Rattle.cw_cli.specs.Analyses.{IsAnalysed, IsRun};
 ghost use Rattle.cw_cli.specs.Told.{HasTables};
 
-use crate::asked::{Mode, Options};
 use crate::compiling::{Compiled, compile_with_heads};
 use crate::reporting::{are_words, write_gains, write_tables, write_values};
 use cw_gains::gains::gains_of_run;
@@ -22,6 +21,7 @@ use cw_report::{Sink, ok, schedule};
 use cw_runnable::verified::Verified;
 use cw_scheduled::schedules::schedule_alone;
 use cw_text::Fault;
+use cw_words::{Mode, Options};
 use std::alloc::Global;
 use std::sync::{Arc, Wait};
 use std::thread::Threads;

@@ -1,23 +1,10 @@
-//! What holds of all bytes, and of all words.
+//! What holds of all bytes, and of what words ask for.
 
+ghost use Rattle.std.specs.Prelude.{◌≡◌};
 ghost use Rattle.cw_cli.specs.Laws.{CompiledAreNotRefused, HaveOneProgram, HaveOneRefusal};
-ghost use Rattle.cw_cli.specs.WordLaws.{
-  BurdenIsRead,
-  CheckIsRead,
-  EdgesAreRead,
-  GainIsRead,
-  GainTopIsRead,
-  GreedyIsRead,
-  GreedyLimitIsRead,
-  LimitIsRead,
-  PlainWordsAreRead,
-  RefusalExamples,
-  TakenWordsAreRead,
-  UsualNumbersAreWritten,
-  WordExamples,
-  WorkersAreRead,
-  WordsAreReadOnce,
-};
+ghost use Rattle.cw_scheduled.specs.declared.schedules.TheConstants as schedules;
+ghost use Rattle.cw_words.specs.declared.number.TheConstants as words;
+ghost use Rattle.cw_yard.specs.declared.open.TheConstants as yard;
 
 /// Bytes are a source of at most one program. So a report is that of the program that the bytes
 /// mean.
@@ -42,33 +29,8 @@ pub fn one_answer()
     cw_parse::laws::no_tree_beside_a_fault();
 }
 
-/// A word after `check` that starts with no hyphen is the source. Such words after `run`, `scale` or
-/// `sites` are the source and the arguments, and `--limit`, `--burden` or `--workers` with a word before them is
-/// that number, `--edges` that word; after `gain` they are the same, and so is `--top`; after `greedy` they are the
-/// processors, the source and the arguments, and `--limit` is the same.
-pub fn plain_words()
-    ensures check { CheckIsRead }
-    ensures usual { PlainWordsAreRead }
-    ensures limited { LimitIsRead }
-    ensures burdened { BurdenIsRead }
-    ensures edged { EdgesAreRead }
-    ensures worked { WorkersAreRead }
-    ensures gain { GainIsRead }
-    ensures gain_top { GainTopIsRead }
-    ensures greedy { GreedyIsRead }
-    ensures greedy_limited { GreedyLimitIsRead }
-{}
-
-/// Words that are taken are read as a command with a source, arguments and numbers, and in one way.
-pub fn read_words()
-    ensures taken { TakenWordsAreRead }
-    ensures once { WordsAreReadOnce }
-{}
-
-/// Words written out, and what they are read as or refused for; the words for the usual numbers, and
-/// the numbers that they write.
-pub fn written_words()
-    ensures usual { UsualNumbersAreWritten }
-    ensures read { WordExamples }
-    ensures refused { RefusalExamples }
+/// The most processors and workers that words ask for are the most that a schedule and a yard have.
+pub fn words_and_runs_agree()
+    ensures processors { words.MOST_PROCESSORS ≡ schedules.MOST_PROCESSORS }
+    ensures workers { words.MOST_WORKERS ≡ yard.MOST_WORKERS }
 {}

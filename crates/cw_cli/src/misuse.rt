@@ -1,12 +1,12 @@
 //! Which of the program's words are no numbers or out of range, in words.
 
-use crate::command::command;
-use crate::edges::{EDGES, USUAL_EDGES, edges_named};
-use crate::number::{BURDEN, LIMIT, NumberOption, PROCESSORS, WORKERS, read_number};
 use clap::ArgMatches;
 use cw_explain::Word;
 use cw_model::limits::MOST_NUMBER;
 use cw_text::Fault;
+use cw_words::command::command;
+use cw_words::edges::{EDGES, USUAL_EDGES, edges_named};
+use cw_words::number::{BURDEN, LIMIT, NumberOption, PROCESSORS, WORKERS, read_number};
 use std::alloc::{AllocError, Global};
 
 /// No word more is told behind so many bytes.

@@ -5,17 +5,16 @@ ghost use Rattle.std.specs.List.{list_all};
 ghost use Rattle.cw_model.specs.declared.burden.Burden.{Burden};
 ghost use Rattle.cw_code.specs.Code.{Code, code_view};
 ghost use Rattle.cw_machine.specs.Runs.{GivesAsCode, RunsAsCode};
-ghost use Rattle.cw_cli.specs.declared.asked.Mode.TheVariants as mode;
+ghost use Rattle.cw_words.specs.declared.asked.Mode.TheVariants as mode;
 ghost use Rattle.cw_cli.specs.Compiled.{IsCompiled, IsMade};
 ghost use Rattle.cw_cli.specs.declared.compiling.Compiled.{Compiled};
 ghost use Rattle.cw_gains.specs.Gains.{GainsAsCode};
-ghost use Rattle.cw_cli.specs.Requests.{IsModeInRange};
+ghost use Rattle.cw_cli.specs.Analyses.{IsModeInRange};
 ghost use Rattle.cw_cli.specs.Analyses.{IsRun};
 ghost use Rattle.cw_cli.specs.Told.{HasTables, told_in};
 ghost use Rattle.cw_model.specs.Ints.{fits};
 ghost use Rattle.cw_report.specs.Answers.{AnswersText};
 
-use crate::asked::{Mode, Options};
 use cw_gains::gains::Gains;
 use cw_machine::alone::Ended;
 use cw_machine::values::Values;
@@ -23,6 +22,7 @@ use cw_model::laws::derived_sites_are_numbered;
 use cw_report::{Sink, answer, gain, scale, sites};
 use cw_runnable::verified::Verified;
 use cw_text::Fault;
+use cw_words::{Mode, Options};
 use std::alloc::Global;
 
 // Writes the values of a run of this code.

@@ -16,7 +16,6 @@ ghost use Rattle.cw_cli.specs.Tools.{
 };
 
 use crate::analysis::analyse;
-use crate::asked::{Request, Said};
 use crate::misuse::misused;
 use cw_greedy::code::MOST_STRANDS;
 use cw_model::limits::MOST_SOURCE_BYTES;
@@ -25,6 +24,7 @@ use cw_pool::gate::Gate;
 use cw_report::{Input, Sink, write_fault, write_text};
 use cw_text::Fault;
 use cw_told::{Refused, explain, explain_unread};
+use cw_words::{Request, Said};
 use std::alloc::Global;
 use std::io;
 use std::io::Read;

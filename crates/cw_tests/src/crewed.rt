@@ -1,9 +1,10 @@
 //! Runs by a crew, of which another worker does a part.
 
-use cw_cli::{Mode, Options, analyse, crew_of};
+use cw_cli::{analyse, crew_of};
 use cw_model::burden::{Burden, Edges};
 use cw_pool::gate::{Gate, Moment};
 use cw_report::Counted;
+use cw_words::{Mode, Options};
 use std::process::Abort;
 use std::sync::atomic::{AtomicU64, Ordering};
 use std::sync::{Arc, Wait};

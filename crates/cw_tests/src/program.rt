@@ -1,8 +1,9 @@
 //! The program as a whole, over memory.
 
-use cw_cli::{Request, Said, crew_of, is_version, request, say, take_explain, tool, version};
+use cw_cli::{crew_of, say, tool};
 use cw_pool::gate::Quiet;
 use cw_report::Counted;
+use cw_words::{Request, Said, is_version, request, take_explain, version};
 use std::alloc::{AllocError, Global};
 use std::process::Abort;
 use std::sync::{Arc, Wait};

@@ -1,8 +1,9 @@
 //! Runs that write nothing, on a sink that takes nothing.
 
-use cw_cli::{Mode, Options, analyse_alone};
+use cw_cli::analyse_alone;
 use cw_model::burden::{Burden, Edges};
 use cw_report::{Counted, Sink};
+use cw_words::{Mode, Options};
 use std::alloc::Global;
 use std::io;
 use std::io::Write;

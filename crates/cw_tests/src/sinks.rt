@@ -3,9 +3,10 @@
 ghost use Rattle.std.specs.Prelude.{◌<◌, ◌-◌, ◌^◌, Some};
 
 use crate::program::asked;
-use cw_cli::{Request, crew_of, tool};
+use cw_cli::{crew_of, tool};
 use cw_pool::gate::Quiet;
 use cw_report::{Counted, Input, Sink};
+use cw_words::Request;
 use std::io;
 use std::io::{Read, Write};
 use std::process::Abort;

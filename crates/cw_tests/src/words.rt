@@ -1,8 +1,8 @@
 //! The words of the program.
 
 use crate::program::{Row, all_hold, answer, asked};
-use cw_cli::{Mode, Options};
 use cw_model::burden::{Burden, Edges};
+use cw_words::{Mode, Options};
 use std::alloc::Global;
 use std::process::Abort;
 use std::sync::Wait;

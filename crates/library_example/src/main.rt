@@ -1,9 +1,10 @@
 //! How the library is called: the report of a program that stands in memory, on standard output.
 #![tactic(auto)]
 
-use cw_cli::{Mode, Options, analyse_alone, refuse};
+use cw_cli::{analyse_alone, refuse};
 use cw_model::burden::{Burden, Edges};
 use cw_report::Counted;
+use cw_words::{Mode, Options};
 use std::io;
 use std::process::ExitCode;
 

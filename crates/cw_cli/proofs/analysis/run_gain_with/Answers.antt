@@ -2,8 +2,8 @@ use Rattle.std.proofs.Common.{sym, subst}
 use Rattle.cw_code.specs.Code.{code_view}
 use Rattle.cw_machine.specs.Runs.{RunsAsCode}
 use Rattle.cw_gains.specs.Gains.{GainsAsCode}
-use Rattle.cw_cli.specs.Requests.{IsModeInRange}
-use Rattle.cw_cli.specs.declared.asked.Mode.TheVariants as mode
+use Rattle.cw_cli.specs.Analyses.{IsModeInRange}
+use Rattle.cw_words.specs.declared.asked.Mode.TheVariants as mode
 use Rattle.cw_cli.proofs.Refusals.{handed_on}
 use Rattle.cw_cli.proofs.Runs.{out_of_range}
 use Rattle.cw_cli.proofs.analysis.run_gain_with.Goals as goal

@@ -1,0 +1,10 @@
+mod Commands
+mod Digits
+mod Texts
+mod Filled
+mod Reading
+mod Taken
+mod Told
+mod Scheduling
+mod Gaining
+mod Moved

@@ -1,0 +1,25 @@
+use Rattle.std.proofs.Common.{◌≡◌, ◌∙◌, ap, ap₂, rules, false}
+use Rattle.clap.specs.Simple.{app_of_fields}
+use Rattle.clap.specs.Words.{App, app_of, new_app, with_rule, with_subcommand}
+use Rattle.clap.specs.declared.builder.Command.TheViews.{out-Command}
+use Rattle.cw_words.specs.Command.{running_line}
+use Rattle.cw_words.proofs.command.running_command.Goals as goal
+
+pub returns : goal.returns
+returns c =
+    let args_is_local : c.main_args.result.global ≡ false = c.main_args.ensures.local in
+    let file_is_local : c.file.result.global ≡ false = c.file.ensures.local in
+    let limit_is_local : c.number.result.global ≡ false = c.number.ensures.local in
+    let burden_is_local : c.number-2.result.global ≡ false = c.number-2.ensures.local in
+    let edges_is_local : c.edges.result.global ≡ false = c.edges.ensures.local in
+    let workers_is_local : c.number-3.result.global ≡ false = c.number-3.ensures.local in
+    let new_is : app_of c.after_help.result ≡ new_app c.args.name.now = ap app_of_fields c.after_help.ensures ∙ (ap app_of_fields c.about.ensures ∙ c.new.ensures.app) in
+    let shape : app_of c.in_ok-command.command ≡ running_line c.args.name.now =
+    c.in_ok-command.ensures.shape workers_is_local
+    ∙ ap₂ with_rule (c.in_ok-arg-5.ensures.shape edges_is_local
+    ∙ ap₂ with_rule (c.in_ok-arg-4.ensures.shape burden_is_local
+    ∙ ap₂ with_rule (c.in_ok-arg-3.ensures.shape limit_is_local
+    ∙ ap₂ with_rule (c.in_ok-arg-2.ensures.shape args_is_local
+    ∙ ap₂ with_rule (c.in_ok-arg.ensures.shape file_is_local ∙ ap₂ with_rule new_is c.file.ensures.rule) c.main_args.ensures.rule) c.number.ensures.rule) c.number-2.ensures.rule) c.edges.ensures.rule) c.number-3.ensures.rule in
+    let local : (out-Command c.in_ok-command.command).has_globals ≡ false = search (rules, args_is_local, file_is_local, limit_is_local, burden_is_local, edges_is_local, workers_is_local, c.in_ok-command.ensures.globals, c.in_ok-arg-5.ensures.globals, c.in_ok-arg-4.ensures.globals, c.in_ok-arg-3.ensures.globals, c.in_ok-arg-2.ensures.globals, c.in_ok-arg.ensures.globals, c.after_help.ensures, c.about.ensures, c.new.ensures) in
+    record { shape = shape; local = local; below = λ above whole adds. adds.shape local ∙ ap (λ (a : App). with_subcommand (app_of above) a.top) shape }

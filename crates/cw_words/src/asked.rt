@@ -1,0 +1,103 @@
+//! What is asked for.
+
+ghost use Rattle.std.specs.Prelude.{◌≡◌, [], false, string_bytes};
+ghost use Rattle.cw_words.specs.declared.asked.Said.TheVariants.{Fault};
+
+use cw_model::burden::{Burden, Edges};
+use cw_model::limits::{USUAL_BURDEN, USUAL_LIMIT};
+use cw_text::Fault;
+use std::alloc::Global;
+
+/// The workers of a run where no number of them is given.
+pub const USUAL_WORKERS: u64 = 2;
+
+/// What the program is asked to write.
+#[derive(Clone, Copy, Debug, PartialEq, Eq)]
+pub enum Mode {
+    /// That the source compiles. Nothing is run.
+    Check,
+    /// What the program prints, the totals of its reducers, and the value that its `main` gives.
+    Run,
+    /// Work and span, with and without the burden: of the whole run, and of each tag of the source.
+    Scale,
+    /// Calls, work and span of each call site.
+    Sites,
+    /// Work and span of the run, and what its spans would be if each of at most so many functions, from 1 to 64, were free.
+    Gain(u64),
+    /// Work, span, and how many steps a greedy schedule of the run takes on so many processors, from 1 to 1,000,000.
+    Greedy(u64),
+}
+
+/// How to analyse a program. A check uses neither the limit nor the burden; `Run`, `Sites` and `Greedy` take
+/// the burden and do not use it.
+#[derive(Clone, Copy, Debug, PartialEq, Eq)]
+pub struct Options {
+    /// What to write.
+    pub mode: Mode,
+    /// The greatest cost of the run in instructions, from 1 to 2^62.
+    pub limit: u64,
+    /// What each spawn is charged, from 0 to 1,000,000,000 instructions an edge.
+    pub burden: Burden,
+}
+
+/// What the words ask for.
+#[derive(Debug, Drop)]
+pub struct Request {
+    /// The path of the source.
+    pub file: String,
+    /// The arguments of `main`, each from 0 on; none of a check.
+    pub args: Vec<i64>,
+    pub options: Options,
+    /// How many workers run the program, from 1 to 64; no report depends on it, and a check and `Greedy` do not use it.
+    pub workers: u64,
+    /// Whether standard error explains a refusal or a trap behind its line.
+    pub explain: bool,
+}
+
+/// What the program says in place of running.
+#[derive(Debug, Drop)]
+pub enum Said {
+    /// The help, for standard output.
+    Help(String),
+    /// What is wrong with the words, for standard error.
+    Misuse(String),
+    /// `Arguments` for a word that is no number, or a number that is out of range, and `Memory`.
+    Fault(Fault),
+}
+
+impl From<Fault> for Said {
+    ghost from_gives = { λ fault said. said ≡ Fault fault };
+
+    fn from(fault: Fault) -> Said {
+        Said::Fault(fault)
+    }
+}
+
+impl Request {
+    ghost use Rattle.cw_words.specs.Requests.{usual_options};
+
+    /// A run of the source on standard input, which has no path, without arguments: the limit is
+    /// `USUAL_LIMIT`, the burden `USUAL_BURDEN` on continuation edges alone and the workers `USUAL_WORKERS`, and nothing is explained.
+    pub fn of_standard_input(alloc: Global) -> Self
+        ensures file { string_bytes result.file ≡ [] }
+        ensures args { result.args.items ≡ [] }
+        ensures options { result.options ≡ usual_options }
+        ensures workers { result.workers ≡ USUAL_WORKERS }
+        ensures explain { result.explain ≡ false }
+    {
+        Request {
+            file: String::new(alloc),
+            args: Vec::new(alloc),
+            options: Options {
+                mode: Mode::Run,
+                limit: USUAL_LIMIT,
+                burden: Burden {
+                    charge: USUAL_BURDEN,
+                    edges: Edges::Spawn,
+                },
+            },
+            workers: USUAL_WORKERS,
+            explain: false,
+        }
+    }
+}

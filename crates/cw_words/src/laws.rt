@@ -1,0 +1,50 @@
+//! What holds of all words.
+
+ghost use Rattle.cw_words.specs.WordLaws.{
+  BurdenIsRead,
+  CheckIsRead,
+  EdgesAreRead,
+  GainIsRead,
+  GainTopIsRead,
+  GreedyIsRead,
+  GreedyLimitIsRead,
+  LimitIsRead,
+  PlainWordsAreRead,
+  RefusalExamples,
+  TakenWordsAreRead,
+  UsualNumbersAreWritten,
+  WordExamples,
+  WorkersAreRead,
+  WordsAreReadOnce,
+};
+
+/// A word after `check` that starts with no hyphen is the source. Such words after `run`, `scale` or
+/// `sites` are the source and the arguments, and `--limit`, `--burden` or `--workers` with a word before them is
+/// that number, `--edges` that word; after `gain` they are the same, and so is `--top`; after `greedy` they are the
+/// processors, the source and the arguments, and `--limit` is the same.
+pub fn plain_words()
+    ensures check { CheckIsRead }
+    ensures usual { PlainWordsAreRead }
+    ensures limited { LimitIsRead }
+    ensures burdened { BurdenIsRead }
+    ensures edged { EdgesAreRead }
+    ensures worked { WorkersAreRead }
+    ensures gain { GainIsRead }
+    ensures gain_top { GainTopIsRead }
+    ensures greedy { GreedyIsRead }
+    ensures greedy_limited { GreedyLimitIsRead }
+{}
+
+/// Words that are taken are read as a command with a source, arguments and numbers, and in one way.
+pub fn read_words()
+    ensures taken { TakenWordsAreRead }
+    ensures once { WordsAreReadOnce }
+{}
+
+/// Words written out, and what they are read as or refused for; the words for the usual numbers, and
+/// the numbers that they write.
+pub fn written_words()
+    ensures usual { UsualNumbersAreWritten }
+    ensures read { WordExamples }
+    ensures refused { RefusalExamples }
+{}

@@ -1,0 +1,18 @@
+//! The words of the program: its command line, what words ask for, and what is said in place of a run.
+#![tactic(auto)]
+
+mod asked;
+pub mod command;
+pub mod edges;
+mod explaining;
+mod help;
+pub mod laws;
+pub mod number;
+mod release;
+mod verb;
+mod words;
+
+pub use asked::{Mode, Options, Request, Said};
+pub use explaining::take_explain;
+pub use release::{is_version, version};
+pub use words::request;

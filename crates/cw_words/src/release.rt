@@ -1,0 +1,28 @@
+//! The program's version.
+
+ghost use Rattle.std.specs.Prelude.{◌≡◌, map, string_bytes};
+ghost use Rattle.cw_words.specs.Explaining.{IsVersion, asks_version};
+
+use crate::asked::Said;
+use cw_text::Fault;
+use std::alloc::Global;
+
+/// What `--version` and `-V` write.
+const VERSION: &str = "cilkwork 0.1.0\n";
+
+/// Whether the words are `--version` or `-V` alone.
+pub fn is_version(words: &[String]) -> bool
+    ensures { result ≡ asks_version (map string_bytes words.now) }
+{
+    words.len() == 1 && (words[0].as_str() == "--version" || words[0].as_str() == "-V")
+}
+
+/// The version, for standard output; `Memory` where there is none for its text.
+pub fn version(alloc: Global) -> Said
+    ensures { IsVersion result }
+{
+    match String::from_str(alloc, VERSION) {
+        Ok(text) => Said::Help(text),
+        Err(_) => Said::Fault(Fault::Memory),
+    }
+}
