@@ -39,10 +39,10 @@ pub elision_is_a_run : ElisionIsARun
 elision_is_a_run program args limit = calls_are_runs _ _ _ _ _ _ _ limit
 
 -- trees that read the same have the same measure
-abbrev NormalsReadTheSame : Type 0
+abbrev pub NormalsReadTheSame : Type 0
 NormalsReadTheSame = (t : Tree) → ReadSame (normal t) t
 
-reads_normal : NormalsReadTheSame → (burden : Burden) (m : Measured) (site : ℕ) (t : Tree) → ReadsTree burden m t → ReadsTree burden m (normal (Marked (Invocation site) t))
+pub reads_normal : NormalsReadTheSame → (burden : Burden) (m : Measured) (site : ℕ) (t : Tree) → ReadsTree burden m t → ReadsTree burden m (normal (Marked (Invocation site) t))
 reads_normal same burden m site t r =
     let s = same (Marked (Invocation site) t) in
     record {

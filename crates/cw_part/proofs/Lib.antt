@@ -7,3 +7,5 @@ pub mod PieceTellingLaws
 pub mod PieceRunLaws
 pub mod BoundLaws
 pub mod ElisionLaws
+pub mod EffectLaws
+pub mod MomentLaws

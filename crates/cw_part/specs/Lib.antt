@@ -13,3 +13,5 @@ pub mod RunsHaveParts
 pub mod PieceRuns
 pub mod Elision
 pub mod ElisionExamples
+pub mod Effects
+pub mod Moments

@@ -1,8 +1,10 @@
 //! The laws of parts: each function has one as its contract, and does nothing.
 
+ghost use Rattle.cw_part.specs.Effects.{EffectsFollow, EffectsShowViews, RunsReadAsMeasures};
 ghost use Rattle.cw_part.specs.Elision.{ElisionIsARun, PiecesAreTheElision, RunGivesTheAnswers, UpdatesAreTotals};
 ghost use Rattle.cw_part.specs.ElisionExamples.{ElisionExamples};
 ghost use Rattle.cw_part.specs.ModelRuns.{RunsAreTheModels};
+ghost use Rattle.cw_part.specs.Moments.{RegionsAreRead, SitesAreRead};
 ghost use Rattle.cw_part.specs.PieceRuns.{CallsAreRuns, RunsTellOfPieces};
 ghost use Rattle.cw_part.specs.Read.{PartsOfRunsJoin};
 ghost use Rattle.cw_part.specs.Runs.{PiecesAreTheRun};
@@ -68,4 +70,24 @@ pub fn pieces_are_the_elision()
 /// The runs of small programs: a spawn, a trap in a spawned child, and a limit that a child passes.
 pub fn runs_of_small_programs()
     ensures { ElisionExamples }
+{}
+
+/// What workers hand to each other is joined as these monoids are. What the effect of two pieces shows is what theirs
+/// show, joined as `Views`; what is read off the tree of a whole run is what the measures of its pieces read, joined; and
+/// an effect behind another one, or behind what a strand has shown, comes out as a part behind another one does.
+pub fn effects_join_as_parts()
+    ensures views { EffectsShowViews }
+    ensures readings { RunsReadAsMeasures }
+    ensures outcomes { EffectsFollow }
+{
+    sums_hold_integers();
+    measures_read_trees();
+    normal_form_reads_the_same();
+}
+
+/// While parts are open, the tables of a run so far have the calls, the own work and the work of each site, and the work of
+/// each tag, of the run as if its open parts ended there.
+pub fn tables_are_read_at_each_moment()
+    ensures sites { SitesAreRead }
+    ensures regions { RegionsAreRead }
 {}
