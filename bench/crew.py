@@ -92,8 +92,9 @@ GIVEN_UP = [
 ]
 GRIND = ["valgrind", "-q", "--leak-check=full", "--show-leak-kinds=all", "--errors-for-leak-kinds=all", "--error-exitcode=99"]
 
-# programs whose speed is asked, with their arguments, and what one worker's time by four workers' is to be at least
-SPEED = [("mergesort_parallel", ["400000"], 3.3), ("matrix_large", ["160"], 3.3), ("factors", ["160"], 3.3), ("fib_cutoff", ["32"], 3.3), ("fib", ["29"], 1.8)]
+# programs whose speed is asked, with their arguments, and what one worker's time by four workers' is to be at least; of the
+# last one, a loop of spawns without a sync, it is told alone
+SPEED = [("mergesort_parallel", ["400000"], 3.3), ("matrix_large", ["160"], 3.3), ("factors", ["160"], 3.3), ("fib_cutoff", ["32"], 3.3), ("fib", ["29"], 3.0), ("loop", ["10000"], 0)]
 MATRIX = """// rows of a product, each by itself
 void row(int a[], int b[], int c[], int n) { int j = 0; int k = 0; int t = 0; while (j < n) { t = 0; k = 0; while (k < n) { t = t + a[k] * b[k * n + j]; k = k + 1; } c[j] = t; j = j + 1; } }
 void rows(int n, int seed, int c[]) { int a[n]; int b[n * n]; int i = 0; while (i < n) { a[i] = i + seed; i = i + 1; } i = 0; while (i < n * n) { b[i] = i - seed; i = i + 1; } row(a, b, c, n); }

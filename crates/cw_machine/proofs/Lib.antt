@@ -1,4 +1,5 @@
 pub mod Decided
+pub mod Floors
 pub mod Places
 pub mod Writes
 pub mod Cells
@@ -58,7 +59,6 @@ pub mod JobSlots
 pub mod JobEnds
 pub mod Unwinds
 pub mod Inner
-pub mod SpawnRounds
 pub mod Nothing
 pub mod Freezing
 pub mod SpawnLends

@@ -12,7 +12,7 @@ use crate::gate::{Gate, Moment};
 use crate::sign::Tally;
 use cw_jobs::effect::Effect;
 use cw_jobs::job::Job;
-use cw_strand::strand::{End, Event, Strand};
+use cw_strand::strand::{End, Event, Spawns, Strand};
 use cw_yard::seat::{Seat, Yard};
 use cw_yard::ticket::Ticket;
 use cw_yard::yard::{Collected, Retaken};
@@ -20,6 +20,12 @@ use std::alloc::Global;
 
 /// A strand goes on by at most so many instructions before it is looked whether the run is given up.
 const QUANTUM: u64 = 262_144;
+
+/// With so many jobs in its worker's deque a strand hands nothing out: it goes on with its spawns in place.
+const ENOUGH: usize = 3;
+
+/// It does so by at most so many instructions before it is looked whether the deque is still as long.
+const STINT: u64 = 20_000;
 
 /// A job that a strand has out.
 pub enum Kept {
@@ -178,7 +184,21 @@ impl Post {
         }
     }
 
-    /// On to the next spawn, join or end, or by a quantum.
+    // How a strand goes on: it hands the rests of its blocks out as long as its worker's deque is short, since whoever can
+    // take work finds some there; and by how many instructions at most.
+    #[inline(always)]
+    fn way(yard: &Yard, seat: &mut Seat) -> (Spawns, u64)
+        requires { IsSeatOf yard.now seat.old }
+        ensures { IsSeatOf yard.now seat.new }
+    {
+        if yard.waiting(seat) < ENOUGH {
+            (Spawns::HandedOut, QUANTUM)
+        } else {
+            (Spawns::InPlace, STINT)
+        }
+    }
+
+    /// On to the next spawn that is handed out, join or end, or by a quantum.
     pub(crate) fn turn<G: Gate>(
         &mut self,
         yard: &Yard,
@@ -193,7 +213,8 @@ impl Post {
         ensures turn { TurnsTo yard.now self.new result }
     {
         let before = self.strand.done();
-        match self.strand.next_event(QUANTUM) {
+        let (spawns, most) = Post::way(yard, seat);
+        match self.strand.next_event(most, spawns) {
             Event::Spawned(rest) => {
                 self.count(tally, before);
                 self.keep(yard, seat, gate, tally.me, rest);

@@ -1,5 +1,5 @@
 -- A strand has gone on by one instruction.
-use Rattle.std.proofs.Common.{◌≡◌, ◌≢◌, ◌+◌, ◌<◌, ℕ, ℤ, Option, ◌∷◌, refl, sym, ap, subst, ◌∙◌, inl, arith}
+use Rattle.std.proofs.Common.{◌≡◌, ◌≢◌, Bool, true, ◌+◌, ◌<◌, ℕ, ℤ, Option, ◌∷◌, refl, sym, ap, subst, ◌∙◌, inl, arith}
 use native.Mathlib.Nat.{ℕ_set}
 use Rattle.std.proofs.Math.Logic.{∥∥₁_elim}
 use Rattle.cw_machine.specs.declared.run.Stop.{Stop}
@@ -14,10 +14,11 @@ use Rattle.cw_strand.specs.declared.strand.End.{End}
 use Rattle.cw_strand.specs.declared.strand.End.TheVariants as end
 use Rattle.cw_strand.specs.declared.strand.Event.{Event}
 use Rattle.cw_strand.specs.declared.strand.Event.TheVariants as event
+use Rattle.cw_strand.specs.declared.strand.Spawns.{Spawns}
 use Rattle.cw_strand.specs.declared.strand.Step.TheVariants as step
 use Rattle.cw_strand.specs.Holds.{outs, IsGoing, IsRunning}
 use Rattle.cw_strand.specs.Losing.{ComesFrom, LeavesBy}
-use Rattle.cw_strand.specs.Moves.{HasCome, ComesOr, ComesWithin, AdvancesBy, DoesOne, EndsAfter, EndsAt, EndsCall, EndsStill, IsBefore, LeadsTo, RunsOn}
+use Rattle.cw_strand.specs.Moves.{HasCome, hands_out, HandsOutAt, ComesOr, ComesWithin, AdvancesBy, DoesOne, EndsAfter, EndsAt, EndsCall, EndsStill, IsBefore, LeadsTo, RunsOn}
 use Rattle.cw_strand.proofs.Losing.{comes_from}
 use Rattle.cw_strand.proofs.RunsOn.{sound_of, join_goes, over_goes}
 
@@ -27,34 +28,34 @@ over_count self limit h =
     ∥∥₁_elim (sound_of self) (ℕ_set _ _) (λ s. ∥∥₁_elim (h.comes s.ok s.job s.is) (ℕ_set _ _) (λ c. c.at.1))
 
 -- from before an instruction, with room for one, it was done
-stirs : (old new : Strand) (to : Stop) → RunsOn old new (old.count + 1) to → IsBefore old → HasCome new (old.count + 1) to → new.count ≡ old.count → ⊥
-stirs old new (stop.Spawned spawn) ran before came same = ran.still same
-stirs old new stop.CameBack ran before came same = ran.still same
-stirs old new stop.Joined ran before came same = ran.before before same refl
-stirs old new (stop.Gave x) ran before came same = ran.still same
-stirs old new (stop.Trapped c l) ran before came same = ran.still same
-stirs old new stop.Over ran before came same = let far = over_count new (old.count + 1) came in omega (arith, far, same)
-stirs old new stop.NoMemory ran before came same = ran.still same
+stirs : (old new : Strand) (stops : Bool) (to : Stop) → RunsOn old new (old.count + 1) stops to → IsBefore old → HasCome new (old.count + 1) to → new.count ≡ old.count → ⊥
+stirs old new stops (stop.Spawned spawn) ran before came same = ran.still same
+stirs old new stops stop.CameBack ran before came same = ran.still same
+stirs old new stops stop.Joined ran before came same = ran.before before same refl
+stirs old new stops (stop.Gave x) ran before came same = ran.still same
+stirs old new stops (stop.Trapped c l) ran before came same = ran.still same
+stirs old new stops stop.Over ran before came same = let far = over_count new (old.count + 1) came in omega (arith, far, same)
+stirs old new stops stop.NoMemory ran before came same = ran.still same
 
-pub one_done : (old new : Strand) (to : Stop) → RunsOn old new (old.count + 1) to → IsBefore old → HasCome new (old.count + 1) to → new.count ≡ old.count + 1
-one_done old new to ran before came =
-    let stirred : new.count ≢ old.count = stirs old new to ran before came in
+pub one_done : (old new : Strand) (stops : Bool) (to : Stop) → RunsOn old new (old.count + 1) stops to → IsBefore old → HasCome new (old.count + 1) to → new.count ≡ old.count + 1
+one_done old new stops to ran before came =
+    let stirred : new.count ≢ old.count = stirs old new stops to ran before came in
     let from = ran.from in
     let within = ran.within in
     omega (arith, stirred, from, within)
 
-pub stays : (old new : Strand) (to : Stop) → RunsOn old new old.count to → new.count ≡ old.count
-stays old new to ran = let from = ran.from in let within = ran.within in omega (arith, from, within)
+pub stays : (old new : Strand) (stops : Bool) (to : Stop) → RunsOn old new old.count stops to → new.count ≡ old.count
+stays old new stops to ran = let from = ran.from in let within = ran.within in omega (arith, from, within)
 
 -- with room for none, and not at the join, it stopped for its limit
-pub over_of : (old new : Strand) (to : Stop) → RunsOn old new old.count to → to ≢ stop.Joined → to ≡ stop.Over
-over_of old new (stop.Spawned spawn) ran not = absurd (ran.still (stays old new (stop.Spawned spawn) ran))
-over_of old new stop.CameBack ran not = absurd (ran.still (stays old new stop.CameBack ran))
-over_of old new stop.Joined ran not = absurd (not refl)
-over_of old new (stop.Gave x) ran not = absurd (ran.still (stays old new (stop.Gave x) ran))
-over_of old new (stop.Trapped c l) ran not = absurd (ran.still (stays old new (stop.Trapped c l) ran))
-over_of old new stop.Over ran not = refl
-over_of old new stop.NoMemory ran not = absurd (ran.still (stays old new stop.NoMemory ran))
+pub over_of : (old new : Strand) (stops : Bool) (to : Stop) → RunsOn old new old.count stops to → to ≢ stop.Joined → to ≡ stop.Over
+over_of old new stops (stop.Spawned spawn) ran not = absurd (ran.still (stays old new stops (stop.Spawned spawn) ran))
+over_of old new stops stop.CameBack ran not = absurd (ran.still (stays old new stops stop.CameBack ran))
+over_of old new stops stop.Joined ran not = absurd (not refl)
+over_of old new stops (stop.Gave x) ran not = absurd (ran.still (stays old new stops (stop.Gave x) ran))
+over_of old new stops (stop.Trapped c l) ran not = absurd (ran.still (stays old new stops (stop.Trapped c l) ran))
+over_of old new stops stop.Over ran not = refl
+over_of old new stops stop.NoMemory ran not = absurd (ran.still (stays old new stops stop.NoMemory ran))
 
 -- an effect that is not that of a whole call
 pub still_counts : (e : Effect) (n : ℕ) → EndsStill e n → EndsAfter e n
@@ -131,11 +132,20 @@ pub came_on : (reason : Type 0) (old mid new : Strand) → outs mid ≡ outs old
 came_on reason old mid new same one still h = (h.0, h.1 ∙ same, still ∙ one)
 
 -- what came of a strand that went on up to there
-pub comes_within : (most to end : ℕ) (s : Stop) (e : Event) (old mid new : Strand) → outs mid ≡ outs old → (to < end → to ≡ old.count + most) → HasCome mid to s → ComesOr ((to < end) × (s ≡ stop.Over)) e mid new → ComesWithin most e old new
-comes_within most to end s (event.Spawned job) old mid new same by came h = (h.0, h.1 ∙ ap (λ l. job ∷ l) same)
-comes_within most to end s event.AtSync old mid new same by came h = (h.0, h.1 ∙ same, λ none. h.2 (same ∙ none), h.3)
-comes_within most to end s (event.AtEnd e) old mid new same by came h = (h.0, h.1 ∙ same)
-comes_within most to end s event.Ran old mid new same by came h =
+pub comes_within : (most to end : ℕ) (s : Stop) (e : Event) (old mid new : Strand) → outs mid ≡ outs old → (to < end → to ≡ old.count + most) → HasCome mid to s → (spawns : Spawns) → RunsOn old mid to (hands_out spawns) s → HandsOutAt s e → ComesOr ((to < end) × (s ≡ stop.Over)) e mid new → ComesWithin most spawns e old new
+comes_within most to end s (event.Spawned job) old mid new same by came spawns ran at h = (asked_at s refl at, (h.0, h.1 ∙ ap (λ l. job ∷ l) same))
+  where
+    asked_at : (x : Stop) → s ≡ x → HandsOutAt x (event.Spawned job) → hands_out spawns ≡ true
+    asked_at (stop.Spawned spawn) e k = ran.asked spawn e
+    asked_at stop.CameBack e k = absurd k
+    asked_at stop.Joined e k = absurd k
+    asked_at (stop.Gave x) e k = absurd k
+    asked_at (stop.Trapped c l) e k = absurd k
+    asked_at stop.Over e k = absurd k
+    asked_at stop.NoMemory e k = absurd k
+comes_within most to end s event.AtSync old mid new same by came spawns ran at h = (h.0, h.1 ∙ same, λ none. h.2 (same ∙ none), h.3)
+comes_within most to end s (event.AtEnd e) old mid new same by came spawns ran at h = (h.0, h.1 ∙ same)
+comes_within most to end s event.Ran old mid new same by came spawns ran at h =
     let over = subst (HasCome mid to) h.0.1 came in
     subst (λ x. IsRunning x × (outs x ≡ outs old) × (x.count ≡ old.count + most)) (sym h.1) (
       over_goes mid to over,

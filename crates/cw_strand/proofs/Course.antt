@@ -1,5 +1,5 @@
 -- The steps of a strand of the definitions, one by one and by stretches.
-use Rattle.std.proofs.Common.{◌≡◌, ℕ, ◌+◌, ◌≤◌, ◌<◌, ℤ, Bool, true, false, nat_lt, if◌then◌else◌, Option, List, [], ◌∷◌, refl, ap, ◌∙◌, subst, arith}
+use Rattle.std.proofs.Common.{◌≡◌, ◌≢◌, ℕ, suc, ◌+◌, ◌≤◌, ◌<◌, ℤ, Bool, true, false, nat_lt, if◌then◌else◌, Option, List, [], ◌∷◌, refl, sym, ap, ◌∙◌, subst, inl, arith}
 use Rattle.std.proofs.lemmas.Bool.Decides.{nat_tests}
 use Rattle.cw_model.specs.declared.trap.Trap.{Trap}
 use Rattle.cw_model.specs.Outcome.{Trace}
@@ -7,13 +7,20 @@ use Rattle.cw_code.specs.Code.{Code}
 use Rattle.cw_code.specs.Run.{Slots, Around, State, Transition, On, Ends, Stops, step}
 use Rattle.cw_strands.specs.Jobs.{Extent, ToJoin, WholeCall, joins, is_first, has_come, standing, Job, Effect, Ended, Joined, TrapIn, OverLimit, Memory, JobMeaning}
 use Rattle.std.specs.Prelude.{◌&&◌, slice_get}
-use Rattle.cw_strands.specs.Strands.{Strand, Going, Halted, outs_of, Turn, Goes, HandsOut, ComesBack, turn, goes_on}
+use Rattle.cw_strands.specs.Over.{beneath}
+use Rattle.cw_strands.specs.Strands.{Strand, Going, Waits, Halted, outs_of, spawn_job, Turn, Goes, HandsOut, ComesBack, turn, goes_on}
 use Rattle.cw_strands.specs.Promises.{IsStrandOf}
 use Rattle.cw_strands.specs.Steps.{CallsKeep, AdvanceKeeps, advance, finished, turned, went_on, out_of_memory}
 use Rattle.cw_strands.specs.Steps as steps
-use Rattle.cw_machine.specs.Stretches.{goes_by, Stretch, Here, Further}
-use Rattle.cw_strand.specs.Levels.{levels_of}
-use Rattle.cw_strand.proofs.Levels.{LevelsAfter, levels_move}
+use Rattle.cw_runnable.specs.declared.verified.Verified.{Verified}
+use Rattle.cw_jobs.specs.declared.call.Parts.{Parts}
+use Rattle.cw_machine.specs.Arrays.{Out, IsFit}
+use Rattle.cw_machine.specs.Stretches.{calls_in, Setting, calls_round, GoesBy, Passes, Stretch, Here, Further}
+use Rattle.cw_strand.specs.declared.strand.Lent.{Lent}
+use Rattle.cw_strand.specs.Levels.{Level, levels_of}
+use Rattle.cw_strand.specs.Holds.{floor_in, Lends, AreOut}
+use Rattle.cw_strand.proofs.Levels.{HasReturned, LevelsAfter, levels_move}
+use Rattle.cw_strand.proofs.WhichOut.{calls_caller, in_place}
 
 not_over : (limit n : ℕ) → n ≤ limit → nat_lt limit n ≡ false
 not_over limit n le = grind (arith, nat_tests)
@@ -77,29 +84,51 @@ module _ (code : Code) (keep : CallsKeep code) (job : Job) where
   pub halted : (e : Effect) (outs : List Job) → IsStrandOf code job (Halted e outs) → JobMeaning code job e
   halted e outs h = keep.advancing job (Halted e []) h
 
-  -- a stretch in which nothing stops the run
-  goes_of : (t : Turn) → goes_by true t ≡ true → t ≡ Goes
-  goes_of Goes e = refl
-  goes_of (HandsOut target taken) e = cc
-  goes_of ComesBack e = cc
+  -- a spawned call came back in place: as if its rest had been out, and was taken back
+  took_back : (s : State) (count : ℕ) (out : Job) (outs : List Job) → IsStrandOf code job (Waits s count (out ∷ outs)) → IsStrandOf code job (Going s count outs)
+  took_back s count out outs h = keep.taking_back job (Waits s count (out ∷ outs)) h
 
-  pub stretched : (x : Extent) → x ≡ job.extent → (count later : ℕ) (s s1 : State) (outs : List Job) → Stretch x code true count s later s1 → job.before + later ≤ job.limit → IsStrandOf code job (Going s count outs) → IsStrandOf code job (Going s1 later outs)
-  stretched x same count _ s _ outs (Here _ _) le h = h
-  stretched x same count _ s _ outs (Further _ later _ s1 s2 before p) le h =
-      let t = goes_of (turn code s1) p.goes in
-      ran s1 s2 later outs Goes t (subst (λ y. has_come y code s1 ≡ false) same p.before) p.steps le
-      (stretched x same count later s s1 outs before (omega (arith, le)) h)
+  -- A STRETCH IN WHICH NOTHING STOPS THE RUN, with these rests out
+  module _ (k : Setting) (same : k.extent ≡ job.extent) (v : Verified) (is : IsFit v) (p : Parts) (levels : List Level) (outs : List Out) (lent : List Lent) (lends : Lends v is p k.base levels outs lent) (stops : Bool) where
+    pub record Led (s : State) (count : ℕ) : Type 0 where
+      pub jobs_out : List Job
+      pub is_of : IsStrandOf code job (Going s count jobs_out)
+      pub are : AreOut p (levels_of s.around) jobs_out levels lent
 
--- the spawned calls round it stay, and the instructions only add
-module _ (code : Code) (x : Extent) where
-  pub levels_stay : (count later : ℕ) (s s1 : State) → Stretch x code true count s later s1 → levels_of s1.around ≡ levels_of s.around
-  levels_stay count _ s _ (Here _ _) = refl
-  levels_stay count _ s _ (Further _ later _ s1 s2 before p) = cases (turn code s1) p.goes (levels_move code s1 s2 p.steps) ∙ levels_stay count later s s1 before
-    where
-      cases : (t : Turn) → goes_by true t ≡ true → LevelsAfter t s1 s2 → levels_of s2.around ≡ levels_of s1.around
-      cases Goes e h = h
-      cases (HandsOut target taken) e h = cc
-      cases ComesBack e h = cc
+    -- a spawned call comes back that is not at the floor
+    returned : (s1 s2 : State) (count : ℕ) (jobs_out : List Job) → HasReturned s1 s2 → calls_round k s1 ≢ floor_in lent → IsStrandOf code job (Waits s2 count jobs_out) → AreOut p (levels_of s1.around) jobs_out levels lent → Led s2 count
+    returned s1 s2 count jobs_out r ne h are =
+        let many : calls_round k s1 ≡ suc (calls_in (beneath k.base r.level.around)) = ap (λ a. calls_in (beneath k.base a)) r.around ∙ calls_caller k.base r.level.waiting r.level.around in
+        let back : AreOut p (r.level ∷ levels_of r.level.around) jobs_out levels lent = subst (λ a. AreOut p (r.level ∷ levels_of a) jobs_out levels lent) r.back.around (subst (λ l. AreOut p l jobs_out levels lent) r.levels are) in
+        let one = in_place v is p k.base r.level outs jobs_out levels lent lends (λ e. ne (many ∙ e)) back in
+        record {
+          jobs_out = one.others;
+          is_of = took_back s2 count one.job one.others (subst (λ o. IsStrandOf code job (Waits s2 count o)) one.same h);
+          are = subst (λ a. AreOut p (levels_of a) one.others levels lent) (sym r.back.around) one.are;
+        }
+
+    one_on : (s1 s2 : State) (count : ℕ) → Passes k code (floor_in lent) stops s1 s2 → job.before + (count + 1) ≤ job.limit → Led s1 count → Led s2 (count + 1)
+    one_on s1 s2 count pass le one = cases (turn code s1) refl pass.goes (levels_move code s1 s2 pass.steps)
+      where
+        went : (t : Turn) → turn code s1 ≡ t → IsStrandOf code job (goes_on t s1 s2 job.limit job.before (count + 1) one.jobs_out)
+        went t e = ran s1 s2 count one.jobs_out t e (subst (λ y. has_come y code s1 ≡ false) same pass.before) pass.steps le one.is_of
+
+        cases : (t : Turn) → turn code s1 ≡ t → GoesBy (floor_in lent) stops (calls_round k s1) t → LevelsAfter t s1 s2 → Led s2 (count + 1)
+        cases Goes e goes after = record {
+          jobs_out = one.jobs_out;
+          is_of = went Goes e;
+          are = subst (λ l. AreOut p l one.jobs_out levels lent) (sym after) one.are;
+        }
+        cases (HandsOut target taken) e goes after = record {
+          jobs_out = spawn_job s1 target taken job.limit (job.before + (count + 1)) ∷ one.jobs_out;
+          is_of = went (HandsOut target taken) e;
+          are = subst (λ l. AreOut p l (spawn_job s1 target taken job.limit (job.before + (count + 1)) ∷ one.jobs_out) levels lent) (sym after.levels) (inl one.are);
+        }
+        cases ComesBack e goes after = returned s1 s2 (count + 1) one.jobs_out after goes (went ComesBack e) one.are
+
+    pub stretched : (count later : ℕ) (s s1 : State) → Stretch k code (floor_in lent) stops count s later s1 → job.before + later ≤ job.limit → Led s count → Led s1 later
+    stretched count _ s _ (Here _ _) le one = one
+    stretched count _ s _ (Further _ later _ s1 s2 before pass) le one = one_on s1 s2 later pass le (stretched count later s s1 before (omega (arith, le)) one)
 
 -- at the join nothing stands round it
 first_is : (around : List Around) (b : Bool) → is_first around && b ≡ true → around ≡ []

@@ -24,14 +24,13 @@ use Rattle.cw_machine.specs.Unwinding.{LieBelow, IsLevel, OutsLieApart}
 use Rattle.cw_machine.specs.declared.hands.Lender.{Lender}
 use Rattle.cw_machine.specs.Calls.{listed, loans_of}
 use Rattle.cw_machine.specs.Hands.{out_of, Hands, MayHand, HandedOut}
-use Rattle.cw_machine.specs.Stretches.{newest_spawn}
 use Rattle.cw_strand.specs.declared.strand.Lent.{Lent}
 use Rattle.cw_strand.specs.declared.strand.Strand.{Strand}
-use Rattle.cw_strand.specs.Levels.{Level, levels_of, waiting_over}
+use Rattle.cw_strand.specs.Levels.{Level, waiting_over}
 use Rattle.cw_strand.specs.Holds.{its_parts, its_code, ok_with, KeepsJob}
 use Rattle.cw_strand.specs.Moves.{CameTo, HasCome, HasCut}
-use Rattle.cw_strand.proofs.Levels.{HasSpawned, LevelsAfter, levels_move, round_many}
-use Rattle.cw_strand.proofs.Onward.{lends_above, levels_under, newest_round}
+use Rattle.cw_strand.proofs.Levels.{HasSpawned, LevelsAfter, levels_move}
+use Rattle.cw_strand.proofs.WhichOut.{outs_above}
 use Rattle.cw_strand.proofs.RunsOn.{sound_of}
 
 -- what waits over what stands round a run is the same call
@@ -112,11 +111,7 @@ module _ (keep : (code : Code) → CallsKeep code) (self : Strand) (limit : ℕ)
   round_is = ap (beneath base) spawned.around ∙ over_is base w c.state.around
 
   above : AllAbove c.outs (length above_it)
-  above k o e =
-      let lt = lends_above v is p base (levels_of c.state.around) c.outs lent (newest_spawn c.state.around) (levels_under c.state.around) c.lends k o e in
-      let many = round_many base c.state.around in
-      let low = newest_round c.state.around in
-      omega (arith, lt, many, low)
+  above = outs_above v is p base c.state.around c.jobs_out c.levels c.outs lent c.are c.lends
 
   abbrev loans : List Loan
   loans = loans_of v spawn.lent

@@ -25,7 +25,6 @@ use Rattle.cw_machine.specs.Unwinding.{ShownRemain}
 use Rattle.cw_strand.specs.declared.strand.Mode.{Mode}
 use Rattle.cw_strand.specs.declared.strand.Mode.TheVariants as mode
 use Rattle.cw_strand.specs.declared.strand.Strand.{Strand}
-use Rattle.cw_strand.specs.Levels.{levels_of}
 use Rattle.cw_strand.specs.Holds.{its_parts, its_code, lent_parts, Ground, ok_with, Stands, HeldIn, Holds, IsRunning, IsWaiting, HasStopped, stops, is_lost}
 use Rattle.cw_strand.specs.Moves.{MayPopHome, MayReach, HasPoppedHome, HasLost}
 use Rattle.cw_strand.specs.Giving.{passes_limit, IsOfRest, GivesBack}
@@ -101,7 +100,7 @@ module _ (self : Strand) (job : Job) (others : List Job) (newest : Newest self j
       module _ (waiting : IsWaiting self) (remain : ShownRemain) where
         pub stands_waits : (is : IsFit (its_code self)) (j : jobs.Job) (g : Ground (its_code self) is (its_parts self) j) → IsHeldBack self is j g → Stands self is j g
         stands_waits is j g h = record {
-          levels = h.waited.level ∷ levels_of h.state.around;
+          levels = h.waited.level ∷ h.waited.others;
           outs = h.waited.runs.outs;
           lends = h.waited.runs.lends;
           remains = remain v (ok_with g h.waited.runs.outs) self.run.machine (under g.base h.state) h.waited.runs.shows.shows;

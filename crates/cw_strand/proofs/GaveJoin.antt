@@ -37,11 +37,11 @@ use Rattle.cw_machine.specs.lemmas.Joins.{waits_under, went_under}
 use Rattle.cw_strand.specs.declared.strand.Mode.TheVariants as mode
 use Rattle.cw_strand.specs.declared.strand.Strand.{Strand}
 use Rattle.cw_strand.specs.Levels.{levels_of}
-use Rattle.cw_strand.specs.Holds.{its_parts, its_code, lent_parts, Ground, ok_with, Lends, rests_at, HeldIn, Holds, IsRunning, IsWaiting}
+use Rattle.cw_strand.specs.Holds.{its_parts, its_code, lent_parts, Ground, ok_with, Lends, AreOut, HeldIn, Holds, IsRunning, IsWaiting}
 use Rattle.cw_strand.specs.Giving.{passes_limit, HasTaken, HasJoined, MayJoin}
 use Rattle.cw_strand.proofs.RunsOn.{sound_of, IsHeldBack, waiting_of}
 use Rattle.cw_strand.proofs.Same.{Newest}
-use Rattle.cw_strand.proofs.TakenBack.{Split, split}
+use Rattle.cw_strand.proofs.TakenBack.{Split, split, rest_out}
 use Rattle.cw_strand.proofs.Homes.{goes_so}
 use Rattle.cw_strand.proofs.Given.{out, rests, out_is, waits, frozen, reads, giving}
 use Rattle.cw_strand.proofs.Effects.{gave_within}
@@ -112,7 +112,7 @@ module _ (self : Strand) (job : Job) (others : List Job) (newest : Newest self j
     abbrev jo : jobs.Job
     jo = out self job others newest is j g h
 
-    abbrev sp : Split v is p g.base h.waited.level (levels_of h.state.around) h.waited.runs.outs newest.lent newest.rest
+    abbrev sp : Split v is p g.base h.waited.level h.waited.others h.waited.runs.outs newest.lent newest.rest
     sp = split self job others newest is j g h
 
     came : Came v is q jo back replaced shown
@@ -174,15 +174,18 @@ module _ (self : Strand) (job : Job) (others : List Job) (newest : Newest self j
         strand = Going now (h.count + came.cost) rs;
         is_of = gave_within code (keep code) j jo h.state h.count rs (waits self job others newest is j g h) (jobs.Joined came.frame came.trace came.cost) came.means le_def;
         held = subst (λ a. HeldIn (record self { run = new.run; lent = new.lent; count = new.count; spares = new.spares; mode = new.mode }) is j g a (Going now (h.count + came.cost) rs)) (sym going) (record {
-          counts = total;
-          outs = sp.others;
-          lends = subst (Lends v is p g.base (levels_of h.state.around) sp.others) (sym left) sp.rest;
-          are = ap (rests_at p (levels_of h.state.around)) (sym left);
-          shows = record {
-            shows = subst (λ (x : Run). Shows v (ok_with g sp.others) x.machine (under g.base now)) (sym run_is) shows_now;
-            tells = subst (λ (x : Run). TellsAll code p.burden (origin_of p) (Going now new.count []) x.meter) (sym run_is) (subst (λ k. TellsAll code p.burden (origin_of p) (Going now k []) r.meter) total tells_now);
+          levels = h.waited.others;
+          are = subst (AreOut p (levels_of h.state.around) rs h.waited.others) (sym left) (rest_out self job others newest is j g h).are;
+          runs = record {
+            counts = total;
+            outs = sp.others;
+            lends = subst (Lends v is p g.base h.waited.others sp.others) (sym left) sp.rest;
+            shows = record {
+              shows = subst (λ (x : Run). Shows v (ok_with g sp.others) x.machine (under g.base now)) (sym run_is) shows_now;
+              tells = subst (λ (x : Run). TellsAll code p.burden (origin_of p) (Going now new.count []) x.meter) (sym run_is) (subst (λ k. TellsAll code p.burden (origin_of p) (Going now k []) r.meter) total tells_now);
+            };
+            frozen = frozen self job others newest is j g h stay seats settles came.frame came.trace came.cost came.means;
           };
-          frozen = frozen self job others newest is j g h stay seats settles came.frame came.trace came.cost came.means;
         });
       }
 

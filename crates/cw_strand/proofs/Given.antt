@@ -30,13 +30,13 @@ use Rattle.cw_machine.specs.Gives.{went_on, ComesBut, AreTogether, IsGiving}
 use Rattle.cw_machine.specs.Hands.{ComesRound}
 use Rattle.cw_machine.specs.lemmas.Joins.{waits_under, went_under, comes_back, comes_back_round}
 use Rattle.cw_strand.specs.declared.strand.Strand.{Strand}
-use Rattle.cw_strand.specs.Levels.{Level, levels_of, ResultWaits, waiting_over}
-use Rattle.cw_strand.specs.Holds.{its_parts, its_code, lent_parts, Ground, ok_with, rests_at}
+use Rattle.cw_strand.specs.Levels.{Level, ResultWaits, waiting_over}
+use Rattle.cw_strand.specs.Holds.{its_parts, its_code, lent_parts, Ground, ok_with}
 use Rattle.cw_strand.proofs.Levels.{round_many}
 use Rattle.cw_strand.proofs.RestReads.{frozen_arrives, same_readers}
 use Rattle.cw_strand.proofs.RunsOn.{IsHeldBack}
 use Rattle.cw_strand.proofs.Same.{Newest}
-use Rattle.cw_strand.proofs.TakenBack.{Split, split, lends_it}
+use Rattle.cw_strand.proofs.TakenBack.{Split, split, rest_out, lends_it}
 
 -- the run of a rest that came to its join came there
 pub record ComesThere (code : Code) (job : jobs.Job) (frame : Standing) (t : Trace) : Type 0 where
@@ -128,7 +128,7 @@ module _ (self : Strand) (job : Job) (others : List Job) (newest : Newest self j
   abbrev l : Level
   l = h.waited.level
 
-  abbrev sp : Split v is p g.base l (levels_of s.around) h.waited.runs.outs newest.lent newest.rest
+  abbrev sp : Split v is p g.base l h.waited.others h.waited.runs.outs newest.lent newest.rest
   sp = split self job others newest is j g h
 
   -- it is the rest of the block that the strand goes on with
@@ -136,7 +136,7 @@ module _ (self : Strand) (job : Job) (others : List Job) (newest : Newest self j
   out = rest_at s p.limit q.before
 
   abbrev pub rests : List jobs.Job
-  rests = rests_at p (levels_of s.around) newest.rest
+  rests = (rest_out self job others newest is j g h).rests
 
   rest_is : rest_of l.waiting p.limit q.before ≡ out
   rest_is =
@@ -153,7 +153,7 @@ module _ (self : Strand) (job : Job) (others : List Job) (newest : Newest self j
   pub waits : IsStrandOf code j (Waits s h.count (out ∷ rests))
   waits =
       subst (λ x. IsStrandOf code j (Waits s h.count (x ∷ rests))) rest_is
-      (subst (λ o. IsStrandOf code j (Waits s h.count o)) (h.waited.runs.are ∙ ap (rests_at p (l ∷ levels_of s.around)) newest.are) h.is_of)
+      (subst (λ o. IsStrandOf code j (Waits s h.count o)) (rest_out self job others newest is j g h).is h.is_of)
 
   pub none : s.operands ≡ []
   none = waits.2.0.none

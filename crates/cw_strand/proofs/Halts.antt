@@ -1,12 +1,12 @@
 -- A strand whose run came to a stop that hands nothing out: it waits, or it has stopped.
-use Rattle.std.proofs.Common.{◌≡◌, ◌≢◌, ℕ, ◌+◌, ◌-◌, ◌≤◌, false, List, ◌∷◌, refl, sym, ap, ◌∙◌, subst, arith}
+use Rattle.std.proofs.Common.{◌≡◌, ◌≢◌, ℕ, suc, ◌+◌, ◌-◌, ◌≤◌, false, List, ◌∷◌, refl, sym, ap, ◌∙◌, subst, arith}
 use Rattle.std.specs.Prelude.{reverse, Some, slice_get}
 use Rattle.std.proofs.Math.Logic.{∥∥₁_map}
 use Rattle.cw_model.specs.declared.trap.Trap.{Trap}
 use Rattle.cw_code.specs.Code.{Code, code_view}
 use Rattle.cw_strands.specs.Jobs as jobs
 use Rattle.cw_strands.specs.Jobs.{has_come}
-use Rattle.cw_strands.specs.Over.{under}
+use Rattle.cw_strands.specs.Over.{beneath, under}
 use Rattle.cw_strands.specs.Strands as strands
 use Rattle.cw_strands.specs.Strands.{Going, Waits, Halted, ComesBack, outs_of}
 use Rattle.cw_strands.specs.Steps.{CallsKeep}
@@ -16,6 +16,7 @@ use Rattle.cw_jobs.specs.Jobs.{extent_of, code_of}
 use Rattle.cw_machine.specs.declared.run.Stop.{Stop}
 use Rattle.cw_machine.specs.declared.run.Stop.TheVariants as stop
 use Rattle.cw_machine.specs.Arrays.{IsFit}
+use Rattle.cw_machine.specs.Stretches.{calls_in}
 use Rattle.cw_machine.specs.Unwinding.{ShownRemain}
 use Rattle.cw_strand.specs.declared.strand.Lent.{Lent}
 use Rattle.cw_strand.specs.declared.strand.Mode.{Mode}
@@ -23,9 +24,10 @@ use Rattle.cw_strand.specs.declared.strand.Mode.TheVariants as mode
 use Rattle.cw_strand.specs.declared.strand.Strand.{Strand}
 use Rattle.cw_strand.specs.Levels.{levels_of}
 use Rattle.cw_strand.specs.Holds.{given_up as up_of}
-use Rattle.cw_strand.specs.Holds.{its_parts, its_code, Ground, IsRest, ok_with, Lends, rests_at, Stands, HeldIn, Holds, KeepsJob, IsRunning, stops}
+use Rattle.cw_strand.specs.Holds.{its_parts, its_code, floor_in, Ground, IsRest, ok_with, Lends, AreOut, AreBack, Stands, HeldIn, Holds, KeepsJob, IsRunning, stops}
 use Rattle.cw_strand.specs.Moves.{CameTo, HasCome, HasSpared}
 use Rattle.cw_strand.proofs.Levels.{HasReturned, LevelsAfter, levels_move}
+use Rattle.cw_strand.proofs.WhichOut.{calls_caller, is_back, NewestOut, newest_out}
 use Rattle.cw_strand.proofs.Same.{same_strand}
 use Rattle.cw_strand.proofs.Course.{ran, fell, passed, wants}
 
@@ -67,14 +69,14 @@ module _ (keep : (code : Code) → CallsKeep code) (self : Strand) (limit : ℕ)
     trapped : (trap : Trap) (line : ℕ) → CameTo self limit (stop.Trapped trap line) is j → Holds (record self { mode = mode.Trapped trap line }) is j
     trapped trap line c =
         let at = c.at.1 in
-        let out = rests_at p (levels_of c.state.around) lent in
+        let out = c.jobs_out in
         record {
           ground = c.ground;
           strand = Halted (jobs.TrapIn trap line at.lines (c.later + 1)) out;
           is_of = fell code (keep code) j c.state c.later out trap line at.lines (not_come (stop.Trapped trap line) c at.before) at.steps (one_more (stop.Trapped trap line) c c.at.0) c.is_of;
           held = (
             ap (λ l. jobs.TrapIn trap line l (c.later + 1)) (sym at.shown) ∙ ap (jobs.TrapIn trap line self.run.machine.lines.items) (sym c.at.0),
-            record { levels = levels_of c.state.around; outs = c.outs; lends = c.lends; remains = at.remains },
+            record { levels = c.levels; outs = c.outs; lends = c.lends; remains = at.remains },
           );
         }
 
@@ -85,20 +87,20 @@ module _ (keep : (code : Code) → CallsKeep code) (self : Strand) (limit : ℕ)
         let full = c.at.1 in
         let l = c.ground.job.limit in
         let b = c.ground.job.before in
-        let out = rests_at p (levels_of c.state.around) lent in
+        let out = c.jobs_out in
         record {
           ground = c.ground;
           strand = Halted jobs.OverLimit out;
           is_of = passed code (keep code) j c.state c.later out (not_come stop.Over c at.before) (omega (arith, e, full, end, l, b)) c.is_of;
           held = (
             refl,
-            record { levels = levels_of c.state.around; outs = c.outs; lends = c.lends; remains = remain v (ok_with c.ground c.outs) self.run.machine (under c.ground.base c.state) at.shows.shows },
+            record { levels = c.levels; outs = c.outs; lends = c.lends; remains = remain v (ok_with c.ground c.outs) self.run.machine (under c.ground.base c.state) at.shows.shows },
           );
         }
 
     lost : (to : Stop) → CameTo self limit to is j → Holds (record self { mode = mode.Memory }) is j
     lost to c =
-        let out = rests_at p (levels_of c.state.around) lent in
+        let out = c.jobs_out in
         record {
           ground = c.ground;
           strand = Halted jobs.Memory out;
@@ -106,11 +108,21 @@ module _ (keep : (code : Code) → CallsKeep code) (self : Strand) (limit : ℕ)
           held = refl;
         }
 
+    -- the rest of the spawned call that has returned is the newest out
+    newest : (c : CameTo self limit stop.CameBack is j) (r : HasReturned c.state c.at.1.next) → NewestOut p r.level (levels_of c.at.1.next.around) c.jobs_out c.levels lent
+    newest c r =
+        let base = c.ground.base in
+        let floor : floor_in lent ≡ suc (calls_in (beneath base r.level.around)) = sym c.at.1.at ∙ ap (λ a. calls_in (beneath base a)) r.around ∙ calls_caller base r.level.waiting r.level.around in
+        let are : AreOut p (r.level ∷ levels_of r.level.around) c.jobs_out c.levels lent = subst (λ a. AreOut p (r.level ∷ levels_of a) c.jobs_out c.levels lent) r.back.around (subst (λ l. AreOut p l c.jobs_out c.levels lent) r.levels c.are) in
+        newest_out p r.level (levels_of c.at.1.next.around) c.jobs_out c.levels lent
+        (subst (λ a. AreBack p r.level (levels_of a) c.jobs_out c.levels lent) (sym r.back.around) (is_back v is p base r.level c.outs c.jobs_out c.levels lent c.lends floor are))
+
     pub came_back : CameTo self limit stop.CameBack is j → Holds (record self { mode = mode.Waiting }) is j
     came_back c =
         let at = c.at.1 in
-        let out = rests_at p (levels_of c.state.around) lent in
+        let out = c.jobs_out in
         let r : HasReturned c.state at.next = subst (λ t. LevelsAfter t c.state at.next) at.turns (levels_move code c.state at.next at.steps) in
+        let b = newest c r in
         record {
           ground = c.ground;
           strand = Waits at.next (c.later + 1) out;
@@ -118,14 +130,15 @@ module _ (keep : (code : Code) → CallsKeep code) (self : Strand) (limit : ℕ)
           held = record {
             level = r.level;
             back = r.back;
+            others = b.others;
             runs = record {
               counts = sym c.at.0;
               outs = c.outs;
-              lends = subst (λ l. Lends v is p c.ground.base l c.outs lent) r.levels c.lends;
-              are = ap (λ l. rests_at p l lent) r.levels;
+              lends = subst (λ l. Lends v is p c.ground.base l c.outs lent) b.are c.lends;
               shows = at.shows;
               frozen = at.frozen;
             };
+            are = b.back;
           };
         }
 
@@ -179,15 +192,15 @@ fails keep self h = record {
 stands_before : ShownRemain → (self : Strand) (is : IsFit (its_code self)) (j : jobs.Job) (g : Ground (its_code self) is (its_parts self) j) (m : Mode) (d : strands.Strand) → stops m ≡ false → HeldIn self is j g m d
     → Stands (record self { mode = mode.GivenUp }) is j g
 stands_before remain self is j g mode.Going (Going s count out) goes h = record {
-  levels = levels_of s.around;
-  outs = h.outs;
-  lends = h.lends;
-  remains = remain (its_code self) (ok_with g h.outs) self.run.machine (under g.base s) h.shows.shows;
+  levels = h.levels;
+  outs = h.runs.outs;
+  lends = h.runs.lends;
+  remains = remain (its_code self) (ok_with g h.runs.outs) self.run.machine (under g.base s) h.runs.shows.shows;
 }
 stands_before remain self is j g mode.Going (Waits s count out) goes h = absurd h
 stands_before remain self is j g mode.Going (Halted e out) goes h = absurd h
 stands_before remain self is j g mode.Waiting (Waits s count out) goes h = record {
-  levels = h.level ∷ levels_of s.around;
+  levels = h.level ∷ h.others;
   outs = h.runs.outs;
   lends = h.runs.lends;
   remains = remain (its_code self) (ok_with g h.runs.outs) self.run.machine (under g.base s) h.runs.shows.shows;
@@ -242,8 +255,8 @@ spared_runs keep old new limit to h same = subst IsRunning
       rests = subst (λ l. (k : ℕ) (x : Lent) → slice_get (reverse l) k ≡ Some x → IsRest (its_code old) x) (sym same.lent) h.rests;
       holds = λ is j job. ∥∥₁_map (h.comes is j job) (λ c. record {
         ground = c.ground;
-        strand = Halted jobs.Memory (rests_at (its_parts old) (levels_of c.state.around) (reverse old.lent.items));
-        is_of = wants (code_view (its_code old).code) (keep (code_view (its_code old).code)) j (Going c.state c.later (rests_at (its_parts old) (levels_of c.state.around) (reverse old.lent.items))) c.is_of;
+        strand = Halted jobs.Memory c.jobs_out;
+        is_of = wants (code_view (its_code old).code) (keep (code_view (its_code old).code)) j (Going c.state c.later c.jobs_out) c.is_of;
         held = refl;
       });
     })

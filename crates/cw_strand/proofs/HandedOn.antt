@@ -1,5 +1,5 @@
 -- A strand whose rest was handed out goes on.
-use Rattle.std.proofs.Common.{◌≡◌, ℕ, zero, suc, ◌+◌, false, Some, List, [], ◌∷◌, ◌++◌, length, refl, sym, ap, ◌∙◌, subst, arith}
+use Rattle.std.proofs.Common.{◌≡◌, ℕ, zero, suc, ◌+◌, false, Some, List, [], ◌∷◌, ◌++◌, length, refl, sym, ap, ◌∙◌, subst, inr, arith}
 use Rattle.std.specs.Prelude.{map, reverse, slice_get}
 use Rattle.std.proofs.Math.Logic.{∥∥₁_map}
 use Rattle.cw_code.specs.Code.{Code, code_view}
@@ -8,9 +8,8 @@ use Rattle.cw_code.specs.Run.{Whole, passed_by}
 use Rattle.cw_metered.specs.Strands.{TellsAll}
 use Rattle.cw_strands.specs.Jobs as jobs
 use Rattle.cw_strands.specs.Jobs.{has_come}
-use Rattle.cw_strands.specs.Over.{beneath}
+use Rattle.cw_strands.specs.Over.{beneath, under}
 use Rattle.cw_strands.specs.Strands.{Going, HandsOut, rest_of, spawn_job}
-use Rattle.cw_strands.specs.Promises.{IsStrandOf}
 use Rattle.cw_strands.specs.Steps.{CallsKeep}
 use Rattle.cw_runnable.specs.declared.verified.Verified.{Verified}
 use Rattle.cw_jobs.specs.declared.call.Parts.{Parts}
@@ -22,14 +21,16 @@ use Rattle.cw_machine.specs.Arrays.{Out, IsFit}
 use Rattle.cw_machine.specs.Shows.{Comes}
 use Rattle.cw_machine.specs.Unwinding.{OutsLieApart}
 use Rattle.cw_machine.specs.Calls.{loans_of}
+use Rattle.cw_machine.specs.Stretches.{calls_in}
 use Rattle.cw_machine.specs.Hands.{ComesRound, out_of}
 use Rattle.cw_strand.specs.declared.strand.Lent.{Lent}
 use Rattle.cw_strand.specs.declared.strand.Mode.TheVariants as mode
 use Rattle.cw_strand.specs.declared.strand.Strand.{Strand}
-use Rattle.cw_strand.specs.Levels.{levels_of, waiting_over}
-use Rattle.cw_strand.specs.Holds.{IsRest, its_parts, its_code, outs, lent_parts, IsLent, Lends, rests_at, HeldIn, Holds, KeepsJob, AreSpare, IsRunning}
+use Rattle.cw_strand.specs.Levels.{Level, levels_of, waiting_over}
+use Rattle.cw_strand.specs.Holds.{IsRest, its_parts, its_code, outs, lent_parts, ok_with, IsLent, Lends, rest_in, AreOut, HeldIn, Holds, KeepsJob, AreSpare, IsRunning}
 use Rattle.cw_strand.specs.Moves.{CameTo, HasCome, HasCut}
 use Rattle.cw_strand.proofs.Levels.{HasSpawned}
+use Rattle.cw_strand.proofs.WhichOut.{calls_caller, frames_are}
 use Rattle.cw_strand.proofs.Course.{ran}
 use Rattle.cw_jobs.specs.declared.job.Job.{Job}
 use Rattle.cw_strand.proofs.Same.{spare_as, last_first}
@@ -39,7 +40,7 @@ some_same : {A : Type 0} (x y : A) → Some x ≡ Some y → x ≡ y
 some_same x y e = cc
 
 -- the strand once its job is among those that are out
-module _ (keep : (code : Code) → CallsKeep code) (apart : OutsLieApart) (old mid : Strand) (limit : ℕ) (spawn : Spawn) (x : Lent) (cut : HasCut old mid spawn (lent_parts x) x.home.lender) (loaned : x.home.lent ≡ spawn.lent) (target : x.home.target ≡ spawn.target) (after : List Lent) (are : after ≡ x ∷ reverse old.lent.items) where
+module _ (keep : (code : Code) → CallsKeep code) (apart : OutsLieApart) (old mid : Strand) (limit : ℕ) (spawn : Spawn) (x : Lent) (cut : HasCut old mid spawn (lent_parts x) x.home.lender) (loaned : x.home.lent ≡ spawn.lent) (target : x.home.target ≡ spawn.target) (waits : x.home.floor ≡ length old.run.machine.frames.items) (after : List Lent) (are : after ≡ x ∷ reverse old.lent.items) where
   module _ (is : IsFit (its_code old)) (j : jobs.Job) (job : KeepsJob old) (c : CameTo old limit (stop.Spawned spawn) is j) where
     abbrev v : Verified
     v = its_code old
@@ -52,6 +53,15 @@ module _ (keep : (code : Code) → CallsKeep code) (apart : OutsLieApart) (old m
 
     abbrev o : Out
     o = out_of (length (beneath c.ground.base c.state.around)) x.home.lender.first old.run.machine.first_array (length (waiting_over c.ground.base s.waiting c.state.around).arrays) (slots_lent (loans_of v spawn.lent)) (lent_parts x).rest.slices.items
+
+    -- as many frames are on the machine as calls wait in the spawned call
+    calls_here : length old.run.machine.frames.items ≡ suc (calls_in (beneath c.ground.base c.state.around))
+    calls_here =
+        frames_are v (ok_with c.ground c.outs) old.run.machine (under c.ground.base c.at.1.next) c.at.1.shows.shows
+        ∙ ap (λ a. calls_in (beneath c.ground.base a)) s.around ∙ calls_caller c.ground.base s.waiting c.state.around
+
+    abbrev level : Level
+    level = record { waiting = s.waiting; around = c.state.around }
 
     out_is : IsLent v is p c.ground.base (record { waiting = s.waiting; around = c.state.around }) o x
     out_is =
@@ -70,29 +80,31 @@ module _ (keep : (code : Code) → CallsKeep code) (apart : OutsLieApart) (old m
           burden = cut.burden;
           site = cut.site ∙ c.at.1.site;
           target = target ∙ sym s.target_is;
+          floor = waits ∙ calls_here;
           comes = (
             subst (λ l. Comes (lent_parts x).rest.cells.items 0 (length l) (waiting_over c.ground.base s.waiting c.state.around).results) wide h.comes.0,
             subst (λ l. ComesRound (lent_parts x).rest.cells.items 0 (length l) (beneath c.ground.base c.state.around)) wide h.comes.1,
           );
         }
 
-    lent_lends : Lends v is p c.ground.base (levels_of c.at.1.next.around) (o ∷ c.outs) after
-    lent_lends =
-        subst (λ l. Lends v is p c.ground.base l (o ∷ c.outs) after) (sym s.levels)
-        (subst (λ l. Lends v is p c.ground.base (record { waiting = s.waiting; around = c.state.around } ∷ levels_of c.state.around) (o ∷ c.outs) l) (sym are)
-        (out_is, below keep old limit spawn is j c apart mid (lent_parts x) x.home.lender cut, c.lends))
+    lent_lends : Lends v is p c.ground.base (level ∷ c.levels) (o ∷ c.outs) after
+    lent_lends = subst (Lends v is p c.ground.base (level ∷ c.levels) (o ∷ c.outs)) (sym are) (out_is, below keep old limit spawn is j c apart mid (lent_parts x) x.home.lender cut, c.lends)
 
-    abbrev rests : List jobs.Job
-    rests = rests_at p (levels_of c.state.around) (reverse old.lent.items)
+    abbrev job_out : jobs.Job
+    job_out = spawn_job c.state spawn.target (map (λ a. Whole a) (passed_by (code_view v.code) spawn.passed)) j.limit (j.before + (c.later + 1))
 
-    rests_are : spawn_job c.state spawn.target (map (λ a. Whole a) (passed_by (code_view v.code) spawn.passed)) j.limit (j.before + (c.later + 1)) ∷ rests ≡ rests_at p (levels_of c.at.1.next.around) after
-    rests_are =
+    rest_is : job_out ≡ rest_in p level x
+    rest_is =
         let b = c.ground.job.before in
         let e = c.at.0 in
         let q = cut.before in
         let n : j.before + (c.later + 1) ≡ (lent_parts x).before = omega (arith, b, e, q) in
-        ap (λ z. z ∷ rests) (s.rest j.limit (j.before + (c.later + 1)) ∙ ap (λ l. rest_of s.waiting l (j.before + (c.later + 1))) c.ground.job.limit ∙ ap (λ k. rest_of s.waiting p.limit k) n)
-        ∙ sym (ap (λ l. rests_at p l after) s.levels ∙ ap (rests_at p (record { waiting = s.waiting; around = c.state.around } ∷ levels_of c.state.around)) are)
+        s.rest j.limit (j.before + (c.later + 1)) ∙ ap (λ l. rest_of s.waiting l (j.before + (c.later + 1))) c.ground.job.limit ∙ ap (λ k. rest_of s.waiting p.limit k) n
+
+    lent_are : AreOut p (levels_of c.at.1.next.around) (job_out ∷ c.jobs_out) (level ∷ c.levels) after
+    lent_are =
+        subst (AreOut p (levels_of c.at.1.next.around) (job_out ∷ c.jobs_out) (level ∷ c.levels)) (sym are)
+        (subst (λ l. AreOut p l (job_out ∷ c.jobs_out) (level ∷ c.levels) (x ∷ reverse old.lent.items)) (sym s.levels) (inr (refl, rest_is, c.are)))
 
     -- the strand as it goes on, over the one that it was
     abbrev pub on_with : (lent : Strand) → Strand
@@ -106,23 +118,25 @@ module _ (keep : (code : Code) → CallsKeep code) (apart : OutsLieApart) (old m
         let jb = c.ground.job.before in
         let e0 = c.at.0 in
         let next = c.at.1.next in
-        let out = rests_at p (levels_of next.around) after in
-        let is_of = ran (code_view v.code) (keep (code_view v.code)) j c.state next c.later rests (HandsOut spawn.target (map (λ a. Whole a) (passed_by (code_view v.code) spawn.passed))) c.at.1.turns
+        let is_of = ran (code_view v.code) (keep (code_view v.code)) j c.state next c.later c.jobs_out (HandsOut spawn.target (map (λ a. Whole a) (passed_by (code_view v.code) spawn.passed))) c.at.1.turns
         (subst (λ y. has_come y (code_view v.code) c.state ≡ false) (sym c.ground.job.extent) c.at.1.before) c.at.1.steps (omega (arith, e0, w, jl, jb)) c.is_of in
         record {
           ground = c.ground;
-          strand = Going next (c.later + 1) out;
-          is_of = subst (λ l. IsStrandOf (code_view v.code) j (Going next (c.later + 1) l)) rests_are is_of;
-          held = subst (λ m. HeldIn (on_with lent) is j c.ground m (Going next (c.later + 1) out)) (sym going) (record {
-            counts = sym e0;
-            outs = o ∷ c.outs;
-            lends = subst (Lends v is p c.ground.base (levels_of next.around) (o ∷ c.outs)) (sym same) lent_lends;
-            are = ap (rests_at p (levels_of next.around)) (sym same);
-            shows = record {
-              shows = h.shows;
-              tells = subst (TellsAll (code_view v.code) p.burden (origin_of p) (Going next old.count [])) (sym cut.meter) c.at.1.shows.tells;
+          strand = Going next (c.later + 1) (job_out ∷ c.jobs_out);
+          is_of = is_of;
+          held = subst (λ m. HeldIn (on_with lent) is j c.ground m (Going next (c.later + 1) (job_out ∷ c.jobs_out))) (sym going) (record {
+            levels = level ∷ c.levels;
+            are = subst (AreOut p (levels_of next.around) (job_out ∷ c.jobs_out) (level ∷ c.levels)) (sym same) lent_are;
+            runs = record {
+              counts = sym e0;
+              outs = o ∷ c.outs;
+              lends = subst (Lends v is p c.ground.base (level ∷ c.levels) (o ∷ c.outs)) (sym same) lent_lends;
+              shows = record {
+                shows = h.shows;
+                tells = subst (TellsAll (code_view v.code) p.burden (origin_of p) (Going next old.count [])) (sym cut.meter) c.at.1.shows.tells;
+              };
+              frozen = c.at.1.may.frozen;
             };
-            frozen = c.at.1.may.frozen;
           });
         }
 
@@ -166,13 +180,13 @@ module _ (keep : (code : Code) → CallsKeep code) (apart : OutsLieApart) (old m
 
 -- the strand that the job was handed out of
 pub lent_step : ((code : Code) → CallsKeep code) → OutsLieApart → (old mid new : Strand) (limit : ℕ) (spawn : Spawn) (job : Job) (l : Lender) (x : Lent) → HasCome old limit (stop.Spawned spawn) → HasCut old mid spawn job.parts.value l
-    → x.job.value ≡ job → x.home.lender ≡ l → x.home.lent ≡ spawn.lent → x.home.target ≡ spawn.target → new.of ≡ mid.of → new.parts ≡ mid.parts → new.run ≡ mid.run → new.count ≡ mid.count → new.spares ≡ mid.spares → new.mode ≡ mid.mode → new.lent.items ≡ mid.lent.items ++ x ∷ []
+    → x.job.value ≡ job → x.home.lender ≡ l → x.home.lent ≡ spawn.lent → x.home.target ≡ spawn.target → x.home.floor ≡ length mid.run.machine.frames.items → new.of ≡ mid.of → new.parts ≡ mid.parts → new.run ≡ mid.run → new.count ≡ mid.count → new.spares ≡ mid.spares → new.mode ≡ mid.mode → new.lent.items ≡ mid.lent.items ++ x ∷ []
     → IsRunning new × (outs new ≡ job ∷ outs old)
-lent_step keep apart old mid new limit spawn job l x h cut same at loaned target of parts run count spares mode lent =
+lent_step keep apart old mid new limit spawn job l x h cut same at loaned target waits of parts run count spares mode lent =
     let cut' : HasCut old mid spawn (lent_parts x) x.home.lender = subst (λ (b : Job). HasCut old mid spawn b.parts.value x.home.lender) (sym same) (subst (λ k. HasCut old mid spawn job.parts.value k) (sym at) cut) in
     let are : reverse new.lent.items ≡ x ∷ reverse old.lent.items = ap reverse lent ∙ last_first mid.lent.items x ∙ ap (λ l. x ∷ reverse l) cut.lent in
     let bare : AreSpare (record old { run = mid.run; lent = new.lent; spares = new.spares }) =
     spare_as mid (record old { run = mid.run; lent = new.lent; spares = new.spares }) spares (sym cut.of) cut.spares in (
-      goes_as keep apart old mid limit spawn x cut' loaned target (x ∷ reverse old.lent.items) refl new are bare h new (of ∙ cut.of) (parts ∙ cut.parts) run (count ∙ cut.count) refl refl (mode ∙ cut.mode),
+      goes_as keep apart old mid limit spawn x cut' loaned target (waits ∙ ap length cut.stays.frames) (x ∷ reverse old.lent.items) refl new are bare h new (of ∙ cut.of) (parts ∙ cut.parts) run (count ∙ cut.count) refl refl (mode ∙ cut.mode),
       ap (map (λ l. l.job.value)) are ∙ ap (λ z. z ∷ outs old) same,
     )

@@ -32,17 +32,17 @@ use Rattle.cw_jobs.specs.Jobs.{extent_of, begins_at, AreBlocks}
 use Rattle.cw_jobs.specs.Means.{HasShown, MeansIt, IsMeaningOf}
 use Rattle.cw_machine.specs.declared.run.Run.{Run}
 use Rattle.cw_machine.specs.declared.run.Stop.TheVariants as stop
-use Rattle.cw_machine.specs.Arrays.{Out, IsFit}
+use Rattle.cw_machine.specs.Arrays.{IsFit}
 use Rattle.cw_machine.specs.Shows.{Shows}
 use Rattle.cw_machine.specs.JobRuns.{ok_of, job_ok, IsBase, HasCome as HasComeTo, CanEnd, EndsJob}
 use Rattle.cw_strand.specs.declared.strand.Lent.{Lent}
 use Rattle.cw_strand.specs.declared.strand.Strand.{Strand}
-use Rattle.cw_strand.specs.Levels.{levels_of}
-use Rattle.cw_strand.specs.Holds.{its_job, its_parts, its_code, outs, ok_with, Lends, rests_at}
+use Rattle.cw_strand.specs.Levels.{Level, levels_of}
+use Rattle.cw_strand.specs.Holds.{its_job, its_parts, its_code, outs, ok_with, Lends, AreOut}
 use Rattle.cw_strand.specs.Moves.{CameTo, HasCome, IsShown}
 use Rattle.cw_strand.proofs.Levels.{ends_alone}
 use Rattle.cw_strand.proofs.Course.{ended, arrived, come_alone, come_joins}
-use Rattle.cw_strand.proofs.Ends.{is_nil, no_lent, no_levels}
+use Rattle.cw_strand.proofs.Ends.{is_nil, no_lent}
 use Rattle.cw_strand.proofs.RunsOn.{sound_of}
 
 shown_as : (code : Code) (r : Run) (cost count : ℕ) (x : Shown) (t : Trace) → IsShown r cost x → cost ≡ count → r.machine.lines.items ≡ t.lines → HoldsTotals code r.machine.totals.items t.updates → HasShown code x t count
@@ -53,15 +53,15 @@ shown_as code r cost count x t is e lines totals = record {
 }
 
 -- with nothing round its state a strand has nothing out
-module _ (self : Strand) (v : Verified) (is : IsFit v) (p : Parts) (base : State) (around : List Around) (out : List Out) (lends : Lends v is p base (levels_of around) out (reverse self.lent.items)) (alone : around ≡ []) where
-  bare : Lends v is p base [] out (reverse self.lent.items)
-  bare = subst (λ a. Lends v is p base (levels_of a) out (reverse self.lent.items)) alone lends
+module _ (self : Strand) (p : Parts) (around : List Around) (jobs_out : List jobs.Job) (levels : List Level) (are : AreOut p (levels_of around) jobs_out levels (reverse self.lent.items)) (alone : around ≡ []) where
+  pub bare : AreOut p [] jobs_out levels (reverse self.lent.items)
+  bare = subst (λ a. AreOut p (levels_of a) jobs_out levels (reverse self.lent.items)) alone are
 
   pub none_lent : (h : Lent) (more : List Lent) → reverse self.lent.items ≡ h ∷ more → ⊥
-  none_lent h more e = no_levels v is p base out (reverse self.lent.items) bare h more e
-
-  pub lent_nil : reverse self.lent.items ≡ []
-  lent_nil = is_nil (reverse self.lent.items) none_lent
+  none_lent h more e = never (sym bare.2 ∙ e)
+    where
+      never : [] ≡ h ∷ more → ⊥
+      never q = cc
 
 module _ (keep : (code : Code) → CallsKeep code) (self : Strand) (limit : ℕ) where
   abbrev v : Verified
@@ -81,7 +81,7 @@ module _ (keep : (code : Code) → CallsKeep code) (self : Strand) (limit : ℕ)
     pub gave_none : outs self ≡ []
     gave_none = ap (map (λ l. l.job.value)) (is_nil lent (λ l more e. ∥∥₁_elim (sound_of self) ⊥_prop (λ s. ∥∥₁_elim (h.comes s.ok s.job s.is) ⊥_prop (λ c.
         let at = c.at.1 in
-        none_lent self v s.ok p c.ground.base c.state.around c.outs c.lends (ends_alone code c.state x at.arrays at.trace at.steps) l more e))))
+        none_lent self p c.state.around c.jobs_out c.levels c.are (ends_alone code c.state x at.arrays at.trace at.steps) l more e))))
 
     abbrev pub TellsEnd : Effect → Type 0
     TellsEnd (effect.Ended value shown) = (value ≡ x) × IsShown self.run self.count shown
@@ -100,8 +100,7 @@ module _ (keep : (code : Code) → CallsKeep code) (self : Strand) (limit : ℕ)
         let jl = c.ground.job.limit in
         let jb = c.ground.job.before in
         let e0 = c.at.0 in
-        let same : levels_of c.state.around ≡ [] = ap levels_of alone in
-        let is_of : IsStrandOf code j (Going c.state c.later []) = subst (λ l. IsStrandOf code j (Going c.state c.later (rests_at p l lent))) same c.is_of in
+        let is_of : IsStrandOf code j (Going c.state c.later []) = subst (λ l. IsStrandOf code j (Going c.state c.later l)) (bare self p c.state.around c.jobs_out c.levels c.are alone).0 c.is_of in
         record {
           effect = jobs.Ended x at.arrays at.trace (c.later + 1);
           means = ended code (keep code) j c.state c.later x at.arrays at.trace (subst (λ y. has_come y code c.state ≡ false) (sym c.ground.job.extent) at.before) at.steps (omega (arith, e0, w, jl, jb)) is_of;
@@ -146,7 +145,7 @@ module _ (keep : (code : Code) → CallsKeep code) (self : Strand) (limit : ℕ)
     alone = come_alone code (extent_of p.extent) s come
 
     is_of : IsStrandOf code j (Going s c.later [])
-    is_of = subst (λ l. IsStrandOf code j (Going s c.later (rests_at p l lent))) (ap levels_of alone) c.is_of
+    is_of = subst (λ l. IsStrandOf code j (Going s c.later l)) (bare self p s.around c.jobs_out c.levels c.are alone).0 c.is_of
 
     j_come : has_come j.extent code s ≡ true
     j_come = subst (λ y. has_come y code s ≡ true) (sym c.ground.job.extent) come
@@ -158,7 +157,7 @@ module _ (keep : (code : Code) → CallsKeep code) (self : Strand) (limit : ℕ)
     base = (c.ground.joins joins).0
 
     out_nil : c.outs ≡ []
-    out_nil = no_lent v is p c.ground.base (levels_of s.around) c.outs (subst (Lends v is p c.ground.base (levels_of s.around) c.outs) (lent_nil self v is p c.ground.base s.around c.outs c.lends alone) c.lends)
+    out_nil = no_lent v is p c.ground.base c.levels c.outs (subst (Lends v is p c.ground.base c.levels c.outs) (bare self p s.around c.jobs_out c.levels c.are alone).2 c.lends)
 
     shows_job : Shows v (job_ok v is j p.rest c.ground.base base) self.run.machine (under c.ground.base s)
     shows_job =
@@ -205,7 +204,7 @@ module _ (keep : (code : Code) → CallsKeep code) (self : Strand) (limit : ℕ)
 
     pub join_none : outs self ≡ []
     join_none = ap (map (λ l. l.job.value)) (is_nil lent (λ l more e. ∥∥₁_elim (sound_of self) ⊥_prop (λ s. ∥∥₁_elim (h.comes s.ok s.job s.is) ⊥_prop (λ c.
-        none_lent self v s.ok p c.ground.base c.state.around c.outs c.lends (alone stay seats s.ok s.job c) l more e))))
+        none_lent self p c.state.around c.jobs_out c.levels c.are (alone stay seats s.ok s.job c) l more e))))
 
     module _ (meters : CallsKeepMeters) where
       -- an effect has the frame and the arrays that the machine ended with

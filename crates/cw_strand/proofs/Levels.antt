@@ -26,6 +26,7 @@ pub record HasSpawned (s s' : State) (target : Option ℕ) (taken : List Taken) 
 -- one has come back
 pub record HasReturned (s s' : State) : Type 0 where
   pub level : Level
+  pub around : s.around ≡ Caller level.waiting ∷ level.around
   pub back : IsBackAt level s'
   pub levels : levels_of s.around ≡ level ∷ levels_of s'.around
 
@@ -69,6 +70,7 @@ module _ (s : State) where
     returned : (s' : State) → w.kind ≡ Spawned → IsBackAt (record { waiting = w; around = around }) s' → s'.around ≡ around → HasReturned s s'
     returned s' spawned back same = record {
       level = record { waiting = w; around = around };
+      around = is;
       back = back;
       levels = ap levels_of is ∙ ap (λ k. level_if k (record { waiting = w; around = around }) (levels_of around)) spawned ∙ ap (λ a. record { waiting = w; around = around } ∷ levels_of a) (sym same);
     }

@@ -1,5 +1,6 @@
 pub mod Losing
 pub mod Levels
+pub mod WhichOut
 pub mod Course
 pub mod Flat
 pub mod Starts

@@ -1,5 +1,5 @@
 -- A strand that runs goes on to a stop.
-use Rattle.std.proofs.Common.{◌≡◌, ◌≢◌, ℕ, ◌-◌, ◌≤◌, true, false, List, [], ◌∷◌, refl, sym, ap, ◌∙◌, subst, arith}
+use Rattle.std.proofs.Common.{◌≡◌, ◌≢◌, ℕ, Bool, ◌-◌, ◌≤◌, true, false, List, [], ◌∷◌, refl, sym, ap, ◌∙◌, subst, arith}
 use Rattle.std.specs.Prelude.{map, reverse}
 use Rattle.std.specs.Coded.{le_prop}
 use Rattle.std.proofs.Math.Logic.{∥∥₁_elim, ∥∥₁_map}
@@ -7,7 +7,7 @@ use mathlib.Core.HLevel.{⊥_prop}
 use Rattle.cw_code.specs.Code.{Code, code_view}
 use Rattle.cw_code.specs.Run.{State}
 use Rattle.cw_strands.specs.Jobs as jobs
-use Rattle.cw_strands.specs.Jobs.{has_come, Extent}
+use Rattle.cw_strands.specs.Jobs.{has_come}
 use Rattle.cw_strands.specs.Strands as strands
 use Rattle.cw_strands.specs.Strands.{Going, Waits, Halted}
 use Rattle.cw_strands.specs.Promises.{IsStrandOf}
@@ -15,17 +15,18 @@ use Rattle.cw_strands.specs.Steps.{CallsKeep}
 use Rattle.cw_jobs.specs.declared.call.Extent.TheVariants as extent
 use Rattle.cw_jobs.specs.Jobs.{extent_of, IsSound}
 use Rattle.cw_machine.specs.declared.run.Run.{Run}
+use Rattle.cw_machine.specs.declared.run.Spawn.{Spawn}
 use Rattle.cw_machine.specs.declared.run.Stop.{Stop}
 use Rattle.cw_machine.specs.declared.run.Stop.TheVariants as stop
 use Rattle.cw_machine.specs.Arrays.{Out, IsFit}
-use Rattle.cw_machine.specs.Stretches.{Stretch, Here, Further, MayRun, ShowsRun, StopsAt, IsUnderWay, GoesOn}
+use Rattle.cw_machine.specs.Stretches.{Setting, Stretch, Here, Further, MayRun, ShowsRun, StopsAt, IsUnderWay, GoesOn}
 use Rattle.cw_strand.specs.declared.strand.Lent.{Lent}
 use Rattle.cw_strand.specs.declared.strand.Mode.TheVariants as mode
 use Rattle.cw_strand.specs.declared.strand.Strand.{Strand}
-use Rattle.cw_strand.specs.Levels.{Level, levels_of}
-use Rattle.cw_strand.specs.Holds.{its_job, its_parts, its_code, outs, Ground, setting_of, ok_with, Lends, rests_at, Runs, Waited, HeldIn, Holds, IsRunning, IsWaiting, IsAtSync}
+use Rattle.cw_strand.specs.Levels.{Level}
+use Rattle.cw_strand.specs.Holds.{its_job, its_parts, its_code, outs, floor_of, Ground, setting_of, ok_with, Lends, Ongoing, Waited, HeldIn, Holds, IsRunning, IsWaiting, IsAtSync}
 use Rattle.cw_strand.specs.Moves.{CameTo, HasCome, IsBefore, IsStill, RunsOn}
-use Rattle.cw_strand.proofs.Onward.{done_later, may_run, under_way, came_to}
+use Rattle.cw_strand.proofs.Onward.{done_later, may_go, under_way, came_to}
 use Rattle.cw_strand.proofs.Halts.{came_back}
 
 -- the job of a strand is one of the definitions, by code that fits
@@ -39,10 +40,10 @@ module _ (self : Strand) (is : IsFit (its_code self)) (j : jobs.Job) where
     pub count : ℕ
     pub out : List jobs.Job
     pub is_of : IsStrandOf (code_view (its_code self).code) j (Going state count out)
-    pub runs : Runs self is j g (levels_of state.around) state count out
+    pub held : Ongoing self is j g state count out
 
   going_held : (g : Ground (its_code self) is (its_parts self) j) (d : strands.Strand) → IsStrandOf (code_view (its_code self).code) j d → HeldIn self is j g mode.Going d → IsGoing g
-  going_held g (Going s count out) is_of h = record { state = s; count = count; out = out; is_of = is_of; runs = h }
+  going_held g (Going s count out) is_of h = record { state = s; count = count; out = out; is_of = is_of; held = h }
   going_held g (Waits s count out) is_of h = absurd h
   going_held g (Halted e out) is_of h = absurd h
 
@@ -66,15 +67,15 @@ module _ (self : Strand) (is : IsFit (its_code self)) (j : jobs.Job) where
   waiting_of e d = waiting_held d.ground d.strand d.is_of (subst (λ m. HeldIn self is j d.ground m d.strand) e d.held)
 
 -- its run is under way
-pub run_way : (self : Strand) → IsRunning self → self.mode ≡ mode.Going → ∥ IsUnderWay (its_code self) true self.count self.run ∥₁
+pub run_way : (self : Strand) → IsRunning self → self.mode ≡ mode.Going → ∥ IsUnderWay (its_code self) (floor_of self) self.count self.run ∥₁
 run_way self h e = ∥∥₁_elim (sound_of self) (hlevel) (λ s. ∥∥₁_map (h.holds s.ok s.job s.is) (λ d.
     let at = going_of self s.ok s.job e d in
-    under_way self s.ok s.job d.ground at.state at.count at.out at.runs))
+    under_way self s.ok s.job d.ground at.state at.count at.out at.held))
 
 -- and comes to a stop
-pub run_came : ((code : Code) → CallsKeep code) → (self : Strand) (r : Run) (done limit : ℕ) (to : Stop) → IsRunning self → self.mode ≡ mode.Going → GoesOn (its_code self) self.run self.count limit true to done r → done ≤ limit → limit ≤ (its_parts self).limit - (its_parts self).before
+pub run_came : ((code : Code) → CallsKeep code) → (self : Strand) (r : Run) (done limit : ℕ) (stops : Bool) (to : Stop) → IsRunning self → self.mode ≡ mode.Going → GoesOn (its_code self) self.run self.count limit (floor_of self) stops to done r → done ≤ limit → limit ≤ (its_parts self).limit - (its_parts self).before
     → HasCome (record self { run = r; count = done }) limit to
-run_came keep self r done limit to h e goes le within = record {
+run_came keep self r done limit stops to h e goes le within = record {
   going = e;
   keeps = record {
     code = h.keeps.code;
@@ -91,7 +92,7 @@ run_came keep self r done limit to h e goes le within = record {
   rests = h.rests;
   comes = λ is j job. ∥∥₁_map (h.holds is j job) (λ d.
       let at = going_of self is j e d in
-      came_to keep self is j d.ground r done limit to at.state at.count at.out at.is_of at.runs goes le within (let w = h.keeps.within in omega (arith, w)));
+      came_to keep self is j d.ground r done limit stops to at.state at.count at.out at.is_of at.held goes le within (let w = h.keeps.within in omega (arith, w)));
 }
 
 -- something is out where a level is
@@ -104,7 +105,7 @@ lends_some self v is p base l levels out h e = at out (reverse self.lent.items) 
     at (o ∷ out) (x ∷ lent) k q = cc
 
 waits_some : (self : Strand) (is : IsFit (its_code self)) (j : jobs.Job) (g : Ground (its_code self) is (its_parts self) j) (s : State) (count : ℕ) (out : List jobs.Job) → Waited self is j g s count out → outs self ≢ []
-waits_some self is j g s count out w = lends_some self (its_code self) is (its_parts self) g.base w.level (levels_of s.around) w.runs.outs w.runs.lends
+waits_some self is j g s count out w = lends_some self (its_code self) is (its_parts self) g.base w.level w.others w.runs.outs w.runs.lends
 
 pub waiting_some : (self : Strand) → IsRunning self → IsWaiting self → outs self ≢ []
 waiting_some self h e none = ∥∥₁_elim (sound_of self) ⊥_prop (λ s. ∥∥₁_elim (h.holds s.ok s.job s.is) ⊥_prop (λ d.
@@ -124,19 +125,19 @@ waits_at self e going = differ (sym e ∙ going)
     differ k = cc
 
 -- instructions only add
-stretch_low : (x : Extent) (code : Code) (count later : ℕ) (s s1 : State) → Stretch x code true count s later s1 → count ≤ later
-stretch_low x code count _ s _ (Here _ _) = omega arith
-stretch_low x code count _ s _ (Further _ later _ s1 s2 before p) = let le = stretch_low x code count later s s1 before in omega (arith, le)
+stretch_low : (k : Setting) (code : Code) (floor : ℕ) (stops : Bool) (count later : ℕ) (s s1 : State) → Stretch k code floor stops count s later s1 → count ≤ later
+stretch_low k code floor stops count _ s _ (Here _ _) = omega arith
+stretch_low k code floor stops count _ s _ (Further _ later _ s1 s2 before p) = let le = stretch_low k code floor stops count later s s1 before in omega (arith, le)
 
 -- a run that may do nothing does nothing
-still_at : (v : _) (ok : _) (k : _) (limit : ℕ) (to : Stop) (done : ℕ) (r : Run) (later : ℕ) (s : State) → StopsAt v ok k limit to done r later s → done ≤ later → IsStill to
-still_at v ok k limit (stop.Spawned spawn) done r later s h le = let e = h.0 in omega (arith, e, le)
-still_at v ok k limit stop.CameBack done r later s h le = let e = h.0 in omega (arith, e, le)
-still_at v ok k limit stop.Joined done r later s h le = tt
-still_at v ok k limit (stop.Gave x) done r later s h le = let e = h.0 in omega (arith, e, le)
-still_at v ok k limit (stop.Trapped c l) done r later s h le = let e = h.0 in omega (arith, e, le)
-still_at v ok k limit stop.Over done r later s h le = tt
-still_at v ok k limit stop.NoMemory done r later s h le = omega (arith, h, le)
+still_at : (v : _) (ok : _) (k : _) (floor : ℕ) (stops : Bool) (limit : ℕ) (to : Stop) (done : ℕ) (r : Run) (later : ℕ) (s : State) → StopsAt v ok k floor stops limit to done r later s → done ≤ later → IsStill to
+still_at v ok k floor stops limit (stop.Spawned spawn) done r later s h le = let e = h.0 in omega (arith, e, le)
+still_at v ok k floor stops limit stop.CameBack done r later s h le = let e = h.0 in omega (arith, e, le)
+still_at v ok k floor stops limit stop.Joined done r later s h le = tt
+still_at v ok k floor stops limit (stop.Gave x) done r later s h le = let e = h.0 in omega (arith, e, le)
+still_at v ok k floor stops limit (stop.Trapped c l) done r later s h le = let e = h.0 in omega (arith, e, le)
+still_at v ok k floor stops limit stop.Over done r later s h le = tt
+still_at v ok k floor stops limit stop.NoMemory done r later s h le = omega (arith, h, le)
 
 decided : (to : Stop) → ∥ IsStill to ∥₁ → IsStill to
 decided (stop.Spawned spawn) h = ∥∥₁_elim h ⊥_prop (λ x. x)
@@ -148,49 +149,67 @@ decided stop.Over h = tt
 decided stop.NoMemory h = ∥∥₁_elim h ⊥_prop (λ x. x)
 
 -- nor does one that stopped where it stood
-stretch_here : (x : Extent) (code : Code) (count later : ℕ) (s s1 : State) → Stretch x code true count s later s1 → later ≤ count → s1 ≡ s
-stretch_here x code count _ s _ (Here _ _) le = refl
-stretch_here x code count _ s _ (Further _ later _ s1 s2 before p) le = let low = stretch_low x code count later s s1 before in absurd (omega (arith, low, le))
+stretch_here : (k : Setting) (code : Code) (floor : ℕ) (stops : Bool) (count later : ℕ) (s s1 : State) → Stretch k code floor stops count s later s1 → later ≤ count → s1 ≡ s
+stretch_here k code floor stops count _ s _ (Here _ _) le = refl
+stretch_here k code floor stops count _ s _ (Further _ later _ s1 s2 before p) le = let low = stretch_low k code floor stops count later s s1 before in absurd (omega (arith, low, le))
 
 never : true ≡ false → ⊥
 never e = cc
 
-module _ (self : Strand) (r : Run) (done limit : ℕ) (to : Stop) (h : IsRunning self) (e : self.mode ≡ mode.Going) (goes : GoesOn (its_code self) self.run self.count limit true to done r) where
+module _ (self : Strand) (r : Run) (done limit : ℕ) (stops : Bool) (to : Stop) (h : IsRunning self) (e : self.mode ≡ mode.Going) (goes : GoesOn (its_code self) self.run self.count limit (floor_of self) stops to done r) where
+  abbrev floor : ℕ
+  floor = floor_of self
+
   low : self.count ≤ done
   low = ∥∥₁_elim (sound_of self) le_prop (λ s. ∥∥₁_elim (h.holds s.ok s.job s.is) le_prop (λ d.
       let at = going_of self s.ok s.job e d in
-      let ok = ok_with d.ground at.runs.outs in
-      let came = goes ok (setting_of d.ground) at.state refl at.runs.shows (may_run self s.ok s.job d.ground at.state at.runs.outs at.runs.lends at.runs.frozen) in
-      let far = stretch_low (setting_of d.ground).extent (code_view (its_code self).code) self.count came.0 at.state came.1 came.2 in
-      let near = done_later (its_code self) ok (setting_of d.ground) limit to done r came.0 came.1 came.3 in
+      let ok = ok_with d.ground at.held.runs.outs in
+      let came = goes ok (setting_of d.ground) at.state at.held.runs.shows (may_go self s.ok s.job d.ground at.state at.count at.out at.held) in
+      let far = stretch_low (setting_of d.ground) (code_view (its_code self).code) floor stops self.count came.0 at.state came.1 came.2 in
+      let near = done_later (its_code self) ok (setting_of d.ground) floor stops limit to done r came.0 came.1 came.3 in
       omega (arith, far, near)))
 
   still : done ≡ self.count → IsStill to
   still same = decided to (∥∥₁_elim (sound_of self) (hlevel) (λ s. ∥∥₁_map (h.holds s.ok s.job s.is) (λ d.
       let at = going_of self s.ok s.job e d in
-      let came = goes (ok_with d.ground at.runs.outs) (setting_of d.ground) at.state refl at.runs.shows (may_run self s.ok s.job d.ground at.state at.runs.outs at.runs.lends at.runs.frozen) in
-      let far = stretch_low (setting_of d.ground).extent (code_view (its_code self).code) self.count came.0 at.state came.1 came.2 in
-      still_at (its_code self) (ok_with d.ground at.runs.outs) (setting_of d.ground) limit to done r came.0 came.1 came.3 (omega (arith, far, same)))))
+      let came = goes (ok_with d.ground at.held.runs.outs) (setting_of d.ground) at.state at.held.runs.shows (may_go self s.ok s.job d.ground at.state at.count at.out at.held) in
+      let far = stretch_low (setting_of d.ground) (code_view (its_code self).code) floor stops self.count came.0 at.state came.1 came.2 in
+      still_at (its_code self) (ok_with d.ground at.held.runs.outs) (setting_of d.ground) floor stops limit to done r came.0 came.1 came.3 (omega (arith, far, same)))))
 
   before : IsBefore self → done ≡ self.count → to ≢ stop.Joined
   before b same is = ∥∥₁_elim (sound_of self) ⊥_prop (λ s. ∥∥₁_elim (b.comes s.ok s.job s.is) ⊥_prop (λ c.
       let v = its_code self in
       let ok = ok_with c.ground c.outs in
       let k = setting_of c.ground in
-      let came = goes ok k c.state refl c.at.2.shows c.at.2.may in
-      let at = subst (λ t. StopsAt v ok k limit t done r came.0 came.1) is came.3 in
+      let came = goes ok k c.state c.at.2.shows c.at.2.may in
+      let at = subst (λ t. StopsAt v ok k floor stops limit t done r came.0 came.1) is came.3 in
       let same_at = at.0 in
-      let here = stretch_here k.extent (code_view v.code) self.count came.0 c.state came.1 came.2 (omega (arith, same, same_at)) in
+      let here = stretch_here k (code_view v.code) floor stops self.count came.0 c.state came.1 came.2 (omega (arith, same, same_at)) in
       never (sym at.1.come ∙ ap (λ z. has_come k.extent (code_view v.code) z) here ∙ c.at.2.before)))
 
+  -- it stopped at a spawn only where it was to
+  unasked : (spawn : Spawn) → to ≡ stop.Spawned spawn → stops ≡ false → ⊥
+  unasked spawn is not = ∥∥₁_elim (sound_of self) ⊥_prop (λ s. ∥∥₁_elim (h.holds s.ok s.job s.is) ⊥_prop (λ d.
+      let at = going_of self s.ok s.job e d in
+      let ok = ok_with d.ground at.held.runs.outs in
+      let came = goes ok (setting_of d.ground) at.state at.held.runs.shows (may_go self s.ok s.job d.ground at.state at.count at.out at.held) in
+      never (sym (subst (λ t. StopsAt (its_code self) ok (setting_of d.ground) floor stops limit t done r came.0 came.1) is came.3).1.asked ∙ not)))
+
+  asked : (spawn : Spawn) → to ≡ stop.Spawned spawn → stops ≡ true
+  asked spawn is = by stops refl
+    where
+      by : (b : Bool) → stops ≡ b → stops ≡ true
+      by true same = same
+      by false same = absurd (unasked spawn is same)
+
   -- so far it ran
-  pub run_ran : done ≤ limit → RunsOn self (record self { run = r; count = done }) limit to
-  run_ran le = record { from = low; within = le; still = still; before = before }
+  pub run_ran : done ≤ limit → RunsOn self (record self { run = r; count = done }) limit stops to
+  run_ran le = record { asked = asked; from = low; within = le; still = still; before = before }
 
 -- one that stopped without an instruction goes on from there
 goes_from : (self : Strand) (limit : ℕ) (to : Stop) → HasCome self limit to
     → ((is : IsFit (its_code self)) (j : jobs.Job) (c : CameTo self limit to is j)
-    → (self.count ≡ c.later) × ShowsRun (its_code self) (ok_with c.ground c.outs) (setting_of c.ground) self.count self.run c.state × MayRun (its_code self) (ok_with c.ground c.outs) (setting_of c.ground) c.state)
+    → (self.count ≡ c.later) × ShowsRun (its_code self) (ok_with c.ground c.outs) (setting_of c.ground) self.count self.run c.state × MayRun (its_code self) (ok_with c.ground c.outs) (setting_of c.ground) (floor_of self) c.state)
     → IsRunning self
 goes_from self limit to h at = record {
   keeps = h.keeps;
@@ -199,15 +218,18 @@ goes_from self limit to h at = record {
   holds = λ is j job. ∥∥₁_map (h.comes is j job) (λ c.
       let on = at is j c in record {
         ground = c.ground;
-        strand = Going c.state c.later (rests_at (its_parts self) (levels_of c.state.around) (reverse self.lent.items));
+        strand = Going c.state c.later c.jobs_out;
         is_of = c.is_of;
-        held = subst (λ m. HeldIn self is j c.ground m (Going c.state c.later (rests_at (its_parts self) (levels_of c.state.around) (reverse self.lent.items)))) (sym h.going) (record {
-          counts = sym on.0;
-          outs = c.outs;
-          lends = c.lends;
-          are = refl;
-          shows = on.1;
-          frozen = on.2.frozen;
+        held = subst (λ m. HeldIn self is j c.ground m (Going c.state c.later c.jobs_out)) (sym h.going) (record {
+          levels = c.levels;
+          runs = record {
+            counts = sym on.0;
+            outs = c.outs;
+            lends = c.lends;
+            shows = on.1;
+            frozen = on.2.frozen;
+          };
+          are = c.are;
         });
       });
 }
@@ -233,16 +255,20 @@ whole_before self h e whole = record {
         ground = d.ground;
         state = at.state;
         later = self.count;
-        outs = at.runs.outs;
-        lends = at.runs.lends;
-        is_of = subst (λ o. IsStrandOf code j (Going at.state self.count o)) at.runs.are (subst (λ n. IsStrandOf code j (Going at.state n at.out)) at.runs.counts at.is_of);
+        stops = false;
+        levels = at.held.levels;
+        outs = at.held.runs.outs;
+        jobs_out = at.out;
+        lends = at.held.runs.lends;
+        are = at.held.are;
+        is_of = subst (λ n. IsStrandOf code j (Going at.state n at.out)) at.held.runs.counts at.is_of;
         at = (
           refl,
           refl,
           record {
             before = subst (λ y. has_come (extent_of y) code at.state ≡ false) (sym whole) refl;
-            shows = at.runs.shows;
-            may = may_run self is j d.ground at.state at.runs.outs at.runs.lends at.runs.frozen;
+            shows = at.held.runs.shows;
+            may = may_go self is j d.ground at.state at.count at.out at.held;
           },
         );
       });

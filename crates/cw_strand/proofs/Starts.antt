@@ -24,7 +24,7 @@ use Rattle.cw_machine.specs.JobRuns.{ok_of, HoldsOf, OnlyReads, IsEmptied}
 use Rattle.cw_machine.specs.Stretches.{nothing, StandsRound}
 use Rattle.cw_strand.specs.declared.strand.Mode.TheVariants as mode
 use Rattle.cw_strand.specs.declared.strand.Strand.{Strand}
-use Rattle.cw_strand.specs.Holds.{its_job, its_parts, its_code, Ground, ok_with, Lends, rests_at, HeldIn, Holds, IsRunning}
+use Rattle.cw_strand.specs.Holds.{its_job, its_parts, its_code, Ground, ok_with, Lends, HeldIn, Holds, IsRunning}
 use Rattle.cw_strand.specs.Moves.{Begins, BeginsRun}
 use Rattle.cw_strand.proofs.RunsOn.{whole_before}
 use Rattle.cw_strand.proofs.Flat.{under_flat}
@@ -92,15 +92,18 @@ module _ (self : Strand) (keep : (code : Code) → CallsKeep code) (meters : Cal
         strand = Going (job_start j) 0 [];
         is_of = (keep (code_view v.code)).starting j (let l = job.limit in let b = job.before in omega (arith, low, l, b));
         held = subst (λ m. HeldIn self is j g.ground m (Going (job_start j) 0 [])) (sym going) (record {
-          counts = sym zero;
-          outs = [];
-          lends = subst (λ l. Lends v is p g.ground.base [] [] l) (sym (ap reverse none)) tt;
-          are = subst (λ l. [] ≡ rests_at p [] l) (sym (ap reverse none)) refl;
-          shows = record {
-            shows = g.shows;
-            tells = subst (λ n. TellsAll (code_view v.code) p.burden (origin_of p) (Going (job_start j) n []) self.run.meter) (sym zero) ((meters (code_view v.code) p.burden).starting (origin_of p) j self.run.meter meter);
+          levels = [];
+          are = (refl, refl, ap reverse none);
+          runs = record {
+            counts = sym zero;
+            outs = [];
+            lends = subst (λ l. Lends v is p g.ground.base [] [] l) (sym (ap reverse none)) tt;
+            shows = record {
+              shows = g.shows;
+              tells = subst (λ n. TellsAll (code_view v.code) p.burden (origin_of p) (Going (job_start j) n []) self.run.meter) (sym zero) ((meters (code_view v.code) p.burden).starting (origin_of p) j self.run.meter meter);
+            };
+            frozen = g.frozen;
           };
-          frozen = g.frozen;
         });
       }
 

@@ -1,5 +1,5 @@
 -- The newest job out came back unrun to a strand that waits for it: the strand goes on with it.
-use Rattle.std.proofs.Common.{◌≡◌, suc, Some, List, [], ◌∷◌, length, refl, sym, ap, ◌∙◌, subst, arith}
+use Rattle.std.proofs.Common.{◌≡◌, suc, Some, List, [], ◌∷◌, length, refl, sym, ap, ◌∙◌, subst}
 use Rattle.std.specs.Prelude.{reverse, slice_get}
 use Rattle.std.proofs.Math.Logic.{∥∥₁_elim, ∥∥₁_map}
 use Rattle.cw_code.specs.Code.{Code, code_view}
@@ -7,7 +7,7 @@ use Rattle.cw_code.specs.Fits.{slots_lent}
 use Rattle.cw_code.specs.Run.{State}
 use Rattle.cw_strands.specs.Jobs as jobs
 use Rattle.cw_strands.specs.Over.{beneath, under}
-use Rattle.cw_strands.specs.Strands.{Going, Waits, rest_of}
+use Rattle.cw_strands.specs.Strands.{Going, Waits}
 use Rattle.cw_strands.specs.Promises.{IsStrandOf}
 use Rattle.cw_strands.specs.Steps.{CallsKeep}
 use Rattle.cw_runnable.specs.declared.verified.Verified.{Verified}
@@ -20,15 +20,13 @@ use Rattle.cw_machine.specs.Arrays.{Out, IsFit, AllAbove}
 use Rattle.cw_machine.specs.Shows.{Shows}
 use Rattle.cw_machine.specs.Rests.{IsLending, MayTake, TakesBack}
 use Rattle.cw_machine.specs.Unwinding.{LieBelow}
-use Rattle.cw_machine.specs.Stretches.{newest_spawn}
 use Rattle.cw_strand.specs.declared.strand.Lent.{Lent}
 use Rattle.cw_strand.specs.declared.strand.Mode.TheVariants as mode
 use Rattle.cw_strand.specs.declared.strand.Strand.{Strand}
 use Rattle.cw_strand.specs.Levels.{Level, levels_of}
-use Rattle.cw_strand.specs.Holds.{its_parts, its_code, lent_parts, Ground, ok_with, IsLent, Lends, rests_at, Holds, AreSpare, IsRunning, IsWaiting}
+use Rattle.cw_strand.specs.Holds.{its_parts, its_code, Ground, ok_with, IsLent, Lends, rest_in, AreOut, AreBack, Holds, AreSpare, IsRunning, IsWaiting}
 use Rattle.cw_strand.specs.Moves.{HasSpared}
-use Rattle.cw_strand.proofs.Levels.{round_many}
-use Rattle.cw_strand.proofs.Onward.{lends_above, levels_under, newest_round}
+use Rattle.cw_strand.proofs.WhichOut.{outs_above, Back, back_of}
 use Rattle.cw_strand.proofs.RunsOn.{sound_of, IsHeldBack, waiting_of}
 use Rattle.cw_strand.proofs.Same.{same_strand, Newest}
 
@@ -59,15 +57,17 @@ module _ (self : Strand) (job : Job) (others : List Job) (newest : Newest self j
     abbrev l : Level
     l = h.waited.level
 
-    pub split : Split v is p g.base l (levels_of s.around) h.waited.runs.outs newest.lent newest.rest
-    split = split_of v is p g.base l (levels_of s.around) h.waited.runs.outs newest.lent newest.rest (subst (Lends v is p g.base (l ∷ levels_of s.around) h.waited.runs.outs) newest.are h.waited.runs.lends)
+    abbrev pub others_out : List Level
+    others_out = h.waited.others
+
+    pub split : Split v is p g.base l others_out h.waited.runs.outs newest.lent newest.rest
+    split = split_of v is p g.base l others_out h.waited.runs.outs newest.lent newest.rest (subst (Lends v is p g.base (l ∷ others_out) h.waited.runs.outs) newest.are h.waited.runs.lends)
+
+    pub rest_out : Back p l (levels_of s.around) h.out others_out newest.lent newest.rest
+    rest_out = back_of p l (levels_of s.around) h.out others_out newest.lent newest.rest (subst (AreBack p l (levels_of s.around) h.out (l ∷ others_out)) newest.are h.waited.are)
 
     above : AllAbove split.others (length (under g.base s).around)
-    above k o e =
-        let lt = lends_above v is p g.base (levels_of s.around) split.others newest.rest (newest_spawn s.around) (levels_under s.around) split.rest k o e in
-        let many = round_many g.base s.around in
-        let low = newest_round s.around in
-        omega (arith, lt, many, low)
+    above = outs_above v is p g.base s.around rest_out.rests others_out split.others newest.rest rest_out.are split.rest
 
     pub lends_it : IsLending v (ok_with g split.others) split.out self.run.machine (under g.base s) newest.lent.home.lender.slots (slots_lent (loans_of v newest.lent.home.lent)) job.parts.value.rest.slices.items
     lends_it = record {
@@ -86,27 +86,26 @@ module _ (self : Strand) (job : Job) (others : List Job) (newest : Newest self j
       abbrev goes_with : Strand
       goes_with = record self { run = record self.run { machine = m }; lent = new.lent; spares = new.spares; mode = mode.Going }
 
-      abbrev rests : List jobs.Job
-      rests = rests_at p (levels_of s.around) newest.rest
-
       pub taken : Holds goes_with is j
       taken =
-          let are : h.out ≡ rest_of l.waiting p.limit (lent_parts newest.lent).before ∷ rests = h.waited.runs.are ∙ ap (rests_at p (l ∷ levels_of s.around)) newest.are in
-          let was = subst (λ o. IsStrandOf (code_view v.code) j (Waits s h.count o)) are h.is_of in
+          let was = subst (λ o. IsStrandOf (code_view v.code) j (Waits s h.count o)) rest_out.is h.is_of in
           record {
             ground = g;
-            strand = Going s h.count rests;
-            is_of = (keep (code_view v.code)).taking_back j (Waits s h.count (rest_of l.waiting p.limit (lent_parts newest.lent).before ∷ rests)) was;
+            strand = Going s h.count rest_out.rests;
+            is_of = (keep (code_view v.code)).taking_back j (Waits s h.count (rest_in p l newest.lent ∷ rest_out.rests)) was;
             held = record {
-              counts = h.waited.runs.counts;
-              outs = split.others;
-              lends = subst (Lends v is p g.base (levels_of s.around) split.others) (sym left) split.rest;
-              are = ap (rests_at p (levels_of s.around)) (sym left);
-              shows = record {
-                shows = takes v (ok_with g split.others) split.out (under g.base s) lends_it;
-                tells = h.waited.runs.shows.tells;
+              levels = others_out;
+              runs = record {
+                counts = h.waited.runs.counts;
+                outs = split.others;
+                lends = subst (Lends v is p g.base others_out split.others) (sym left) split.rest;
+                shows = record {
+                  shows = takes v (ok_with g split.others) split.out (under g.base s) lends_it;
+                  tells = h.waited.runs.shows.tells;
+                };
+                frozen = h.waited.runs.frozen;
               };
-              frozen = h.waited.runs.frozen;
+              are = subst (AreOut p (levels_of s.around) rest_out.rests others_out) (sym left) rest_out.are;
             };
           }
 

@@ -1,6 +1,6 @@
 -- How a strand in memory holds a strand of the definitions.
-use Rattle.std.specs.Prelude.{◌≡◌, ◌≢◌, ℕ, ◌+◌, ◌-◌, ◌≤◌, Bool, true, false, List, [], ◌∷◌, length, map, reverse, Some}
-use Rattle.std.specs.Prelude.{slice_get}
+use Rattle.std.specs.Prelude.{◌≡◌, ◌≢◌, ◌⊎◌, ℕ, suc, ◌+◌, ◌-◌, ◌≤◌, Bool, true, false, List, [], ◌∷◌, length, map, reverse}
+use Rattle.std.specs.Prelude.{slice_get, Some}
 use Rattle.cw_model.specs.declared.limits.TheConstants.{MOST_LIMIT, MOST_BURDEN}
 use Rattle.cw_code.specs.Code.{code_view}
 use Rattle.cw_code.specs.Run.{State}
@@ -26,7 +26,7 @@ use Rattle.cw_machine.specs.Shows.{Comes}
 use Rattle.cw_machine.specs.Rests.{with_outs}
 use Rattle.cw_machine.specs.Unwinding.{LieBelow}
 use Rattle.cw_machine.specs.JobRuns.{ok_of, IsBase, IsEmptied}
-use Rattle.cw_machine.specs.Stretches.{StandsRound, Setting, ShowsRun}
+use Rattle.cw_machine.specs.Stretches.{calls_in, StandsRound, Setting, ShowsRun}
 use Rattle.cw_strand.specs.declared.strand.Lent.{Lent}
 use Rattle.cw_strand.specs.declared.strand.Mode.{Mode}
 use Rattle.cw_strand.specs.declared.strand.Mode.TheVariants as mode
@@ -50,6 +50,14 @@ its_code self = code_of (its_parts self)
 -- as many instructions as it may do in all
 abbrev pub its_end : Strand → ℕ
 its_end self = (its_parts self).limit - (its_parts self).before
+
+-- how many calls wait in the newest spawned call whose rest is out; 0 where none is
+abbrev pub floor_in : List Lent → ℕ
+floor_in [] = 0
+floor_in (h ∷ lent) = h.home.floor
+
+abbrev pub floor_of : Strand → ℕ
+floor_of self = floor_in (reverse self.lent.items)
 
 -- what a job that is out is made of
 abbrev pub lent_parts : Lent → Parts
@@ -80,7 +88,6 @@ setting_of {v} {is} {p} {j} g = record {
   begins = begins_as p.extent p.site;
   burden = p.burden;
   light = g.light;
-  stops = true;
 }
 
 -- with these arrays out
@@ -103,6 +110,7 @@ pub record IsLent (v : Verified) (is : IsFit v) (p : Parts) (base : State) (l : 
     pub burden : (lent_parts h).burden ≡ p.burden
     pub site : (lent_parts h).site ≡ site_at (origin_of p) l.around
     pub target : h.home.target ≡ l.waiting.target
+    pub floor : h.home.floor ≡ suc (calls_in (beneath base l.around))
     pub comes : Comes (lent_parts h).rest.cells.items 0 (length l.waiting.slots)
         (waiting_over base l.waiting l.around).results
         × ComesRound (lent_parts h).rest.cells.items 0 (length l.waiting.slots) (beneath base l.around)
@@ -114,29 +122,57 @@ Lends v is p base (l ∷ levels) (o ∷ outs) (h ∷ lent) =
     IsLent v is p base l o h × LieBelow outs o.first × Lends v is p base levels outs lent
 Lends v is p base _ _ _ = ⊥
 
--- the jobs of the definitions that are out
-abbrev pub rests_at : Parts → List Level → List Lent → List jobs.Job
-rests_at p (l ∷ levels) (h ∷ lent) = rest_of l.waiting p.limit (lent_parts h).before ∷ rests_at p levels lent
-rests_at p _ _ = []
+-- the job of the definitions for the rest that is out at a level
+abbrev pub rest_in : Parts → Level → Lent → jobs.Job
+rest_in p l h = rest_of l.waiting p.limit (lent_parts h).before
+
+-- the rest at this level is the newest that is out, and the others are so
+abbrev pub IsNewestOut : Parts → Level → jobs.Job → (others : List Level → List Lent → Type 0) → List Level → List Lent
+    → Type 0
+IsNewestOut p l job others (l' ∷ levels) (h ∷ lent) = (l' ≡ l) × (job ≡ rest_in p l h) × others levels lent
+IsNewestOut p l job others _ _ = ⊥
+
+-- WHICH RESTS ARE OUT. The definitions have a job out for each spawned call round a state. Of some of these calls the
+-- strand has the rest out, at these levels; each other one it runs in place, which is as if its rest was out and nobody
+-- took it
+abbrev pub AreOut : Parts → (all : List Level) → List jobs.Job → (levels : List Level) → List Lent → Type 0
+AreOut p [] jobs_out levels lent = (jobs_out ≡ []) × (levels ≡ []) × (lent ≡ [])
+AreOut p (l ∷ all) [] levels lent = ⊥
+AreOut p (l ∷ all) (job ∷ jobs_out) levels lent =
+    AreOut p all jobs_out levels lent
+    ⊎ IsNewestOut p l job (λ others more. AreOut p all jobs_out others more) levels lent
+
+-- the same of a strand that waits for the rest at a level
+abbrev pub AreBack : Parts → Level → (all : List Level) → List jobs.Job → (levels : List Level) → List Lent → Type 0
+AreBack p l all [] levels lent = ⊥
+AreBack p l all (job ∷ jobs_out) levels lent =
+    IsNewestOut p l job (λ others more. AreOut p all jobs_out others more) levels lent
 
 -- the run of a strand shows a state after so many instructions, with a job out at each of these levels
 pub record Runs (self : Strand) (is : IsFit (its_code self)) (j : jobs.Job)
-    (g : Ground (its_code self) is (its_parts self) j) (levels : List Level) (s : State) (count : ℕ)
-    (jobs_out : List jobs.Job) : Type 0 where
+    (g : Ground (its_code self) is (its_parts self) j) (levels : List Level) (s : State) (count : ℕ) : Type 0 where
   pub counts : count ≡ self.count
   pub outs : List Out
   pub lends : Lends (its_code self) is (its_parts self) g.base levels outs (reverse self.lent.items)
-  pub are : jobs_out ≡ rests_at (its_parts self) levels (reverse self.lent.items)
   pub shows : ShowsRun (its_code self) (ok_with g outs) (setting_of g) self.count self.run s
   -- its first call only reads what its job has as shares
   pub frozen : SharesFrozen (its_code self) (ok_with g outs) (under g.base s)
+
+-- it goes on
+pub record Ongoing (self : Strand) (is : IsFit (its_code self)) (j : jobs.Job)
+    (g : Ground (its_code self) is (its_parts self) j) (s : State) (count : ℕ) (jobs_out : List jobs.Job) : Type 0 where
+  pub levels : List Level
+  pub runs : Runs self is j g levels s count
+  pub are : AreOut (its_parts self) (levels_of s.around) jobs_out levels (reverse self.lent.items)
 
 -- a spawned call has returned, and its rest is the newest job out
 pub record Waited (self : Strand) (is : IsFit (its_code self)) (j : jobs.Job)
     (g : Ground (its_code self) is (its_parts self) j) (s : State) (count : ℕ) (jobs_out : List jobs.Job) : Type 0 where
   pub level : Level
   pub back : IsBackAt level s
-  pub runs : Runs self is j g (level ∷ levels_of s.around) s count jobs_out
+  pub others : List Level
+  pub runs : Runs self is j g (level ∷ others) s count
+  pub are : AreBack (its_parts self) level (levels_of s.around) jobs_out (level ∷ others) (reverse self.lent.items)
 
 -- of a strand that stopped the arrays are known, and where each is to come home
 pub record Stands (self : Strand) (is : IsFit (its_code self)) (j : jobs.Job)
@@ -148,7 +184,7 @@ pub record Stands (self : Strand) (is : IsFit (its_code self)) (j : jobs.Job)
 
 abbrev pub HeldIn : (self : Strand) (is : IsFit (its_code self)) (j : jobs.Job)
     → Ground (its_code self) is (its_parts self) j → Mode → strands.Strand → Type 0
-HeldIn self is j g mode.Going (Going s count jobs_out) = Runs self is j g (levels_of s.around) s count jobs_out
+HeldIn self is j g mode.Going (Going s count jobs_out) = Ongoing self is j g s count jobs_out
 HeldIn self is j g mode.Waiting (Waits s count jobs_out) = Waited self is j g s count jobs_out
 HeldIn self is j g (mode.Trapped c l) (Halted e jobs_out) =
     (e ≡ jobs.TrapIn c l self.run.machine.lines.items self.count) × Stands self is j g

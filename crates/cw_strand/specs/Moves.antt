@@ -1,5 +1,5 @@
 -- What the calls on a strand keep.
-use Rattle.std.specs.Prelude.{◌≡◌, ◌≢◌, ◌⊎◌, ℕ, ◌+◌, ◌≤◌, false, List, [], ◌∷◌, reverse, Option, Some, None}
+use Rattle.std.specs.Prelude.{◌≡◌, ◌≢◌, ℕ, ◌+◌, ◌≤◌, Bool, true, false, List, [], ◌∷◌, reverse, Option, Some, None}
 use Rattle.cw_code.specs.Code.{code_view}
 use Rattle.cw_code.specs.Run.{State}
 use Rattle.cw_slices.specs.Placed.{Placed}
@@ -39,11 +39,13 @@ use Rattle.cw_strand.specs.declared.strand.Event.TheVariants as event
 use Rattle.cw_strand.specs.declared.strand.Home.{Home}
 use Rattle.cw_strand.specs.declared.strand.Lent.{Lent}
 use Rattle.cw_strand.specs.declared.strand.Mode.TheVariants as mode
+use Rattle.cw_strand.specs.declared.strand.Spawns.{Spawns}
+use Rattle.cw_strand.specs.declared.strand.Spawns.TheVariants as spawns
 use Rattle.cw_strand.specs.declared.strand.Step.{Step}
 use Rattle.cw_strand.specs.declared.strand.Step.TheVariants as step
 use Rattle.cw_strand.specs.declared.strand.Strand.{Strand}
-use Rattle.cw_strand.specs.Levels.{levels_of}
-use Rattle.cw_strand.specs.Holds.{its_job, its_parts, its_code, outs, Ground, setting_of, ok_with, Lends, rests_at}
+use Rattle.cw_strand.specs.Levels.{Level, levels_of}
+use Rattle.cw_strand.specs.Holds.{its_job, its_parts, its_code, outs, floor_of, Ground, setting_of, ok_with, Lends, AreOut}
 use Rattle.cw_strand.specs.Holds.{KeepsJob, AreSpare, AreRests, IsRunning, IsGoing, IsAtSync, HasStopped, is_lost}
 
 -- a run begins a job, whose arrays moved into it
@@ -70,12 +72,15 @@ pub record CameTo (self : Strand) (limit : ℕ) (stop : Stop) (is : IsFit (its_c
   pub ground : Ground (its_code self) is (its_parts self) j
   pub state : State
   pub later : ℕ
+  pub stops : Bool
+  pub levels : List Level
   pub outs : List Out
-  pub lends : Lends (its_code self) is (its_parts self) ground.base (levels_of state.around) outs
-      (reverse self.lent.items)
-  pub is_of : IsStrandOf (code_view (its_code self).code) j
-      (Going state later (rests_at (its_parts self) (levels_of state.around) (reverse self.lent.items)))
-  pub at : StopsAt (its_code self) (ok_with ground outs) (setting_of ground) limit stop self.count self.run later state
+  pub jobs_out : List jobs.Job
+  pub lends : Lends (its_code self) is (its_parts self) ground.base levels outs (reverse self.lent.items)
+  pub are : AreOut (its_parts self) (levels_of state.around) jobs_out levels (reverse self.lent.items)
+  pub is_of : IsStrandOf (code_view (its_code self).code) j (Going state later jobs_out)
+  pub at : StopsAt (its_code self) (ok_with ground outs) (setting_of ground) (floor_of self) stops limit stop self.count
+      self.run later state
 
 -- whichever of the definitions the job is
 pub record HasCome (self : Strand) (limit : ℕ) (stop : Stop) : Type 0 where
@@ -121,10 +126,27 @@ abbrev pub ComesOr : (reason : Type 0) → Event → (old new : Strand) → Type
 ComesOr reason event.Ran old new = reason × (new ≡ old)
 ComesOr reason e old new = ComesTo e old new
 
--- an event within so many instructions; or these were done, and all else is as it was
-abbrev pub ComesWithin : (most : ℕ) → Event → (old new : Strand) → Type 0
-ComesWithin most event.Ran old new = IsRunning new × (outs new ≡ outs old) × (new.count ≡ old.count + most)
-ComesWithin most e old new = ComesTo e old new
+-- a strand hands the rests of its blocks out
+abbrev pub hands_out : Spawns → Bool
+hands_out spawns.HandedOut = true
+hands_out spawns.InPlace = false
+
+-- AN EVENT WITHIN SO MANY INSTRUCTIONS; or these were done, and all else is as it was. With its spawns in place a strand
+-- hands nothing out
+abbrev pub ComesWithin : (most : ℕ) → Spawns → Event → (old new : Strand) → Type 0
+ComesWithin most spawns event.Ran old new = IsRunning new × (outs new ≡ outs old) × (new.count ≡ old.count + most)
+ComesWithin most spawns (event.Spawned job) old new =
+    (hands_out spawns ≡ true) × ComesTo (event.Spawned job) old new
+ComesWithin most spawns e old new = ComesTo e old new
+
+-- no job is handed out, but where the run stopped at a spawn
+abbrev pub HandsNothing : Event → Type 0
+HandsNothing (event.Spawned job) = ⊥
+HandsNothing e = Unit {0}
+
+abbrev pub HandsOutAt : Stop → Event → Type 0
+HandsOutAt (stop.Spawned spawn) e = Unit {0}
+HandsOutAt _ e = HandsNothing e
 
 -- the instructions that an effect counts, if it counts any: all that its job did
 abbrev pub CountsIn : Effect → (n : ℕ) → Type 0
@@ -239,7 +261,7 @@ pub record HasCut (old new : Strand) (spawn : Spawn) (p : Parts) (l : Lender) : 
 -- where a job that was out comes back to
 abbrev pub home_of : Option Lent → Home
 home_of (Some h) = h.home
-home_of None = record { lender = record { first = 0; slots = 0 }; lent = None; target = None }
+home_of None = record { lender = record { first = 0; slots = 0 }; lent = None; target = None; floor = 0 }
 
 -- slices may come home to where a job comes back to, in a machine of such code
 abbrev pub MayReach : Machine → Verified → Home → List Placed → List (Option Placed) → Type 0
@@ -257,8 +279,10 @@ IsStill stop.Joined = Unit {0}
 IsStill stop.Over = Unit {0}
 IsStill _ = ⊥
 
--- a strand ran on, so far at most, up to such a stop: of what does not end at once at the join it did some
-pub record RunsOn (old new : Strand) (limit : ℕ) (to : Stop) : Type 0 where
+-- a strand ran on, so far at most, up to such a stop, a spawn only where it hands rests out: of what does not end at once
+-- at the join it did some
+pub record RunsOn (old new : Strand) (limit : ℕ) (stops : Bool) (to : Stop) : Type 0 where
+  pub asked : (spawn : Spawn) → to ≡ stop.Spawned spawn → stops ≡ true
   pub from : old.count ≤ new.count
   pub within : new.count ≤ limit
   pub still : new.count ≡ old.count → IsStill to

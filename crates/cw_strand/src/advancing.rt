@@ -6,7 +6,7 @@ ghost use Rattle.cw_strand.specs.Holds.{its_end, IsAtSync, IsGoing, IsRunning};
 ghost use Rattle.cw_strand.specs.Losing.{Leaves, LeavesBy};
 ghost use Rattle.cw_strand.specs.Moves.{AdvancesBy, CountsBy, DoesOne, EndsAt, IsBefore, IsUnended, KeptBy, LeadsTo};
 
-use crate::strand::{Advance, End, Event, Mode, Step, Strand};
+use crate::strand::{Advance, End, Event, Mode, Spawns, Step, Strand};
 use cw_machine::laws::machines_that_stop_remain;
 use cw_machine::run::Stop;
 use cw_strands::laws::calls_on_a_strand_keep_its_job;
@@ -54,7 +54,7 @@ impl Strand {
         ensures does { DoesOne result }
     {
         let next = self.count + 1;
-        let stop = self.run_on(next);
+        let stop = self.run_on(next, Spawns::HandedOut);
         match stop {
             Stop::Over => Advance::Ran,
             _ => match self.settle(stop, next, end) {

@@ -4,11 +4,12 @@ ghost use Rattle.std.specs.Prelude.{◌≡◌, ◌≢◌, ◌+◌, ◌-◌, ◌�
 ghost use Rattle.cw_strand.specs.declared.strand.Mode.TheVariants as mode;
 ghost use Rattle.cw_jobs.specs.Means.{IsMeaningOf};
 ghost use Rattle.cw_machine.specs.declared.run.Stop.TheVariants as stops;
-ghost use Rattle.cw_strand.specs.Holds.{its_job, its_parts, outs, HasStopped, IsAtSync, IsRunning};
+ghost use Rattle.cw_strand.specs.Holds.{floor_of, its_job, its_parts, outs, HasStopped, IsAtSync, IsRunning};
 ghost use Rattle.cw_strand.specs.Losing.{ComesFrom, GoesOn, Leaves, LeavesAt, LeavesEnd};
-ghost use Rattle.cw_strand.specs.Moves.{EndsBy, HasCome, IsSame, JoinsBy, KeptBy, ComesOr, ComesTo, ComesWithin, EndsAt, RunsOn};
+ghost use Rattle.cw_strand.specs.Moves as moves;
+ghost use Rattle.cw_strand.specs.Moves.{EndsBy, HandsNothing, HandsOutAt, HasCome, IsSame, JoinsBy, KeptBy, ComesOr, ComesTo, ComesWithin, EndsAt, RunsOn};
 
-use crate::strand::{End, Event, Mode, Step, Strand};
+use crate::strand::{End, Event, Mode, Spawns, Step, Strand};
 use cw_jobs::effect::Effect;
 use cw_machine::laws::machines_that_stop_remain;
 use cw_machine::run::Stop;
@@ -38,6 +39,17 @@ fn within(count: u64, most: u64, end: u64) -> u64
     }
 }
 
+// Whether rests are handed out.
+#[inline(always)]
+fn hands_out(spawns: Spawns) -> bool
+    ensures { result ≡ moves.hands_out spawns }
+{
+    match spawns {
+        Spawns::HandedOut => true,
+        Spawns::InPlace => false,
+    }
+}
+
 impl Strand {
     // As many instructions as its job may have in all.
     #[inline(always)]
@@ -49,19 +61,34 @@ impl Strand {
         self.parts.limit - self.parts.before
     }
 
+    // How many calls wait in the newest spawned call whose rest is out; 0 where none is.
+    #[inline(always)]
+    fn floor(&self) -> usize
+        ensures { result ≡ floor_of self.now }
+    {
+        match self.lent.last() {
+            Some(lent) => lent.home.floor,
+            None => 0,
+        }
+    }
+
     // The run goes on up to its next stop, within so many instructions in all.
     #[inline(always)]
-    pub(crate) fn run_on(&mut self, limit: u64) -> Stop
+    pub(crate) fn run_on(&mut self, limit: u64, spawns: Spawns) -> Stop
         requires running { IsRunning self.old }
         requires going { self.old.mode ≡ mode.Going }
         requires above { self.old.count ≤ limit }
         requires within { limit ≤ (its_parts self.old).limit - (its_parts self.old).before }
         ensures same { IsSame self.old self.new }
         ensures comes { HasCome self.new limit result }
-        ensures ran { RunsOn self.old self.new limit result }
+        ensures ran { RunsOn self.old self.new limit (moves.hands_out spawns) result }
     {
         calls_on_a_strand_keep_its_job();
-        let (stop, count) = self.run.go_on(&self.parts.code, self.count, limit, true);
+        let floor = self.floor();
+        let stops = hands_out(spawns);
+        let (stop, count) = self
+            .run
+            .go_on(&self.parts.code, self.count, limit, floor, stops);
         self.count = count;
         stop
     }
@@ -73,6 +100,7 @@ impl Strand {
         requires stopped { HasStopped self.old }
         ensures of { self.new.of ≡ self.old.of }
         ensures keeps { ComesTo result self.old self.new }
+        ensures nothing { HandsNothing result }
         ensures counts { self.new.count ≡ self.old.count }
         ensures goes { GoesOn result self.new }
     {
@@ -90,6 +118,7 @@ impl Strand {
         requires within { to ≤ end }
         ensures of { self.new.of ≡ self.old.of }
         ensures keeps { ComesOr ((to < end) × (stop ≡ stops.Over)) result self.old self.new }
+        ensures spawns { HandsOutAt stop result }
         ensures counts { self.new.count ≡ self.old.count }
         ensures goes { GoesOn result self.new }
     {
@@ -130,7 +159,7 @@ impl Strand {
         ensures leaves { LeavesEnd result self.old self.new }
     {
         let count = self.count;
-        let stop = self.run_on(count);
+        let stop = self.run_on(count, Spawns::HandedOut);
         match stop {
             Stop::Joined => Some(self.join_effect(count)),
             _ => None,
@@ -154,19 +183,19 @@ impl Strand {
     }
 
     /// Goes on to its next event, as `go`, but that an effect is not made yet; or by so many instructions, where no event
-    /// comes before: `Ran`.
+    /// comes before: `Ran`. With its spawns in place it hands nothing out.
     #[inline(always)]
-    pub fn next_event(&mut self, most: u64) -> Event
+    pub fn next_event(&mut self, most: u64, spawns: Spawns) -> Event
         requires { IsRunning self.old }
         ensures of { self.new.of ≡ self.old.of }
-        ensures keeps { ComesWithin most result self.old self.new }
+        ensures keeps { ComesWithin most spawns result self.old self.new }
         ensures leaves { LeavesAt result self.old self.new }
     {
         match self.mode {
             Mode::Going => {
                 let end = self.end_of_job();
                 let to = within(self.count, most, end);
-                let stop = self.run_on(to);
+                let stop = self.run_on(to, spawns);
                 self.settle(stop, to, end)
             }
             _ => {
@@ -202,7 +231,7 @@ impl Strand {
         ensures keeps { KeptBy result self.old self.new }
         ensures leaves { Leaves result self.old self.new }
     {
-        match self.next_event(u64::MAX) {
+        match self.next_event(u64::MAX, Spawns::HandedOut) {
             Event::Spawned(job) => Step::Spawned(job),
             Event::AtSync => Step::AtSync,
             Event::AtEnd(end) => Step::Ended(self.effect_at(end)),

@@ -126,12 +126,14 @@ impl Strand {
         match self.cut_out(&spawn, end) {
             Ok((parts, lender)) => {
                 let job = Job { parts };
+                let floor = self.run.calls();
                 self.lent.push_reserved(Lent {
                     job: Snapshot::of(&job),
                     home: Home {
                         lender,
                         lent: spawn.lent,
                         target: spawn.target,
+                        floor,
                     },
                 });
                 Event::Spawned(job)

@@ -27,6 +27,7 @@ pub(crate) fn home_of(lent: Option<Lent>) -> Home
             lender: Lender { first: 0, slots: 0 },
             lent: None,
             target: None,
+            floor: 0,
         },
     }
 }

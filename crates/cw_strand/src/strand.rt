@@ -1,8 +1,10 @@
 //! A strand: a run of a job that hands the rests of its blocks out.
 //!
-//! A strand goes on up to its next event: a spawn, whose rest it hands out as a job; the return of a spawned call, at
-//! which it waits for that rest; or its end, with an effect that means its job. A rest that came back unrun costs
-//! nothing: the strand goes on with it itself.
+//! A strand goes on up to its next event: a spawn, whose rest it hands out as a job; the return of the newest spawned call
+//! whose rest is out, at which it waits for that rest; or its end, with an effect that means its job. A rest that came
+//! back unrun costs nothing: the strand goes on with it itself.
+//!
+//! It may also go on with its spawns in place: then it hands nothing out, and a call that was spawned so returns in place.
 
 use cw_jobs::call::Parts;
 use cw_jobs::effect::Effect;
@@ -38,6 +40,8 @@ pub struct Home {
     pub(crate) lent: Option<u32>,
     /// The slot that takes the result of the call that was spawned, if one does.
     pub(crate) target: Option<u32>,
+    /// How many calls waited in the run as the spawned call began, by which its return is known.
+    pub(crate) floor: usize,
 }
 
 /// A job that is out.
@@ -47,6 +51,15 @@ pub struct Lent {
     pub(crate) job: Snapshot<Job>,
     /// Where it comes back to.
     pub(crate) home: Home,
+}
+
+/// What a strand does with the rests of the blocks that spawn.
+#[derive(Clone, Copy, Debug)]
+pub enum Spawns {
+    /// It hands each out.
+    HandedOut,
+    /// It hands none out: it does spawns as calls, and what was spawned so returns as a call.
+    InPlace,
 }
 
 /// What a strand came to.

@@ -9,7 +9,7 @@ ghost use Rattle.cw_strand.specs.declared.strand.Step.TheVariants as step;
 
 use cw_jobs::effect::Effect;
 use cw_jobs::job::Job;
-use cw_strand::strand::{Advance, Step, Strand};
+use cw_strand::strand::{Advance, Event, Spawns, Step, Strand};
 use std::alloc::Global;
 use std::snapshot::Snapshot;
 
@@ -28,6 +28,17 @@ pub enum Fate {
 #[derive(Clone, Copy)]
 pub struct Lost;
 
+/// How a strand goes on.
+#[derive(Clone, Copy)]
+pub enum Pace {
+    /// To its next event.
+    ToEvents,
+    /// By one instruction at a time.
+    ByOne,
+    /// By at most so many instructions with its spawns in place, and then to its next event.
+    InPlace(u64),
+}
+
 /// What is told beforehand of a run.
 #[derive(Clone, Copy)]
 pub struct Way<'a> {
@@ -35,8 +46,8 @@ pub struct Way<'a> {
     pub fates: &'a [Fate],
     /// Whether a strand is asked for its end before it goes on.
     pub asks_ends: bool,
-    /// Whether a strand goes on by one instruction at a time.
-    pub by_one: bool,
+    /// How a strand goes on.
+    pub pace: Pace,
 }
 
 /// Where a run is broken off.
@@ -131,19 +142,48 @@ fn come_in(strand: &mut Strand, job: Snapshot<Job>, effect: Effect)
     strand.give(effect);
 }
 
-// Goes on with a strand to its next event, or by one instruction, which may be none.
-fn step(strand: &mut Strand, by_one: bool) -> Option<Step>
+// Goes on with a strand by one instruction, which may be none.
+fn one_on(strand: &mut Strand) -> Option<Step>
     requires running { IsRunning strand.old }
     ensures of { strand.new.of ≡ strand.old.of }
     ensures none { result ≡ None → IsRunning strand.new × (outs strand.new ≡ outs strand.old) }
     ensures some { IfSome result (λ step. KeptBy step strand.old strand.new) }
 {
-    if !by_one {
-        return Some(strand.go());
-    }
     match strand.advance() {
         Advance::Ran => None,
         Advance::Came(step) => Some(step),
+    }
+}
+
+// Goes on with a strand by so many instructions, with its spawns in place.
+fn in_place(strand: &mut Strand, most: u64) -> Option<Step>
+    requires running { IsRunning strand.old }
+    ensures of { strand.new.of ≡ strand.old.of }
+    ensures none { result ≡ None → IsRunning strand.new × (outs strand.new ≡ outs strand.old) }
+    ensures some { IfSome result (λ step. KeptBy step strand.old strand.new) }
+{
+    match strand.next_event(most, Spawns::InPlace) {
+        Event::Ran => None,
+        Event::AtSync => Some(Step::AtSync),
+        Event::AtEnd(end) => Some(Step::Ended(strand.effect_at(end))),
+        Event::Spawned(_) => unreachable!(),
+    }
+}
+
+// Goes on with a strand so, which may come to no event.
+fn step(strand: &mut Strand, pace: Pace) -> Option<Step>
+    requires running { IsRunning strand.old }
+    ensures of { strand.new.of ≡ strand.old.of }
+    ensures none { result ≡ None → IsRunning strand.new × (outs strand.new ≡ outs strand.old) }
+    ensures some { IfSome result (λ step. KeptBy step strand.old strand.new) }
+{
+    match pace {
+        Pace::ToEvents => Some(strand.go()),
+        Pace::ByOne => one_on(strand),
+        Pace::InPlace(most) => match in_place(strand, most) {
+            Some(step) => Some(step),
+            None => Some(strand.go()),
+        },
     }
 }
 
@@ -183,7 +223,7 @@ fn go_on(guide: &mut Guide, depth: u32, strand: &mut Strand) -> Result<Option<Ef
                 return Ok(Some(effect));
             }
         }
-        match step(strand, guide.way.by_one) {
+        match step(strand, guide.way.pace) {
             None => {}
             Some(step) => match step {
                 Step::Spawned(job) => see_to(guide, depth - 1, strand, job)?,

@@ -6,7 +6,7 @@ use crate::arrays::{CUT, MADE, SQUARES};
 use crate::calls::{
     DIVIDED, DIVIDED_BESIDE_FOREVER, DIVIDED_TWICE, FIB, GREATEST_IN_TURNS, NESTED, PRINTED, SUMMED,
 };
-use crate::driving::{Break, Fate, WHOLE, Way, run_so};
+use crate::driving::{Break, Fate, Pace, WHOLE, Way, run_so};
 use crate::programs::{Program, code_of};
 use crate::readers::TOTAL;
 use cw_jobs::effect::Effect;
@@ -51,43 +51,66 @@ const WAYS: [Way<'static>; 7] = [
     Way {
         fates: &[Fate::TakenBack],
         asks_ends: false,
-        by_one: false,
+        pace: Pace::ToEvents,
     },
     Way {
         fates: &[Fate::ApartAtOnce],
         asks_ends: false,
-        by_one: false,
+        pace: Pace::ToEvents,
     },
     Way {
         fates: &[Fate::ApartAtJoin],
         asks_ends: false,
-        by_one: false,
+        pace: Pace::ToEvents,
     },
     Way {
         fates: &[Fate::TakenBack, Fate::ApartAtOnce],
         asks_ends: false,
-        by_one: false,
+        pace: Pace::ToEvents,
     },
     Way {
         fates: &[Fate::ApartAtJoin, Fate::TakenBack],
         asks_ends: false,
-        by_one: false,
+        pace: Pace::ToEvents,
     },
     Way {
         fates: &[Fate::ApartAtOnce, Fate::ApartAtJoin, Fate::TakenBack],
         asks_ends: true,
-        by_one: true,
+        pace: Pace::ByOne,
     },
     Way {
         fates: &[Fate::TakenBack],
         asks_ends: true,
-        by_one: true,
+        pace: Pace::ByOne,
+    },
+];
+
+// The same where some spawns are done in place, within few instructions and within many.
+const MIXED: [Way<'static>; 3] = [
+    Way {
+        fates: &[Fate::TakenBack, Fate::ApartAtJoin],
+        asks_ends: false,
+        pace: Pace::InPlace(1),
+    },
+    Way {
+        fates: &[Fate::ApartAtOnce, Fate::TakenBack],
+        asks_ends: true,
+        pace: Pace::InPlace(13),
+    },
+    Way {
+        fates: &[Fate::ApartAtJoin],
+        asks_ends: false,
+        pace: Pace::InPlace(40),
     },
 ];
 
 // The tables by functions, so that a proof has each of them before it once.
 fn ways() -> [Way<'static>; 7] {
     WAYS
+}
+
+fn mixed() -> [Way<'static>; 3] {
+    MIXED
 }
 
 fn ending() -> [Row<'static>; 12] {
@@ -143,15 +166,24 @@ fn holds(
     is_same(alloc, &code.code, &alone, effect, row.cost)
 }
 
+// Whether a row holds within a limit, all ways.
+fn holds_within(alloc: Global, code: &Arc<Verified>, row: &Row, limit: u64) -> Result<bool, Fault> {
+    let mut all = true;
+    for way in &ways() {
+        all = holds(alloc, code, row, way, limit)? && all;
+    }
+    for way in &mixed() {
+        all = holds(alloc, code, row, way, limit)? && all;
+    }
+    Ok(all)
+}
+
 // Whether a row holds at its cost all ways, and with one worker is what was worked out.
 fn holds_all_ways(alloc: Global, row: &Row) -> Result<bool, Fault> {
     let code = code_of(alloc, &row.program)?;
     let first = alone(alloc, &code, row, row.cost)?;
-    let mut all = is_told(&first, &row.told, row.cost);
-    for way in &ways() {
-        all = holds(alloc, &code, row, way, row.cost)? && all;
-    }
-    Ok(all)
+    let all = is_told(&first, &row.told, row.cost);
+    Ok(holds_within(alloc, &code, row, row.cost)? && all)
 }
 
 // Whether a row holds within each limit up to one above its cost, all ways.
@@ -159,9 +191,7 @@ fn holds_within_limits(alloc: Global, row: &Row) -> Result<bool, Fault> {
     let code = code_of(alloc, &row.program)?;
     let mut all = true;
     for limit in 1..=row.cost.saturating_add(1) {
-        for way in &ways() {
-            all = holds(alloc, &code, row, way, limit)? && all;
-        }
+        all = holds_within(alloc, &code, row, limit)? && all;
     }
     Ok(all)
 }

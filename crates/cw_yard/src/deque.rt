@@ -11,7 +11,7 @@ ghost use Rattle.cw_yard.specs.Ledger.{Dealt, MayPush, pushed, Retakes, TakesLas
 
 use crate::cells::Token;
 use crate::task::{DequeView, Item, Task};
-use crossbeam_deque::protocol::{Outcome, Protocol, Split};
+use crossbeam_deque::protocol::{Lesson, Outcome, Protocol, Split};
 use crossbeam_deque::{Pass, Steal, Stealer, Worker};
 use std::alloc::{AllocError, Global};
 
@@ -63,6 +63,12 @@ impl Outcome<Item, DequeView> for Thefts {
 
 pub struct Guests;
 
+pub struct Lengths;
+
+impl Lesson<Item, DequeView> for Lengths {
+    ghost fact = { λ v xs. xs ≡ xs };
+}
+
 impl Split<DequeView> for Guests {
     ghost left = { λ v. v };
 
@@ -92,6 +98,14 @@ pub fn guest(own: &mut OwnDeque) -> ThiefPass
         × (view result ≡ as_thief (worker_view own.old)) }
 {
     own.another::<Guests>()
+}
+
+/// How many jobs lay in it at one moment of the call.
+#[inline(always)]
+pub fn len(own: &mut OwnDeque) -> usize
+    ensures { SameWorker own.old own.new × (worker_view own.new ≡ worker_view own.old) }
+{
+    own.len_as::<Lengths>()
 }
 
 /// Err only where the deque could not grow.

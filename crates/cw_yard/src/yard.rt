@@ -9,7 +9,7 @@ ghost use Rattle.cw_yard.specs.Seats.{IsSeatOf, IsTicketOf, IsDutyOf, offered_by
 
 use crate::seat::{Seat, Yard};
 use crate::ticket::{Duty, Ticket};
-use crate::{handoff, mark};
+use crate::{deque, handoff, mark};
 use crossbeam_utils::sync::EventCount;
 use cw_jobs::effect::Effect;
 use cw_jobs::job::Job;
@@ -165,6 +165,19 @@ impl Yard {
     /// that look, what comes after it wakes the sleeper. No contract speaks of it.
     pub fn bell(&self) -> &EventCount {
         &self.bell
+    }
+
+    /// How many of the jobs that a seat offered lay in its deque at one moment of the call: who takes one back or steals
+    /// one makes it fewer. Takes no memory and waits for nobody.
+    #[inline(always)]
+    pub fn waiting(&self, seat: &mut Seat) -> usize
+        requires { IsSeatOf self.now seat.old }
+        ensures seat { IsSeatOf self.now seat.new × KeepsRoom seat.old seat.new }
+        ensures offers { offered_by seat.new ≡ offered_by seat.old }
+        ensures kept { KeepsCells seat.old seat.new × KeepsThefts seat.old seat.new
+            × KeepsSight seat.old seat.new }
+    {
+        deque::len(&mut seat.own)
     }
 
     /// How many workers it has, 1 to 64.

@@ -1,4 +1,4 @@
-use Rattle.std.proofs.Common.{◌≡◌, sym, ap, ◌∙◌, subst, inl}
+use Rattle.std.proofs.Common.{◌≡◌, true, sym, ap, ◌∙◌, subst, inl}
 use Rattle.std.specs.Prelude.{map, reverse}
 use Rattle.cw_machine.specs.declared.run.Stop.TheVariants as stop
 use Rattle.cw_jobs.specs.Means.{IsMeaningOf}
@@ -13,7 +13,7 @@ pub returns-in_default-clause-joins : goal.returns-in_default-clause-joins
 returns-in_default-clause-joins c =
     let self = c.args.self.now in
     let mid = c.run_on-stop.new.self in
-    let over = over_of self mid c.run_on-stop.result c.run_on-stop.ensures.ran c.in_default.not-Joined in
+    let over = over_of self mid true c.run_on-stop.result c.run_on-stop.ensures.ran c.in_default.not-Joined in
     let come : HasCome mid self.count stop.Over = subst (HasCome mid self.count) over c.run_on-stop.ensures.comes in
     let still = over_count mid self.count come in (
       over_goes mid self.count come,
@@ -31,7 +31,7 @@ returns-in-Joined-clause-joins c =
     let mid = c.run_on-stop.new.self in
     let e = c.join_effect.result in
     let same : outs mid ≡ outs self = ap (λ v. map (λ l. l.job.value) (reverse v.items)) c.run_on-stop.ensures.same.1 in
-    let still = stays self mid c.run_on-stop.result c.run_on-stop.ensures.ran in (
+    let still = stays self mid true c.run_on-stop.result c.run_on-stop.ensures.ran in (
       (subst (λ o. IsMeaningOf o.value e) c.run_on-stop.ensures.same.0 c.join_effect.ensures.means, sym same ∙ c.join_effect.ensures.none),
       subst (EndsStill e) still c.join_effect.ensures.counts,
       λ before. c.run_on-stop.ensures.ran.before before still c.in-Joined.is,

@@ -16,7 +16,7 @@ rest-requires-clause-running c = spared_runs c.calls_on_a_strand_keep_its_job.en
 pub returns-in-Ok-clause-keeps : goal.returns-in-Ok-clause-keeps
 returns-in-Ok-clause-keeps c =
     lent_step c.calls_on_a_strand_keep_its_job.ensures c.machines_that_stop_remain.ensures.apart c.args.self.now c.cut_out.new.self _ c.args.end c.args.spawn _ c.in-Ok.lender
-    (record { job = c.of.result; home = record { lender = c.in-Ok.lender; lent = c.args.spawn.lent; target = c.args.spawn.target } }) c.requires.comes c.in-Ok.ensures.cut c.of.ensures refl refl refl refl refl refl refl refl refl c.push_reserved.ensures.items
+    (record { job = c.of.result; home = record { lender = c.in-Ok.lender; lent = c.args.spawn.lent; target = c.args.spawn.target; floor = c.calls-floor.result } }) c.requires.comes c.in-Ok.ensures.cut c.of.ensures refl refl refl c.calls-floor.ensures refl refl refl refl refl refl c.push_reserved.ensures.items
 
 pub returns-in-Ok-clause-goes : goal.returns-in-Ok-clause-goes
 returns-in-Ok-clause-goes c = c.in-Ok.ensures.cut.mode ∙ c.requires.comes.going

@@ -7,7 +7,7 @@ use Rattle.cw_strand.proofs.strand.Strand.next_event.Goals as goal
 pub returns-in-Going-clause-keeps : goal.returns-in-Going-clause-keeps
 returns-in-Going-clause-keeps c =
     comes_within c.args.most c.within-to.result c.end_of_job-end.result c.run_on-stop.result c.settle.result c.args.self.now c.run_on-stop.new.self c.settle.new.self
-    (ap (λ v. map (λ l. l.job.value) (reverse v.items)) c.run_on-stop.ensures.same.1) c.within-to.ensures.by c.run_on-stop.ensures.comes c.settle.ensures.keeps
+    (ap (λ v. map (λ l. l.job.value) (reverse v.items)) c.run_on-stop.ensures.same.1) c.within-to.ensures.by c.run_on-stop.ensures.comes c.args.spawns c.run_on-stop.ensures.ran c.settle.ensures.spawns c.settle.ensures.keeps
 
 pub returns-in-Going-clause-leaves : goal.returns-in-Going-clause-leaves
 returns-in-Going-clause-leaves c = leaves_going c.settle.result c.args.self.now c.settle.new.self c.in-Going.is c.settle.ensures.goes

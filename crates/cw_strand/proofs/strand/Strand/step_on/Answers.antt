@@ -1,10 +1,10 @@
-use Rattle.std.proofs.Common.{◌≡◌, ◌+◌, ◌∷◌, sym, ap, subst, ◌∙◌, arith}
+use Rattle.std.proofs.Common.{◌≡◌, true, ◌+◌, ◌∷◌, sym, ap, subst, ◌∙◌, arith}
 use Rattle.std.specs.Prelude.{◌-◌, ◌<◌, map, reverse}
 use Rattle.cw_machine.specs.declared.run.Stop.TheVariants as stop
 use Rattle.cw_strand.specs.Holds.{outs}
 use Rattle.cw_strand.specs.Moves.{ComesOr, HasCome}
 use Rattle.cw_strand.proofs.RunsOn.{over_goes}
-use Rattle.cw_strand.proofs.Advanced.{over_count, came_on, led_on, one_done}
+use Rattle.cw_strand.proofs.Advanced.{over_count, came_on, one_done}
 use Rattle.cw_strand.proofs.strand.Strand.step_on.Goals as goal
 
 pub settle-requires : goal.settle-requires
@@ -33,7 +33,7 @@ returns-in-Spawned-clause-advances c =
     let self = c.args.self.now in
     let mid = c.run_on-stop.new.self in
     let same : outs mid ≡ outs self = ap (λ v. map (λ l. l.job.value) (reverse v.items)) c.run_on-stop.ensures.same.1 in
-    let one = one_done self mid c.run_on-stop.result c.run_on-stop.ensures.ran c.requires.before c.run_on-stop.ensures.comes in
+    let one = one_done self mid true c.run_on-stop.result c.run_on-stop.ensures.ran c.requires.before c.run_on-stop.ensures.comes in
     let h = subst (λ e. ComesOr ((self.count + 1 < c.args.end) × (c.run_on-stop.result ≡ stop.Over)) e mid c.settle.new.self) c.in-Spawned.is c.settle.ensures.keeps in
     ((h.0, h.1 ∙ ap (λ l. c.in-Spawned.job ∷ l) same), c.settle.ensures.counts ∙ one)
 
@@ -44,7 +44,7 @@ returns-in-AtSync-clause-advances c =
     let same : outs mid ≡ outs self = ap (λ v. map (λ l. l.job.value) (reverse v.items)) c.run_on-stop.ensures.same.1 in
     let reason = (self.count + 1 < c.args.end) × (c.run_on-stop.result ≡ stop.Over) in
     came_on reason self mid c.settle.new.self same
-    (one_done self mid c.run_on-stop.result c.run_on-stop.ensures.ran c.requires.before c.run_on-stop.ensures.comes) c.settle.ensures.counts
+    (one_done self mid true c.run_on-stop.result c.run_on-stop.ensures.ran c.requires.before c.run_on-stop.ensures.comes) c.settle.ensures.counts
     (subst (λ e. ComesOr reason e mid c.settle.new.self) c.in-AtSync.is c.settle.ensures.keeps)
 
 pub returns-in-AtSync-clause-leaves : goal.returns-in-AtSync-clause-leaves
