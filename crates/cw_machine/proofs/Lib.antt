@@ -72,3 +72,4 @@ pub mod Listened
 pub mod EndsAs
 pub mod Freeings
 pub mod MainRuns
+pub mod AtTrap

@@ -8,6 +8,7 @@ mod loops;
 mod measures;
 mod requests;
 mod schedules;
+mod standing;
 mod strands;
 
 use crate::machine::arrays::{ARRAYS, ARRAYS_OF_ONE};

@@ -1,0 +1,141 @@
+-- Where a run stands that traps, and what its instruction has there.
+use Rattle.std.specs.Prelude.{◌≡◌, ℕ, ◌+◌, ◌<◌, ℤ, true, List, [], ◌∷◌, length, Option, Some, None, slice_get}
+use Rattle.std.specs.Prelude.{Result, MatchResult}
+use Rattle.cw_model.specs.declared.total.Total.{Total}
+use Rattle.cw_model.specs.declared.trap.Trap.{Trap}
+use Rattle.cw_model.specs.Burdens.{no_burden}
+use Rattle.cw_model.specs.Frames.{no_frame}
+use Rattle.cw_model.specs.Trees.{Tree}
+use Rattle.cw_model.specs.Outcome.{Trace, Done, Over}
+use Rattle.cw_model.specs.Answers.{Ended, TrappedAt}
+use Rattle.cw_text.specs.declared.fault.Fault.{Fault}
+use Rattle.cw_code.specs.declared.code.Func.{Func}
+use Rattle.cw_code.specs.declared.code.Instr.{Instr}
+use Rattle.cw_code.specs.declared.code.Instr.TheVariants as instr
+use Rattle.cw_code.specs.Code.{Code, code_view}
+use Rattle.cw_code.specs.Run.{State, Stops, arguments_of, step, steps, first_state, code_serial}
+use Rattle.cw_runnable.specs.declared.op.Op.{Op}
+use Rattle.cw_runnable.specs.declared.op.Op.TheVariants as op
+use Rattle.cw_runnable.specs.declared.verified.Verified.{Verified}
+use Rattle.cw_machine.specs.declared.machine.Machine.{Machine}
+use Rattle.cw_machine.specs.declared.standing.Had.{Had}
+use Rattle.cw_machine.specs.declared.standing.Had.TheVariants as had
+use Rattle.cw_machine.specs.declared.standing.Halt.{Halt}
+use Rattle.cw_machine.specs.declared.standing.Halt.TheVariants as halt
+use Rattle.cw_machine.specs.declared.standing.Standing.{Standing}
+use Rattle.cw_machine.specs.Arrays.{IsFit, alone, view}
+use Rattle.cw_machine.specs.Shows.{cell, Shows}
+use Rattle.cw_machine.specs.Runs.{is_request, IsFailure}
+
+-- this is the last operand
+abbrev pub IsLast : State → ℤ → Type 0
+IsLast s x = (rest : List ℤ) × (s.operands ≡ x ∷ rest)
+
+-- these are the last two, the first one first
+abbrev pub AreLast : State → (x y : ℤ) → Type 0
+AreLast s x y = (rest : List ℤ) × (s.operands ≡ y ∷ x ∷ rest)
+
+-- an index that is the last operand, and the length of its array
+abbrev pub HasIndex : State → Had → (xs : List ℤ) → Type 0
+HasIndex s h xs = (i : ℤ) × IsLast s i × (h ≡ had.Index i (length xs))
+
+-- the ends of a loop's range, which are its first two arguments
+abbrev pub HasRange : State → Had → Func → Type 0
+HasRange s h f =
+    (low : ℤ) × (high : ℤ) × (captured : List ℤ) × (arguments_of f s.operands ≡ low ∷ high ∷ captured)
+    × (least : Option ℕ) × (h ≡ had.Range low high least)
+
+-- what an instruction has in a state, if it can trap
+abbrev pub Has : Code → State → Had → Option Instr → Type 0
+Has code s h (Some (instr.Unary operator line)) = (x : ℤ) × IsLast s x × (h ≡ had.One operator x)
+Has code s h (Some (instr.Binary operator line)) = (x : ℤ) × (y : ℤ) × AreLast s x y × (h ≡ had.Two operator x y)
+Has code s h (Some (instr.NewArray a line)) = (x : ℤ) × IsLast s x × (h ≡ had.Length x)
+Has code s h (Some (instr.Element a line)) =
+    (xs : List ℤ) × (slice_get s.arrays a ≡ Some (Some xs)) × HasIndex s h xs
+Has code s h (Some (instr.ReadElement r line)) =
+    (xs : List ℤ) × (slice_get s.readers r ≡ Some xs) × HasIndex s h xs
+Has code s h (Some (instr.SetElement a line)) =
+    (xs : List ℤ) × (slice_get s.arrays a ≡ Some (Some xs))
+    × (i : ℤ) × (x : ℤ) × AreLast s i x × (h ≡ had.Index i (length xs))
+Has code s h (Some (instr.Cut halves line)) =
+    (xs : List ℤ) × (slice_get s.arrays halves.array ≡ Some (Some xs))
+    × (i : ℤ) × IsLast s i × (h ≡ had.Cut i (length xs))
+Has code s h (Some (instr.Start c line)) = (f : Func) × (slice_get code.funcs c.function ≡ Some f) × HasRange s h f
+Has code s h (Some (instr.Call kind c)) = h ≡ had.Call s.depth c.site
+Has code s h _ = Unit {0}
+
+-- what the next instruction of a state has
+abbrev pub HasNext : Code → State → Had → Type 0
+HasNext code s h = Has code s h (slice_get code.instrs s.place)
+
+-- what a machine has for an instruction at which it stands, by its cells and views
+abbrev pub IsHad : Machine → Had → Op → Type 0
+IsHad m h (op.Unary d operator line) = h ≡ had.One operator (cell m.cells.items (m.first + d))
+IsHad m h (op.Binary d operator line) =
+    h ≡ had.Two operator (cell m.cells.items (m.first + d)) (cell m.cells.items (m.first + (d + 1)))
+IsHad m h (op.NewArray d a line) = h ≡ had.Length (cell m.cells.items (m.first + d))
+IsHad m h (op.Element d a line) =
+    h ≡ had.Index (cell m.cells.items (m.first + d)) (view m.views.items (m.first_array + a)).len
+IsHad m h (op.SetElement d a line) =
+    h ≡ had.Index (cell m.cells.items (m.first + d)) (view m.views.items (m.first_array + a)).len
+IsHad m h (op.Cut d halves line) =
+    h ≡ had.Cut (cell m.cells.items (m.first + d)) (view m.views.items (m.first_array + halves.array)).len
+IsHad m h (op.Start d c line) =
+    (least : Option ℕ)
+    × (h ≡ had.Range (cell m.cells.items (m.first + d)) (cell m.cells.items (m.first + (d + 1))) least)
+IsHad m h (op.Call d kind c) = h ≡ had.Call m.depth c.site
+IsHad m h _ = Unit {0}
+
+-- fewer than so many instructions lead from a state to one whose next instruction traps, with what it has there
+pub record TrapsAt (code : Code) (trap : Trap) (line : ℕ) (h : Had) (lines : List ℤ) (n : ℕ) (s : State) : Type 0 where
+  pub done : ℕ
+  pub within : done < n
+  pub state : State
+  pub same : (k : ℕ) → steps code (done + k) s ≡ steps code k state
+  pub traps : step code state ≡ Stops trap line lines
+  pub has : HasNext code state h
+
+-- why a run of at most so many instructions stopped
+abbrev pub Halts : Code → Halt → Machine → (n : ℕ) → State → Type 0
+Halts code halt.Over m n s = steps code n s ≡ Some Over
+Halts code halt.Ended m n s =
+    (x : Option ℤ) × (left : ℕ) × (t : Trace) × (steps code n s ≡ Some (Done (x, no_frame) left t))
+Halts code (halt.Trapped trap line h) m n s = TrapsAt code trap line h m.lines.items n s
+Halts code halt.NoMemory m n s = Unit {0}
+
+-- from each state that a machine may hold
+abbrev pub HaltsAny : Verified → Machine → (n : ℕ) → Halt → Machine → Type 0
+HaltsAny v m n to m' =
+    (is : IsFit v) (s : State) → Shows v (alone v is) m s → Halts (code_view v.code) to m' n s
+
+-- a run of code ends
+pub record EndsAlone (code : Code) (args : List ℤ) (n : ℕ) : Type 0 where
+  pub asked : is_request code args n no_burden ≡ true
+  pub value : ℤ
+  pub lines : List ℤ
+  pub totals : List Total
+  pub tree : Tree
+  pub answer : code_serial code args n ≡ Some (Ended value lines totals tree)
+
+-- from where main begins fewer than so many instructions lead to the one that traps, with what it has there
+abbrev pub Stood : Code → List ℤ → (n : ℕ) → Standing → (lines : List ℤ) → Type 0
+Stood code args n st lines =
+    (f : Func) × (slice_get code.funcs code.main ≡ Some f)
+    × TrapsAt code st.trap st.line st.had lines n (first_state f args [] [])
+
+-- a run of code traps, and where
+pub record Stands (code : Code) (args : List ℤ) (n : ℕ) (st : Standing) : Type 0 where
+  pub asked : is_request code args n no_burden ≡ true
+  pub lines : List ℤ
+  pub answer : code_serial code args n ≡ Some (TrappedAt st.trap st.line lines)
+  pub stood : ∥ Stood code args n st lines ∥₁
+
+-- a run of code that does not fail otherwise traps, or ends
+abbrev pub StandsOrEnds : Code → List ℤ → (n : ℕ) → Option Standing → Type 0
+StandsOrEnds code args n (Some st) = Stands code args n st
+StandsOrEnds code args n None = EndsAlone code args n
+
+-- where a run of code traps, or why it does not
+abbrev pub StandsAsCode : Code → List ℤ → (n : ℕ) → Result (Option Standing) Fault → Type 0
+StandsAsCode code args n result =
+    MatchResult result (StandsOrEnds code args n) (IsFailure code args n no_burden)

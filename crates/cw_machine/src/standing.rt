@@ -1,0 +1,221 @@
+//! Where a run stands that traps: what its last instruction had, and the calls and loops round it.
+
+ghost use Rattle.std.specs.Prelude.{◌≡◌, ◌≤◌, length, IfOk};
+ghost use Rattle.cw_code.specs.Code.{code_view};
+ghost use Rattle.cw_machine.specs.declared.standing.TheConstants.{MOST_ROUND};
+ghost use Rattle.cw_machine.specs.Calls.{SeesEach};
+ghost use Rattle.cw_machine.specs.Shows.{IsAlone, IsAt};
+ghost use Rattle.cw_machine.specs.Standing.{HaltsAny, IsHad, StandsAsCode};
+
+use crate::alone::{is_asked, main_takes};
+use crate::machine::{Machine, Moved};
+use crate::steps::op_at;
+use cw_code::code::UnaryOperator;
+use cw_model::burden::{Burden, Edges};
+use cw_model::syntax::Operator;
+use cw_model::trap::Trap;
+use cw_runnable::op::Op;
+use cw_runnable::verified::Verified;
+use cw_text::Fault;
+use std::alloc::{AllocError, Global};
+
+/// The most calls and loops round an instruction that are told one by one.
+pub const MOST_ROUND: usize = 10;
+
+/// The loop of a run up to a trap, as bursts know it.
+pub(crate) struct UpToTrap {}
+
+/// What an instruction has that can trap.
+#[derive(Clone, Copy, Debug, PartialEq, Eq)]
+pub enum Had {
+    /// It is none that can trap.
+    Nothing,
+    /// An operator and its operand.
+    One(UnaryOperator, i64),
+    /// An operator and its operands, the first one first.
+    Two(Operator, i64, i64),
+    /// An index, and the count of the elements of its array.
+    Index(i64, usize),
+    /// The place where an array is cut, and the count of its elements.
+    Cut(i64, usize),
+    /// The length of a new array.
+    Length(i64),
+    /// The ends of a loop's range, and the least count of elements of the arrays that it goes over, if it goes over any.
+    Range(i64, i64, Option<usize>),
+    /// The depth of the caller, and the number of the site of the call.
+    Call(usize, u32),
+}
+
+/// What stands round an instruction.
+#[derive(Clone, Copy, Debug, PartialEq, Eq)]
+pub enum Round {
+    /// A call, by the number of its site.
+    Call(u32),
+    /// Turns of a loop, by its line.
+    Turns(u32),
+}
+
+/// How a run stood that trapped.
+#[derive(Debug, Drop)]
+pub struct Standing {
+    /// The trap.
+    pub trap: Trap,
+    /// Its line.
+    pub line: u32,
+    /// What the instruction had.
+    pub had: Had,
+    /// The calls and loops round it, the innermost first, at most ten. A loop by halves is told once.
+    pub round: Vec<Round>,
+    /// How many more there are.
+    pub further: usize,
+}
+
+/// Why a run up to a trap stopped.
+#[derive(Clone, Copy, Debug)]
+enum Halt {
+    /// It may do no more instructions.
+    Over,
+    /// It ended.
+    Ended,
+    /// A trap, with its line and what the instruction had.
+    Trapped(Trap, u32, Had),
+    /// Memory was refused.
+    NoMemory,
+}
+
+// What called from the place before this one, but for a call that a loop's function makes of itself.
+fn round_of(ops: &[Op], place: usize) -> Option<Round> {
+    if place == 0 || place > ops.len() {
+        return None;
+    }
+    match &ops[place - 1] {
+        Op::Call(_, _, c) => Some(Round::Call(c.site)),
+        Op::Start(_, _, line) => Some(Round::Turns(*line)),
+        _ => None,
+    }
+}
+
+// The lesser of a count and one so far, if there is one.
+fn lesser(so_far: Option<usize>, count: usize) -> Option<usize> {
+    match so_far {
+        Some(least) if least < count => Some(least),
+        _ => Some(count),
+    }
+}
+
+impl Machine {
+    // The least count of elements of the arrays in these slots.
+    fn least_length(&self, passed: &[u32]) -> Option<usize>
+        requires { SeesEach self.now passed.now }
+    {
+        let mut least = None;
+        for k in 0..passed.len() {
+            least = lesser(least, self.view(passed[k]).len);
+        }
+        least
+    }
+
+    // What the instruction has at which it stands.
+    #[inline(always)]
+    fn had(&self, code: &Verified, op: &Op) -> Had
+        requires { ∥ IsAt code.now self.now op.now ∥₁ }
+        ensures { IsHad self.now result op.now }
+    {
+        match op {
+            Op::Unary(d, operator, _) => Had::One(*operator, self.get(*d)),
+            Op::Binary(d, operator, _) => Had::Two(*operator, self.get(*d), self.get(*d + 1)),
+            Op::NewArray(d, _, _) => Had::Length(self.get(*d)),
+            Op::Element(d, a, _) => Had::Index(self.get(*d), self.view(*a).len),
+            Op::SetElement(d, a, _) => Had::Index(self.get(*d), self.view(*a).len),
+            Op::Cut(d, h, _) => Had::Cut(self.get(*d), self.view(h.array).len),
+            Op::Start(d, c, _) => {
+                let least = self.least_length(code.slots_named(c.passed));
+                Had::Range(self.get(*d), self.get(*d + 1), least)
+            }
+            Op::Call(_, _, c) => Had::Call(self.depth, c.site),
+            _ => Had::Nothing,
+        }
+    }
+
+    // At most so many instructions, from where the machine stands: why it stopped.
+    #[inline(never)]
+    fn run_up_to_trap(&mut self, code: &Verified, limit: u64) -> Halt
+        requires { ∥ IsAlone code.now self.old ∥₁ }
+        ensures { HaltsAny code.now self.old limit result self.new }
+    {
+        let ops = code.ops.as_slice();
+        let fast = code.fast.as_slice();
+        let mut left = limit;
+        loop {
+            left = self.burst::<UpToTrap>(code, fast, left);
+            if left == 0 {
+                return Halt::Over;
+            }
+            let had = self.had(code, op_at(ops, self.place));
+            match self.step::<UpToTrap>(code, ops) {
+                Moved::On => {}
+                Moved::Gave(_value) => return Halt::Ended,
+                Moved::Trapped(trap, line) => return Halt::Trapped(trap, line, had),
+                Moved::NoMemory => return Halt::NoMemory,
+            }
+            left -= 1;
+        }
+    }
+
+    // What stands round the call that runs, the innermost first, at most ten, and how many more there are.
+    fn round(&self, alloc: Global, code: &Verified) -> Result<(Vec<Round>, usize), AllocError>
+        ensures { IfOk result (λ told. length told.0.items ≤ MOST_ROUND) }
+    {
+        let ops = code.ops.as_slice();
+        let mut round: Vec<Round> = Vec::new(alloc);
+        let mut further: usize = 0;
+        for frame in self.frames.iter().rev() {
+            match round_of(ops, frame.place) {
+                None => {}
+                Some(one) if round.len() < MOST_ROUND => round.push(one)?,
+                Some(_) => further = further.saturating_add(1),
+            }
+        }
+        Ok((round, further))
+    }
+}
+
+/// Runs code on these arguments within `n` instructions up to the instruction that traps, with nothing counted: the trap
+/// and its line, as the run of the code has them, what the instruction had at which it stood, and, of which no contract
+/// says more than how many, the calls and loops round it. None exactly where the run ends.
+///
+/// The error is `Arguments` exactly where the count of the arguments is not that of `main`'s parameters, or `n` is not
+/// in 1..=2^62; otherwise `OverLimit` exactly where the run costs more than `n`, and `Memory` where memory runs out.
+/// Nothing is kept of the run but what is answered.
+pub fn stand_at_trap(
+    alloc: Global,
+    code: &Verified,
+    args: &[i64],
+    n: u64,
+) -> Result<Option<Standing>, Fault>
+    ensures { StandsAsCode (code_view code.now.code) args.now n result }
+{
+    let burden = Burden {
+        charge: 0,
+        edges: Edges::Spawn,
+    };
+    if !is_asked(main_takes(code), args.len(), n, burden) {
+        return Err(Fault::Arguments);
+    }
+    let mut machine = Machine::begun(alloc, code, args)?;
+    match machine.run_up_to_trap(code, n) {
+        Halt::Over => Err(Fault::OverLimit),
+        Halt::Ended => Ok(None),
+        Halt::Trapped(trap, line, had) => {
+            let (round, further) = machine.round(alloc, code)?;
+            Ok(Some(Standing {
+                trap,
+                line,
+                had,
+                round,
+                further,
+            }))
+        }
+        Halt::NoMemory => Err(Fault::Memory),
+    }
+}

@@ -1,0 +1,279 @@
+//! How runs stand that trap: the values of the instruction that traps, and what is round it. Each at its cost, and over
+//! its limit at one less.
+
+use crate::machine::loops::LOOPING;
+use crate::machine::{Setting, code_in};
+use crate::programs::{CALLED, SPAWNED};
+use cw_code::code::{Halves, Instr, UnaryOperator};
+use cw_machine::standing::{Had, Round, Standing, stand_at_trap};
+use cw_model::syntax::{CallKind, Operator};
+use cw_runnable::verified::Verified;
+use cw_text::Fault;
+use std::alloc::Global;
+
+const END: Instr = Instr::ReturnValue;
+
+// The first array's two parts.
+const PARTS: Halves = Halves {
+    array: 0,
+    left: 1,
+    right: 2,
+};
+
+/// A main, its arguments and its cost up to the trap; the trap's number and line, and what is told of it.
+#[derive(Clone, Copy)]
+struct Stood {
+    name: &'static str,
+    setting: Setting,
+    body: &'static [Instr],
+    args: &'static [i64],
+    cost: u64,
+    trap: u8,
+    line: u32,
+    had: Had,
+    round: &'static [Round],
+}
+
+static OPERATORS: [Stood; 5] = [
+    Stood {
+        name: "the least number with the other sign",
+        setting: Setting::Small,
+        body: &[
+            Instr::Load(0),
+            Instr::Unary(UnaryOperator::Negative, 7),
+            END,
+        ],
+        args: &[i64::MIN],
+        cost: 2,
+        trap: 1,
+        line: 7,
+        had: Had::One(UnaryOperator::Negative, i64::MIN),
+        round: &[],
+    },
+    Stood {
+        name: "a quotient by 0, its operands in order",
+        setting: Setting::Small,
+        body: &[
+            Instr::Push(7),
+            Instr::Load(0),
+            Instr::Binary(Operator::Divide, 2),
+            END,
+        ],
+        args: &[0],
+        cost: 3,
+        trap: 2,
+        line: 2,
+        had: Had::Two(Operator::Divide, 7, 0),
+        round: &[],
+    },
+    // an operand of main stays below
+    Stood {
+        name: "a sum above the greatest number",
+        setting: Setting::Small,
+        body: &[
+            Instr::Push(5),
+            Instr::Push(i64::MAX),
+            Instr::Load(0),
+            Instr::Binary(Operator::Plus, 3),
+            Instr::Binary(Operator::Plus, 4),
+            END,
+        ],
+        args: &[2],
+        cost: 4,
+        trap: 1,
+        line: 3,
+        had: Had::Two(Operator::Plus, i64::MAX, 2),
+        round: &[],
+    },
+    Stood {
+        name: "a difference in a call",
+        setting: Setting::Small,
+        body: &[
+            Instr::Push(i64::MIN),
+            Instr::Load(0),
+            Instr::Call(CallKind::Plain, CALLED),
+            Instr::Push(0),
+            END,
+        ],
+        args: &[1],
+        cost: 6,
+        trap: 1,
+        line: 3,
+        had: Had::Two(Operator::Minus, i64::MIN, 1),
+        round: &[Round::Call(3)],
+    },
+    Stood {
+        name: "the same in a spawned call",
+        setting: Setting::Small,
+        body: &[
+            Instr::Push(i64::MAX),
+            Instr::Load(0),
+            Instr::Call(CallKind::Spawned, SPAWNED),
+            Instr::Push(0),
+            END,
+        ],
+        args: &[-1],
+        cost: 6,
+        trap: 1,
+        line: 3,
+        had: Had::Two(Operator::Minus, i64::MAX, -1),
+        round: &[Round::Call(4)],
+    },
+];
+
+static ARRAYS: [Stood; 6] = [
+    Stood {
+        name: "an index as great as the length",
+        setting: Setting::ArraysOfOne,
+        body: &[
+            Instr::Push(3),
+            Instr::NewArray(0, 2),
+            Instr::Load(0),
+            Instr::Element(0, 4),
+            END,
+        ],
+        args: &[3],
+        cost: 4,
+        trap: 3,
+        line: 4,
+        had: Had::Index(3, 3),
+        round: &[],
+    },
+    Stood {
+        name: "an index below 0, and the value that is written above it",
+        setting: Setting::ArraysOfOne,
+        body: &[
+            Instr::Push(2),
+            Instr::NewArray(1, 2),
+            Instr::Load(0),
+            Instr::Push(9),
+            Instr::SetElement(1, 5),
+            Instr::Push(0),
+            END,
+        ],
+        args: &[-1],
+        cost: 5,
+        trap: 3,
+        line: 5,
+        had: Had::Index(-1, 2),
+        round: &[],
+    },
+    Stood {
+        name: "a length below 0",
+        setting: Setting::ArraysOfOne,
+        body: &[Instr::Load(0), Instr::NewArray(0, 6), Instr::Push(0), END],
+        args: &[-1],
+        cost: 2,
+        trap: 4,
+        line: 6,
+        had: Had::Length(-1),
+        round: &[],
+    },
+    Stood {
+        name: "a cut behind the end",
+        setting: Setting::ArraysOfOne,
+        body: &[
+            Instr::Push(3),
+            Instr::NewArray(0, 2),
+            Instr::Load(0),
+            Instr::Cut(PARTS, 8),
+            Instr::EndCut,
+            Instr::Push(0),
+            END,
+        ],
+        args: &[4],
+        cost: 4,
+        trap: 3,
+        line: 8,
+        had: Had::Cut(4, 3),
+        round: &[],
+    },
+    Stood {
+        name: "a range behind the end",
+        setting: Setting::Halved,
+        body: LOOPING,
+        args: &[1, 4, 2],
+        cost: 5,
+        trap: 3,
+        line: 5,
+        had: Had::Range(1, 4, Some(3)),
+        round: &[],
+    },
+    Stood {
+        name: "too many turns",
+        setting: Setting::Halved,
+        body: LOOPING,
+        args: &[i64::MIN, i64::MAX, 2],
+        cost: 5,
+        trap: 5,
+        line: 5,
+        had: Had::Range(i64::MIN, i64::MAX, Some(3)),
+        round: &[],
+    },
+];
+
+// Whether a run stood so.
+fn is_as(standing: &Standing, row: &Stood) -> bool {
+    standing.trap.number() == row.trap
+        && standing.line == row.line
+        && standing.had == row.had
+        && standing.round.as_slice() == row.round
+        && standing.further == 0
+}
+
+// Whether it stands so at its cost.
+fn stands(alloc: Global, code: &Verified, row: &Stood) -> bool {
+    match stand_at_trap(alloc, code, row.args, row.cost) {
+        Ok(Some(standing)) => is_as(&standing, row),
+        _ => false,
+    }
+}
+
+// Whether it is over its limit at one less.
+fn is_over(alloc: Global, code: &Verified, row: &Stood) -> bool {
+    match stand_at_trap(alloc, code, row.args, row.cost.wrapping_sub(1)) {
+        Err(fault) => fault.number() == 7,
+        Ok(_) => false,
+    }
+}
+
+// Whether a row holds.
+fn is_stood(alloc: Global, row: &Stood) -> bool {
+    match code_in(alloc, row.setting, row.body) {
+        Ok(code) => stands(alloc, &code, row) && is_over(alloc, &code, row),
+        Err(_) => false,
+    }
+}
+
+#[test]
+fn operators(rt: HostRuntime) {
+    for row in &OPERATORS {
+        assert!(rt; is_stood(rt.alloc(), row), "{}", row.name);
+    }
+}
+
+#[test]
+fn arrays(rt: HostRuntime) {
+    for row in &ARRAYS {
+        assert!(rt; is_stood(rt.alloc(), row), "{}", row.name);
+    }
+}
+
+// The number of the fault that a run on this argument has, and 0 where it ends.
+fn number_of(alloc: Global, args: &[i64], limit: u64) -> Result<u8, Fault> {
+    let code = code_in(alloc, Setting::Small, &[Instr::Load(0), END])?;
+    match stand_at_trap(alloc, &code, args, limit) {
+        Ok(None) => Ok(0),
+        Ok(Some(_)) => Ok(255),
+        Err(fault) => Ok(fault.number()),
+    }
+}
+
+#[test]
+fn runs_that_do_not_trap(rt: HostRuntime) -> Result<(), Fault> {
+    let rows: &[(&[i64], u64, u8)] = &[(&[5], 2, 0), (&[5], 1, 7), (&[5], 0, 11), (&[], 2, 11)];
+    for (args, limit, number) in rows {
+        assert_eq!(rt; number_of(rt.alloc(), args, *limit)?, *number);
+    }
+    Ok(())
+}

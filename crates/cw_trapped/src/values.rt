@@ -1,0 +1,108 @@
+//! The values of an instruction that trapped, in words.
+
+use cw_code::code::{Code, Site, UnaryOperator};
+use cw_explain::Word;
+use cw_machine::standing::Had;
+use cw_model::limits::{MOST_DEPTH, MOST_ELEMENTS, MOST_TURNS};
+use cw_model::syntax::Operator;
+use std::fmt;
+
+/// The call site of a number; none where the code has no such site.
+pub fn site_at(code: &Code, number: u32) -> Option<&Site> {
+    let number = number as usize;
+    if number == 0 || number > code.sites.len() {
+        return None;
+    }
+    Some(&code.sites[number - 1])
+}
+
+// An operator, as it is written.
+fn sign(operator: Operator) -> &'static str {
+    match operator {
+        Operator::Equal => "==",
+        Operator::Unequal => "!=",
+        Operator::Less => "<",
+        Operator::AtMost => "<=",
+        Operator::Greater => ">",
+        Operator::AtLeast => ">=",
+        Operator::Plus => "+",
+        Operator::Minus => "-",
+        Operator::Times => "*",
+        Operator::Divide => "/",
+        Operator::Modulo => "%",
+    }
+}
+
+// An operator on one operand, as it is written.
+fn unary_sign(operator: UnaryOperator) -> &'static str {
+    match operator {
+        UnaryOperator::Negative => "-",
+        UnaryOperator::Not => "!",
+    }
+}
+
+/// What an instruction of code had.
+#[derive(Clone, Copy)]
+pub struct Values<'a> {
+    pub code: &'a Code,
+    pub had: Had,
+}
+
+impl fmt::Display for Values<'_> {
+    fn fmt<W: fmt::Write>(&self, f: &mut fmt::Formatter<W>) -> fmt::Result {
+        match self.had {
+            Had::Nothing => write!(f, "it has no values"),
+            Had::One(operator, x) => {
+                let sign = unary_sign(operator);
+                write!(f, "the operand of {sign} is {x}")
+            }
+            Had::Two(operator, x, y) => {
+                let sign = sign(operator);
+                write!(f, "the operands of {sign} are {x} and {y}")
+            }
+            Had::Index(i, len) => write!(f, "the index is {i}, and the array's length is {len}"),
+            Had::Cut(i, len) => { write!(f, "the array is cut at {i}, and its length is {len}") }
+            Had::Length(n) => {
+                write!(
+                    f,
+                    "the length that is asked for is {n}; it may be 0 to {MOST_ELEMENTS}"
+                )
+            }
+            Had::Range(low, high, least) => write_range(f, low, high, least),
+            Had::Call(depth, site) => write_call(f, depth, site_at(self.code, site)),
+        }
+    }
+}
+
+// The range of a loop, and how long the shortest of its arrays is.
+fn write_range<W: fmt::Write>(
+    f: &mut fmt::Formatter<W>,
+    low: i64,
+    high: i64,
+    least: Option<usize>,
+) -> fmt::Result {
+    write!(f, "the range is {low} to {high}")?;
+    match least {
+        None => write!(f, ", and a loop has at most {MOST_TURNS} turns"),
+        Some(len) => write!(f, ", and the length of its shortest array is {len}"),
+    }
+}
+
+// A call that would lie too deep.
+fn write_call<W: fmt::Write>(
+    f: &mut fmt::Formatter<W>,
+    depth: usize,
+    site: Option<&Site>,
+) -> fmt::Result {
+    match site {
+        None => write!(f, "the call")?,
+        Some(site) => {
+            let name = Word::of(&site.callee);
+            write!(f, "the call of {name}")?;
+        }
+    }
+    write!(
+        f,
+        " is made at depth {depth}, and {MOST_DEPTH} is the greatest"
+    )
+}
