@@ -124,5 +124,5 @@ module _ (bytes : List ℕ) (program : Program) (source : Sources.IsSourceOf byt
           let g : gen.Generates program (code_view verified.code) = subst (λ c. gen.Generates program (code_view c)) (sym same_code) of_program in
           record {
             compiled = record { program = program; compiles = record { accepted = accepted; loops = few; small = g.small }; generates = g };
-            heads = are ∙ plain_heads (resolved_of other).functions ∙ ap heads_of is_program;
+            are_heads = are ∙ plain_heads (resolved_of other).functions ∙ ap heads_of is_program;
           }

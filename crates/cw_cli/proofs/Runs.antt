@@ -1,5 +1,5 @@
 -- From what a run of code answers to what its program means.
-use Rattle.std.proofs.Common.{◌≡◌, ◌≢◌, ℕ, ℤ, Bool, true, false, ◌&&◌, ◌≤◌, List, [], ◌∷◌, ◌++◌, length, Some, Result, Ok, Err, IsErrAnd, flat_map, map, refl, sym, ap, ◌∙◌, subst, arith}
+use Rattle.std.proofs.Common.{◌≡◌, ◌≢◌, ℕ, ℤ, Bool, true, false, ◌&&◌, ◌<◌, ◌≤◌, List, [], ◌∷◌, ◌++◌, length, Some, Result, Ok, Err, IsErrAnd, flat_map, map, refl, sym, ap, ◌∙◌, subst, arith}
 use Rattle.std.specs.Prelude.{nat_eq, nat_le, codes, decimal, MatchResult}
 use Rattle.std.specs.Global.{Vec}
 use Rattle.std.specs.List.{list_all}
@@ -16,6 +16,7 @@ use Rattle.cw_model.specs.declared.trap.Trap.{Trap}
 use Rattle.cw_model.specs.Report as report
 use Rattle.cw_model.specs.Report.{check_text, csv_line, value_line, reduction_word, total_line, total_lines, report_text}
 use Rattle.cw_greedy.specs.Greedy.{greedy_length}
+use Rattle.cw_pool.specs.declared.run.TheConstants.{MOST_BODIES}
 use Rattle.cw_schedule.specs.State.{IsWithin}
 use Rattle.cw_scheduled.specs.declared.schedules.TheConstants.{MOST_PROCESSORS}
 use Rattle.cw_scheduled.specs.Schedules.{IsNotScheduled, Schedules, is_asked, is_counted}
@@ -556,3 +557,12 @@ refused_in seen old bytes args options (mode.Greedy processors) f h = run_refusa
 pub refusal : {W : Type 0} (seen : W → Seen) (old : W) (bytes : List ℕ) (args : List ℤ) (options : Options) (f : Fault) → IsRefused bytes f → (r : Result (Unit {0}) Fault) → IsErrAnd r (λ x. x ≡ f) → analyses.IsAnalysed seen old old bytes args options r
 refusal seen old bytes args options f h (Ok done) e = absurd e
 refusal seen old bytes args options f h (Err g) e = refused_in seen old bytes args options options.mode g (subst (IsRefused bytes) (sym e) h)
+
+-- a crew that is as large as it may be, and one that is larger
+pub by_crew : {W : Type 0} (seen : W → Seen) (old new : W) (bytes : List ℕ) (args : List ℤ) (options : Options) (bodies : ℕ) (r : Result (Unit {0}) Fault)
+    → bodies ≤ MOST_BODIES → analyses.IsAnalysed seen old new bytes args options r → analyses.IsAnalysedBy seen old new bytes args options bodies r
+by_crew seen old new bytes args options bodies r few h = record { fits = λ _. h; refused = λ many. absurd (omega (arith, few, many)); untouched = λ many. absurd (omega (arith, few, many)) }
+
+pub by_crowd : {W : Type 0} (seen : W → Seen) (old : W) (bytes : List ℕ) (args : List ℤ) (options : Options) (bodies : ℕ)
+    → MOST_BODIES < bodies → analyses.IsAnalysedBy seen old old bytes args options bodies (Err fault.Arguments)
+by_crowd seen old bytes args options bodies many = record { fits = λ few. absurd (omega (arith, few, many)); refused = λ _. refl; untouched = λ _. refl }

@@ -12,7 +12,7 @@ use Rattle.cw_report.specs.Seen.{Seen}
 use Rattle.cw_report.specs.Sinks.{Writes}
 use Rattle.cw_cli.specs.Sources as sources
 use Rattle.cw_cli.specs.Analyses as analyses
-use Rattle.cw_cli.specs.Analyses.{IsAnalysed}
+use Rattle.cw_cli.specs.Analyses.{IsAnalysed, IsAnalysedBy}
 use Rattle.cw_words.specs.declared.asked.Mode.{Mode}
 use Rattle.cw_words.specs.declared.asked.Mode.TheVariants as mode
 use Rattle.cw_cli.specs.Tools as tools
@@ -130,6 +130,10 @@ module _ {W : Type 0} (seen : W → Seen) (old new : W) (args : List ℤ) (optio
       by_length (inl short) = subst (λ bs. IsAnalysed seen old new bs args options r) (take_all most_read bytes (omega (arith, short))) h
       by_length (inr long) = long_whole bytes long seen old new args options options.mode r h
 
+  -- so is what an analysis by a crew answers
+  whole_by : (bytes : List ℕ) (bodies : ℕ) (r : Result (Unit {0}) Fault) → IsAnalysedBy seen old new (take most_read bytes) args options bodies r → IsAnalysedBy seen old new bytes args options bodies r
+  whole_by bytes bodies r h = record { fits = λ few. whole bytes r (h.fits few); refused = h.refused; untouched = h.untouched }
+
 -- the count of failed reads grew
 pub grew : (before after old new : ℕ) → before ≡ old → after ≡ new → before < after → old < new
 grew before after old new b a h = omega (arith, b, a, h)
@@ -150,38 +154,22 @@ of_read : (known : Option (List ℕ)) (read : List ℕ) → IfSome (option_map (
 of_read None read h P here more = (read, tt, here)
 of_read (Some bytes) read h P here more = (bytes, refl, more bytes h)
 
-module _ {W E : Type 0} (seen : W → Seen) (seen' : E → Seen) (old new : W) (old' new' : E) (asked : Request) (reads_before reads_after : ℕ) where
-  -- memory ran out as the source was read
-  pub unread_for_memory : (known : Option (List ℕ)) (status : ℕ) → new ≡ old → tools.IsRefusal seen' old' new' fault.Memory status →
-      tools.OnItsBytes known (λ bytes. tools.IsToolAnswer seen old new seen' old' new' asked reads_before reads_after bytes status)
-  unread_for_memory known status same told =
-      of_any known (λ bytes. tools.IsToolAnswer seen old new seen' old' new' asked reads_before reads_after bytes status)
-      (λ bytes. subst (λ n. tools.IsToolAnswer seen old new seen' old' new' asked reads_before reads_after bytes n) (sym told.status_is)
-      (tools.analysed (Err fault.Memory) (untouched bytes asked.options.mode) (alone seen' old' new' asked.explain _ told.line)))
-    where
-      untouched : (bytes : List ℕ) (m : Mode) → analyses.IsAnalysedIn seen old new bytes asked.args.items asked.options m (Err fault.Memory)
-      untouched bytes mode.Check = same
-      untouched bytes mode.Run = same
-      untouched bytes mode.Scale = same
-      untouched bytes mode.Sites = same
-      untouched bytes (mode.Gain top) = same
-      untouched bytes (mode.Greedy processors) = same
-
+module _ {W E : Type 0} (seen : W → Seen) (seen' : E → Seen) (old new : W) (old' new' : E) (asked : Request) (bodies reads_before reads_after : ℕ) where
   module _ {D : Type 0} (remaining : D → Option (List ℕ)) (source inner : D) (limit : ℕ) (before read slice : List ℕ) (args : List ℤ) where
     -- what the bytes that were read come to is the answer on the source
     pub answered : limit ≡ most_read → inner ≡ source → before ≡ [] → slice ≡ read → args ≡ asked.args.items →
         IfSome (option_map (take limit) (remaining inner)) (λ xs. read ≡ before ++ xs) →
-        (r : Result (Unit {0}) Fault) (status : ℕ) → status ≡ tools.status_of r → IsAnalysed seen old new slice args asked.options r → tools.IsTold seen' old' new' asked.explain (tools.line_of r) →
-        tools.OnItsBytes (remaining source) (λ bytes. tools.IsToolAnswer seen old new seen' old' new' asked reads_before reads_after bytes status)
+        (r : Result (Unit {0}) Fault) (status : ℕ) → status ≡ tools.status_of r → IsAnalysedBy seen old new slice args asked.options bodies r → tools.IsTold seen' old' new' asked.explain (tools.line_of r) →
+        tools.OnItsBytes (remaining source) (λ bytes. tools.IsToolAnswer seen old new seen' old' new' asked bodies reads_before reads_after bytes status)
     answered l i b s a h r status st analysis told =
         let h1 = subst (λ d. IfSome (option_map (take limit) (remaining d)) (λ xs. read ≡ before ++ xs)) i h in
         let h2 = subst (λ n. IfSome (option_map (take n) (remaining source)) (λ xs. read ≡ before ++ xs)) l h1 in
         let h3 : IfSome (option_map (take most_read) (remaining source)) (λ xs. read ≡ xs) = subst (λ p. IfSome (option_map (take most_read) (remaining source)) (λ xs. read ≡ p ++ xs)) b h2 in
-        let of_slice : IsAnalysed seen old new read args asked.options r = subst (λ bs. IsAnalysed seen old new bs args asked.options r) s analysis in
-        let of_asked : IsAnalysed seen old new read asked.args.items asked.options r = subst (λ vs. IsAnalysed seen old new read vs asked.options r) a of_slice in
-        of_read (remaining source) read h3 (λ bytes. tools.IsToolAnswer seen old new seen' old' new' asked reads_before reads_after bytes status)
-        (subst (λ n. tools.IsToolAnswer seen old new seen' old' new' asked reads_before reads_after read n) (sym st) (tools.analysed r of_asked told))
+        let of_slice : IsAnalysedBy seen old new read args asked.options bodies r = subst (λ bs. IsAnalysedBy seen old new bs args asked.options bodies r) s analysis in
+        let of_asked : IsAnalysedBy seen old new read asked.args.items asked.options bodies r = subst (λ vs. IsAnalysedBy seen old new read vs asked.options bodies r) a of_slice in
+        of_read (remaining source) read h3 (λ bytes. tools.IsToolAnswer seen old new seen' old' new' asked bodies reads_before reads_after bytes status)
+        (subst (λ n. tools.IsToolAnswer seen old new seen' old' new' asked bodies reads_before reads_after read n) (sym st) (tools.analysed r of_asked told))
         (λ bytes e.
-        let of_bytes : IsAnalysed seen old new (take most_read bytes) asked.args.items asked.options r = subst (λ bs. IsAnalysed seen old new bs asked.args.items asked.options r) e of_asked in
-        subst (λ n. tools.IsToolAnswer seen old new seen' old' new' asked reads_before reads_after bytes n) (sym st)
-        (tools.analysed r (whole seen old new asked.args.items asked.options bytes r of_bytes) told))
+        let of_bytes : IsAnalysedBy seen old new (take most_read bytes) asked.args.items asked.options bodies r = subst (λ bs. IsAnalysedBy seen old new bs asked.args.items asked.options bodies r) e of_asked in
+        subst (λ n. tools.IsToolAnswer seen old new seen' old' new' asked bodies reads_before reads_after bytes n) (sym st)
+        (tools.analysed r (whole_by seen old new asked.args.items asked.options bytes bodies r of_bytes) told))

@@ -1,5 +1,5 @@
 -- What an analysis of bytes answers, and what it writes.
-use Rattle.std.specs.Prelude.{◌≡◌, ◌≢◌, ◌≤◌, ℕ, ℤ, List, length, Result, MatchResult}
+use Rattle.std.specs.Prelude.{◌≡◌, ◌≢◌, ◌≤◌, ◌<◌, ℕ, ℤ, List, length, Result, Err, MatchResult}
 use Rattle.cw_model.specs.declared.burden.Burden.{Burden}
 use Rattle.cw_model.specs.declared.limits.TheConstants.{MOST_LIMIT, MOST_BURDEN, MOST_TOP}
 use Rattle.cw_model.specs.declared.trap.Trap.{Trap}
@@ -10,6 +10,7 @@ use Rattle.cw_model.specs.Report as report
 use Rattle.cw_model.specs.Report.{report_text}
 use Rattle.cw_text.specs.declared.fault.Fault.{Fault}
 use Rattle.cw_text.specs.declared.fault.Fault.TheVariants as fault
+use Rattle.cw_pool.specs.declared.run.TheConstants.{MOST_BODIES}
 use Rattle.cw_scheduled.specs.declared.schedules.TheConstants.{MOST_PROCESSORS}
 use Rattle.cw_report.specs.Seen.{Seen}
 use Rattle.cw_report.specs.Sinks.{WritesAll, WritesPart}
@@ -172,3 +173,9 @@ module _ {W : Type 0} (seen : W → Seen) (old new : W) where
     -- what an analysis answers
     abbrev pub IsAnalysed : Result (Unit {0}) Fault → Type 0
     IsAnalysed r = IsAnalysedIn options.mode r
+
+    -- what an analysis by a crew of so many bodies answers: the same words; a larger crew is refused
+    pub record IsAnalysedBy (bodies : ℕ) (r : Result (Unit {0}) Fault) : Type 0 where
+      pub fits : bodies ≤ MOST_BODIES → IsAnalysed r
+      pub refused : MOST_BODIES < bodies → r ≡ Err fault.Arguments
+      pub untouched : MOST_BODIES < bodies → new ≡ old

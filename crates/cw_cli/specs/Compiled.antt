@@ -5,6 +5,8 @@ use Rattle.cw_model.specs.Sites.{Head, heads_of}
 use Rattle.cw_tree.specs.Resolved.{Function}
 use Rattle.cw_code.specs.Code.{Code, code_view}
 use Rattle.cw_gains.specs.Counts.{head_view}
+use Rattle.cw_gains.specs.declared.counts.Head as counted
+use Rattle.cw_runnable.specs.declared.verified.Verified.{Verified}
 use Rattle.cw_gen.specs.Generates.{Generates}
 use Rattle.cw_cli.specs.Sources.{Compiles}
 use Rattle.cw_cli.specs.declared.compiling.Compiled.{Compiled}
@@ -16,9 +18,13 @@ pub record IsCompiled (bytes : List ℕ) (code : Code) : Type 0 where
   pub generates : Generates program code
 
 -- the code, and the heads of the functions of that program, by place
-pub record IsMade (bytes : List ℕ) (made : Compiled) : Type 0 where
-  pub compiled : IsCompiled bytes (code_view made.code.code)
-  pub heads : map head_view made.heads.items ≡ heads_of compiled.program
+pub record AreMade (bytes : List ℕ) (code : Verified) (heads : List counted.Head) : Type 0 where
+  pub compiled : IsCompiled bytes (code_view code.code)
+  pub are_heads : map head_view heads ≡ heads_of compiled.program
+
+-- so are the two of what a source is compiled to
+abbrev pub IsMade : List ℕ → Compiled → Type 0
+IsMade bytes made = AreMade bytes made.code made.heads.items
 
 -- the head of a function of the resolved tree
 abbrev pub head_of : Function → Head

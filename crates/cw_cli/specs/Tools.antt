@@ -8,7 +8,7 @@ use Rattle.cw_text.specs.declared.fault.Fault.TheVariants as fault
 use Rattle.cw_text.specs.Faults.{fault_status, fault_text}
 use Rattle.cw_report.specs.Seen.{Seen}
 use Rattle.cw_report.specs.Sinks.{WritesAll, WritesPart}
-use Rattle.cw_cli.specs.Analyses.{IsAnalysed}
+use Rattle.cw_cli.specs.Analyses.{IsAnalysedBy}
 use Rattle.cw_words.specs.declared.asked.Request.{Request}
 use Rattle.cw_words.specs.declared.asked.Said.{Said}
 use Rattle.cw_words.specs.declared.asked.Said.TheVariants as said
@@ -17,10 +17,14 @@ abbrev pub status_of : Result (Unit {0}) Fault → ℕ
 status_of (Ok done) = 0
 status_of (Err f) = fault_status f
 
+-- the line of a fault
+abbrev pub fault_line : Fault → List ℕ
+fault_line f = fault_text f ++ codes "\n"
+
 -- the line on standard error, if there is one
 abbrev pub line_of : Result (Unit {0}) Fault → List ℕ
 line_of (Ok done) = []
-line_of (Err f) = fault_text f ++ codes "\n"
+line_of (Err f) = fault_line f
 
 -- a sink took a text, or a beginning of it where a write failed
 abbrev pub TriesText : {W : Type 0} → (W → Seen) → (old new : W) → List ℕ → Type 0
@@ -36,7 +40,7 @@ pub record IsTold {E : Type 0} (seen : E → Seen) (old new : E) (explain : Bool
 
 -- standard error was given the line of a fault, whose status this is
 pub record IsRefusal {E : Type 0} (seen : E → Seen) (old new : E) (f : Fault) (status : ℕ) : Type 0 where
-  pub line : TriesText seen old new (fault_text f ++ codes "\n")
+  pub line : TriesText seen old new (fault_line f)
   pub status_is : status ≡ fault_status f
 
 -- standard error was given the word for a source that cannot be read, and behind it, where that is asked for, a further text
@@ -45,9 +49,10 @@ pub record IsFileAnswer {E : Type 0} (seen : E → Seen) (old new : E) (explain 
   pub status_is : status ≡ 5
 
 -- a source cannot be opened for a reason of this kind: want of memory is told as that
-pub record IsUnreadAnswer {E : Type 0} (seen : E → Seen) (old new : E) (explain : Bool) (reason : ErrorKind) (status : ℕ) : Type 0 where
+pub record IsUnreadAnswer {E : Type 0} (seen : E → Seen) (old new : E) (asked : Request) (reason : ErrorKind)
+    (status : ℕ) : Type 0 where
   pub memory : reason ≡ kind.OutOfMemory → IsRefusal seen old new fault.Memory status
-  pub file : reason ≢ kind.OutOfMemory → IsFileAnswer seen old new explain status
+  pub file : reason ≢ kind.OutOfMemory → IsFileAnswer seen old new asked.explain status
 
 -- a reader that tells its bytes has these
 abbrev pub IsReadOf : Option (List ℕ) → List ℕ → Type 0
@@ -60,13 +65,15 @@ OnItsBytes known P = (bytes : List ℕ) × IsReadOf known bytes × P bytes
 
 -- two sinks, standard output and standard error, go from one state to another
 module _ {W E : Type 0} (seen : W → Seen) (old new : W) (seen' : E → Seen) (old' new' : E) where
-  module _ (asked : Request) (reads_failed_before reads_failed_after : ℕ) (bytes : List ℕ) where
-    -- a read of the source failed, and nothing was written to standard output; or the bytes were analysed, and
-    -- standard error got the fault's line, and behind it an explanation where one is asked for
+  module _ (asked : Request) (bodies reads_failed_before reads_failed_after : ℕ) (bytes : List ℕ) where
+    -- a read of the source failed, or memory ran out as it was read, and nothing was written to standard output; or the
+    -- bytes were analysed by a crew of so many bodies, and standard error got the fault's line, and behind it an
+    -- explanation where one is asked for
     pub data IsToolAnswer : ℕ → Type 0 where
       unread : {status : ℕ} → reads_failed_before < reads_failed_after → new ≡ old
           → IsFileAnswer seen' old' new' asked.explain status → IsToolAnswer status
-      analysed : (r : Result (Unit {0}) Fault) → IsAnalysed seen old new bytes asked.args.items asked.options r
+      starved : {status : ℕ} → new ≡ old → IsRefusal seen' old' new' fault.Memory status → IsToolAnswer status
+      analysed : (r : Result (Unit {0}) Fault) → IsAnalysedBy seen old new bytes asked.args.items asked.options bodies r
           → IsTold seen' old' new' asked.explain (line_of r) →
           IsToolAnswer (status_of r)
 
@@ -95,7 +102,7 @@ module _ {W E : Type 0} (seen : W → Seen) (old new : W) (seen' : E → Seen) (
   -- standard error was given the line of the fault, and behind it a further text
   pub record IsFaultTold (f : Fault) (status : ℕ) : Type 0 where
     pub untouched : new ≡ old
-    pub told : IsTold seen' old' new' true (fault_text f ++ codes "\n")
+    pub told : IsTold seen' old' new' true (fault_line f)
     pub status_is : status ≡ fault_status f
 
   -- the same as `IsSaidAnswer`, but for a fault, whose line has its reason behind it

@@ -2,21 +2,24 @@
 
 ghost use Rattle.std.specs.Prelude.{◌≡◌, ◌<◌, ◌≤◌, ◌-◌, ◌^◌, ℕ, List, MatchResult, length};
 ghost use Rattle.cw_code.specs.Code.{code_view};
+ghost use Rattle.cw_machine.specs.Runs.{RunsAsCode};
 ghost use Rattle.cw_pool.specs.declared.run.TheConstants.{MOST_BODIES};
 ghost use Rattle.cw_words.specs.declared.asked.Mode.TheVariants as mode;
-ghost use Rattle.cw_cli.specs.Compiled.{IsCompiled, IsMade};
+ghost use Rattle.cw_cli.specs.Compiled.{AreMade, IsCompiled, IsMade};
 ghost use Rattle.cw_cli.specs.Analyses.{IsModeInRange};
-ghost use Rattle.cw_cli.specs.Analyses.{IsAnalysed, IsRun};
+ghost use Rattle.cw_cli.specs.Analyses.{IsAnalysed, IsAnalysedBy, IsRun};
 ghost use Rattle.cw_cli.specs.Told.{HasTables};
 
 use crate::compiling::{Compiled, compile_with_heads};
 use crate::reporting::{are_words, write_gains, write_tables, write_values};
+use cw_gains::counts::Head;
 use cw_gains::gains::gains_of_run;
-use cw_machine::alone::run_alone;
+use cw_machine::alone::{Ended, run_alone};
 use cw_machine::values::values_alone;
 use cw_model::limits::{MOST_BURDEN, MOST_TOP};
 use cw_pool::crew::Body;
 use cw_pool::gate::Gate;
+use cw_pool::run::MOST_BODIES;
 use cw_report::{Sink, ok, schedule};
 use cw_runnable::verified::Verified;
 use cw_scheduled::schedules::schedule_alone;
@@ -65,7 +68,9 @@ pub fn analyse_alone<W: Sink>(
 /// on the crew, on what its bodies and the gate do, or on the order in which workers come to steal. A check, a schedule
 /// and the runs behind the first one in mode `Gain` are made by the caller's thread alone.
 ///
-/// It asks that the crew has at most 63 bodies, and that fewer than 2^64 - 1 writes to the sink failed before.
+/// Before all that, a crew of more than 63 bodies is `Arguments` in each mode, with nothing written.
+///
+/// It asks that fewer than 2^64 - 1 writes to the sink failed before.
 pub fn analyse<
     W: Sink,
     G: Gate + Drop + Send + Sync + 'static,
@@ -81,10 +86,13 @@ pub fn analyse<
     gate: Arc<G>,
     out: &mut W,
 ) -> Result<(), Fault>
-    requires out { (W.seen out.old).failures < 2 ^ 64 - 1 }
-    requires few { length crew.items ≤ MOST_BODIES }
-    ensures { IsAnalysed W.seen out.old out.new bytes.now args.now options result }
+    requires { (W.seen out.old).failures < 2 ^ 64 - 1 }
+    ensures { IsAnalysedBy W.seen out.old out.new bytes.now args.now options
+        (length crew.items) result }
 {
+    if crew.len() > MOST_BODIES {
+        return Err(Fault::Arguments);
+    }
     if crew.is_empty() {
         return analyse_alone(alloc, bytes, args, options, out);
     }
@@ -223,17 +231,8 @@ fn run_gain<W: Sink>(
     let code = Arc::new(alloc, made.code)?;
     let share = Arc::try_clone(&code)?;
     let ended = run_alone(alloc, share, args, options.limit, options.burden);
-    let gains = gains_of_run(
-        alloc,
-        code,
-        made.heads.as_slice(),
-        args,
-        options.limit,
-        options.burden,
-        most,
-        ended,
-    );
-    write_gains(alloc, args, options, gains, out)
+    let heads = made.heads.as_slice();
+    tell_gains(alloc, code, heads, args, most, options, ended, out)
 }
 
 // Runs code with a crew, and once more for each function that is told, and writes what these would bring.
@@ -271,16 +270,29 @@ fn run_gain_with<
         crew,
         gate,
     );
-    let gains = gains_of_run(
-        alloc,
-        code,
-        made.heads.as_slice(),
-        args,
-        options.limit,
-        options.burden,
-        most,
-        ended,
-    );
+    let heads = made.heads.as_slice();
+    tell_gains(alloc, code, heads, args, most, options, ended, out)
+}
+
+// Runs code that ended so once more for each function that is told, and writes what these would bring.
+fn tell_gains<W: Sink>(
+    alloc: Global,
+    code: Arc<Verified>,
+    heads: &[Head],
+    args: &[i64],
+    most: usize,
+    options: Options,
+    ended: Result<Ended, Fault>,
+    out: &mut W,
+) -> Result<(), Fault>
+    requires { (W.seen out.old).failures < 2 ^ 64 - 1 }
+    ensures { (bytes : List ℕ) → options.mode ≡ mode.Gain most → IsModeInRange options.mode
+        → AreMade bytes code.value heads.now
+        → RunsAsCode (code_view code.value.code) args.now options.limit options.burden ended
+        → IsRun W.seen out.old out.new bytes args.now options result }
+{
+    let (limit, burden) = (options.limit, options.burden);
+    let gains = gains_of_run(alloc, code, heads, args, limit, burden, most, ended);
     write_gains(alloc, args, options, gains, out)
 }
 
@@ -306,7 +318,8 @@ fn run_greedy<W: Sink>(
     out: &mut W,
 ) -> Result<(), Fault>
     requires { (W.seen out.old).failures < 2 ^ 64 - 1 }
-    ensures { (bytes : List ℕ) → options.mode ≡ mode.Greedy processors → IsCompiled bytes (code_view code.code)
+    ensures { (bytes : List ℕ) → options.mode ≡ mode.Greedy processors
+        → IsCompiled bytes (code_view code.code)
         → IsRun W.seen out.old out.new bytes args.now options result }
 {
     are_words(args);

@@ -6,8 +6,9 @@ ghost use Rattle.cw_model.specs.declared.burden.Burden.{Burden};
 ghost use Rattle.cw_code.specs.Code.{Code, code_view};
 ghost use Rattle.cw_machine.specs.Runs.{GivesAsCode, RunsAsCode};
 ghost use Rattle.cw_words.specs.declared.asked.Mode.TheVariants as mode;
-ghost use Rattle.cw_cli.specs.Compiled.{IsCompiled, IsMade};
-ghost use Rattle.cw_cli.specs.declared.compiling.Compiled.{Compiled};
+ghost use Rattle.cw_cli.specs.Compiled.{AreMade, IsCompiled};
+ghost use Rattle.cw_gains.specs.declared.counts.Head.{Head};
+ghost use Rattle.cw_runnable.specs.declared.verified.Verified.{Verified};
 ghost use Rattle.cw_gains.specs.Gains.{GainsAsCode};
 ghost use Rattle.cw_cli.specs.Analyses.{IsModeInRange};
 ghost use Rattle.cw_cli.specs.Analyses.{IsRun};
@@ -35,7 +36,8 @@ pub(crate) fn write_values<W: Sink>(
     out: &mut W,
 ) -> Result<(), Fault>
     requires { (W.seen out.old).failures < 2 ^ 64 - 1 }
-    ensures { (bytes : List ℕ) → options.mode ≡ mode.Run → IsCompiled bytes (code_view code.now.code)
+    ensures { (bytes : List ℕ) → options.mode ≡ mode.Run
+        → IsCompiled bytes (code_view code.now.code)
         → GivesAsCode (code_view code.now.code) args.now options.limit options.burden values
         → IsRun W.seen out.old out.new bytes args.now options result }
 {
@@ -75,10 +77,9 @@ pub(crate) fn write_gains<W: Sink>(
     out: &mut W,
 ) -> Result<(), Fault>
     requires { (W.seen out.old).failures < 2 ^ 64 - 1 }
-    ensures { (bytes : List ℕ) (made : Compiled) (top : ℕ) → options.mode ≡ mode.Gain top
-        → IsModeInRange options.mode → IsMade bytes made
-        → GainsAsCode (code_view made.code.code) made.heads.items args.now
-        options.limit options.burden top gains
+    ensures { (bytes : List ℕ) (code : Verified) (heads : List Head) (top : ℕ)
+        → options.mode ≡ mode.Gain top → IsModeInRange options.mode → AreMade bytes code heads
+        → GainsAsCode (code_view code.code) heads args.now options.limit options.burden top gains
         → IsRun W.seen out.old out.new bytes args.now options result }
 {
     derived_sites_are_numbered();

@@ -1,9 +1,8 @@
 //! What the program answers on a source, and what it says in place of a run.
 
-ghost use Rattle.std.specs.Prelude.{◌≡◌, ◌<◌, ◌≤◌, ◌-◌, ◌^◌, ◌++◌, codes, length, true};
+ghost use Rattle.std.specs.Prelude.{◌≡◌, ◌<◌, ◌-◌, ◌^◌, length, true};
 ghost use Rattle.std.specs.IoError.{error_kind};
-ghost use Rattle.cw_pool.specs.declared.run.TheConstants.{MOST_BODIES};
-ghost use Rattle.cw_text.specs.Faults.{fault_status, fault_text};
+ghost use Rattle.cw_text.specs.Faults.{fault_status};
 ghost use Rattle.cw_cli.specs.Tools.{
   IsFileAnswer,
   IsRefusal,
@@ -13,6 +12,7 @@ ghost use Rattle.cw_cli.specs.Tools.{
   IsUnreadAnswer,
   IsWhyAnswer,
   OnItsBytes,
+  fault_line,
 };
 
 use crate::analysis::analyse;
@@ -40,12 +40,13 @@ const MOST_READ: u64 = MOST_SOURCE_BYTES as u64 + 1;
 /// The status is 0 where the report was written, else that of the fault, whose line is written to
 /// `err`, and behind it, where the request explains, why the source has the fault (`cw_told`). No
 /// more than one byte past the greatest size of a source is read. Whether the write to `err` fails
-/// changes nothing. Fewer than 2^64 - 1 writes to each sink failed before, and the crew has at most 63 bodies.
+/// changes nothing. Fewer than 2^64 - 1 writes to each sink failed before.
 ///
 /// Where a read of the source failed for another reason than want of memory, and so it cannot be
 /// read, the line is `file` and the status 5, and nothing is written to `out`. It is `memory` and 6
 /// where memory ran out for the bytes or in a read. Of a reader that does not tell its bytes, as a
-/// file, some bytes are meant.
+/// file, some bytes are meant. Where the source was read, a crew of more than 63 bodies is `arguments` and 5,
+/// with nothing written to `out`.
 pub fn tool<
     D: Input,
     W: Sink,
@@ -65,9 +66,9 @@ pub fn tool<
 ) -> u8
     requires out { (W.seen out.old).failures < 2 ^ 64 - 1 }
     requires err { (E.seen err.old).failures < 2 ^ 64 - 1 }
-    requires few { length crew.items ≤ MOST_BODIES }
     ensures { OnItsBytes (D.remaining source.old) (λ bytes. IsToolAnswer W.seen out.old out.new
-        E.seen err.old err.new asked.now (D.failed source.old) (D.failed source.new) bytes result) }
+        E.seen err.old err.new asked.now (length crew.items)
+        (D.failed source.old) (D.failed source.new) bytes result) }
 {
     let failures = source.failed_reads();
     let mut bytes = Vec::new(alloc);
@@ -106,7 +107,7 @@ fn kind_of(read: &io::Result<usize>) -> io::ErrorKind {
 // Of an explanation that there is no memory for nothing is written, and none behind a line that was not.
 fn tell<E: Sink>(alloc: Global, asked: &Request, bytes: &[u8], fault: &Fault, err: &mut E) -> u8
     requires { (E.seen err.old).failures < 2 ^ 64 - 1 }
-    ensures told { IsTold E.seen err.old err.new asked.now.explain (fault_text fault.now ++ codes "\n") }
+    ensures told { IsTold E.seen err.old err.new asked.now.explain (fault_line fault.now) }
     ensures status { result ≡ fault_status fault.now }
 {
     if !asked.explain {
@@ -133,7 +134,7 @@ fn tell<E: Sink>(alloc: Global, asked: &Request, bytes: &[u8], fault: &Fault, er
 // Writes the line of a fault of these words to `err`, and behind it which of them it is for; gives the exit status.
 fn tell_words<E: Sink>(alloc: Global, words: &[String], fault: &Fault, err: &mut E) -> u8
     requires { (E.seen err.old).failures < 2 ^ 64 - 1 }
-    ensures told { IsTold E.seen err.old err.new true (fault_text fault.now ++ codes "\n") }
+    ensures told { IsTold E.seen err.old err.new true (fault_line fault.now) }
     ensures status { result ≡ fault_status fault.now }
 {
     let status = fault.status();
@@ -151,7 +152,7 @@ fn tell_words<E: Sink>(alloc: Global, words: &[String], fault: &Fault, err: &mut
 /// is for want of memory, `memory` and 6. Whether a write to `err` fails changes nothing.
 pub fn unread<E: Sink>(alloc: Global, asked: &Request, error: &io::Error, err: &mut E) -> u8
     requires { (E.seen err.old).failures < 2 ^ 64 - 1 }
-    ensures { IsUnreadAnswer E.seen err.old err.new asked.now.explain (error_kind error.now) result }
+    ensures { IsUnreadAnswer E.seen err.old err.new asked.now (error_kind error.now) result }
 {
     if error.kind() == io::ErrorKind::OutOfMemory {
         return refuse(&Fault::Memory, err);

@@ -1,5 +1,6 @@
 -- The sites that are free if a function is, as the run is told them.
 use Rattle.std.specs.Prelude.{◌≡◌, ℕ, ℤ, true, Bool, List, [], ◌∷◌, map, Some}
+use Rattle.std.specs.Global.{Vec}
 use Rattle.cw_model.specs.declared.burden.Burden.{Burden}
 use Rattle.cw_model.specs.declared.total.Total.{Total}
 use Rattle.cw_model.specs.Syntax.{Name}
@@ -9,10 +10,12 @@ use Rattle.cw_model.specs.Answers.{Ended, main_name}
 use Rattle.cw_model.specs.Freed.{FunctionRow, span_if_free, burdened_if_free}
 use Rattle.cw_text.specs.declared.fault.Fault.{Fault}
 use Rattle.cw_text.specs.declared.fault.Fault.TheVariants as fault
-use Rattle.cw_code.specs.Code.{Code, CodeSite}
+use Rattle.cw_code.specs.Code.{Code, CodeSite, code_view, site_view}
+use Rattle.cw_code.specs.declared.code.Code as declared
 use Rattle.cw_code.specs.Run.{code_serial}
 use Rattle.cw_machine.specs.Freed.{is_freed}
 use Rattle.cw_machine.specs.Runs.{is_request}
+use Rattle.cw_runnable.specs.declared.verified.Verified.{Verified}
 use Rattle.cw_gains.specs.Counts.{row_view}
 use Rattle.cw_gains.specs.Gains.{FreeRow, gain_view}
 use Rattle.cw_gains.specs.declared.counts.Counted.{Counted}
@@ -25,6 +28,10 @@ callees_are name sites = map (λ s. same_name name s.told.callee) sites
 -- the same of all sites: that of the call of main by the run itself comes first
 abbrev pub frees_from : Name → List CodeSite → List Bool
 frees_from name sites = same_name name main_name ∷ callees_are name sites
+
+-- for each site of code, by its number, whether it calls a function of this name
+abbrev pub AreFrees : Name → declared.Code → Vec Bool → Type 0
+AreFrees name code frees = frees.items ≡ frees_from name (map site_view code.sites.items)
 
 -- the run was asked for in range, and ends with this tree
 pub record EndsWith (code : Code) (args : List ℤ) (n : ℕ) (burden : Burden) (t : Tree) : Type 0 where
@@ -40,17 +47,18 @@ freed_row code burden t row =
     let frees = is_freed (frees_from row.name code.sites) in
     record { counted = row; span = span_if_free frees t; burdened = burdened_if_free burden frees t }
 
--- of a run that ends, this is told of a function
-abbrev pub IsFreeOf : Code → List ℤ → (n : ℕ) → Burden → Counted → FunctionGain → Type 0
-IsFreeOf code args n burden counted g =
-    (t : Tree) → EndsWith code args n burden t → gain_view g ≡ freed_row code burden t (row_view counted)
+-- of a run of verified code that ends, this is told of a function
+abbrev pub IsFreeOf : Verified → List ℤ → (n : ℕ) → Burden → Counted → FunctionGain → Type 0
+IsFreeOf v args n burden counted g =
+    (t : Tree) → EndsWith (code_view v.code) args n burden t
+    → gain_view g ≡ freed_row (code_view v.code) burden t (row_view counted)
 
 -- and this of functions
-abbrev pub AreFreeOf : Code → List ℤ → (n : ℕ) → Burden → List Counted → List FunctionGain → Type 0
-AreFreeOf code args n burden all gains =
-    (t : Tree) → EndsWith code args n burden t
-    → map gain_view gains ≡ map (λ c. freed_row code burden t (row_view c)) all
+abbrev pub AreFreeOf : Verified → List ℤ → (n : ℕ) → Burden → List Counted → Vec FunctionGain → Type 0
+AreFreeOf v args n burden all gains =
+    (t : Tree) → EndsWith (code_view v.code) args n burden t
+    → map gain_view gains.items ≡ map (λ c. freed_row (code_view v.code) burden t (row_view c)) all
 
 -- of a run that ends, nothing but want of memory is told in place of that
-abbrev pub OnlyMemory : Code → List ℤ → (n : ℕ) → Burden → Fault → Type 0
-OnlyMemory code args n burden e = (t : Tree) → EndsWith code args n burden t → e ≡ fault.Memory
+abbrev pub OnlyMemory : Verified → List ℤ → (n : ℕ) → Burden → Fault → Type 0
+OnlyMemory v args n burden e = (t : Tree) → EndsWith (code_view v.code) args n burden t → e ≡ fault.Memory

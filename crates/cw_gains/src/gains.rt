@@ -1,8 +1,8 @@
 //! The spans of a run if the instructions of functions were free.
 
-ghost use Rattle.std.specs.Prelude.{◌≡◌, IfErr, IfOk, map};
-ghost use Rattle.cw_code.specs.Code.{code_view, site_view};
-ghost use Rattle.cw_gains.specs.Free.{AreFreeOf, IsFreeOf, OnlyMemory, frees_from};
+ghost use Rattle.std.specs.Prelude.{IfErr, IfOk};
+ghost use Rattle.cw_code.specs.Code.{code_view};
+ghost use Rattle.cw_gains.specs.Free.{AreFreeOf, AreFrees, IsFreeOf, OnlyMemory};
 ghost use Rattle.cw_gains.specs.Gains.{GainsAsCode};
 ghost use Rattle.cw_machine.specs.Runs.{Runs, RunsAsCode};
 
@@ -95,8 +95,8 @@ fn freed(
     burden: Burden,
     all: &[Counted],
 ) -> Result<Vec<FunctionGain>, Fault>
-    ensures ok { IfOk result (λ gains. AreFreeOf (code_view code.now.value.code) args.now n burden all.now gains.items) }
-    ensures why { IfErr result (OnlyMemory (code_view code.now.value.code) args.now n burden) }
+    ensures ok { IfOk result (AreFreeOf code.now.value args.now n burden all.now) }
+    ensures why { IfErr result (OnlyMemory code.now.value args.now n burden) }
 {
     let mut gains = Vec::new(alloc);
     for counted in all {
@@ -115,8 +115,8 @@ fn gain_of(
     burden: Burden,
     counted: &Counted,
 ) -> Result<FunctionGain, Fault>
-    ensures ok { IfOk result (IsFreeOf (code_view code.now.value.code) args.now n burden counted.now) }
-    ensures why { IfErr result (OnlyMemory (code_view code.now.value.code) args.now n burden) }
+    ensures ok { IfOk result (IsFreeOf code.now.value args.now n burden counted.now) }
+    ensures why { IfErr result (OnlyMemory code.now.value args.now n burden) }
 {
     let name = counted.name.share(alloc)?;
     let frees = frees_of(alloc, &code.code, name.as_bytes())?;
@@ -135,7 +135,7 @@ fn gain_of(
 
 // For each site, by its number, whether it calls a function of this name.
 fn frees_of(alloc: Global, code: &Code, name: &[u8]) -> Result<Vec<bool>, AllocError>
-    ensures { IfOk result (λ frees. frees.items ≡ frees_from name.now (map site_view code.now.sites.items)) }
+    ensures { IfOk result (AreFrees name.now code.now) }
 {
     let mut frees = Vec::with_capacity(alloc, code.sites.len() + 1)?;
     frees.push(name == b"main".as_slice())?;

@@ -1,9 +1,9 @@
 //! What a check and a run are answered with: each text is made whole and then written.
 
-ghost use Rattle.std.specs.Prelude.{◌≡◌, [], ◌<◌, ◌-◌, ◌^◌};
+ghost use Rattle.std.specs.Prelude.{◌≡◌, ℕ, List, [], ◌<◌, ◌-◌, ◌^◌, IfErr};
 ghost use Rattle.cw_model.specs.Report.{check_text};
 ghost use Rattle.cw_report.specs.Sinks.{Writes};
-ghost use Rattle.cw_report.specs.Texts.{gain_report, run_report, scale_report, schedule_report, sites_report};
+ghost use Rattle.cw_report.specs.Texts.{Makes, gain_report, run_report, scale_report, schedule_report, sites_report};
 ghost use Rattle.cw_report.specs.Answers.{AnswersText};
 
 use crate::gain_table::gain_text;
@@ -52,14 +52,8 @@ pub fn answer<W: Sink>(
     ensures answers { AnswersText W.seen to.old to.new (run_report code.now values.now) result }
 {
     match values {
-        Ok(values) => {
-            let text = ended_text(alloc, &code.code, values)?;
-            write_text(to, text.as_slice())
-        }
-        Err(Fault::Trap { output, .. }) => {
-            let text = printed_text(alloc, output.as_slice())?;
-            write_text(to, text.as_slice())
-        }
+        Ok(values) => tell(ended_text(alloc, &code.code, values), to),
+        Err(Fault::Trap { output, .. }) => tell(printed_text(alloc, output.as_slice()), to),
         Err(_) => Ok(()),
     }
 }
@@ -78,10 +72,7 @@ pub fn scale<W: Sink>(alloc: Global, ended: &Result<Ended, Fault>, to: &mut W) -
     ensures answers { AnswersText W.seen to.old to.new (scale_report ended.now) result }
 {
     match ended {
-        Ok(ended) => {
-            let text = scale_text(alloc, ended)?;
-            write_text(to, text.as_slice())
-        }
+        Ok(ended) => tell(scale_text(alloc, ended), to),
         Err(_) => Ok(()),
     }
 }
@@ -105,10 +96,7 @@ pub fn sites<W: Sink>(
     ensures answers { AnswersText W.seen to.old to.new (sites_report code.now ended.now) result }
 {
     match ended {
-        Ok(ended) => {
-            let text = sites_text(alloc, &code.code, ended)?;
-            write_text(to, text.as_slice())
-        }
+        Ok(ended) => tell(sites_text(alloc, &code.code, ended), to),
         Err(_) => Ok(()),
     }
 }
@@ -131,10 +119,7 @@ pub fn schedule<W: Sink>(
     ensures answers { AnswersText W.seen to.old to.new (schedule_report schedule.now) result }
 {
     match schedule {
-        Ok(schedule) => {
-            let text = schedule_text(alloc, schedule)?;
-            write_text(to, text.as_slice())
-        }
+        Ok(schedule) => tell(schedule_text(alloc, schedule), to),
         Err(_) => Ok(()),
     }
 }
@@ -152,10 +137,20 @@ pub fn gain<W: Sink>(alloc: Global, gains: &Result<Gains, Fault>, to: &mut W) ->
     ensures answers { AnswersText W.seen to.old to.new (gain_report gains.now) result }
 {
     match gains {
-        Ok(gains) => {
-            let text = gain_text(alloc, gains)?;
-            write_text(to, text.as_slice())
-        }
+        Ok(gains) => tell(gain_text(alloc, gains), to),
         Err(_) => Ok(()),
+    }
+}
+
+// Writes a text, where there was memory to make it.
+fn tell<W: Sink>(made: Result<Vec<u8>, Fault>, to: &mut W) -> Result<(), Fault>
+    requires out { (W.seen to.old).failures < 2 ^ 64 - 1 }
+    requires why { IfErr made (λ e. e ≡ Fault.Memory) }
+    ensures idle { Makes [] made → to.new ≡ to.old }
+    ensures answers { (text : List ℕ) → Makes text made → AnswersText W.seen to.old to.new text result }
+{
+    match made {
+        Ok(text) => write_text(to, text.as_slice()),
+        Err(fault) => Err(fault),
     }
 }

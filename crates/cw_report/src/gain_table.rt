@@ -1,9 +1,8 @@
 //! The table of functions and of what they would bring, made whole before any byte is written.
 
 ghost use Rattle.std.specs.Prelude.{◌≡◌, IfErr};
-ghost use Rattle.cw_model.specs.Report.{gain_header};
 ghost use Rattle.cw_report.specs.Tables.{Adds};
-ghost use Rattle.cw_report.specs.Texts.{Makes};
+ghost use Rattle.cw_report.specs.Texts.{Makes, sums_line};
 ghost use Rattle.cw_report.specs.Texts as texts;
 
 use crate::fields::parallelism_text;
@@ -15,6 +14,18 @@ use cw_text::Fault;
 use itoa::Buffer;
 use std::alloc::{AllocError, Global};
 
+// The columns of the report on functions.
+const COLUMNS: &[&[u8]] = &[
+    b"function",
+    b"line",
+    b"calls",
+    b"own_work",
+    b"own_span",
+    b"span_if_free",
+    b"parallelism_if_free",
+    b"burdened_span_if_free",
+];
+
 /// A run that ended, and what some of its functions would bring, each on a line; the error is `Memory` where there is
 /// none for the text.
 pub fn gain_text(alloc: Global, gains: &Gains) -> Result<Vec<u8>, Fault>
@@ -22,28 +33,11 @@ pub fn gain_text(alloc: Global, gains: &Gains) -> Result<Vec<u8>, Fault>
     ensures why { IfErr result (λ e. e ≡ Fault.Memory) }
 {
     let whole = gains.measure;
-    let mut table = Table::new(alloc);
-    push_header(&mut table)?;
+    let mut table = Table::titled(alloc, COLUMNS)?;
     push_whole(alloc, &mut table, whole)?;
     push_functions(alloc, &mut table, whole.work, &gains.functions)?;
     let text = table.into_text()?;
     Ok(text)
-}
-
-// Adds the names of the columns.
-fn push_header(table: &mut Table) -> Result<(), AllocError>
-    ensures { Adds table.old table.new gain_header result }
-{
-    table.push(&[
-        b"function",
-        b"line",
-        b"calls",
-        b"own_work",
-        b"own_span",
-        b"span_if_free",
-        b"parallelism_if_free",
-        b"burdened_span_if_free",
-    ])
 }
 
 // Adds the line of the whole run, without a name.
@@ -115,7 +109,7 @@ fn push_line(
     span: u64,
     burdened: u128,
 ) -> Result<(), AllocError>
-    ensures { Adds table.old table.new (texts.sums_line name.now line sums work span burdened) result }
+    ensures { Adds table.old table.new (sums_line name.now line sums work span burdened) result }
 {
     let mut counts = (Buffer::new(), Buffer::new(), Buffer::new());
     let mut numbers = (Buffer::new(), Buffer::new(), Buffer::new());

@@ -14,8 +14,18 @@ pub struct Table {
 }
 
 impl Table {
-    /// A table without rows.
-    pub fn new(alloc: Global) -> Self
+    /// A table with the names of its columns, two or more, and no other row; an error where memory runs out.
+    pub fn titled(alloc: Global, names: &[&[u8]]) -> Result<Self, AllocError>
+        requires { 2 ≤ length names.now }
+        ensures { IfOk result (λ table. Holds table (csv_line (map (λ f. f.now) names.now))) }
+    {
+        let mut table = Table::new(alloc);
+        table.push(names)?;
+        Ok(table)
+    }
+
+    // A table without rows.
+    fn new(alloc: Global) -> Self
         ensures { Holds result [] }
     {
         Table {

@@ -1,11 +1,11 @@
 //! The tables of tags and of call sites, made whole before any byte is written.
 
 ghost use Rattle.std.specs.Prelude.{◌≡◌, [], IfErr};
-ghost use Rattle.cw_model.specs.Report.{scale_header, scale_line, sites_header, site_kind_text};
+ghost use Rattle.cw_model.specs.Report.{scale_line, site_kind_text};
 ghost use Rattle.cw_model.specs.Sites.{Of};
 ghost use Rattle.cw_code.specs.Code.{code_view, site_view};
 ghost use Rattle.cw_report.specs.Tables.{Adds};
-ghost use Rattle.cw_report.specs.Texts.{Makes};
+ghost use Rattle.cw_report.specs.Texts.{Makes, told_line};
 ghost use Rattle.cw_report.specs.Texts as texts;
 
 use crate::fields::parallelism_text;
@@ -21,6 +21,32 @@ use indexmap::IndexMap;
 use itoa::Buffer;
 use std::alloc::{AllocError, Global};
 
+// The columns of the report on tags.
+const SCALE: &[&[u8]] = &[
+    b"tag",
+    b"work",
+    b"span",
+    b"parallelism",
+    b"burdened_span",
+    b"burdened_parallelism",
+];
+
+// Those of the report on call sites.
+const SITES: &[&[u8]] = &[
+    b"site",
+    b"kind",
+    b"line",
+    b"callee",
+    b"calls",
+    b"own_work",
+    b"own_span",
+    b"work",
+    b"span",
+];
+
+// Those of the report on a schedule.
+const SCHEDULE: &[&[u8]] = &[b"processors", b"work", b"span", b"greedy"];
+
 /// Work, span and parallelism of a run that ended, and of each of its tags, each on a line; the error is `Memory`
 /// where there is none for the text.
 pub fn scale_text(alloc: Global, ended: &Ended) -> Result<Vec<u8>, Fault>
@@ -28,8 +54,7 @@ pub fn scale_text(alloc: Global, ended: &Ended) -> Result<Vec<u8>, Fault>
     ensures why { IfErr result (λ e. e ≡ Fault.Memory) }
 {
     let whole = ended.measure;
-    let mut table = Table::new(alloc);
-    push_scale_header(&mut table)?;
+    let mut table = Table::titled(alloc, SCALE)?;
     push_scale(
         alloc,
         &mut table,
@@ -49,8 +74,7 @@ pub fn sites_text(alloc: Global, code: &Code, ended: &Ended) -> Result<Vec<u8>, 
     ensures ok { Makes (texts.sites_text (code_view code.now) ended.now) result }
     ensures why { IfErr result (λ e. e ≡ Fault.Memory) }
 {
-    let mut table = Table::new(alloc);
-    push_sites_header(&mut table)?;
+    let mut table = Table::titled(alloc, SITES)?;
     push_rows(&mut table, code, ended.sites.values().as_slice())?;
     let text = table.into_text()?;
     Ok(text)
@@ -61,18 +85,10 @@ pub fn schedule_text(alloc: Global, schedule: &Schedule) -> Result<Vec<u8>, Faul
     ensures ok { Makes (texts.schedule_text schedule.now) result }
     ensures why { IfErr result (λ e. e ≡ Fault.Memory) }
 {
-    let mut table = Table::new(alloc);
-    push_schedule_header(&mut table)?;
+    let mut table = Table::titled(alloc, SCHEDULE)?;
     push_schedule(&mut table, schedule)?;
     let text = table.into_text()?;
     Ok(text)
-}
-
-// Adds the names of the columns of the schedule report.
-fn push_schedule_header(table: &mut Table) -> Result<(), AllocError>
-    ensures { Adds table.old table.new texts.schedule_header result }
-{
-    table.push(&[b"processors", b"work", b"span", b"greedy"])
 }
 
 // Adds the line of the schedule report.
@@ -86,20 +102,6 @@ fn push_schedule(table: &mut Table, schedule: &Schedule) -> Result<(), AllocErro
         first.1.format(schedule.work).as_bytes(),
         last.0.format(schedule.span).as_bytes(),
         last.1.format(schedule.greedy).as_bytes(),
-    ])
-}
-
-// Adds the names of the columns of the scale report.
-fn push_scale_header(table: &mut Table) -> Result<(), AllocError>
-    ensures { Adds table.old table.new scale_header result }
-{
-    table.push(&[
-        b"tag",
-        b"work",
-        b"span",
-        b"parallelism",
-        b"burdened_span",
-        b"burdened_parallelism",
     ])
 }
 
@@ -145,23 +147,6 @@ fn push_scale(
         plain.as_slice(),
         numbers.2.format(burdened).as_bytes(),
         with_burden.as_slice(),
-    ])
-}
-
-// Adds the names of the columns of the sites report.
-fn push_sites_header(table: &mut Table) -> Result<(), AllocError>
-    ensures { Adds table.old table.new sites_header result }
-{
-    table.push(&[
-        b"site",
-        b"kind",
-        b"line",
-        b"callee",
-        b"calls",
-        b"own_work",
-        b"own_span",
-        b"work",
-        b"span",
     ])
 }
 
@@ -212,7 +197,7 @@ fn push_told(
     callee: &[u8],
     row: &SiteRow,
 ) -> Result<(), AllocError>
-    ensures { Adds table.old table.new (texts.told_line number kind.now line callee.now row.now) result }
+    ensures { Adds table.old table.new (told_line number kind.now line callee.now row.now) result }
 {
     let mut told = (Buffer::new(), Buffer::new());
     let mut own = (Buffer::new(), Buffer::new(), Buffer::new());

@@ -1,10 +1,15 @@
-//! Runs by a crew, of which another worker does a part.
+//! Runs by a crew, of which another worker does a part, and crews that are too large.
 
+use crate::program::{asked, told_by};
 use cw_cli::{analyse, crew_of};
 use cw_model::burden::{Burden, Edges};
-use cw_pool::gate::{Gate, Moment};
+use cw_pool::crew::Serving;
+use cw_pool::gate::{Gate, Moment, Quiet};
+use cw_pool::run::MOST_BODIES;
 use cw_report::Counted;
+use cw_text::Fault;
 use cw_words::{Mode, Options};
+use std::alloc::AllocError;
 use std::process::Abort;
 use std::sync::atomic::{AtomicU64, Ordering};
 use std::sync::{Arc, Wait};
@@ -113,5 +118,64 @@ fn a_rest_is_run_by_the_other_worker(rt: HostRuntime) -> Result<(), Fail> {
 fn a_rest_is_measured_by_the_other_worker(rt: HostRuntime) -> Result<(), Fail> {
     let (_, settled) = by_two(rt, Mode::Scale)?;
     assert!(rt; settled == 1);
+    Ok(())
+}
+
+// The modes.
+const MODES: &[Mode] = &[
+    Mode::Check,
+    Mode::Run,
+    Mode::Scale,
+    Mode::Sites,
+    Mode::Gain(1),
+    Mode::Greedy(1),
+];
+
+// A crew of one body more than a run may have.
+fn crowd<R: AllocGlobal + Wait + Copy + Drop>(rt: R) -> Result<Vec<Serving<R>>, AllocError> {
+    let mut crew = Vec::new(rt.alloc());
+    for _body in 0..=MOST_BODIES {
+        crew.push(Serving(rt))?;
+    }
+    Ok(crew)
+}
+
+// Whether such a crew is refused in this mode, and nothing is written.
+fn is_refused<R: AllocGlobal + Threads + Wait + Copy + Drop + Send + 'static>(
+    rt: R,
+    mode: Mode,
+) -> Result<bool, Fail> {
+    let alloc = rt.alloc();
+    let gate = Arc::new(alloc, Quiet)?;
+    let crew = crowd(rt)?;
+    let mut out = Counted::new(Vec::new(alloc));
+    let answered = analyse(
+        &rt,
+        alloc,
+        PRINTS,
+        &[42],
+        options_of(mode),
+        crew,
+        gate,
+        &mut out,
+    );
+    Ok(answered == Err(Fault::Arguments) && out.into_inner().is_empty())
+}
+
+// In each mode, whether it runs the program or not.
+#[test]
+fn a_crew_that_is_too_large_is_refused(rt: HostRuntime) -> Result<(), Fail> {
+    for mode in MODES {
+        assert!(rt; is_refused(rt, *mode)?);
+    }
+    Ok(())
+}
+
+// The program says so on standard error.
+#[test]
+fn a_crew_that_is_too_large_is_told(rt: HostRuntime) -> Result<(), Fail> {
+    let asked = asked(rt.alloc(), "run f 42")?;
+    let told = told_by(rt, &asked, PRINTS, crowd(rt)?)?;
+    assert!(rt; told.is(5, "", "", "arguments\n"));
     Ok(())
 }

@@ -49,6 +49,44 @@ const EXPLAINED: &[Row] = &[
     ),
 ];
 
+// Words that are no numbers or out of range, each with its range; the last of them without `--explain`.
+const MISUSED: &[Row] = &[
+    (
+        "run f --limit 0 --explain",
+        "",
+        5,
+        "",
+        "arguments\ncilkwork: limit is '0': it is a number from 1 to 4611686018427387904, in decimal digits alone\n",
+    ),
+    (
+        "scale f --burden +1 --edges all --explain",
+        "",
+        5,
+        "",
+        "arguments\ncilkwork: burden is '+1': it is a number from 0 to 1000000000, in decimal digits alone\ncilkwork: edges is 'all': it is spawn or both\n",
+    ),
+    (
+        "gain f --top 65 --workers 65 --explain",
+        "",
+        5,
+        "",
+        "arguments\ncilkwork: top is '65': it is a number from 1 to 64, in decimal digits alone\ncilkwork: workers is '65': it is a number from 1 to 64, in decimal digits alone\n",
+    ),
+    (
+        "greedy 0 f x --explain",
+        "",
+        5,
+        "",
+        "arguments\ncilkwork: P is '0': it is a number from 1 to 1000000, in decimal digits alone\ncilkwork: an argument of main is 'x': it is a number from 0 to 9223372036854775807, in decimal digits alone\n",
+    ),
+    ("run f --limit 0", "", 5, "", "arguments\n"),
+];
+
+#[test]
+fn tells_what_is_misused(rt: HostRuntime) -> Result<(), Fail> {
+    all_hold(rt, MISUSED)
+}
+
 #[test]
 fn explains_where_it_is_asked(rt: HostRuntime) -> Result<(), Fail> {
     all_hold(rt, EXPLAINED)

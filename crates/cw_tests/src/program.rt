@@ -1,6 +1,7 @@
 //! The program as a whole, over memory.
 
-use cw_cli::{crew_of, say, tool};
+use cw_cli::{crew_of, say, say_why, tool};
+use cw_pool::crew::Serving;
 use cw_pool::gate::Quiet;
 use cw_report::Counted;
 use cw_words::{Request, Said, is_version, request, take_explain, version};
@@ -46,11 +47,15 @@ pub fn asked(alloc: Global, line: &str) -> Result<Request, Fail> {
     request(alloc, words.as_slice()).map_err(|_| Fail::from("the words make no request"))
 }
 
-// What is said in place of running.
-fn said(alloc: Global, said: &Said) -> Told {
+// What is said in place of running, and of a fault of these words why, where that is asked for.
+fn said(alloc: Global, said: &Said, words: &[String], explain: bool) -> Told {
     let mut out = Counted::new(Vec::new(alloc));
     let mut err = Counted::new(Vec::new(alloc));
-    let status = say(said, &mut out, &mut err);
+    let status = if explain {
+        say_why(alloc, words, said, &mut out, &mut err)
+    } else {
+        say(said, &mut out, &mut err)
+    };
     Told {
         status,
         out: out.into_inner(),
@@ -64,8 +69,18 @@ fn told_of<R: AllocGlobal + Threads + Wait + Copy + Drop + Send + 'static>(
     asked: &Request,
     source: &[u8],
 ) -> Result<Told, Fail> {
+    let crew = crew_of(rt.alloc(), rt, asked.workers)?;
+    told_by(rt, asked, source, crew)
+}
+
+/// What is told of a request over this source by this crew.
+pub fn told_by<R: AllocGlobal + Threads + Wait + Copy + Drop + Send + 'static>(
+    rt: R,
+    asked: &Request,
+    source: &[u8],
+    crew: Vec<Serving<R>>,
+) -> Result<Told, Fail> {
     let alloc = rt.alloc();
-    let crew = crew_of(alloc, rt, asked.workers)?;
     let gate = Arc::new(alloc, Quiet)?;
     let mut source = Counted::new(source);
     let mut out = Counted::new(Vec::new(alloc));
@@ -97,14 +112,14 @@ pub fn answer<R: AllocGlobal + Threads + Wait + Copy + Drop + Send + 'static>(
     let mut words = words_of(alloc, line)?;
     let explain = take_explain(&mut words);
     if is_version(words.as_slice()) {
-        return Ok(said(alloc, &version(alloc)));
+        return Ok(said(alloc, &version(alloc), &[], false));
     }
     match request(alloc, words.as_slice()) {
         Ok(mut asked) => {
             asked.explain = explain;
             told_of(rt, &asked, source)
         }
-        Err(instead) => Ok(said(alloc, &instead)),
+        Err(instead) => Ok(said(alloc, &instead, words.as_slice(), explain)),
     }
 }
 

@@ -2,7 +2,7 @@ use Rattle.std.proofs.Common.{rules, ◌≡◌, ◌≢◌, ◌∙◌, ◌⊎◌,
 use Rattle.cw_words.specs.declared.asked.Mode.{Mode}
 use Rattle.cw_words.specs.declared.asked.Mode.TheVariants as mode
 use Rattle.cw_cli.specs.Told.{HasTables}
-use Rattle.cw_cli.proofs.Runs.{checked, refusal, run_is}
+use Rattle.cw_cli.proofs.Runs.{by_crew, by_crowd, checked, refusal, run_is}
 use Rattle.cw_cli.proofs.analysis.analyse.Goals as goal
 
 -- what runs is none of a check
@@ -22,29 +22,43 @@ has_tables : (m : Mode) → (m ≡ mode.Scale) ⊎ (m ≡ mode.Sites) → HasTab
 has_tables m (inl is) = subst HasTables (sym is) tt
 has_tables m (inr is) = subst HasTables (sym is) tt
 
+pub returns-then-len : goal.returns-then-len
+returns-then-len g c = by_crowd g.W.Sink.seen c.args.out.now c.args.bytes.now c.args.args.now c.args.options _ (search rules)
+
+pub returns-then-is_empty : goal.returns-then-is_empty
+returns-then-is_empty g c = by_crew g.W.Sink.seen c.args.out.now _ c.args.bytes.now c.args.args.now c.args.options _ _ (search rules) c.analyse_alone.ensures
+
 pub returns-in_err-made : goal.returns-in_err-made
-returns-in_err-made g c = refusal g.W.Sink.seen c.args.out.now c.args.bytes.now c.args.args.now c.args.options _ c.in_err-made.ensures c.from_residual.result (search rules)
+returns-in_err-made g c =
+    by_crew g.W.Sink.seen c.args.out.now c.args.out.now c.args.bytes.now c.args.args.now c.args.options _ _ (search rules)
+    (refusal g.W.Sink.seen c.args.out.now c.args.bytes.now c.args.args.now c.args.options _ c.in_err-made.ensures c.from_residual.result (search rules))
 
 pub returns-in-Check : goal.returns-in-Check
-returns-in-Check g c = checked g.W.Sink.seen c.args.out.now c.ok.new.to c.args.bytes.now c.args.args.now c.args.options _ c.in_ok-made.ensures.compiled c.in-Check.is c.ok.result c.ok.ensures
+returns-in-Check g c =
+    by_crew g.W.Sink.seen c.args.out.now c.ok.new.to c.args.bytes.now c.args.args.now c.args.options _ _ (search rules)
+    (checked g.W.Sink.seen c.args.out.now c.ok.new.to c.args.bytes.now c.args.args.now c.args.options _ c.in_ok-made.ensures.compiled c.in-Check.is c.ok.result c.ok.ensures)
 
 pub returns-in-Run : goal.returns-in-Run
 returns-in-Run g c =
     let runs = running c.args.options.mode mode.Run c.in-Run.is run_is_no_check in
-    run_is g.W.Sink.seen c.args.out.now c.run_plain_with.new.out c.args.bytes.now c.args.args.now c.args.options runs c.run_plain_with.result (c.run_plain_with.ensures c.args.bytes.now c.in-Run.is c.in_ok-made.ensures.compiled)
+    by_crew g.W.Sink.seen c.args.out.now c.run_plain_with.new.out c.args.bytes.now c.args.args.now c.args.options _ _ (search rules)
+    (run_is g.W.Sink.seen c.args.out.now c.run_plain_with.new.out c.args.bytes.now c.args.args.now c.args.options runs c.run_plain_with.result (c.run_plain_with.ensures c.args.bytes.now c.in-Run.is c.in_ok-made.ensures.compiled))
 
 pub returns-in-Scale : goal.returns-in-Scale
 returns-in-Scale g c =
     let has = has_tables c.args.options.mode c.in-Scale.is in
     let runs : c.args.options.mode ≢ mode.Check = λ check. subst HasTables check has in
-    run_is g.W.Sink.seen c.args.out.now c.run_with.new.out c.args.bytes.now c.args.args.now c.args.options runs c.run_with.result (c.run_with.ensures c.args.bytes.now has c.in_ok-made.ensures.compiled)
+    by_crew g.W.Sink.seen c.args.out.now c.run_with.new.out c.args.bytes.now c.args.args.now c.args.options _ _ (search rules)
+    (run_is g.W.Sink.seen c.args.out.now c.run_with.new.out c.args.bytes.now c.args.args.now c.args.options runs c.run_with.result (c.run_with.ensures c.args.bytes.now has c.in_ok-made.ensures.compiled))
 
 pub returns-in-Gain : goal.returns-in-Gain
 returns-in-Gain g c =
     let runs = running c.args.options.mode (mode.Gain c.in-Gain.top) c.in-Gain.is gain_is_no_check in
-    run_is g.W.Sink.seen c.args.out.now c.run_gain_with.new.out c.args.bytes.now c.args.args.now c.args.options runs c.run_gain_with.result (c.run_gain_with.ensures c.args.bytes.now c.in-Gain.is c.in_ok-made.ensures)
+    by_crew g.W.Sink.seen c.args.out.now c.run_gain_with.new.out c.args.bytes.now c.args.args.now c.args.options _ _ (search rules)
+    (run_is g.W.Sink.seen c.args.out.now c.run_gain_with.new.out c.args.bytes.now c.args.args.now c.args.options runs c.run_gain_with.result (c.run_gain_with.ensures c.args.bytes.now c.in-Gain.is c.in_ok-made.ensures))
 
 pub returns-in-Greedy : goal.returns-in-Greedy
 returns-in-Greedy g c =
     let runs = running c.args.options.mode (mode.Greedy c.in-Greedy.processors) c.in-Greedy.is schedule_is_no_check in
-    run_is g.W.Sink.seen c.args.out.now c.run_greedy.new.out c.args.bytes.now c.args.args.now c.args.options runs c.run_greedy.result (c.run_greedy.ensures c.args.bytes.now c.in-Greedy.is c.in_ok-made.ensures.compiled)
+    by_crew g.W.Sink.seen c.args.out.now c.run_greedy.new.out c.args.bytes.now c.args.args.now c.args.options _ _ (search rules)
+    (run_is g.W.Sink.seen c.args.out.now c.run_greedy.new.out c.args.bytes.now c.args.args.now c.args.options runs c.run_greedy.result (c.run_greedy.ensures c.args.bytes.now c.in-Greedy.is c.in_ok-made.ensures.compiled))

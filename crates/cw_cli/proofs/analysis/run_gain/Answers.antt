@@ -1,8 +1,8 @@
-use Rattle.std.proofs.Common.{sym, subst}
+use Rattle.std.proofs.Common.{◌≡◌, sym, subst}
 use Rattle.cw_code.specs.Code.{code_view}
 use Rattle.cw_machine.specs.Runs.{RunsAsCode}
-use Rattle.cw_gains.specs.Gains.{GainsAsCode}
 use Rattle.cw_cli.specs.Analyses.{IsModeInRange}
+use Rattle.cw_cli.specs.Compiled.{AreMade}
 use Rattle.cw_words.specs.declared.asked.Mode.TheVariants as mode
 use Rattle.cw_cli.proofs.Refusals.{handed_on}
 use Rattle.cw_cli.proofs.Runs.{out_of_range}
@@ -21,7 +21,7 @@ returns g c = λ bytes is made.
     let of_mode : IsModeInRange c.args.options.mode = subst IsModeInRange (sym is) c.in_ok-most.ensures.1 in
     let ran : RunsAsCode (code_view code.code) c.args.args.now limit burden c.run_alone-ended.result =
     subst (λ v. RunsAsCode (code_view v.code) c.args.args.now limit burden c.run_alone-ended.result) c.in_ok-share.ensures c.run_alone-ended.ensures in
-    let gains = subst (λ v. GainsAsCode (code_view v.code) c.as_slice.result.now c.args.args.now limit burden c.in_ok-most.most c.gains_of_run-gains.result) c.in_ok-code.ensures.ok (c.gains_of_run-gains.ensures ran) in
-    let of_top = subst (λ n. GainsAsCode (code_view c.args.made.code.code) c.as_slice.result.now c.args.args.now limit burden n c.gains_of_run-gains.result) c.in_ok-most.ensures.0 gains in
-    let of_heads = subst (λ hs. GainsAsCode (code_view c.args.made.code.code) hs c.args.args.now limit burden c.args.top c.gains_of_run-gains.result) c.as_slice.ensures.value of_top in
-    c.write_gains.ensures bytes c.args.made c.args.top is of_mode made of_heads
+    let of_most : c.args.options.mode ≡ mode.Gain c.in_ok-most.most = subst (λ n. c.args.options.mode ≡ mode.Gain n) (sym c.in_ok-most.ensures.0) is in
+    let of_code = subst (λ v. AreMade bytes v c.args.made.heads.items) (sym c.in_ok-code.ensures.ok) made in
+    let of_heads = subst (λ hs. AreMade bytes c.in_ok-code.code.value hs) (sym c.as_slice-heads.ensures.value) of_code in
+    c.tell_gains.ensures bytes of_most of_mode of_heads ran

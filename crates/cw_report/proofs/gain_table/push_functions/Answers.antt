@@ -1,6 +1,5 @@
-use Rattle.std.proofs.Common.{◌≡◌, ◌++◌, ◌∷◌, List, drop, get_or, suc, ◌+◌, ap, ap₂, sym, ◌∙◌, subst, add-one, drop-cons}
+use Rattle.std.proofs.Common.{◌≡◌, ◌++◌, ◌∷◌, drop, get_or, ◌+◌, ap, sym, ◌∙◌, subst, add-one, drop-cons}
 use Rattle.std.proofs.lemmas.List.{drop_all}
-use Rattle.cw_gains.specs.declared.gains.FunctionGain.{FunctionGain}
 use Rattle.cw_report.specs.Texts.{function_line, function_lines}
 use Rattle.cw_report.proofs.Lines.{Towards, arrived, onward}
 use Rattle.cw_report.proofs.gain_table.push_functions.Goals as goal
