@@ -422,6 +422,7 @@ def explained():
     plain = ["check", "--explain"]
     tags = "int main(){" + "".join(f"region t{i:x}{{}}" for i in range(70_000)) + "return 0;}"
     body = "x=x*3+1;\n" * 116_000
+    long = "n" * 60
     return [
         ("58 blocks that read 240 arrays, 11 branches", held(58, "if(1){", 240, "const", 16, "if(1){}", 11), plain),
         ("58 blocks that read 240 arrays, branches up to 1 MiB", filled(lambda n: held(58, "if(1){", 240, "const", 16, "if(1){}", n), 1_040_000), plain),
@@ -442,6 +443,9 @@ def explained():
         ("a for in each line of 1 MiB", "int main(int x){\n" + "for(;;){x=1;}\n" * 72_000 + "}", plain),
         ("statements of C in one line of 1 MiB", "int main(int x){" + "x++;break;long y;" * 60_000 + "}", plain),
         ("unknown names in one line of 1 MiB", "int main(int x){" + "totl=totl+total;" * 64_000 + "return x;}", plain),
+        ("an unknown name in each line of 1 MiB", "int main(int x){\n" + "z=1;\n" * 200_000 + "return x;}", plain),
+        ("a long name that is taken in each line of 1 MiB", f"int g(){{return 1;}} int main(){{int {long}=0;{long}=cilk_spawn g();\n" + f"{long}=1;\n" * 15_000 + "return 0;}", plain),
+        ("an array from outside in each line of a loop", f"int main(){{int {long}[1];cilk_for(int i=0;i<1;i++){{\n" + f"{long}[0]=1;\n" * 15_000 + "}return 0;}", plain),
         ("1,000 functions, and a call of none of them", "".join(f"int f{i:04}(){{return 1;}}" for i in range(1_000)) + "\nint main(){f10000();return 0;}", plain),
     ]
 

@@ -35,7 +35,7 @@ static TAKEN: &[(&str, &str)] = &[
     ),
     (
         "int f() { return 1; }\nint main(int n) {\n  int x = 0;\n  while (n > 0) {\n    print(x);\n    x = cilk_spawn f();\n    n = n - 1;\n  }\n  cilk_sync;\n  return x;\n}",
-        "refused 4 line 5\nt:5: x is read in line 5, and the call spawned in line 6 gives its result at the next cilk_sync; a turn of the while before spawned it\n  5 |     print(x);\n  6 |     x = cilk_spawn f();\n",
+        "refused 4 line 5\nt:5: x is read in line 5, and the call spawned in line 6 gives its result at the next cilk_sync; a turn of the while before spawned it\n  5 |     print(x);\n  6 |     x = cilk_spawn f();\nt:6: x is written in line 6, and the call spawned in line 6 gives its result at the next cilk_sync\n",
     ),
     (
         "int f() { return 1; }\nint main(int n) {\n  if (n) {\n    int x = 0;\n    x = cilk_spawn f();\n  }\n  return 0;\n}",
@@ -79,7 +79,7 @@ static TAKERS: &[(&str, &str)] = &[
     // one that was joined is not told, nor one behind the while
     (
         "int f() { return 1; }\nint main(int n) {\n  int x = 0;\n  x = cilk_spawn f();\n  cilk_sync;\n  while (n > 0) {\n    print(x);\n    x = cilk_spawn f();\n    n = n - 1;\n  }\n  cilk_sync;\n  x = cilk_spawn f();\n  cilk_sync;\n  return x;\n}",
-        "refused 4 line 7\nt:7: x is read in line 7, and the call spawned in line 8 gives its result at the next cilk_sync; a turn of the while before spawned it\n  7 |     print(x);\n  8 |     x = cilk_spawn f();\n",
+        "refused 4 line 7\nt:7: x is read in line 7, and the call spawned in line 8 gives its result at the next cilk_sync; a turn of the while before spawned it\n  7 |     print(x);\n  8 |     x = cilk_spawn f();\nt:8: x is written in line 8, and the call spawned in line 8 gives its result at the next cilk_sync\n",
     ),
     // names of two blocks, one behind the other
     (
@@ -142,10 +142,30 @@ static LOOPS: &[(&str, &str)] = &[
     ),
 ];
 
+// More lines than one that break a rule.
+static SEVERAL: &[(&str, &str)] = &[
+    // since which line is said of the first line's name
+    (
+        "int f() { return 1; }\nint main() {\n  int x = 0;\n  int y = 0;\n  x = cilk_spawn f();\n  y = cilk_spawn f();\n  print(x);\n  print(y);\n  x = 2;\n  cilk_sync;\n  return x + y;\n}",
+        "refused 4 line 7\nt:7: x is read in line 7, and the call spawned in line 5 gives its result at the next cilk_sync\n  5 |   x = cilk_spawn f();\n  7 |   print(x);\nt:8: y is read in line 8, and the call spawned gives its result at the next cilk_sync\nt:9: x is written in line 9, and the call spawned in line 5 gives its result at the next cilk_sync\n",
+    ),
+    // a call that breaks a rule takes its arrays
+    (
+        "void f(int a[]) { }\nvoid g(int a[], int b[]) { }\nint main() {\n  int a[4];\n  int b[4];\n  cilk_spawn f(a);\n  cilk_spawn g(a, b);\n  b[0] = 1;\n  cilk_sync;\n  b[0] = 2;\n  return 0;\n}",
+        "refused 4 line 7\nt:7: a is passed in line 7, and the call spawned in line 6 has it until the next cilk_sync; calls that run side by side share no array: cut a and pass its parts, or let one wait for the other\n  6 |   cilk_spawn f(a);\n  7 |   cilk_spawn g(a, b);\nt:8: b is written in line 8, and the call spawned has it until the next cilk_sync\n",
+    ),
+    // the line of a declaration, which is found at the end of its block
+    (
+        "int f() { return 1; }\nint main(int n) {\n  if (n) {\n    int x = 0;\n    x = cilk_spawn f();\n    print(x);\n  }\n  return 0;\n}",
+        "refused 4 line 4\nt:4: the block of x, declared in line 4, ends, and the call spawned in line 5 gives its result at the next cilk_sync; put a cilk_sync before the end of the block; turns that run side by side are those of a cilk_for\n  4 |     int x = 0;\n  5 |     x = cilk_spawn f();\nt:6: x is read in line 6, and the call spawned in line 5 gives its result at the next cilk_sync\n",
+    ),
+];
+
 #[test]
 fn rules_of_ownership(rt: HostRuntime) {
     all_told(&rt, rt.alloc(), TAKEN);
     all_told(&rt, rt.alloc(), TAKERS);
     all_told(&rt, rt.alloc(), TWICE);
     all_told(&rt, rt.alloc(), LOOPS);
+    all_told(&rt, rt.alloc(), SEVERAL);
 }

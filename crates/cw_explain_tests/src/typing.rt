@@ -1,6 +1,6 @@
 //! A row for each rule of names and types.
 
-use crate::told::all_told;
+use crate::told::{all_told, is_said};
 
 static HEADS: &[(&str, &str)] = &[
     (
@@ -102,7 +102,7 @@ static NAMES: &[(&str, &str)] = &[
     // of two reducers of a name the first counts, and the least line is told
     (
         "int main() {\n  r max= 1;\n  return 0;\n}\nreducer sum r;\nreducer max r;",
-        "refused 3 line 2\nt:2: max= tells a value to a reducer that keeps the greatest, and r adds up (line 5): write r += ..\n  2 |   r max= 1;\n  5 | reducer sum r;\n",
+        "refused 3 line 2\nt:2: max= tells a value to a reducer that keeps the greatest, and r adds up (line 5): write r += ..\n  2 |   r max= 1;\n  5 | reducer sum r;\nt:6: r is the name of a function or reducer in line 5 already: their names differ\n",
     ),
     (
         "reducer max r;\nreducer sum r;\nint main() {\n  r max= 1;\n  return 0;\n}",
@@ -173,10 +173,47 @@ static STATEMENTS: &[(&str, &str)] = &[
     ),
 ];
 
+// More lines than one that break a rule.
+static SEVERAL: &[(&str, &str)] = &[
+    // a name is declared also where its value breaks a rule
+    (
+        "int f(int a) {\n  b = 1;\n  return a;\n}\nint main() {\n  int x = y;\n  x = f(1, 2);\n  return z;\n}",
+        "refused 3 line 2\nt:2: b is not known here: a name is known from its declaration to the end of its block\n  2 |   b = 1;\nt:6: y is not known here: a name is known from its declaration to the end of its block\nt:7: f in line 1 has 1 parameters, and the arguments are 2\nt:8: z is not known here: a name is known from its declaration to the end of its block\n",
+    ),
+    // of names that are there twice, in the order of lines
+    (
+        "void f() {\n  print(y);\n}\nreducer sum f;\nint main() {\n  return 0;\n}",
+        "refused 3 line 2\nt:2: y is not known here: a name is known from its declaration to the end of its block\n  2 |   print(y);\nt:4: f is the name of a function or reducer in line 1 already: their names differ\n",
+    ),
+    // a line once, for what is found first
+    (
+        "int main() {\n  p = 1; q = 2;\n  r = 3;\n  return 0;\n}",
+        "refused 3 line 2\nt:2: p is not known here: a name is known from its declaration to the end of its block\n  2 |   p = 1; q = 2;\nt:3: r is not known here: a name is known from its declaration to the end of its block\n",
+    ),
+];
+
+// A statement that breaks a rule, in 21 lines.
+const LINES: &str =
+    "y=1;\ny=1;\ny=1;\ny=1;\ny=1;\ny=1;\ny=1;\ny=1;\ny=1;\ny=1;\ny=1;\ny=1;\ny=1;\ny=1;\ny=1;\ny=1;\ny=1;\ny=1;\ny=1;\ny=1;\ny=1;\n";
+
+#[test]
+fn twenty_lines_of_names_and_types(rt: HostRuntime) {
+    let holds = is_said(
+        rt.alloc(),
+        "int main(){\n",
+        LINES,
+        "return 0;}",
+        "\nt:21: y is not known",
+        "\nt:22:",
+    );
+    assert!(rt; holds);
+}
+
 #[test]
 fn rules_of_names_and_types(rt: HostRuntime) {
     all_told(&rt, rt.alloc(), HEADS);
     all_told(&rt, rt.alloc(), NAMES);
     all_told(&rt, rt.alloc(), CALLS);
     all_told(&rt, rt.alloc(), STATEMENTS);
+    all_told(&rt, rt.alloc(), SEVERAL);
 }

@@ -9,31 +9,46 @@ use Rattle.cw_tree.specs.declared.resolved.Tree.{Tree}
 use Rattle.cw_tree.specs.Resolved.{Resolved, plain}
 use Rattle.cw_tree.specs.ResolvedView.{program_of, resolved_of}
 use Rattle.cw_tree.specs.Slots.{is_resolved}
-use Rattle.cw_own.specs.declared.reason.At.{At}
-use Rattle.cw_own.specs.Faults.{IsTold}
+use Rattle.cw_reasons.specs.declared.reasons.At.{At}
+use Rattle.cw_reasons.specs.declared.reasons.Reasons.{Reasons}
+use Rattle.cw_reasons.specs.Rising.{first_of, there}
+use Rattle.cw_own.specs.Faults.{AreTold, IsFirstTold, IsTold}
 use Rattle.cw_own.specs.Laws.{IsRefusedBefore}
-use Rattle.cw_own.specs.Reasons.{Reason, first_of, ownership_reasons, IsDisowned}
+use Rattle.cw_own.specs.Reasons.{Reason, ownership_reasons, IsDisowned, line_in}
+use Rattle.cw_reasons.specs.lemmas.Kept.{first-map, first-none, soonest, there-map, there-rising}
 use Rattle.cw_own.specs.Rules.{function_lines}
-use Rattle.cw_own.specs.Views.{line_and_reason, reason_of}
+use Rattle.cw_own.specs.Views.{AreNoted, line_and_reason, reason_of}
+use Rattle.cw_own.specs.declared.reason.Disowned.{Disowned}
 use Rattle.cw_own.proofs.Ownership.{ownership_by_slot}
 use Rattle.cw_own.proofs.Telling.{line_of, lines_of, functions_lines, first_line, first_is_there}
 
 -- the least line of the language is that of the reasons
 least_is : (tree : Resolved) → is_resolved tree ≡ true → type_faults (plain tree) ≡ [] →
-    lowest None (ownership_faults (plain tree)) ≡ option_map line_of (first_of None (ownership_reasons tree))
+    lowest None (ownership_faults (plain tree)) ≡ option_map line_of (soonest line_in None (ownership_reasons tree))
 least_is tree right fine =
     ownership_by_slot tree right fine
     ∙ ap (lowest None) (sym (functions_lines tree.functions))
     ∙ sym (first_line None (ownership_reasons tree))
 
-pub told_right : (tree : Tree) → is_resolved (resolved_of tree) ≡ true → type_faults (program_of tree) ≡ [] → (found : Option At) →
-    option_map line_and_reason found ≡ first_of None (ownership_reasons (resolved_of tree)) → MatchOption found (KeepsOwnership (program_of tree)) (IsTold tree)
+pub told_right : (tree : Tree) → is_resolved (resolved_of tree) ≡ true → type_faults (program_of tree) ≡ [] → (found : Option (At Disowned)) →
+    option_map line_and_reason found ≡ soonest line_in None (ownership_reasons (resolved_of tree)) → MatchOption found (KeepsOwnership (program_of tree)) (IsTold tree)
 told_right tree right fine None h =
     no_lines (ownership_faults (program_of tree)) (least_is (resolved_of tree) right fine ∙ ap (option_map line_of) (sym h))
 told_right tree right fine (Some at) h = record {
   least = least_line (ownership_faults (program_of tree)) at.line (least_is (resolved_of tree) right fine ∙ ap (option_map line_of) (sym h));
   told = first_is_there (ownership_reasons (resolved_of tree)) (at.line, reason_of at.reason) (sym h);
 }
+
+-- the first line that is told is the least, and what is told of it is right
+pub first_right : (tree : Tree) → is_resolved (resolved_of tree) ≡ true → type_faults (program_of tree) ≡ [] → (told : Reasons Disowned) →
+    AreNoted tree told → IsFirstTold tree told
+first_right tree right fine told h =
+    told_right tree right fine (first_of told.places)
+    (sym (first-map line_and_reason told.places) ∙ ap first_of h ∙ first-none line_in (ownership_reasons (resolved_of tree)))
+
+-- the least lines are told
+pub all_right : (tree : Tree) (told : Reasons Disowned) → AreNoted tree told → AreTold tree told
+all_right tree told h = sym (there-map line_and_reason told.places) ∙ ap there h ∙ there-rising line_in (ownership_reasons (resolved_of tree))
 
 -- the line of a reason that is there
 at_place : (rs : List (ℕ × Reason)) (x : ℕ × Reason) (k : ℕ) → k < length rs → slice_index_or rs k x ≡ x → (k < length (lines_of rs)) × (slice_index_or (lines_of rs) k x.0 ≡ x.0)

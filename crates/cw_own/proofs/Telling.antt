@@ -13,7 +13,8 @@ use Rattle.cw_own.specs.Sets.{Slots, Row, no_slot, with_slot, no_local, with_int
 use Rattle.cw_own.specs.Taken.{Taken, nothing, inside, inside_cut, int_taken, array_taken, array_held, with_parts, known_after, taken_after, taken_after_all, with_params}
 use Rattle.cw_own.specs.Rules as rule
 use Rattle.cw_own.specs.Rules.{seen_by, at_end, given_away, passed_once, none_read, named_once}
-use Rattle.cw_own.specs.Reasons.{Reason, GivenTwice, GivenAndRead, OverTwice, Turn, named, loop_around, head_in, turn_in, int_holder, array_taker, array_reader, array_holder, held_by, why_index, why_outer_array, why_outer_int, why_int, why_taken, why_lend, why_read, why_write, why_whole, why_target, why_argument, why_arguments, why_return, why_twice, why_read_too, why_call, why_over_twice, why_over, why_head, why_cut, why_element, why, reasons_at, ends_by, why_left, left_reasons, ending_reasons, reasons_within, reasons_in, block_reasons, function_reasons, earlier, first_of}
+use Rattle.cw_own.specs.Reasons.{Reason, GivenTwice, GivenAndRead, OverTwice, Turn, named, loop_around, head_in, turn_in, int_holder, array_taker, array_reader, array_holder, held_by, why_index, why_outer_array, why_outer_int, why_int, why_taken, why_lend, why_read, why_write, why_whole, why_target, why_argument, why_arguments, why_return, why_twice, why_read_too, why_call, why_over_twice, why_over, why_head, why_cut, why_element, why, reasons_at, ends_by, why_left, left_reasons, ending_reasons, reasons_within, reasons_in, block_reasons, function_reasons, line_in}
+use Rattle.cw_reasons.specs.lemmas.Kept.{sooner, soonest}
 
 abbrev pub line_of : (ℕ × Reason) → ℕ
 line_of r = r.0
@@ -302,15 +303,15 @@ functions_lines [] = refl
 functions_lines (f ∷ fs) = joined_lines (function_reasons f) (flat_map function_reasons fs) _ _ (function_lines f) (functions_lines fs)
 
 -- the first of reasons is of the least line
-pub first_line : (first : Option (ℕ × Reason)) (rs : List (ℕ × Reason)) → option_map line_of (first_of first rs) ≡ lowest (option_map line_of first) (lines_of rs)
+pub first_line : (first : Option (ℕ × Reason)) (rs : List (ℕ × Reason)) → option_map line_of (soonest line_in first rs) ≡ lowest (option_map line_of first) (lines_of rs)
 first_line first [] = refl
-first_line first (r ∷ rs) = first_line (earlier first r) rs ∙ ap (λ o. lowest o (lines_of rs)) (one first)
+first_line first (r ∷ rs) = first_line (sooner line_in first r) rs ∙ ap (λ o. lowest o (lines_of rs)) (one first)
   where
     picked : (b : Bool) (x : ℕ × Reason) → Some ((if b then x else r).0) ≡ Some (if b then x.0 else r.0)
     picked true x = refl
     picked false x = refl
 
-    one : (first : Option (ℕ × Reason)) → option_map line_of (earlier first r) ≡ lesser (option_map line_of first) r.0
+    one : (first : Option (ℕ × Reason)) → option_map line_of (sooner line_in first r) ≡ lesser (option_map line_of first) r.0
     one None = refl
     one (Some x) = picked (nat_le x.0 r.0) x
 
@@ -321,7 +322,7 @@ later r rs x h = Contains-append_right (r ∷ []) rs x h
 now : (r : ℕ × Reason) (rs : List (ℕ × Reason)) → Contains (r ∷ rs) r
 now r rs = Contains-append_left (r ∷ []) rs r (Contains-push [] r)
 
-first_from : (m : ℕ × Reason) (rs : List (ℕ × Reason)) (x : ℕ × Reason) → first_of (Some m) rs ≡ Some x → (x ≡ m) ⊎ Contains rs x
+first_from : (m : ℕ × Reason) (rs : List (ℕ × Reason)) (x : ℕ × Reason) → soonest line_in (Some m) rs ≡ Some x → (x ≡ m) ⊎ Contains rs x
 first_from m [] x h = inl (sym (cc h))
 first_from m (r ∷ rs) x h = by (nat_le m.0 r.0) (first_from (if nat_le m.0 r.0 then m else r) rs x h)
   where
@@ -332,7 +333,7 @@ first_from m (r ∷ rs) x h = by (nat_le m.0 r.0) (first_from (if nat_le m.0 r.0
     by true h = elim h [ inl e ↦ inl e | inr c ↦ inr (later r rs x c) ]
     by false h = elim h [ inl e ↦ inr (here e) | inr c ↦ inr (later r rs x c) ]
 
-pub first_is_there : (rs : List (ℕ × Reason)) (x : ℕ × Reason) → first_of None rs ≡ Some x → Contains rs x
+pub first_is_there : (rs : List (ℕ × Reason)) (x : ℕ × Reason) → soonest line_in None rs ≡ Some x → Contains rs x
 first_is_there [] x h = cc
 first_is_there (r ∷ rs) x h =
     let P : (ℕ × Reason) → Type 0 = λ y. Contains (r ∷ rs) y in

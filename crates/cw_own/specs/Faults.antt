@@ -1,14 +1,18 @@
 -- Why a program does not keep ownership.
+use Rattle.std.specs.Prelude.{◌≡◌, MatchOption, map}
 use Rattle.cw_model.specs.Syntax.{Program}
 use Rattle.cw_model.specs.Lines.{IsLeastLine}
-use Rattle.cw_model.specs.Ownership.{ownership_faults}
+use Rattle.cw_model.specs.Ownership.{KeepsOwnership, ownership_faults}
 use Rattle.cw_text.specs.declared.fault.Fault.{Fault}
 use Rattle.cw_text.specs.declared.fault.Fault.TheVariants as fault
 use Rattle.cw_tree.specs.declared.resolved.Tree.{Tree}
 use Rattle.cw_tree.specs.ResolvedView.{program_of, resolved_of}
-use Rattle.cw_own.specs.declared.reason.At.{At}
-use Rattle.cw_own.specs.Reasons.{IsDisowned}
-use Rattle.cw_own.specs.Views.{reason_of}
+use Rattle.cw_reasons.specs.declared.reasons.At.{At}
+use Rattle.cw_reasons.specs.declared.reasons.Reasons.{Reasons}
+use Rattle.cw_reasons.specs.Rising.{first_of, there}
+use Rattle.cw_own.specs.declared.reason.Disowned.{Disowned}
+use Rattle.cw_own.specs.Reasons.{IsDisowned, reasons_told}
+use Rattle.cw_own.specs.Views.{line_and_reason, reason_of}
 
 -- what must hold of the program where this fault is answered for it; of memory nothing is said
 abbrev pub BreaksOwnership : Program → Fault → Type 0
@@ -17,6 +21,14 @@ BreaksOwnership program fault.Memory = Unit {0}
 BreaksOwnership program _ = ⊥
 
 -- what must hold of a tree of which this is told: the line is the least that breaks a rule, and breaks this one
-pub record IsTold (tree : Tree) (at : At) : Type 0 where
+pub record IsTold (tree : Tree) (at : At Disowned) : Type 0 where
   pub least : IsLeastLine (ownership_faults (program_of tree)) at.line
   pub told : IsDisowned (resolved_of tree) at.line (reason_of at.reason)
+
+-- nothing is told first exactly where the tree keeps ownership, else the least line that breaks a rule, which is broken
+abbrev pub IsFirstTold : Tree → Reasons Disowned → Type 0
+IsFirstTold tree told = MatchOption (first_of told.places) (KeepsOwnership (program_of tree)) (IsTold tree)
+
+-- the least lines that break a rule are told, each with the first rule that it breaks
+abbrev pub AreTold : Tree → Reasons Disowned → Type 0
+AreTold tree told = map line_and_reason (there told.places) ≡ reasons_told (resolved_of tree)

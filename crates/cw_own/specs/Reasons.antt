@@ -1,12 +1,14 @@
 -- Which rule of ownership is broken, by slots: the first one of each statement, for which names; and where in a function.
-use Rattle.std.specs.Prelude.{ℕ, nat_le, Bool, true, false, not, ◌&&◌, ◌||◌, if◌then◌else◌, List, [], ◌∷◌, ◌++◌}
-use Rattle.std.specs.Prelude.{Option, Some, None, option_map, flat_map, Contains}
+use Rattle.std.specs.Prelude.{ℕ, Bool, true, false, not, ◌&&◌, ◌||◌, if◌then◌else◌, List, [], ◌∷◌, ◌++◌}
+use Rattle.std.specs.Prelude.{Option, Some, None, option_map, flat_map, take, Contains}
 use Rattle.std.specs.Option.{option_or}
 use Rattle.cw_model.specs.Ownership.{Closing, Joins, Leaves}
 use Rattle.cw_tree.specs.Resolved.{Use, Listed, Expr, Number, Variable, Element, Length, Negative, Not, Binary, Argument}
 use Rattle.cw_tree.specs.Resolved.{Int, Array, Shared, Stmt, Declare, DeclareArray, Assign, AssignElement, Reduce, Call}
 use Rattle.cw_tree.specs.Resolved.{Sync, If, IfElse, While, For, Scope, Cut, Region, Print, Return, Head, Parts, Block}
 use Rattle.cw_tree.specs.Resolved.{End, Then, Function, Resolved}
+use Rattle.cw_reasons.specs.declared.reasons.TheConstants.{MOST_TOLD}
+use Rattle.cw_reasons.specs.Rising.{rising}
 use Rattle.cw_own.specs.declared.reason.Touch.{Touch}
 use Rattle.cw_own.specs.declared.reason.Touch.TheVariants as touch
 use Rattle.cw_own.specs.declared.reason.Holder.{Holder}
@@ -313,12 +315,11 @@ ownership_reasons tree = flat_map function_reasons tree.functions
 abbrev pub IsDisowned : Resolved → (line : ℕ) → Reason → Type 0
 IsDisowned tree line r = Contains (ownership_reasons tree) (line, r)
 
--- the earlier of the first line so far and a line; of one line the rule that was found first
-abbrev pub earlier : Option (ℕ × Reason) → (ℕ × Reason) → Option (ℕ × Reason)
-earlier None new = Some new
-earlier (Some first) new = Some (if nat_le first.0 new.0 then first else new)
+-- the line of a reason
+abbrev pub line_in : ℕ × Reason → ℕ
+line_in r = r.0
 
--- the first of all lines, after the first so far
-abbrev pub first_of : Option (ℕ × Reason) → List (ℕ × Reason) → Option (ℕ × Reason)
-first_of first [] = first
-first_of first (r ∷ rs) = first_of (earlier first r) rs
+-- the lines that break a rule, the least of them, as many as are told at most, rising, each with the first rule that it
+-- breaks
+abbrev pub reasons_told : Resolved → List (ℕ × Reason)
+reasons_told tree = take MOST_TOLD (rising line_in (ownership_reasons tree))

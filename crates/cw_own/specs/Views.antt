@@ -7,14 +7,19 @@ use Rattle.cw_tree.specs.declared.resolved.Call as code_call
 use Rattle.cw_tree.specs.declared.resolved.Stmt as code_stmt
 use Rattle.cw_tree.specs.declared.resolved.Line as code_line
 use Rattle.cw_tree.specs.declared.resolved.Function as code_function
+use Rattle.cw_reasons.specs.declared.reasons.At.{At}
+use Rattle.cw_reasons.specs.declared.reasons.Reasons.{Reasons}
+use Rattle.cw_reasons.specs.Rising.{kept}
+use Rattle.cw_reasons.specs.Told.{no_place}
+use Rattle.cw_tree.specs.declared.resolved.Tree.{Tree}
 use Rattle.cw_tree.specs.Resolved.{Use, Expr, Block, Scope}
 use Rattle.cw_tree.specs.ResolvedView.{use_of, listed_of, expr_of, argument_of, stmt_of, block_of, function_of}
+use Rattle.cw_tree.specs.ResolvedView.{resolved_of}
 use Rattle.cw_own.specs.declared.bits.Bits as code_bits
 use Rattle.cw_own.specs.declared.row.Row as code_row
 use Rattle.cw_own.specs.declared.held.Held as code_held
 use Rattle.cw_own.specs.declared.taken.Taken as code_taken
 use Rattle.cw_own.specs.declared.around.Loop as code_loop
-use Rattle.cw_own.specs.declared.reason.At as code_at
 use Rattle.cw_own.specs.declared.reason.Disowned as code_reason
 use Rattle.cw_own.specs.declared.reason.Disowned.TheVariants as reason
 use Rattle.cw_own.specs.declared.told.Told as code_told
@@ -25,7 +30,7 @@ use Rattle.cw_own.specs.Taken.{turns_within, cuts_after_all, left_by, taken_afte
 use Rattle.cw_own.specs.Rules.{seen_by}
 use Rattle.cw_own.specs.Reasons.{Reason, Held as IsHeld, EndsHeld, GivenTwice, GivenAndRead, OverTwice, OuterWritten}
 use Rattle.cw_own.specs.Reasons.{OuterArray, OtherElement, Turn, why_call, left_reasons, reasons_within, reasons_in}
-use Rattle.cw_own.specs.Reasons.{block_reasons, function_reasons, first_of}
+use Rattle.cw_own.specs.Reasons.{block_reasons, function_reasons, line_in, ownership_reasons}
 
 -- the set of slots that the code holds
 abbrev pub set_of : code_bits.Bits → Slots
@@ -51,12 +56,16 @@ abbrev pub told_of : Option code_reason.Disowned → Option Reason
 told_of found = option_map reason_of found
 
 -- one with its line
-abbrev pub line_and_reason : code_at.At → ℕ × Reason
+abbrev pub line_and_reason : At code_reason.Disowned → ℕ × Reason
 line_and_reason at = (at.line, reason_of at.reason)
 
--- the first line so far that breaks a rule, with that
-abbrev pub first_told : code_told.Told → Option (ℕ × Reason)
-first_told told = option_map line_and_reason told.first
+-- the lines at these places that break a rule, each with that
+abbrev pub told_at : List (Option (At code_reason.Disowned)) → List (Option (ℕ × Reason))
+told_at places = map (option_map line_and_reason) places
+
+-- those so far
+abbrev pub places_told : code_told.Told → List (Option (ℕ × Reason))
+places_told told = told_at told.reasons.places
 
 -- the turn of a loop that the code holds
 abbrev pub turn_of : code_loop.Loop → Turn
@@ -88,6 +97,10 @@ other_block stmt = other_of (stmt_of stmt)
 abbrev pub after_call : code_call.Call → code_held.Held → Held
 after_call call here =
     taken_by_call call.kind (used call.target) (map argument_of call.arguments.items) (held_of here)
+
+-- which rule is broken, where these are the loop around and what is held
+abbrev pub why_here : {A : Type 0} → (Option Turn → Taken → A) → Option code_loop.Loop → code_taken.Taken → A
+why_here rule around taken = rule (around_of around) (taken_of taken)
 
 -- which rule a call breaks
 abbrev pub why_of_call : Option code_loop.Loop → code_taken.Taken → code_call.Call → Option Reason
@@ -211,6 +224,10 @@ reasons_of f = function_reasons (function_of f)
 abbrev pub reasons_of_all : List code_function.Function → List (ℕ × Reason)
 reasons_of_all fs = flat_map function_reasons (map function_of fs)
 
--- the first line is kept of those so far and of these
+-- these were noted
 abbrev pub Noted : (before after : code_told.Told) → List (ℕ × Reason) → Type 0
-Noted before after reasons = first_told after ≡ first_of (first_told before) reasons
+Noted before after reasons = places_told after ≡ kept line_in (places_told before) reasons
+
+-- those of a tree were noted
+abbrev pub AreNoted : Tree → Reasons code_reason.Disowned → Type 0
+AreNoted tree reasons = told_at reasons.places ≡ kept line_in no_place (ownership_reasons (resolved_of tree))

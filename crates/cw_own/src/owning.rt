@@ -6,19 +6,20 @@ ghost use Rattle.cw_model.specs.declared.limits.TheConstants.{MOST_PARAMETERS};
 ghost use Rattle.cw_model.specs.Ownership.{KeepsOwnership};
 ghost use Rattle.cw_tree.specs.ResolvedView.{program_of, resolved_of, param_of, function_of};
 ghost use Rattle.cw_own.specs.Bounds.{small_function};
-ghost use Rattle.cw_own.specs.Faults.{BreaksOwnership, IsTold};
+ghost use Rattle.cw_own.specs.Faults.{AreTold, BreaksOwnership, IsFirstTold, IsTold};
 ghost use Rattle.cw_own.specs.Sets.{row_of, no_local};
 ghost use Rattle.cw_own.specs.Taken.{with_params};
 ghost use Rattle.cw_own.specs.Views.{reasons_of, reasons_of_all, Noted};
 
 use crate::gains::{Gains, turns};
 use crate::owned::Owned;
-use crate::reason::{At, Disowned, Holder};
+use crate::reason::{Disowned, Holder};
 use crate::row::Row;
 use crate::rules::{Turns, note_sync_block};
 use crate::taken::Taken;
 use crate::told::{Local, Told};
 use cw_model::syntax::NameKind;
+use cw_reasons::{At, Reasons};
 use cw_text::{Fault, Place};
 use cw_tree::Typed;
 use cw_tree::resolved::{Function, Param};
@@ -34,36 +35,42 @@ pub fn own(alloc: Global, typed: Typed) -> Result<Owned, Fault>
     ensures { MatchResult result (λ owned. owned.typed.tree ≡ typed.tree)
         (BreaksOwnership (program_of typed.tree)) }
 {
-    let told = first_broken(alloc, &typed, None)?;
+    let told = first_broken(alloc, &typed)?;
     match told {
         Some(first) => Err(Fault::Ownership(Place { line: first.line })),
         None => Ok(Owned { typed }),
     }
 }
 
-/// The least line that breaks a rule of ownership, with the first rule that it breaks and the names that it breaks it
-/// for; none where the tree keeps ownership. Where a name is held, since which line it is. An error where memory is
-/// refused, as in `own`.
-pub fn disowned(alloc: Global, typed: &Typed) -> Result<Option<At<'_>>, AllocError>
+// The least line that breaks a rule, and which.
+fn first_broken(alloc: Global, typed: &Typed) -> Result<Option<At<Disowned<'_>>>, AllocError>
     ensures { IfOk result (λ told. MatchOption told (KeepsOwnership (program_of typed.now.tree))
         (IsTold typed.now.tree)) }
 {
-    let told = first_broken(alloc, typed, None)?;
-    match held_local(&told) {
+    let told = broken(alloc, typed, None)?;
+    Ok(told.first())
+}
+
+/// The lines that break a rule of ownership, the least twenty of them, rising, each with the first rule that it breaks and
+/// the names that it breaks it for; none where the tree keeps ownership. Where a name is held in the first of them, since
+/// which line it is. An error where memory is refused, as in `own`.
+pub fn disowned(alloc: Global, typed: &Typed) -> Result<Reasons<Disowned<'_>>, AllocError>
+    ensures first { IfOk result (IsFirstTold typed.now.tree) }
+    ensures all { IfOk result (AreTold typed.now.tree) }
+{
+    let told = broken(alloc, typed, None)?;
+    match held_local(told.first()) {
         None => Ok(told),
         Some(local) => {
-            let told = first_broken(alloc, typed, Some(local))?;
+            let told = broken(alloc, typed, Some(local))?;
             Ok(told)
         }
     }
 }
 
 // The local that the reason says is held, if it says so of one.
-fn held_local(told: &Option<At<'_>>) -> Option<Local> {
-    let Some(first) = told else {
-        return None;
-    };
-    match first.reason {
+fn held_local(told: Option<At<Disowned<'_>>>) -> Option<Local> {
+    match told?.reason {
         Disowned::Held(used, _, holder, _) | Disowned::EndsHeld(used, holder, _) => {
             Some(local_of(used.slot, holder))
         }
@@ -79,22 +86,23 @@ fn local_of(slot: u32, holder: Holder) -> Local {
     }
 }
 
-// The first line that breaks a rule, where this local is watched.
-fn first_broken(
+// The lines that break a rule, where this local is watched.
+fn broken(
     alloc: Global,
     typed: &Typed,
     watched: Option<Local>,
-) -> Result<Option<At<'_>>, AllocError>
-    ensures { IfOk result (λ told. MatchOption told (KeepsOwnership (program_of typed.now.tree))
-        (IsTold typed.now.tree)) }
+) -> Result<Reasons<Disowned<'_>>, AllocError>
+    ensures first { IfOk result (IsFirstTold typed.now.tree) }
+    ensures all { IfOk result (AreTold typed.now.tree) }
 {
     let mut told = Told::new(watched);
     note_functions(alloc, &typed.tree.functions, &mut told)?;
-    Ok(told.first)
+    let Told { reasons, watch: _ } = told;
+    Ok(reasons)
 }
 
 // Notes each line of these functions that breaks a rule.
-#[tactic(auto, using(crate::proofs::Small::first_append))]
+#[tactic(auto, using(crate::proofs::Small::kept_append))]
 fn note_functions<'a>(
     alloc: Global,
     functions: &'a [Function],

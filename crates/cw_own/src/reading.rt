@@ -11,7 +11,7 @@ ghost use Rattle.cw_own.specs.Reasons.{held_by, outside, why_index, why_outer_in
 ghost use Rattle.cw_own.specs.Reasons.{why_taken, why_read, why_write, why_whole, why_lend, why_target, why_argument};
 ghost use Rattle.cw_own.specs.Reasons.{why_arguments, why_return, why_twice, why_read_too, why_over_twice, why_over};
 ghost use Rattle.cw_own.specs.Reasons.{why_head, why_cut, why_element, why};
-ghost use Rattle.cw_own.specs.Views.{set_of, turn_of, around_of, used, returned, reason_of, told_of, why_of_call};
+ghost use Rattle.cw_own.specs.Views.{set_of, turn_of, around_of, used, returned, reason_of, told_of, why_here, why_of_call};
 ghost use Rattle.cw_own.specs.declared.reason.Touch.TheVariants as touch;
 
 use crate::around::{Loop, for_head};
@@ -103,7 +103,7 @@ fn of_outer_int<'a>(around: &Option<Loop<'a>>, used: &'a Use) -> Option<Disowned
 
 // An expression names what is taken, or breaks the rule of the loop around.
 fn of_expr<'a>(around: &Option<Loop<'a>>, taken: &Taken, e: &'a Expr) -> Option<Disowned<'a>>
-    ensures { told_of result ≡ why_read (around_of around.now) (taken_of taken.now) (expr_of e.now) }
+    ensures { told_of result ≡ why_here why_read around.now taken.now (expr_of e.now) }
 {
     match e {
         Expr::Number(_) => None,
@@ -134,14 +134,14 @@ fn of_taken<'a>(taken: &Taken, used: &'a Use) -> Option<Disowned<'a>>
 
 // An array that is read as a whole is taken, or from outside the loop.
 fn of_lent<'a>(around: &Option<Loop<'a>>, taken: &Taken, used: &'a Use) -> Option<Disowned<'a>>
-    ensures { told_of result ≡ why_lend (around_of around.now) (taken_of taken.now) (use_of used.now) }
+    ensures { told_of result ≡ why_here why_lend around.now taken.now (use_of used.now) }
 {
     of_taken(taken, used).or(of_outer_array(around, used))
 }
 
 // An integer that is written is taken, or from outside the loop.
 fn of_write<'a>(around: &Option<Loop<'a>>, taken: &Taken, used: &'a Use) -> Option<Disowned<'a>>
-    ensures { told_of result ≡ why_write (around_of around.now) (taken_of taken.now) (use_of used.now) }
+    ensures { told_of result ≡ why_here why_write around.now taken.now (use_of used.now) }
 {
     let held = of_holder(taken, used, Touch::Written, taken.int_holder(used.slot));
     held.or(of_outer_int(around, used))
@@ -167,7 +167,7 @@ fn of_target<'a>(
     taken: &Taken,
     target: &'a Option<Use>,
 ) -> Option<Disowned<'a>>
-    ensures { told_of result ≡ why_target (around_of around.now) (taken_of taken.now) (used target.now) }
+    ensures { told_of result ≡ why_here why_target around.now taken.now (used target.now) }
 {
     match target {
         None => None,
@@ -181,7 +181,7 @@ fn of_argument<'a>(
     taken: &Taken,
     e: &'a Argument,
 ) -> Option<Disowned<'a>>
-    ensures { told_of result ≡ why_argument (around_of around.now) (taken_of taken.now) (argument_of e.now) }
+    ensures { told_of result ≡ why_here why_argument around.now taken.now (argument_of e.now) }
 {
     match e {
         Argument::Int(e) => of_expr(around, taken, e),
@@ -214,7 +214,7 @@ fn of_return<'a>(
     taken: &Taken,
     e: &'a Option<Expr>,
 ) -> Option<Disowned<'a>>
-    ensures { told_of result ≡ why_return (around_of around.now) (taken_of taken.now) (returned e.now) }
+    ensures { told_of result ≡ why_here why_return around.now taken.now (returned e.now) }
 {
     match e {
         None => None,
@@ -255,7 +255,8 @@ fn given_away(es: &[Argument]) -> Bits
 
 // One of the arrays that are given away is read besides.
 fn read_too<'a>(callee: &'a Listed, given: &Bits, es: &'a [Argument]) -> Option<Disowned<'a>>
-    ensures { told_of result ≡ why_read_too (listed_of callee.now) (set_of given.now) (map argument_of es.now) }
+    ensures { told_of result
+        ≡ why_read_too (listed_of callee.now) (set_of given.now) (map argument_of es.now) }
 {
     for e in es {
         if let Argument::Shared(used) = e {
@@ -296,7 +297,7 @@ fn over_twice<'a>(uses: &'a [Use]) -> Option<Disowned<'a>>
 
 // The first array of a loop that may not be named in its head.
 fn of_over<'a>(around: &Option<Loop<'a>>, taken: &Taken, uses: &'a [Use]) -> Option<Disowned<'a>>
-    ensures { told_of result ≡ why_over (around_of around.now) (taken_of taken.now) (map use_of uses.now) }
+    ensures { told_of result ≡ why_here why_over around.now taken.now (map use_of uses.now) }
 {
     for used in uses {
         let found = of_whole(around, taken, Touch::NamedInOver, used);
@@ -310,7 +311,7 @@ fn of_over<'a>(around: &Option<Loop<'a>>, taken: &Taken, uses: &'a [Use]) -> Opt
 // The head of a loop breaks a rule.
 fn of_head<'a>(around: &Option<Loop<'a>>, taken: &Taken, head: &'a Head) -> Option<Disowned<'a>>
     requires { list_all is_small (map use_of head.now.over.items) ≡ true }
-    ensures { told_of result ≡ why_head (around_of around.now) (taken_of taken.now) (head_of head.now) }
+    ensures { told_of result ≡ why_here why_head around.now taken.now (head_of head.now) }
 {
     let inner = for_head(around);
     of_expr(&inner, taken, &head.from)
@@ -321,7 +322,7 @@ fn of_head<'a>(around: &Option<Loop<'a>>, taken: &Taken, head: &'a Head) -> Opti
 
 // A cut breaks a rule.
 fn of_cut<'a>(around: &Option<Loop<'a>>, taken: &Taken, cut: &'a Cut) -> Option<Disowned<'a>>
-    ensures { told_of result ≡ why_cut (around_of around.now) (taken_of taken.now) (parts_of cut.now) }
+    ensures { told_of result ≡ why_here why_cut around.now taken.now (parts_of cut.now) }
 {
     of_expr(around, taken, &cut.at).or(of_whole(around, taken, Touch::Cut, &cut.array))
 }
@@ -335,7 +336,8 @@ fn of_element<'a>(
     e: &'a Expr,
 ) -> Option<Disowned<'a>>
     ensures { told_of result
-        ≡ why_element (around_of around.now) (taken_of taken.now) (use_of used.now) (expr_of i.now) (expr_of e.now) }
+        ≡ why_here why_element around.now taken.now
+        (use_of used.now) (expr_of i.now) (expr_of e.now) }
 {
     let held = of_holder(taken, used, Touch::Written, taken.array_holder(used.slot));
     of_expr(around, taken, i)

@@ -42,10 +42,3 @@ pub enum Disowned<'a> {
     /// head is of this line.
     OtherElement(&'a Use, &'a Use, u32),
 }
-
-/// A rule that is broken, and the line that breaks it.
-#[derive(Clone, Copy, Debug)]
-pub struct At<'a> {
-    pub line: u32,
-    pub reason: Disowned<'a>,
-}

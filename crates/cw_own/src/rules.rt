@@ -108,7 +108,7 @@ fn note_left<'a>(taken: &Taken, lines: &'a [Line], told: &mut Told<'a>)
 
 // Notes the lines of these statements that break a rule; what is held after them.
 #[cycle(rules)]
-#[tactic(auto, using(crate::proofs::Small::first_append))]
+#[tactic(auto, using(crate::proofs::Small::kept_append))]
 fn note_all<'a>(
     around: &Option<Loop<'a>>,
     known: Row,
@@ -138,7 +138,7 @@ fn note_all<'a>(
 
 // Notes the lines of a block that break a rule, where it joins no spawn at its end; what is held at its end.
 #[cycle(rules)]
-#[tactic(auto, using(crate::proofs::Small::first_append))]
+#[tactic(auto, using(crate::proofs::Small::kept_append))]
 fn note_block<'a>(
     around: &Option<Loop<'a>>,
     known: Row,
@@ -160,7 +160,7 @@ fn note_block<'a>(
 
 /// Notes the lines of a sync block that break a rule; what is held at its end, before it joins its spawns.
 #[cycle(rules)]
-#[tactic(auto, using(crate::proofs::Small::first_append))]
+#[tactic(auto, using(crate::proofs::Small::kept_append))]
 pub fn note_sync_block<'a>(
     around: &Option<Loop<'a>>,
     known: Row,
@@ -182,7 +182,7 @@ pub fn note_sync_block<'a>(
 
 // The same of what a statement does where its test does not hold.
 #[cycle(rules)]
-#[tactic(auto, using(crate::proofs::Small::first_append))]
+#[tactic(auto, using(crate::proofs::Small::kept_append))]
 fn note_other<'a>(
     around: &Option<Loop<'a>>,
     known: &Row,
@@ -219,7 +219,7 @@ fn note_other<'a>(
 
 // Notes the lines that break a rule of a sync block inside another; what is held behind it.
 #[cycle(rules)]
-#[tactic(auto, using(crate::proofs::Small::first_append))]
+#[tactic(auto, using(crate::proofs::Small::kept_append))]
 fn note_scope<'a>(
     around: &Option<Loop<'a>>,
     known: Row,
@@ -243,7 +243,7 @@ fn note_scope<'a>(
 
 // The same of the block of a cut of this array, in which its parts are known.
 #[cycle(rules)]
-#[tactic(auto, using(crate::proofs::Small::first_append))]
+#[tactic(auto, using(crate::proofs::Small::kept_append))]
 fn note_cut<'a>(
     around: &Option<Loop<'a>>,
     known: Row,
@@ -257,7 +257,8 @@ fn note_cut<'a>(
     requires small { small_block (block_of lines.now) ≡ true }
     requires turns { BeginWith (turns_of_lines known lines.now) (rows_of rest.old.left.now) }
     ensures taken { taken_of result ≡ left_by_cut array taken lines.now }
-    ensures lines { Noted told.old told.new (reasons_of_cut around.now known array taken lines.now) }
+    ensures lines { Noted told.old told.new
+        (reasons_of_cut around.now known array taken lines.now) }
     ensures turns { Past (turns_of_lines known lines.now) rest.old.left.now rest.new.left.now }
 {
     let inside = taken.inside_cut(array, &told.watch);
@@ -269,7 +270,7 @@ fn note_cut<'a>(
 
 // Notes the lines in the blocks of a statement that break a rule; what is held after the statement.
 #[cycle(rules)]
-#[tactic(auto, using(crate::proofs::Small::first_append))]
+#[tactic(auto, using(crate::proofs::Small::kept_append))]
 fn note_within<'a>(
     around: &Option<Loop<'a>>,
     known: &Row,
@@ -282,7 +283,8 @@ fn note_within<'a>(
     requires small { small_stmt (stmt_of stmt.now) ≡ true }
     requires turns { BeginWith (turns_inside known.now stmt.now) (rows_of rest.old.left.now) }
     ensures taken { taken_of result ≡ left_after known.now taken stmt.now }
-    ensures lines { Noted told.old told.new (reasons_inside around.now known.now taken line stmt.now) }
+    ensures lines { Noted told.old told.new
+        (reasons_inside around.now known.now taken line stmt.now) }
     ensures turns { Past (turns_inside known.now stmt.now) rest.old.left.now rest.new.left.now }
 {
     match stmt {

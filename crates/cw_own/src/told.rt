@@ -1,11 +1,13 @@
-//! The first line that breaks a rule, and which.
+//! The lines that break a rule, and which.
 
-ghost use Rattle.std.specs.Prelude.{◌≡◌, None};
-ghost use Rattle.cw_own.specs.Reasons.{first_of, reasons_at};
-ghost use Rattle.cw_own.specs.Views.{told_of, first_told};
+ghost use Rattle.std.specs.Prelude.{◌≡◌};
+ghost use Rattle.cw_reasons.specs.Told.{no_place};
+ghost use Rattle.cw_own.specs.Reasons.{reasons_at};
+ghost use Rattle.cw_own.specs.Views.{Noted, places_told, told_of};
 
-use crate::reason::{At, Disowned};
+use crate::reason::Disowned;
 use crate::row::Row;
+use cw_reasons::Reasons;
 
 /// A local, of which it is asked since which line it is held.
 #[derive(Clone, Copy, Debug)]
@@ -53,39 +55,28 @@ impl Watch {
     }
 }
 
-/// The least line so far that breaks a rule, with the first rule that it breaks; and what is watched.
+/// The least lines so far that break a rule, each with the first rule that it breaks; and what is watched.
 #[derive(Drop)]
 pub struct Told<'a> {
-    pub first: Option<At<'a>>,
+    pub reasons: Reasons<Disowned<'a>>,
     pub watch: Watch,
 }
 
 impl<'a> Told<'a> {
     /// None so far, where this local is watched.
     pub fn new(local: Option<Local>) -> Told<'a>
-        ensures { first_told result ≡ None }
+        ensures { places_told result ≡ no_place }
     {
         Told {
-            first: None,
+            reasons: Reasons::new(),
             watch: Watch::new(local),
         }
     }
 
     /// One line more, where it breaks a rule.
     pub fn note(&mut self, found: Option<Disowned<'a>>, line: u32)
-        ensures { first_told self.new ≡ first_of (first_told self.old) (reasons_at line (told_of found.entry)) }
+        ensures { Noted self.old self.new (reasons_at line (told_of found.entry)) }
     {
-        let Some(reason) = found else {
-            return;
-        };
-        let new = At { line, reason };
-        match self.first {
-            None => self.first = Some(new),
-            Some(first) => {
-                if line < first.line {
-                    self.first = Some(new);
-                }
-            }
-        }
+        self.reasons.note(found, line);
     }
 }

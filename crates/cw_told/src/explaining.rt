@@ -3,7 +3,7 @@
 ghost use Rattle.std.specs.Prelude.{IfOk};
 ghost use Rattle.cw_model.specs.Tokens.{IsTokenCut};
 
-use crate::further::{add_text, add_tokens};
+use crate::further::{add_text, add_tokens, add_types, add_unowned};
 use crate::hinting::{closed_return, hint_in};
 use crate::others::{Named, of_run, parameters_of_main};
 use crate::owning::Unowned;
@@ -20,7 +20,7 @@ use cw_own::disowned;
 use cw_parse::parse;
 use cw_text::{Fault, Source};
 use cw_tree::syntax::Ast;
-use cw_types::{Refusal, check, refused};
+use cw_types::{check, ill_typed, too_large};
 use std::alloc::Global;
 
 /// What is refused: a source, with the words that it was run with.
@@ -39,8 +39,9 @@ pub struct Refused<'a> {
 }
 
 /// Why a source is refused with this fault, or its run: the rule that is broken, in words, with its names, on one line that begins
-/// with the source and its line, and below it the lines of the source that matter, with their numbers. Each line ends with a
-/// line feed.
+/// with the source and its line, and below it the lines of the source that matter, with their numbers. Behind that what else the
+/// stage refuses, a line for each line of the source, rising: twenty lines at most with the first, and about 4 KB. Each line ends
+/// with a line feed.
 ///
 /// Nothing is told of want of memory, nor of code that the verifier refuses. `Memory` where memory runs out.
 pub fn explain(alloc: Global, refused: &Refused<'_>, fault: &Fault) -> Result<String, Fault> {
@@ -59,12 +60,11 @@ pub fn explain(alloc: Global, refused: &Refused<'_>, fault: &Fault) -> Result<St
         }
         Fault::Types(place) => {
             add_place(&mut out, refused.file, place.line)?;
-            of_types(alloc, &mut out, bytes, place.line)?;
-            add_hints(alloc, &mut out, refused, place.line)?;
+            of_types(alloc, &mut out, refused, place.line)?;
         }
         Fault::Ownership(place) => {
             add_place(&mut out, refused.file, place.line)?;
-            of_ownership(alloc, &mut out, bytes, place.line)?;
+            of_ownership(alloc, &mut out, refused, place.line)?;
         }
         Fault::Size(place) => {
             add_place(&mut out, refused.file, place.line)?;
@@ -191,27 +191,43 @@ fn add_hints(
 }
 
 // Of names and types.
-fn of_types(alloc: Global, out: &mut String, bytes: &[u8], line: u32) -> Result<(), Fault> {
+fn of_types(
+    alloc: Global,
+    out: &mut String,
+    refused: &Refused<'_>,
+    line: u32,
+) -> Result<(), Fault> {
+    let bytes = refused.bytes;
     let ast = tree_of(alloc, bytes)?;
-    match refused(alloc, &ast)? {
-        Some(Refusal::IllTyped(at)) => {
+    let told = ill_typed(alloc, &ast)?;
+    match told.first() {
+        Some(at) => {
             let reason = Untyped { reason: at.reason };
             write!(out, "{reason}\n")?;
             add_lines(out, bytes, line, reason.other_line())?;
         }
-        Some(Refusal::TooLarge(_)) | None => {
+        None => {
             out.push_str("a rule of names and types is broken\n")?;
             add_lines(out, bytes, line, None)?;
         }
     }
-    Ok(())
+    add_hints(alloc, out, refused, line)?;
+    let path = refused.file;
+    add_types(out, Named { path }, &told)
 }
 
 // Of ownership.
-fn of_ownership(alloc: Global, out: &mut String, bytes: &[u8], line: u32) -> Result<(), Fault> {
+fn of_ownership(
+    alloc: Global,
+    out: &mut String,
+    refused: &Refused<'_>,
+    line: u32,
+) -> Result<(), Fault> {
+    let bytes = refused.bytes;
     let ast = tree_of(alloc, bytes)?;
     let typed = check(alloc, ast)?;
-    match disowned(alloc, &typed)? {
+    let told = disowned(alloc, &typed)?;
+    match told.first() {
         Some(at) => {
             let reason = Unowned { at };
             write!(out, "{reason}\n")?;
@@ -222,7 +238,8 @@ fn of_ownership(alloc: Global, out: &mut String, bytes: &[u8], line: u32) -> Res
             add_lines(out, bytes, line, None)?;
         }
     }
-    Ok(())
+    let path = refused.file;
+    add_unowned(out, Named { path }, &told)
 }
 
 // Of limits: of the bytes, a name, the tokens, the program's parts, and its code, in this order.
@@ -280,12 +297,12 @@ fn of_tokens(
 
 // Of parts and code.
 fn of_parts(alloc: Global, out: &mut String, ast: &Ast) -> Result<(), Fault> {
-    match refused(alloc, ast)? {
-        Some(Refusal::TooLarge(at)) => {
+    match too_large(alloc, ast)? {
+        Some(at) => {
             let limit = Passed { limit: at.reason };
             write!(out, "{limit}\n")?;
         }
-        Some(Refusal::IllTyped(_)) | None => {
+        None => {
             let reason = passed_by_code(alloc, ast)?;
             write!(out, "{reason}\n")?;
         }

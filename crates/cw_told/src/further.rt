@@ -1,12 +1,17 @@
-//! What else is refused behind the first fault: of the text line by line, and of the grammar what no source has anywhere.
+//! What else is refused behind the first fault: of the text line by line, of the grammar what no source has anywhere, and of names,
+//! types and ownership what their stages tell.
 
 use crate::around::{Around, Opened};
 use crate::others::Named;
+use crate::owning::Unowned;
 use crate::unparsed::BARE;
 use crate::words::{OUTSIDE, WORDS};
-use cw_explain::{Unreadable, no_token, not_ascii};
+use cw_explain::{Unreadable, Untyped, no_token, not_ascii};
 use cw_model::token::Token;
+use cw_own::Disowned;
+use cw_reasons::Reasons;
 use cw_text::Fault;
+use cw_types::IllTyped;
 use std::alloc::Global;
 use std::fmt;
 
@@ -100,6 +105,42 @@ pub fn add_text(out: &mut String, file: Named<'_>, text: &[u8], line: u32) -> Re
             }
             start = place.saturating_add(1);
             last = last.saturating_add(1);
+        }
+    }
+    Ok(())
+}
+
+/// Adds what is told of names and types behind the first line, each line with its source in front.
+pub fn add_types(
+    out: &mut String,
+    file: Named<'_>,
+    told: &Reasons<IllTyped<'_>>,
+) -> Result<(), Fault> {
+    for place in 1..told.places.len() {
+        if let Some(at) = told.places[place] {
+            if out.len() < MOST_BYTES {
+                let line = at.line;
+                let reason = Untyped { reason: at.reason };
+                write!(out, "{file}:{line}: {reason}\n")?;
+            }
+        }
+    }
+    Ok(())
+}
+
+/// Adds what is told of ownership behind the first line, each line with its source in front.
+pub fn add_unowned(
+    out: &mut String,
+    file: Named<'_>,
+    told: &Reasons<Disowned<'_>>,
+) -> Result<(), Fault> {
+    for place in 1..told.places.len() {
+        if let Some(at) = told.places[place] {
+            if out.len() < MOST_BYTES {
+                let line = at.line;
+                let reason = Unowned { at };
+                write!(out, "{file}:{line}: {reason}\n")?;
+            }
         }
     }
     Ok(())

@@ -1,14 +1,15 @@
 //! The rules of ownership that a line can break, in words.
 
 use cw_explain::Word;
-use cw_own::{At, Disowned, Holder, Touch};
+use cw_own::{Disowned, Holder, Touch};
+use cw_reasons::At;
 use cw_tree::resolved::{Listed, Use};
 use std::fmt;
 
 /// A rule of ownership that a line breaks, to be told.
 #[derive(Clone, Copy)]
 pub struct Unowned<'a> {
-    pub at: At<'a>,
+    pub at: At<Disowned<'a>>,
 }
 
 impl Unowned<'_> {

@@ -1,7 +1,7 @@
 //! The token that no source goes on with, and those that one does.
 
-ghost use Rattle.std.specs.Prelude.{◌≡◌, ◌≤◌, All, IfOk, length, true};
-ghost use Rattle.cw_told.specs.Going.{CanFollow, GoesOn, followed};
+ghost use Rattle.std.specs.Prelude.{◌≡◌, ◌≤◌, IfOk, length, true};
+ghost use Rattle.cw_told.specs.Going.{AllCanFollow, GoesOn, followed};
 ghost use Rattle.cw_model.specs.Text.{end_line};
 ghost use Rattle.cw_model.specs.Tokens.{IsTokenCut};
 ghost use Rattle.cw_model.specs.declared.limits.TheConstants.{MOST_SOURCE_BYTES};
@@ -108,7 +108,7 @@ fn shortened(alloc: Global, tokens: &[Token]) -> Result<Shortened, Fault> {
 
 // What can stand behind a text: with each of these a source goes on.
 fn choices(alloc: Global, text: &[u8]) -> Result<Vec<Choice>, Fault>
-    ensures { IfOk result (λ chosen. All (λ choice. CanFollow text.now choice.word.now) chosen.items) }
+    ensures { IfOk result (λ chosen. AllCanFollow text.now chosen.items) }
 {
     let mut expected = Vec::new(alloc);
     for choice in ALL {

@@ -4,14 +4,14 @@ use Rattle.cw_model.specs.Typing.{Returns}
 use Rattle.cw_tree.specs.declared.syntax.Line.{Line}
 use Rattle.cw_types.specs.declared.globals.Globals.{Globals}
 use Rattle.cw_types.specs.declared.reason.IllTyped.{IllTyped}
-use Rattle.cw_types.specs.declared.told.Told.{Told}
 use Rattle.cw_types.specs.Reasons.{IsBroken}
 use Rattle.cw_types.specs.Scope.{Declared}
 use Rattle.cw_types.specs.Standing.{Standing, standing_at}
-use Rattle.cw_types.specs.Telling.{Tells}
+use Rattle.cw_reasons.specs.declared.reasons.Reasons.{Reasons}
+use Rattle.cw_reasons.specs.Told.{Tells}
 use Rattle.cw_types.specs.Told.{Breaks, Ends, IsNeverReached}
 use Rattle.cw_types.specs.Within.{IsAmong, NeverReached, program_in}
-use Rattle.cw_types.proofs.Telling.{weaken}
+use Rattle.cw_reasons.specs.lemmas.Telling.{weaken}
 
 pub broken_among : (globals : Globals) (s : Standing) (all : List Standing) (found : Option IllTyped) → Contains all s →
     IfSome found (IsBroken (program_in globals) s.returns s.locals s.stmt) → IfSome found (IsAmong globals all s.line)
@@ -29,7 +29,7 @@ pub ended_there : (returns : Returns) (known : List Declared) (line : Line) (beh
 ended_there returns known line behind None h = h
 ended_there returns known line behind (Some r) h = h returns known
 
-pub among_more : (globals : Globals) (xs ys : List Standing) (a b : Told IllTyped) → ((s : Standing) → Contains xs s → Contains ys s) →
+pub among_more : (globals : Globals) (xs ys : List Standing) (a b : Reasons IllTyped) → ((s : Standing) → Contains xs s → Contains ys s) →
     Tells (IsAmong globals xs) a b → Tells (IsAmong globals ys) a b
 among_more globals xs ys a b within told =
     weaken (IsAmong globals xs) (IsAmong globals ys) a b

@@ -4,12 +4,14 @@ use Rattle.std.proofs.lemmas.List.{append-nil}
 use Rattle.std.proofs.lemmas.Bool.Decides.{nat_tests}
 use Rattle.std.proofs.lemmas.List.Elements.{Contains-append_left, Contains-append_right}
 use Rattle.std.proofs.lemmas.Slice.Eq.{bytes_eq-Decides}
-use Rattle.cw_model.specs.Lines.{unless, lowest}
+use Rattle.cw_model.specs.Lines.{unless}
 use Rattle.cw_model.specs.Names.{same_name, is_among}
 use Rattle.cw_model.specs.Meaning.{function_named}
 use Rattle.cw_model.specs.Syntax.{Name, Expr, Param, Function, Reducer, Program, Stmt, Declare, DeclareArray, Assign, AssignElement, Reduce, Call, Start, Begin, Sync, If, IfElse, While, For, Scope, Cut, Region, Print, Return}
 use Rattle.cw_model.specs.Typing.{Known, Returns, ends_block, faults_in, called, reducer_called, is_argument, are_arguments, block_returns, surely_returns}
-use Rattle.cw_model.specs.lemmas.Lowest.{lowest-append}
+use Rattle.cw_reasons.specs.Rising.{kept}
+use Rattle.cw_reasons.specs.Told.{itself}
+use Rattle.cw_reasons.specs.lemmas.Kept.{kept-append}
 use Rattle.cw_tree.specs.declared.syntax.Function.{Function as CodeFunction}
 use Rattle.cw_tree.specs.declared.syntax.Reducer.{Reducer as CodeReducer}
 use Rattle.cw_tree.specs.declared.syntax.Line.{Line, the_lemmas}
@@ -42,15 +44,15 @@ by_parts program returns known line (Print e) = sym (append-nil (unless (keeps_r
 by_parts program returns known line (Return e) = sym (append-nil (unless (keeps_rules program returns known (Return e)) line))
 
 -- a statement and those after it, as they are noted
-pub noted : (keeps rest_stands : Bool) (line : ℕ) (inner rest : List ℕ) (p q r s t : Option ℕ) →
-    q ≡ lowest p (unless keeps line) → r ≡ lowest q inner → s ≡ lowest r (unless rest_stands line) → t ≡ lowest s rest →
-    t ≡ lowest p ((unless keeps line ++ inner) ++ (unless rest_stands line ++ rest))
+pub noted : (keeps rest_stands : Bool) (line : ℕ) (inner rest : List ℕ) (p q r s t : List (Option ℕ)) →
+    q ≡ kept itself p (unless keeps line) → r ≡ kept itself q inner → s ≡ kept itself r (unless rest_stands line) → t ≡ kept itself s rest →
+    t ≡ kept itself p ((unless keeps line ++ inner) ++ (unless rest_stands line ++ rest))
 noted keeps stands line inner rest p q r s t first second third fourth =
     fourth
-    ∙ ap (λ o. lowest o rest) third
-    ∙ sym (lowest-append r (unless stands line) rest)
-    ∙ ap (λ o. lowest o (unless stands line ++ rest)) (second ∙ ap (λ o. lowest o inner) first ∙ sym (lowest-append p (unless keeps line) inner))
-    ∙ sym (lowest-append p (unless keeps line ++ inner) (unless stands line ++ rest))
+    ∙ ap (λ o. kept itself o rest) third
+    ∙ sym (kept-append itself r (unless stands line) rest)
+    ∙ ap (λ o. kept itself o (unless stands line ++ rest)) (second ∙ ap (λ o. kept itself o inner) first ∙ sym (kept-append itself p (unless keeps line) inner))
+    ∙ sym (kept-append itself p (unless keeps line ++ inner) (unless stands line ++ rest))
 
 -- the first function of a name is the one at its place
 pub called_at : (x : Name) (fs : List Function) → slice_get fs (slot_of x (function_names fs)) ≡ called x fs

@@ -4,8 +4,8 @@ use Rattle.std.proofs.lemmas.Bool.Decides.{nat_tests}
 use Rattle.std.specs.Option.{option_to_list}
 use Rattle.cw_model.specs.Lines.{lesser, lowest}
 use Rattle.cw_model.specs.lemmas.Lowest.{least_line}
+use Rattle.cw_reasons.specs.declared.reasons.At.{At}
 use Rattle.cw_types.specs.Telling.{AsBefore, Anew, IsOf, IsTheLeast, IsTheOne, Tells, line_told}
-use Rattle.cw_types.specs.declared.told.At.{At}
 use Rattle.cw_types.specs.declared.told.Told.{Told}
 
 -- what is true of more is told of more

@@ -1,5 +1,5 @@
 -- Why a source breaks a limit, or a rule of names and types.
-use Rattle.std.specs.Prelude.{◌≡◌, ℕ, []}
+use Rattle.std.specs.Prelude.{◌≡◌, ℕ, List, [], ◌∷◌}
 use Rattle.cw_model.specs.Syntax.{Program}
 use Rattle.cw_model.specs.Lines.{IsLeastLine}
 use Rattle.cw_model.specs.Sizes.{limit_faults}
@@ -9,10 +9,9 @@ use Rattle.cw_tree.specs.declared.typed.Typed.{Typed}
 use Rattle.cw_tree.specs.ResolvedView.{program_of}
 use Rattle.cw_text.specs.declared.fault.Fault.{Fault}
 use Rattle.cw_text.specs.declared.fault.Fault.TheVariants as fault
+use Rattle.cw_reasons.specs.declared.reasons.At.{At}
 use Rattle.cw_types.specs.Limits.{IsPassedByParts}
-use Rattle.cw_types.specs.Told.{IsTold}
-use Rattle.cw_types.specs.declared.checking.Refusal.{Refusal}
-use Rattle.cw_types.specs.declared.checking.Refusal.TheVariants as refusal
+use Rattle.cw_types.specs.declared.reason.TooLarge.{TooLarge}
 
 -- a line breaks a rule of names and types, where no limit is passed
 pub record IsFirstTypeFault (program : Program) (line : ℕ) : Type 0 where
@@ -29,21 +28,22 @@ pub record IsTyped (program : Program) (tree : Tree) : Type 0 where
 abbrev pub IsTypedOf : Program → Typed → Type 0
 IsTypedOf program found = IsTyped program found.tree
 
--- no limit is passed, and no rule of names and types is broken
-abbrev pub IsAccepted : Program → Type 0
-IsAccepted program = (limit_faults program ≡ []) × (type_faults program ≡ [])
+-- no limit is passed
+abbrev pub IsWithin : Program → Type 0
+IsWithin program = limit_faults program ≡ []
 
--- the program is refused so: at the least line that passes a limit, and for a limit that it passes, or else at the
--- least line that breaks a rule, and for a rule that it breaks
-abbrev pub IsRefused : Program → Refusal → Type 0
-IsRefused program (refusal.TooLarge at) =
-    IsLeastLine (limit_faults program) at.line × IsPassedByParts program at.line at.reason
-IsRefused program (refusal.IllTyped at) = IsFirstTypeFault program at.line × IsTold program at.line at.reason
+-- the least line that passes a limit, and a limit that it passes
+abbrev pub IsPassedAt : Program → At TooLarge → Type 0
+IsPassedAt program at = IsLeastLine (limit_faults program) at.line × IsPassedByParts program at.line at.reason
 
--- the fault that is answered for the refusal
-abbrev pub fault_of : Refusal → Fault
-fault_of (refusal.TooLarge at) = fault.Size (record { line = at.line })
-fault_of (refusal.IllTyped at) = fault.Types (record { line = at.line })
+-- these lines, where there are none of those
+abbrev pub where_none : List ℕ → List ℕ → List ℕ
+where_none [] lines = lines
+where_none (other ∷ others) lines = []
+
+-- the lines that break a rule of names and types, where no limit is passed
+abbrev pub refused_lines : Program → List ℕ
+refused_lines program = where_none (limit_faults program) (type_faults program)
 
 -- what must hold of the program where this fault is answered for it
 abbrev pub IsIllTyped : Program → Fault → Type 0

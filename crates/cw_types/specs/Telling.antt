@@ -1,4 +1,4 @@
--- What is told of lines that are refused: the least of them, and a reason against it.
+-- What is told of lines that pass a limit: the least of them, and which limit.
 use Rattle.std.specs.Prelude.{◌≡◌, ℕ, List, Option, Some, IfSome, Result, OnOk, option_map}
 use Rattle.std.specs.Option.{option_to_list}
 use Rattle.cw_model.specs.Lines.{lowest}

@@ -6,14 +6,14 @@ use Rattle.cw_model.specs.Typing.{faults_of, faults_in_block}
 use Rattle.cw_tree.specs.declared.syntax.Function.{Function}
 use Rattle.cw_tree.specs.declared.syntax.Line.{Line}
 use Rattle.cw_tree.specs.SyntaxView.{program_of, function_of, stmt_of, block_of}
+use Rattle.cw_reasons.specs.Told.{Notes, Tells}
+use Rattle.cw_reasons.specs.declared.reasons.Reasons.{Reasons}
 use Rattle.cw_types.specs.declared.globals.Globals.{Globals}
 use Rattle.cw_types.specs.declared.reason.IllTyped.{IllTyped}
 use Rattle.cw_types.specs.declared.rules.Returns.{Returns}
-use Rattle.cw_types.specs.declared.told.Told.{Told}
 use Rattle.cw_types.specs.Returned.{returns_of}
 use Rattle.cw_types.specs.Scope.{Declared, kinds}
 use Rattle.cw_types.specs.Standing.{Standing, standing_at, standing_in, standing_inside}
-use Rattle.cw_types.specs.Telling.{Notes, Tells}
 use Rattle.cw_types.specs.Told.{IsNeverReached, IsToldAmong, IsToldOf}
 use Rattle.cw_types.specs.Typing.{faults_inside}
 
@@ -41,12 +41,12 @@ inner_faults globals returns known line =
 
 -- the lines of a block that break a rule were noted, where memory did not run out
 abbrev pub NotesBlock : {R E : Type 0} → Globals → Returns → List Declared → List Line →
-    (before after : Told IllTyped) → Result R E → Type 0
+    (before after : Reasons IllTyped) → Result R E → Type 0
 NotesBlock globals returns known lines before after r = Notes (block_faults globals returns known lines) before after r
 
 -- the same of those of the blocks in the statement of a line
 abbrev pub NotesInner : {R E : Type 0} → Globals → Returns → List Declared → Line →
-    (before after : Told IllTyped) → Result R E → Type 0
+    (before after : Reasons IllTyped) → Result R E → Type 0
 NotesInner globals returns known line before after r = Notes (inner_faults globals returns known line) before after r
 
 -- the reason is true of one of these statements, at its line
@@ -58,7 +58,7 @@ abbrev pub IsToldIn : Globals → Function → (ℕ → IllTyped → Type 0)
 IsToldIn globals f = λ line r. IsToldOf (program_in globals) line (function_of f) r
 
 -- what is told of such statements
-abbrev pub TellsAmong : Globals → List Standing → (before after : Told IllTyped) → Type 0
+abbrev pub TellsAmong : Globals → List Standing → (before after : Reasons IllTyped) → Type 0
 TellsAmong globals statements before after = Tells (IsAmong globals statements) before after
 
 -- the statements of a block, and all that is inside of them

@@ -10,8 +10,8 @@ use crate::globals::Globals;
 use crate::known::Known;
 use crate::reason::IllTyped;
 use crate::rules::{Returns, of_stmt, surely_returns};
-use crate::told::Told;
 use cw_model::syntax::NameKind;
+use cw_reasons::Reasons;
 use cw_tree::syntax::{Line, Stmt};
 use std::alloc::AllocError;
 
@@ -22,7 +22,7 @@ pub fn block<'a>(
     returns: Returns,
     known: &mut Known<'a>,
     lines: &'a [Line],
-    told: &mut Told<IllTyped<'a>>,
+    told: &mut Reasons<IllTyped<'a>>,
 ) -> Result<(), AllocError>
     ensures lines { NotesBlock globals.now returns known.old lines.now told.old told.new result }
     ensures told { OnOk result
@@ -48,7 +48,7 @@ fn inside<'a>(
     returns: Returns,
     known: &mut Known<'a>,
     line: &'a Line,
-    told: &mut Told<IllTyped<'a>>,
+    told: &mut Reasons<IllTyped<'a>>,
 ) -> Result<(), AllocError>
     ensures lines { NotesInner globals.now returns known.old line.now told.old told.new result }
     ensures told { OnOk result

@@ -74,7 +74,8 @@ fn expression(alloc: Global, count: u32, found: &mut Vec<Use>, e: &Expr) -> Resu
 
 // What an argument reads.
 fn argument(alloc: Global, count: u32, found: &mut Vec<Use>, e: &Argument) -> Result<(), AllocError>
-    ensures { OnOk result (FindsUses count (argument_reads (argument_of e.now)) found.old found.new) }
+    ensures { OnOk result
+        (FindsUses count (argument_reads (argument_of e.now)) found.old found.new) }
 {
     match e {
         Argument::Int(e) => expression(alloc, count, found, e),
@@ -110,7 +111,8 @@ fn head(alloc: Global, count: u32, found: &mut Vec<Use>, head: &Head) -> Result<
 // What statements in order read.
 #[cycle(reading)]
 fn block(alloc: Global, count: u32, found: &mut Vec<Use>, lines: &[Line]) -> Result<(), AllocError>
-    ensures { OnOk result (FindsUses count (reads_in_block (block_of lines.now)) found.old found.new) }
+    ensures { OnOk result
+        (FindsUses count (reads_in_block (block_of lines.now)) found.old found.new) }
 {
     for line in lines {
         statement(alloc, count, found, &line.stmt)?;

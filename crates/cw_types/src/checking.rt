@@ -7,9 +7,10 @@ ghost use Rattle.cw_model.specs.Names.{is_among};
 ghost use Rattle.cw_model.specs.Sizes.{limit_faults};
 ghost use Rattle.cw_model.specs.Typing.{type_faults};
 ghost use Rattle.cw_tree.specs.SyntaxView.{program_of};
-ghost use Rattle.cw_types.specs.Faults.{IsAccepted, IsIllTyped, IsRefused, IsTypedOf, fault_of};
+ghost use Rattle.cw_reasons.specs.Rising.{kept};
+ghost use Rattle.cw_reasons.specs.Told.{AreLeast, AreOf, itself, lines_at, no_place};
+ghost use Rattle.cw_types.specs.Faults.{IsIllTyped, IsPassedAt, IsTypedOf, IsWithin, refused_lines};
 ghost use Rattle.cw_types.specs.Names.{function_names};
-ghost use Rattle.cw_types.specs.Telling.{IsOf, line_told};
 ghost use Rattle.cw_types.specs.Told.{IsNoMain, IsTold};
 ghost use Rattle.cw_types.specs.Within.{program_in};
 
@@ -20,20 +21,12 @@ use crate::program::resolve;
 use crate::reason::{IllTyped, TooLarge};
 use crate::repeated::{repeated_functions, repeated_reducers, shared_names};
 use crate::rules::MAIN;
-use crate::told::{At, Told};
+use cw_reasons::{At, Reasons};
 use cw_text::{Fault, Place};
 use cw_tree::Typed;
 use cw_tree::laws::{plain_of_resolved, resolved_is_fitting, resolved_is_right};
 use cw_tree::syntax::Ast;
 use std::alloc::{AllocError, Global};
-
-/// Why a source is refused: the least line that passes a limit, and which, or else the least line
-/// that breaks a rule of names and types, and which.
-#[derive(Clone, Copy, Debug)]
-pub enum Refusal<'a> {
-    TooLarge(At<TooLarge<'a>>),
-    IllTyped(At<IllTyped<'a>>),
-}
 
 /// The tree with each name looked up.
 ///
@@ -45,8 +38,11 @@ pub enum Refusal<'a> {
 pub fn check(alloc: Global, ast: Ast) -> Result<Typed, Fault>
     ensures { MatchResult result (IsTypedOf (program_of ast)) (IsIllTyped (program_of ast)) }
 {
-    if let Some(found) = refused(alloc, &ast)? {
-        return Err(fault_of(found));
+    if let Some(at) = too_large(alloc, &ast)? {
+        return Err(Fault::Size(Place { line: at.line }));
+    }
+    if let Some(line) = first_line(alloc, &ast)? {
+        return Err(Fault::Types(Place { line }));
     }
     let tree = resolve(alloc, &ast)?;
     plain_of_resolved();
@@ -55,42 +51,52 @@ pub fn check(alloc: Global, ast: Ast) -> Result<Typed, Fault>
     Ok(Typed { tree })
 }
 
-// The fault that is answered for a refusal.
-fn fault_of(found: Refusal<'_>) -> Fault
-    ensures { result ≡ fault_of found.entry }
+/// The least line of a tree that passes a limit on its parts, with a limit that it passes; none where none is passed. An
+/// error where memory is refused.
+pub fn too_large(alloc: Global, ast: &Ast) -> Result<Option<At<TooLarge<'_>>>, AllocError>
+    ensures { IfOk result (λ told. MatchOption told (IsWithin (program_of ast.now))
+        (IsPassedAt (program_of ast.now))) }
 {
-    match found {
-        Refusal::TooLarge(at) => Fault::Size(Place { line: at.line }),
-        Refusal::IllTyped(at) => Fault::Types(Place { line: at.line }),
+    let size = limits(alloc, ast)?;
+    Ok(size.first)
+}
+
+/// The lines of a tree that break a rule of names and types, the least twenty of them, rising, each with the reason that
+/// was found for it first, which is true there; none where a limit is passed. An error where memory is refused.
+pub fn ill_typed(alloc: Global, ast: &Ast) -> Result<Reasons<IllTyped<'_>>, AllocError>
+    ensures lines { IfOk result (AreLeast (refused_lines (program_of ast.now))) }
+    ensures holds { IfOk result (AreOf (IsTold (program_of ast.now))) }
+{
+    match too_large(alloc, ast)? {
+        Some(_) => Ok(Reasons::new()),
+        None => {
+            let told = faults(alloc, ast)?;
+            Ok(told)
+        }
     }
 }
 
-/// Why `check` refuses a tree: at the same line, with the first reason that was found for it, which is
-/// true there; none where it does not. An error where memory is refused.
-pub fn refused(alloc: Global, ast: &Ast) -> Result<Option<Refusal<'_>>, AllocError>
-    ensures { IfOk result (λ refused. MatchOption refused (IsAccepted (program_of ast.now))
-        (IsRefused (program_of ast.now))) }
+// The least line that breaks a rule of names and types.
+fn first_line(alloc: Global, ast: &Ast) -> Result<Option<u32>, AllocError>
+    requires { limit_faults (program_of ast.now) ≡ [] }
+    ensures { IfOk result (λ line. line ≡ lowest None (type_faults (program_of ast.now))) }
 {
-    let size = limits(alloc, ast)?;
-    if let Some(at) = size.first {
-        return Ok(Some(Refusal::TooLarge(at)));
-    }
-    let types = faults(alloc, ast)?;
-    match types.first {
-        Some(at) => Ok(Some(Refusal::IllTyped(at))),
+    let told = faults(alloc, ast)?;
+    match told.first() {
+        Some(at) => Ok(Some(at.line)),
         None => Ok(None),
     }
 }
 
-// The least line that breaks a rule of names and types, and which.
-fn faults<'a>(alloc: Global, ast: &'a Ast) -> Result<Told<IllTyped<'a>>, AllocError>
+// The least lines that break a rule of names and types, and which.
+fn faults<'a>(alloc: Global, ast: &'a Ast) -> Result<Reasons<IllTyped<'a>>, AllocError>
     requires { limit_faults (program_of ast.now) ≡ [] }
     ensures lines { IfOk result (λ told.
-        line_told told ≡ lowest None (type_faults (program_of ast.now))) }
-    ensures holds { IfOk result (λ told. IsOf (IsTold (program_of ast.now)) told) }
+        lines_at told.places ≡ kept itself no_place (type_faults (program_of ast.now))) }
+    ensures holds { IfOk result (AreOf (IsTold (program_of ast.now))) }
 {
     let globals = Globals::new(alloc, ast)?;
-    let mut told = Told::new();
+    let mut told = Reasons::new();
     told.note(no_main(&globals), 1);
     repeated_functions(alloc, &ast.functions, &mut told)?;
     repeated_reducers(alloc, &ast.reducers, &mut told)?;

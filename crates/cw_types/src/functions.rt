@@ -9,7 +9,7 @@ ghost use Rattle.cw_tree.specs.SyntaxView.{function_of, param_of, program_of};
 ghost use Rattle.cw_types.specs.Names.{param_names};
 ghost use Rattle.cw_types.specs.Returned as returned;
 ghost use Rattle.cw_types.specs.Scope.{with_params};
-ghost use Rattle.cw_types.specs.Telling.{Notes, Tells};
+ghost use Rattle.cw_reasons.specs.Told.{Notes, Tells};
 ghost use Rattle.cw_types.specs.Told.{IsTold, IsWrongFunction, IsWrongMain, IsWrongParams, are_arrays};
 ghost use Rattle.cw_types.specs.Typing.{are_new, is_right_main, returns_well};
 ghost use Rattle.cw_types.specs.Within.{IsToldIn, faults_in_function, faults_of_all, program_in};
@@ -19,7 +19,7 @@ use crate::globals::Globals;
 use crate::known::Known;
 use crate::reason::IllTyped;
 use crate::rules::{Returns, block_returns, is_array, is_main, of_global};
-use crate::told::Told;
+use cw_reasons::Reasons;
 use cw_tree::syntax::{Function, Name, Param};
 use std::alloc::{AllocError, Global};
 
@@ -27,7 +27,7 @@ use std::alloc::{AllocError, Global};
 pub fn functions_faults<'a>(
     alloc: Global,
     globals: &Globals<'a>,
-    told: &mut Told<IllTyped<'a>>,
+    told: &mut Reasons<IllTyped<'a>>,
 ) -> Result<(), AllocError>
     ensures lines { Notes (faults_of_all (program_in globals.now)) told.old told.new result }
     ensures told { OnOk result (Tells (IsTold (program_in globals.now)) told.old told.new) }
@@ -43,7 +43,7 @@ fn function_faults<'a>(
     alloc: Global,
     globals: &Globals<'a>,
     function: &'a Function,
-    told: &mut Told<IllTyped<'a>>,
+    told: &mut Reasons<IllTyped<'a>>,
 ) -> Result<(), AllocError>
     ensures lines { Notes (faults_in_function globals.now function.now) told.old told.new result }
     ensures told { OnOk result

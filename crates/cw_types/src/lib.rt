@@ -23,6 +23,5 @@ mod table;
 mod tags;
 mod told;
 
-pub use checking::{Refusal, check, refused};
+pub use checking::{check, ill_typed, too_large};
 pub use reason::{IllTyped, Other, TooLarge};
-pub use told::At;

@@ -7,14 +7,14 @@ ghost use Rattle.cw_model.specs.Typing.{repeated};
 ghost use Rattle.cw_types.specs.Named.{listed_functions, listed_reducers, shared_lines, lines_shared_by};
 ghost use Rattle.cw_types.specs.Names.{known_names};
 ghost use Rattle.cw_types.specs.Scope.{kinds};
-ghost use Rattle.cw_types.specs.Telling.{Noted, Notes, Tells};
+ghost use Rattle.cw_reasons.specs.Told.{Noted, Notes, Tells};
 ghost use Rattle.cw_types.specs.Told.{IsRepeatedIn, IsRepeatedOf, IsRepeating};
 ghost use Rattle.cw_types.specs.Typing.{earlier_line, later_line};
 
 use crate::known::Known;
 use crate::reason::IllTyped;
-use crate::told::Told;
 use cw_model::syntax::NameKind;
+use cw_reasons::Reasons;
 use cw_tree::syntax::{Function, Name, Reducer};
 use std::alloc::{AllocError, Global};
 
@@ -22,7 +22,7 @@ use std::alloc::{AllocError, Global};
 pub fn repeated_functions<'a>(
     alloc: Global,
     functions: &'a [Function],
-    told: &mut Told<IllTyped<'a>>,
+    told: &mut Reasons<IllTyped<'a>>,
 ) -> Result<(), AllocError>
     ensures lines { Notes (repeated (listed_functions functions.now) []) told.old told.new result }
     ensures told { OnOk result
@@ -40,7 +40,7 @@ pub fn repeated_functions<'a>(
 pub fn repeated_reducers<'a>(
     alloc: Global,
     reducers: &'a [Reducer],
-    told: &mut Told<IllTyped<'a>>,
+    told: &mut Reasons<IllTyped<'a>>,
 ) -> Result<(), AllocError>
     ensures lines { Notes (repeated (listed_reducers reducers.now) []) told.old told.new result }
     ensures told { OnOk result
@@ -67,7 +67,7 @@ fn repeated<'a>(earlier: &Known<'a>, name: &'a Name) -> Option<IllTyped<'a>>
 pub fn shared_names<'a>(
     functions: &'a [Function],
     reducers: &'a [Reducer],
-    told: &mut Told<IllTyped<'a>>,
+    told: &mut Reasons<IllTyped<'a>>,
 )
     ensures lines { Noted (shared_lines functions.now reducers.now) told.old told.new }
     ensures told { Tells
@@ -80,7 +80,11 @@ pub fn shared_names<'a>(
 }
 
 // The same of one reducer.
-fn shared_name<'a>(functions: &'a [Function], reducer: &'a Reducer, told: &mut Told<IllTyped<'a>>)
+fn shared_name<'a>(
+    functions: &'a [Function],
+    reducer: &'a Reducer,
+    told: &mut Reasons<IllTyped<'a>>,
+)
     ensures lines { Noted (lines_shared_by functions.now reducer.now) told.old told.new }
     ensures told { (reducers : List (Name × ℕ)) →
         Contains reducers (reducer.now.name, reducer.now.line) →

@@ -1,19 +1,13 @@
-//! The least line that is refused, and why.
+//! The least line that passes a limit, and which.
 
 ghost use Rattle.std.specs.Prelude.{◌≡◌, None, is_some, not};
 ghost use Rattle.cw_model.specs.Lines.{unless};
 ghost use Rattle.cw_types.specs.Telling.{IsTheLeast, IsTheOne, Noted, NotesLeast, Tells};
 
+use cw_reasons::At;
 use cw_text::LeastLine;
 
-/// A line that is refused, and why.
-#[derive(Clone, Copy, Debug)]
-pub struct At<R> {
-    pub line: u32,
-    pub reason: R,
-}
-
-/// The least line so far that is refused, with the reason that was found for it first.
+/// The least line so far that passes a limit, with the one that was found for it first.
 #[derive(Clone, Copy, Debug)]
 pub struct Told<R> {
     pub first: Option<At<R>>,

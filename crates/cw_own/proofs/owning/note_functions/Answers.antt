@@ -5,9 +5,10 @@ use Rattle.cw_model.specs.lemmas.Kept.{both_left, both_right}
 use Rattle.cw_tree.specs.Resolved as spec
 use Rattle.cw_tree.specs.ResolvedView.{function_of}
 use Rattle.cw_own.specs.Bounds.{small_function}
-use Rattle.cw_own.specs.Reasons.{first_of, function_reasons}
-use Rattle.cw_own.specs.Views.{first_told}
-use Rattle.cw_own.proofs.Small.{first_append}
+use Rattle.cw_own.specs.Reasons.{function_reasons, line_in}
+use Rattle.cw_reasons.specs.Rising.{kept}
+use Rattle.cw_own.specs.Views.{places_told}
+use Rattle.cw_own.proofs.Small.{kept_append}
 use Rattle.cw_own.proofs.owning.note_functions.Goals as goal
 
 pub note_function-requires : goal.note_function-requires
@@ -25,8 +26,8 @@ loop-function-preserved c =
     record {
       small = both_right (small_function f) (list_all small_function rest) (ap (list_all small_function) (sym split) ∙ c.loop-function.invariant.small);
       same =
-          ap (λ o. first_of o (flat_map function_reasons rest)) c.in_ok-note_function.ensures
-          ∙ sym (first_append (first_told c.loop-function.told) (function_reasons f) (flat_map function_reasons rest))
-          ∙ ap (λ (fs : List spec.Function). first_of (first_told c.loop-function.told) (flat_map function_reasons fs)) (sym split)
+          ap (λ o. kept line_in o (flat_map function_reasons rest)) c.in_ok-note_function.ensures
+          ∙ sym (kept_append (places_told c.loop-function.told) (function_reasons f) (flat_map function_reasons rest))
+          ∙ ap (λ (fs : List spec.Function). kept line_in (places_told c.loop-function.told) (flat_map function_reasons fs)) (sym split)
           ∙ c.loop-function.invariant.same;
     }

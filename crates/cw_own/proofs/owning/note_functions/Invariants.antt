@@ -2,13 +2,14 @@ use Rattle.std.proofs.Common.{◌≡◌, drop, map, flat_map, true}
 use Rattle.std.specs.List.{list_all}
 use Rattle.cw_tree.specs.ResolvedView.{function_of}
 use Rattle.cw_own.specs.Bounds.{small_function}
-use Rattle.cw_own.specs.Reasons.{first_of, function_reasons}
-use Rattle.cw_own.specs.Views.{first_told}
+use Rattle.cw_own.specs.Reasons.{function_reasons, line_in}
+use Rattle.cw_reasons.specs.Rising.{kept}
+use Rattle.cw_own.specs.Views.{places_told}
 use Rattle.cw_own.proofs.owning.note_functions.Given as goal
 
 abbrev pub invariant-loop-function : goal.invariant-loop-function
 invariant-loop-function l = record {
   small : list_all small_function (map function_of (drop l.function-index l.functions)) ≡ true;
-  same : first_of (first_told l.told) (flat_map function_reasons (map function_of (drop l.function-index l.functions)))
-      ≡ first_of (first_told l.fn.told) (flat_map function_reasons (map function_of l.functions));
+  same : kept line_in (places_told l.told) (flat_map function_reasons (map function_of (drop l.function-index l.functions)))
+      ≡ kept line_in (places_told l.fn.told) (flat_map function_reasons (map function_of l.functions));
 }

@@ -9,9 +9,10 @@ use Rattle.cw_own.specs.Bounds.{small_stmt, small_block}
 use Rattle.cw_own.specs.Sets.{row_of}
 use Rattle.cw_own.specs.Taken.{held_of, taken_of, taken_after, taken_after_all, left_by, known_after, other_of, turns, turns_in, turns_within}
 use Rattle.cw_own.specs.Rules.{seen_by}
-use Rattle.cw_own.specs.Reasons.{first_of, block_reasons, reasons_at, reasons_in, reasons_within, why}
-use Rattle.cw_own.specs.Views.{first_told, turn_of}
-use Rattle.cw_own.proofs.Small.{appended, first_append}
+use Rattle.cw_own.specs.Reasons.{block_reasons, reasons_at, reasons_in, reasons_within, why, line_in}
+use Rattle.cw_reasons.specs.Rising.{kept}
+use Rattle.cw_own.specs.Views.{places_told, turn_of}
+use Rattle.cw_own.proofs.Small.{appended, kept_append}
 use Rattle.cw_own.proofs.Branches.{if_else_is, line_is}
 use Rattle.cw_own.proofs.Turns.{drop_both, rest_is, left_is}
 use Rattle.cw_own.proofs.rules.+rules.Goals as goal
@@ -61,13 +62,13 @@ note_within-returns-in-IfElse-clause-lines t c =
     let line = c.args.line in
     let b = block_of c.in-IfElse.block.items in
     let d = block_of c.in-IfElse.field-2.value.items in
-    let first = first_told c.args.told.now in
+    let first = places_told c.args.told.now in
     let e : stmt_of c.args.stmt.now ≡ spec.IfElse (expr_of c.in-IfElse.field-0) b d = ap stmt_of c.in-IfElse.is ∙ if_else_is c.in-IfElse.field-0 c.in-IfElse.block c.in-IfElse.field-2 in
     c.note_other-other.ensures.lines
-    ∙ ap (λ s. first_of (first_told c.note_block-branch-in-IfElse.new.told) (block_reasons around known taken Leaves (other_of s))) e
-    ∙ ap (λ o. first_of o (block_reasons around known taken Leaves d)) (c.note_block-branch-in-IfElse.ensures.lines ∙ ap (λ ls. first_of first (block_reasons around known taken Leaves (block_of ls))) c.deref-in-IfElse.ensures.value)
-    ∙ sym (first_append first (block_reasons around known taken Leaves b) (block_reasons around known taken Leaves d))
-    ∙ sym (ap (λ s. first_of first (reasons_within around known taken line s)) e)
+    ∙ ap (λ s. kept line_in (places_told c.note_block-branch-in-IfElse.new.told) (block_reasons around known taken Leaves (other_of s))) e
+    ∙ ap (λ o. kept line_in o (block_reasons around known taken Leaves d)) (c.note_block-branch-in-IfElse.ensures.lines ∙ ap (λ ls. kept line_in first (block_reasons around known taken Leaves (block_of ls))) c.deref-in-IfElse.ensures.value)
+    ∙ sym (kept_append first (block_reasons around known taken Leaves b) (block_reasons around known taken Leaves d))
+    ∙ sym (ap (λ s. kept line_in first (reasons_within around known taken line s)) e)
 
 pub note_all-of_stmt-requires : goal.note_all-of_stmt-requires
 note_all-of_stmt-requires t c =
@@ -84,7 +85,7 @@ note_all-loop-line-preserved t c =
     let known = row_of c.loop-line.known in
     let taken = taken_of c.loop-line.taken in
     let around = option_map turn_of c.args.around.now in
-    let first_so_far = first_told c.loop-line.told in
+    let first_so_far = places_told c.loop-line.told in
     let first : drop c.loop-line.line-index c.args.lines.now ≡ line ∷ rest = grind (arith, common_steps) in
     let split : block_of (drop c.loop-line.line-index c.args.lines.now) ≡ spec.Then line.line s (block_of rest) = ap block_of first ∙ line_is line rest in
     let next : row_of c.known_after-next.result ≡ known_after known s = c.known_after-next.ensures in
@@ -93,10 +94,10 @@ note_all-loop-line-preserved t c =
     let here = reasons_at line.line (why around (seen_by known taken s) s) in
     let inside = reasons_within around known (seen_by known taken s) line.line s in
     let more = reasons_in around (known_after known s) (taken_after known s taken) (block_of rest) in
-    let noted : first_told c.note_within-taken.new.told ≡ first_of (first_of first_so_far here) inside =
+    let noted : places_told c.note_within-taken.new.told ≡ kept line_in (kept line_in first_so_far here) inside =
     c.note_within-taken.ensures.lines
-    ∙ ap (λ o. first_of o (reasons_within around known (taken_of c.seen_by-seen.result) line.line s)) (c.note.ensures ∙ ap (λ r. first_of first_so_far (reasons_at line.line r)) c.of_stmt.ensures)
-    ∙ ap (λ t. first_of (first_of first_so_far (reasons_at line.line (why around t s))) (reasons_within around known t line.line s)) seen in
+    ∙ ap (λ o. kept line_in o (reasons_within around known (taken_of c.seen_by-seen.result) line.line s)) (c.note.ensures ∙ ap (λ r. kept line_in first_so_far (reasons_at line.line r)) c.of_stmt.ensures)
+    ∙ ap (λ t. kept line_in (kept line_in first_so_far (reasons_at line.line (why around t s))) (reasons_within around known t line.line s)) seen in
     let left = drop (length (turns_in (row_of c.args.known) (block_of c.args.lines.now))) (map held_of c.args.rest.now.left.now) in
     record {
       small = both_right (small_stmt s) (small_block (block_of rest)) (ap small_block (sym split) ∙ c.loop-line.invariant.small);
@@ -106,11 +107,11 @@ note_all-loop-line-preserved t c =
           ∙ ap (λ b. taken_after_all known b taken) (sym split)
           ∙ c.loop-line.invariant.taken;
       lines =
-          ap (λ k. first_of (first_told c.note_within-taken.new.told) (reasons_in around k (taken_of c.note_within-taken.result) (block_of rest))) next
-          ∙ ap (λ t. first_of (first_told c.note_within-taken.new.told) (reasons_in around (known_after known s) t (block_of rest))) after
-          ∙ ap (λ o. first_of o more) (noted ∙ sym (first_append first_so_far here inside))
-          ∙ sym (first_append first_so_far (here ++ inside) more)
-          ∙ ap (λ b. first_of first_so_far (reasons_in around known taken b)) (sym split)
+          ap (λ k. kept line_in (places_told c.note_within-taken.new.told) (reasons_in around k (taken_of c.note_within-taken.result) (block_of rest))) next
+          ∙ ap (λ t. kept line_in (places_told c.note_within-taken.new.told) (reasons_in around (known_after known s) t (block_of rest))) after
+          ∙ ap (λ o. kept line_in o more) (noted ∙ sym (kept_append first_so_far here inside))
+          ∙ sym (kept_append first_so_far (here ++ inside) more)
+          ∙ ap (λ b. kept line_in first_so_far (reasons_in around known taken b)) (sym split)
           ∙ c.loop-line.invariant.lines;
       turns =
           c.note_within-taken.ensures.turns

@@ -2,22 +2,23 @@ use Rattle.std.proofs.Common.{◌≡◌, ◌≤◌, ◌+◌, ◌-◌, ◌∷◌,
 use Rattle.std.proofs.lemmas.Grind.{common_steps}
 use Rattle.std.proofs.lemmas.List.{take_rest}
 use Rattle.std.proofs.lemmas.List.Elements.{Contains-append_left, Contains-append_right}
-use Rattle.cw_model.specs.Lines.{lowest, unless}
+use Rattle.cw_model.specs.Lines.{unless}
+use Rattle.cw_reasons.specs.Rising.{kept}
 use Rattle.cw_model.specs.Syntax as model
-use Rattle.cw_model.specs.Typing.{faults_in_block, declares, surely_returns, ends_block}
+use Rattle.cw_model.specs.Typing.{Nowhere, faults_in_block, declares, surely_returns, ends_block}
 use Rattle.cw_tree.specs.declared.syntax.Line.{Line, the_lemmas}
 use Rattle.cw_tree.specs.declared.syntax.Stmt.{the_lemmas as stmt_lemmas}
 use Rattle.cw_tree.specs.SyntaxView.{program_of, block_of, stmt_of, expr_of}
 use Rattle.cw_types.specs.Returned.{returns_of}
 use Rattle.cw_types.specs.Scope.{Declared, after_stmt, kinds, oldest}
-use Rattle.cw_types.specs.Standing.{Standing, standing_in, standing_inside}
-use Rattle.cw_types.specs.Telling.{line_told}
+use Rattle.cw_types.specs.Standing.{Standing, in_cut, in_loop, standing_in, standing_inside}
+use Rattle.cw_reasons.specs.Told.{itself, lines_at}
 use Rattle.cw_types.specs.Typing.{keeps_rules, faults_inside}
 use Rattle.cw_types.specs.Within.{IsAmong, NeverReached, TellsAmong}
-use Rattle.cw_model.specs.lemmas.Lowest.{lowest-append}
+use Rattle.cw_reasons.specs.lemmas.Kept.{kept-append}
 use Rattle.cw_types.proofs.Among.{among_more, broken_among, denied, ended_among, ended_there}
 use Rattle.cw_types.proofs.Noting.{by_parts, noted}
-use Rattle.cw_types.proofs.Telling.{and_then, found_true}
+use Rattle.cw_reasons.specs.lemmas.Telling.{and_then, found_true}
 use Rattle.cw_types.proofs.Walking.{kinds_after, longer_after, oldest_after}
 use Rattle.cw_types.proofs.bodies.+bodies.Goals as goal
 
@@ -38,15 +39,15 @@ block-loop-i-preserved t c =
     let split : block_of (drop c.loop-i.i ls) ≡ model.Then line s rest = grind (arith, common_steps, the_lemmas) in
     let declared : c.declare.new.known ≡ after_stmt line s k = c.in_ok-declare.ensures ∙ ap (after_stmt line s) c.in_ok-inside.ensures.known in
     let known : kinds c.declare.new.known ≡ declares s (kinds k) = ap kinds declared ∙ kinds_after line s k in
-    let p = line_told c.loop-i.told in
+    let p = lines_at c.loop-i.told.places in
     let keeps = keeps_rules P R (kinds k) s in
     let stands = not (surely_returns s) || ends_block rest in
     let ended : is_some c.never_reached.result ≡ not stands =
     c.never_reached.ensures.decides ∙ ap (λ (ds : List Line). not (not (surely_returns s) || ends_block (block_of ds))) all in
-    let first : line_told c.note.new.self ≡ lowest p (unless keeps line) =
-    c.note.ensures.lines ∙ ap (λ b. lowest p (unless b line)) (denied (is_some c.of_stmt.result) keeps c.of_stmt.ensures.decides) in
-    let last : line_told c.note-in-loop-i.new.self ≡ lowest (line_told c.inside.new.told) (unless stands line) =
-    c.note-in-loop-i.ensures.lines ∙ ap (λ b. lowest (line_told c.inside.new.told) (unless b line)) (denied (is_some c.never_reached.result) stands ended) in
+    let first : lines_at c.note.new.self.places ≡ kept itself p (unless keeps line) =
+    c.note.ensures.lines ∙ ap (λ b. kept itself p (unless b line)) (denied (is_some c.of_stmt.result) keeps c.of_stmt.ensures.decides) in
+    let last : lines_at c.note-in-loop-i.new.self.places ≡ kept itself (lines_at c.inside.new.told.places) (unless stands line) =
+    c.note-in-loop-i.ensures.lines ∙ ap (λ b. kept itself (lines_at c.inside.new.told.places) (unless b line)) (denied (is_some c.never_reached.result) stands ended) in
     let here : Standing = record { line = line; returns = R; locals = k; stmt = s; behind = rest } in
     let inner = standing_inside R k line s in
     let further = standing_in R (after_stmt line s k) rest in
@@ -57,12 +58,12 @@ block-loop-i-preserved t c =
     record {
       same =
           noted keeps stands line (faults_inside P R (kinds k) s) (faults_in_block P R (kinds c.declare.new.known) rest)
-          p (line_told c.note.new.self) (line_told c.inside.new.told) (line_told c.note-in-loop-i.new.self)
-          (lowest (line_told c.note-in-loop-i.new.self) (faults_in_block P R (kinds c.declare.new.known) rest))
+          p (lines_at c.note.new.self.places) (lines_at c.inside.new.told.places) (lines_at c.note-in-loop-i.new.self.places)
+          (kept itself (lines_at c.note-in-loop-i.new.self.places) (faults_in_block P R (kinds c.declare.new.known) rest))
           first c.in_ok-inside.ensures.lines last refl
-          ∙ ap (λ ks. lowest p ((unless keeps line ++ faults_inside P R (kinds k) s) ++ (unless stands line ++ faults_in_block P R ks rest))) known
-          ∙ ap (λ ns. lowest p (ns ++ (unless stands line ++ faults_in_block P R (declares s (kinds k)) rest))) (sym (by_parts P R (kinds k) line s))
-          ∙ ap (λ b. lowest p (faults_in_block P R (kinds k) b)) (sym split)
+          ∙ ap (λ ks. kept itself p ((unless keeps line ++ faults_inside P R (kinds k) s) ++ (unless stands line ++ faults_in_block P R ks rest))) known
+          ∙ ap (λ ns. kept itself p (ns ++ (unless stands line ++ faults_in_block P R (declares s (kinds k)) rest))) (sym (by_parts P R (kinds k) line s))
+          ∙ ap (λ b. kept itself p (faults_in_block P R (kinds k) b)) (sym split)
           ∙ c.loop-i.invariant.same;
       told =
           and_then (IsAmong G whole) c.args.told.now c.loop-i.told c.note-in-loop-i.new.self c.loop-i.invariant.told
@@ -88,16 +89,16 @@ inside-returns-in_ok-block-in-IfElse-2-clause-lines t c =
     let P = program_of c.args.globals.now.ast.now in
     let R = returns_of c.args.returns in
     let k = c.args.known.now in
-    let p = line_told c.args.told.now in
+    let p = lines_at c.args.told.now.places in
     let first = faults_in_block P R (kinds k) (block_of c.in-IfElse.b.items) in
     let second = faults_in_block P R (kinds k) (block_of c.in-IfElse.c.items) in
     let seen : stmt_of c.args.line.now.stmt ≡ model.IfElse (expr_of c.in-IfElse.field-0) (block_of c.in-IfElse.b.items) (block_of c.in-IfElse.c.items) = grind (arith, common_steps, stmt_lemmas) in
     c.in_ok-block-in-IfElse-2.ensures.lines
-    ∙ ap (λ ks. lowest (line_told c.block.new.told) (faults_in_block P R (kinds ks) (block_of c.deref-in-IfElse.result.now))) c.in_ok-block-in-IfElse.ensures.known
-    ∙ ap (λ ls. lowest (line_told c.block.new.told) (faults_in_block P R (kinds k) (block_of ls))) c.deref-in-IfElse.ensures.value
-    ∙ ap (λ o. lowest o second) (c.in_ok-block-in-IfElse.ensures.lines ∙ ap (λ ls. lowest p (faults_in_block P R (kinds k) (block_of ls))) c.deref.ensures.value)
-    ∙ sym (lowest-append p first second)
-    ∙ ap (λ s. lowest p (faults_inside P R (kinds k) s)) (sym seen)
+    ∙ ap (λ ks. kept itself (lines_at c.block.new.told.places) (faults_in_block P R (kinds ks) (block_of c.deref-in-IfElse.result.now))) c.in_ok-block-in-IfElse.ensures.known
+    ∙ ap (λ ls. kept itself (lines_at c.block.new.told.places) (faults_in_block P R (kinds k) (block_of ls))) c.deref-in-IfElse.ensures.value
+    ∙ ap (λ o. kept itself o second) (c.in_ok-block-in-IfElse.ensures.lines ∙ ap (λ ls. kept itself p (faults_in_block P R (kinds k) (block_of ls))) c.deref.ensures.value)
+    ∙ sym (kept-append itself p first second)
+    ∙ ap (λ s. kept itself p (faults_inside P R (kinds k) s)) (sym seen)
 
 pub inside-returns-in_ok-block-in-IfElse-2-clause-told : goal.inside-returns-in_ok-block-in-IfElse-2-clause-told
 inside-returns-in_ok-block-in-IfElse-2-clause-told t c =
@@ -118,3 +119,34 @@ inside-returns-in_ok-block-in-IfElse-2-clause-told t c =
     (and_then (IsAmong G (first ++ second)) c.args.told.now c.block.new.told c.block-in-IfElse.new.told
     (among_more G first (first ++ second) c.args.told.now c.block.new.told (Contains-append_left first second) one)
     (among_more G second (first ++ second) c.block.new.told c.block-in-IfElse.new.told (Contains-append_right first second) other))
+
+pub inside-returns-in_ok-block-in-For-clause-told : goal.inside-returns-in_ok-block-in-For-clause-told
+inside-returns-in_ok-block-in-For-clause-told t c =
+    let G = c.args.globals.now in
+    let R = returns_of c.args.returns in
+    let k = c.args.known.now in
+    let line = c.args.line.now.line in
+    let x = c.in-For.head.value.variable in
+    let b = block_of c.in-For.b.items in
+    let seen : standing_inside R k line (stmt_of c.args.line.now.stmt) ≡ standing_in Nowhere (in_loop line x k) b = grind (arith, common_steps, stmt_lemmas) in
+    let known : c.declare.new.self ≡ in_loop line x k = grind (arith, common_steps) in
+    subst (λ (ss : List Standing). TellsAmong G ss c.args.told.now c.block-in-For.new.told) (sym seen)
+    (subst (λ (ds : List Declared). TellsAmong G (standing_in Nowhere ds b) c.args.told.now c.block-in-For.new.told) known
+    (subst (λ (ls : List Line). TellsAmong G (standing_in Nowhere c.declare.new.self (block_of ls)) c.args.told.now c.block-in-For.new.told) c.deref-in-For-2.ensures.value
+    c.in_ok-block-in-For.ensures.told))
+
+pub inside-returns-in_ok-block-in-Cut-clause-told : goal.inside-returns-in_ok-block-in-Cut-clause-told
+inside-returns-in_ok-block-in-Cut-clause-told t c =
+    let G = c.args.globals.now in
+    let R = returns_of c.args.returns in
+    let k = c.args.known.now in
+    let line = c.args.line.now.line in
+    let l = c.in-Cut.cut.value.left in
+    let r = c.in-Cut.cut.value.right in
+    let b = block_of c.in-Cut.b.items in
+    let seen : standing_inside R k line (stmt_of c.args.line.now.stmt) ≡ standing_in Nowhere (in_cut line l r k) b = grind (arith, common_steps, stmt_lemmas) in
+    let known : c.declare-in-Cut-2.new.self ≡ in_cut line l r k = grind (arith, common_steps) in
+    subst (λ (ss : List Standing). TellsAmong G ss c.args.told.now c.block-in-Cut.new.told) (sym seen)
+    (subst (λ (ds : List Declared). TellsAmong G (standing_in Nowhere ds b) c.args.told.now c.block-in-Cut.new.told) known
+    (subst (λ (ls : List Line). TellsAmong G (standing_in Nowhere c.declare-in-Cut-2.new.self (block_of ls)) c.args.told.now c.block-in-Cut.new.told) c.deref-in-Cut-3.ensures.value
+    c.in_ok-block-in-Cut.ensures.told))

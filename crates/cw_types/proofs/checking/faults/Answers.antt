@@ -1,23 +1,24 @@
-use Rattle.std.proofs.Common.{◌≡◌, ℕ, ◌++◌, List, [], map, flat_map, is_some, not, IfSome, Option, None, ap, sym, subst, ◌∙◌, arith}
+use Rattle.std.proofs.Common.{◌≡◌, ℕ, ◌++◌, List, [], map, flat_map, is_some, not, IfSome, Option, ap, sym, subst, ◌∙◌, arith}
 use Rattle.std.proofs.lemmas.List.{length-map}
 use Rattle.cw_model.specs.Answers.{main_name}
-use Rattle.cw_model.specs.Lines.{lowest, unless}
+use Rattle.cw_model.specs.Lines.{unless}
+use Rattle.cw_reasons.specs.Rising.{kept}
 use Rattle.cw_model.specs.Names.{is_among}
 use Rattle.cw_model.specs.Syntax.{Program}
 use Rattle.cw_model.specs.Typing.{repeated, of_both_kinds, faults_of}
-use Rattle.cw_model.specs.lemmas.Lowest.{lowest-append}
+use Rattle.cw_reasons.specs.lemmas.Kept.{kept-append}
 use Rattle.cw_tree.specs.declared.syntax.Function.{Function as CodeFunction}
 use Rattle.cw_tree.specs.declared.syntax.Reducer.{Reducer as CodeReducer}
 use Rattle.cw_tree.specs.SyntaxView.{program_of, function_of, reducer_of}
 use Rattle.cw_types.specs.Named.{functions_named, reducers_named}
 use Rattle.cw_types.specs.Names.{function_names}
-use Rattle.cw_types.specs.Telling.{Tells, line_told}
+use Rattle.cw_reasons.specs.Told.{Tells, itself, lines_at, no_place}
 use Rattle.cw_types.specs.Told.{IsNoMain, IsRepeatedIn, IsTold, OfNames}
 use Rattle.cw_types.specs.Within.{faults_of_all}
 use Rattle.cw_tree.specs.lemmas.Few.{functions_few, reducers_few}
 use Rattle.cw_types.proofs.Among.{denied}
 use Rattle.cw_types.proofs.Refusing.{no_main_true, of_functions, of_reducers}
-use Rattle.cw_types.proofs.Telling.{all_true, and_then, found_true, weaken}
+use Rattle.cw_reasons.specs.lemmas.Telling.{all_true, and_then, found_true, weaken}
 use Rattle.cw_types.proofs.checking.faults.Goals as goal
 
 pub new-requires-clause-few_functions : goal.new-requires-clause-few_functions
@@ -30,14 +31,14 @@ new-requires-clause-few_reducers c =
     let few = reducers_few (program_of c.args.ast.now) c.requires in
     let same = length-map c.args.ast.now.reducers.items reducer_of in omega (arith, few, same)
 
-five : (a b c d e : List ℕ) (p q r s t u : Option ℕ) → p ≡ None → q ≡ lowest p a → r ≡ lowest q b → s ≡ lowest r c → t ≡ lowest s d → u ≡ lowest t e →
-    u ≡ lowest None (a ++ ((b ++ (c ++ d)) ++ e))
+five : (a b c d e : List ℕ) (p q r s t u : List (Option ℕ)) → p ≡ no_place → q ≡ kept itself p a → r ≡ kept itself q b → s ≡ kept itself r c → t ≡ kept itself s d → u ≡ kept itself t e →
+    u ≡ kept itself no_place (a ++ ((b ++ (c ++ d)) ++ e))
 five a b c d e p q r s t u none first second third fourth fifth =
     fifth
-    ∙ ap (λ o. lowest o e) (fourth ∙ ap (λ o. lowest o d) (third ∙ ap (λ o. lowest o c) (second ∙ ap (λ o. lowest o b) (first ∙ ap (λ o. lowest o a) none))))
-    ∙ ap (λ o. lowest o e) (sym (lowest-append (lowest (lowest None a) b) c d) ∙ sym (lowest-append (lowest None a) b (c ++ d)))
-    ∙ sym (lowest-append (lowest None a) (b ++ (c ++ d)) e)
-    ∙ sym (lowest-append None a ((b ++ (c ++ d)) ++ e))
+    ∙ ap (λ o. kept itself o e) (fourth ∙ ap (λ o. kept itself o d) (third ∙ ap (λ o. kept itself o c) (second ∙ ap (λ o. kept itself o b) (first ∙ ap (λ o. kept itself o a) none))))
+    ∙ ap (λ o. kept itself o e) (sym (kept-append itself (kept itself (kept itself no_place a) b) c d) ∙ sym (kept-append itself (kept itself no_place a) b (c ++ d)))
+    ∙ sym (kept-append itself (kept itself no_place a) (b ++ (c ++ d)) e)
+    ∙ sym (kept-append itself no_place a ((b ++ (c ++ d)) ++ e))
 
 pub returns-clause-lines : goal.returns-clause-lines
 returns-clause-lines c =
@@ -46,18 +47,18 @@ returns-clause-lines c =
     let rs = P.reducers in
     let same : program_of c.in_ok-globals.globals.ast.now ≡ P = ap program_of c.in_ok-globals.ensures in
     let main = is_among main_name (function_names fs) in
-    let start = line_told c.new-told.result in
+    let start = lines_at c.new-told.result.places in
     let none : is_some c.no_main.result ≡ not main = c.no_main.ensures.decides ∙ ap (λ (p : Program). not (is_among main_name (function_names p.functions))) same in
     five (unless main 1) (repeated (functions_named fs) []) (repeated (reducers_named rs) []) (flat_map (of_both_kinds (functions_named fs)) (reducers_named rs)) (flat_map (faults_of P) fs)
-    start (line_told c.note.new.self) (line_told c.repeated_functions.new.told) (line_told c.repeated_reducers.new.told) (line_told c.shared_names.new.told) (line_told c.functions_faults.new.told)
-    (ap (λ o. line_told (record { first = o })) c.new-told.ensures)
-    (c.note.ensures.lines ∙ ap (λ b. lowest start (unless b 1)) (denied (is_some c.no_main.result) main none))
-    (c.in_ok-repeated_functions.ensures.lines ∙ ap (λ gs. lowest (line_told c.note.new.self) (repeated (functions_named (map function_of gs)) [])) c.deref.ensures.value)
-    (c.in_ok-repeated_reducers.ensures.lines ∙ ap (λ gs. lowest (line_told c.repeated_functions.new.told) (repeated (reducers_named (map reducer_of gs)) [])) c.deref-2.ensures.value)
+    start (lines_at c.note.new.self.places) (lines_at c.repeated_functions.new.told.places) (lines_at c.repeated_reducers.new.told.places) (lines_at c.shared_names.new.told.places) (lines_at c.functions_faults.new.told.places)
+    (ap lines_at c.new-told.ensures)
+    (c.note.ensures.lines ∙ ap (λ b. kept itself start (unless b 1)) (denied (is_some c.no_main.result) main none))
+    (c.in_ok-repeated_functions.ensures.lines ∙ ap (λ gs. kept itself (lines_at c.note.new.self.places) (repeated (functions_named (map function_of gs)) [])) c.deref.ensures.value)
+    (c.in_ok-repeated_reducers.ensures.lines ∙ ap (λ gs. kept itself (lines_at c.repeated_functions.new.told.places) (repeated (reducers_named (map reducer_of gs)) [])) c.deref-2.ensures.value)
     (c.shared_names.ensures.lines
-    ∙ ap (λ gs. lowest (line_told c.repeated_reducers.new.told) (flat_map (of_both_kinds (functions_named (map function_of gs))) (reducers_named (map reducer_of c.deref-4.result.now)))) c.deref-3.ensures.value
-    ∙ ap (λ gs. lowest (line_told c.repeated_reducers.new.told) (flat_map (of_both_kinds (functions_named fs)) (reducers_named (map reducer_of gs)))) c.deref-4.ensures.value)
-    (c.in_ok-functions_faults.ensures.lines ∙ ap (λ (p : Program). lowest (line_told c.shared_names.new.told) (faults_of_all p)) same)
+    ∙ ap (λ gs. kept itself (lines_at c.repeated_reducers.new.told.places) (flat_map (of_both_kinds (functions_named (map function_of gs))) (reducers_named (map reducer_of c.deref-4.result.now)))) c.deref-3.ensures.value
+    ∙ ap (λ gs. kept itself (lines_at c.repeated_reducers.new.told.places) (flat_map (of_both_kinds (functions_named fs)) (reducers_named (map reducer_of gs)))) c.deref-4.ensures.value)
+    (c.in_ok-functions_faults.ensures.lines ∙ ap (λ (p : Program). kept itself (lines_at c.shared_names.new.told.places) (faults_of_all p)) same)
 
 pub returns-clause-holds : goal.returns-clause-holds
 returns-clause-holds c =

@@ -1,20 +1,21 @@
 use Rattle.std.proofs.Common.{◌≡◌, ◌∙◌, [], List, Option, Some, None, IfSome, is_some, map, ap, sym, subst, refl}
 use Rattle.std.proofs.lemmas.List.{append-nil}
-use Rattle.cw_model.specs.Lines.{lowest, unless}
+use Rattle.cw_model.specs.Lines.{unless}
+use Rattle.cw_reasons.specs.Rising.{kept}
 use Rattle.cw_model.specs.Typing as rule
 use Rattle.cw_model.specs.Typing.{known_of, faults_in_block, is_head}
-use Rattle.cw_model.specs.lemmas.Lowest.{lowest-append}
+use Rattle.cw_reasons.specs.lemmas.Kept.{kept-append}
 use Rattle.cw_tree.specs.declared.syntax.Line.{Line}
 use Rattle.cw_tree.specs.SyntaxView.{program_of, function_of, param_of, block_of}
 use Rattle.cw_types.specs.declared.reason.IllTyped.{IllTyped}
 use Rattle.cw_types.specs.Returned.{returns_in}
 use Rattle.cw_types.specs.Scope.{Declared, kinds, with_params}
 use Rattle.cw_types.specs.Standing.{standing_in, standing_of}
-use Rattle.cw_types.specs.Telling.{line_told}
+use Rattle.cw_reasons.specs.Told.{itself, lines_at}
 use Rattle.cw_types.specs.Told.{IsWrongFunction, OfHead, OfStatement}
 use Rattle.cw_types.specs.Within.{IsAmong, IsToldIn, TellsAmong}
 use Rattle.cw_types.proofs.Among.{denied}
-use Rattle.cw_types.proofs.Telling.{and_then, found_true, weaken}
+use Rattle.cw_reasons.specs.lemmas.Telling.{and_then, found_true, weaken}
 use Rattle.cw_types.proofs.Walking.{kinds_of_params}
 use Rattle.cw_types.proofs.functions.function_faults.Goals as goal
 
@@ -22,19 +23,19 @@ pub returns-clause-lines : goal.returns-clause-lines
 returns-clause-lines c =
     let P = program_of c.args.globals.now.ast.now in
     let f = function_of c.args.function.now in
-    let old = line_told c.args.told.now in
+    let old = lines_at c.args.told.now.places in
     let ps = map param_of c.args.function.now.params.items in
     let known : kinds c.in_ok-known.known ≡ known_of ps =
     ap kinds c.in_ok-known.ensures ∙ kinds_of_params f.line ps [] ∙ append-nil (known_of ps) in
-    let head : line_told c.note.new.self ≡ lowest old (unless (is_head P f) f.line) =
-    c.note.ensures.lines ∙ ap (λ b. lowest old (unless b f.line)) (denied (is_some c.of_head.result) (is_head P f) c.of_head.ensures.decides) in
-    let n = line_told c.note.new.self in
+    let head : lines_at c.note.new.self.places ≡ kept itself old (unless (is_head P f) f.line) =
+    c.note.ensures.lines ∙ ap (λ b. kept itself old (unless b f.line)) (denied (is_some c.of_head.result) (is_head P f) c.of_head.ensures.decides) in
+    let n = lines_at c.note.new.self.places in
     c.in_ok-block.ensures.lines
-    ∙ ap (λ r. lowest n (faults_in_block P r (kinds c.in_ok-known.known) (block_of c.as_slice.result.now))) c.returns_of.ensures
-    ∙ ap (λ ks. lowest n (faults_in_block P (returns_in f) ks (block_of c.as_slice.result.now))) known
-    ∙ ap (λ ls. lowest n (faults_in_block P (returns_in f) (known_of ps) (block_of ls))) c.as_slice.ensures.value
-    ∙ ap (λ o. lowest o (faults_in_block P (returns_in f) (known_of f.params) f.body)) head
-    ∙ sym (lowest-append old (unless (is_head P f) f.line) (faults_in_block P (returns_in f) (known_of f.params) f.body))
+    ∙ ap (λ r. kept itself n (faults_in_block P r (kinds c.in_ok-known.known) (block_of c.as_slice.result.now))) c.returns_of.ensures
+    ∙ ap (λ ks. kept itself n (faults_in_block P (returns_in f) ks (block_of c.as_slice.result.now))) known
+    ∙ ap (λ ls. kept itself n (faults_in_block P (returns_in f) (known_of ps) (block_of ls))) c.as_slice.ensures.value
+    ∙ ap (λ o. kept itself o (faults_in_block P (returns_in f) (known_of f.params) f.body)) head
+    ∙ sym (kept-append itself old (unless (is_head P f) f.line) (faults_in_block P (returns_in f) (known_of f.params) f.body))
 
 pub returns-clause-told : goal.returns-clause-told
 returns-clause-told c =

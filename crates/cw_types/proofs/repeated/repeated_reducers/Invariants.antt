@@ -1,19 +1,19 @@
 use Rattle.std.proofs.Common.{◌≡◌, ℕ, Contains, drop, take, map, []}
-use Rattle.cw_model.specs.Lines.{lowest}
+use Rattle.cw_reasons.specs.Rising.{kept}
 use Rattle.cw_model.specs.Syntax.{Name}
 use Rattle.cw_model.specs.Typing.{repeated}
 use Rattle.cw_tree.specs.SyntaxView.{reducer_of}
 use Rattle.cw_types.specs.Named.{reducers_named}
 use Rattle.cw_types.specs.Names.{known_names}
 use Rattle.cw_types.specs.Scope.{kinds}
-use Rattle.cw_types.specs.Telling.{Tells, line_told}
+use Rattle.cw_reasons.specs.Told.{Tells, itself, lines_at}
 use Rattle.cw_types.specs.Told.{IsRepeatedIn}
 use Rattle.cw_types.proofs.repeated.repeated_reducers.Given as goal
 
 abbrev pub invariant-loop-reducer : goal.invariant-loop-reducer
 invariant-loop-reducer l = record {
-  same : lowest (line_told l.told) (repeated (reducers_named (map reducer_of (drop l.reducer-index l.reducers))) (known_names (kinds l.earlier)))
-      ≡ lowest (line_told l.fn.told) (repeated (reducers_named (map reducer_of l.reducers)) []);
+  same : kept itself (lines_at l.told.places) (repeated (reducers_named (map reducer_of (drop l.reducer-index l.reducers))) (known_names (kinds l.earlier)))
+      ≡ kept itself (lines_at l.fn.told.places) (repeated (reducers_named (map reducer_of l.reducers)) []);
   there : (d : Name × ℕ) → Contains (map (λ e. (e.name, e.line)) l.earlier) d → Contains (reducers_named (map reducer_of (take l.reducer-index l.reducers))) d;
   told : Tells (IsRepeatedIn (reducers_named (map reducer_of l.reducers))) l.fn.told l.told;
 }

@@ -1,18 +1,19 @@
 use Rattle.std.proofs.Common.{true, not, ◌≡◌, ℕ, ◌∷◌, ◌++◌, ◌+◌, Contains, is_some, drop, map, ap, sym, subst, ◌∙◌, arith}
 use Rattle.std.proofs.lemmas.Grind.{common_steps}
 use Rattle.std.proofs.lemmas.Slice.Eq.{bytes_eq-Decides}
-use Rattle.cw_model.specs.Lines.{lowest, unless}
+use Rattle.cw_model.specs.Lines.{unless}
+use Rattle.cw_reasons.specs.Rising.{kept}
 use Rattle.cw_model.specs.Names.{same_name}
 use Rattle.cw_model.specs.Syntax.{Name, Function}
 use Rattle.cw_model.specs.Typing.{of_both_kinds}
-use Rattle.cw_model.specs.lemmas.Lowest.{lowest-append}
+use Rattle.cw_reasons.specs.lemmas.Kept.{kept-append}
 use Rattle.cw_tree.specs.SyntaxView.{function_of}
 use Rattle.cw_types.specs.Named.{functions_named}
-use Rattle.cw_types.specs.Telling.{line_told}
+use Rattle.cw_reasons.specs.Told.{itself, lines_at}
 use Rattle.cw_types.specs.Told.{AreBothIn, IsRepeatedIn}
 use Rattle.cw_types.specs.Typing.{earlier_line, later_line}
 use Rattle.cw_types.proofs.Repeating.{in_maps, shared_both, shared_true}
-use Rattle.cw_types.proofs.Telling.{and_then, found_true}
+use Rattle.cw_reasons.specs.lemmas.Telling.{and_then, found_true}
 use Rattle.cw_types.proofs.repeated.shared_name.Goals as goal
 
 pub loop-function-preserved : goal.loop-function-preserved
@@ -25,14 +26,14 @@ loop-function-preserved c =
     let rest = functions_named (map function_of (drop (i + 1) fs)) in
     let here : Name × ℕ = (f.name, f.line) in
     let split : functions_named (map function_of (drop i fs)) ≡ here ∷ rest = grind (arith, common_steps) in
-    let p = line_told c.loop-function.told in
+    let p = lines_at c.loop-function.told.places in
     let last = c.later.ensures in
     record {
       same =
-          ap (λ o. lowest o (of_both_kinds rest d)) (c.note.ensures.lines ∙ ap (λ b. lowest p (unless (not b) c.later.result)) c.shared.ensures.decides
-          ∙ ap (λ l. lowest p (unless (not (same_name r.name f.name)) l)) last)
-          ∙ sym (lowest-append p (unless (not (same_name r.name f.name)) (later_line r.line f.line)) (of_both_kinds rest d))
-          ∙ ap (λ ds. lowest p (of_both_kinds ds d)) (sym split)
+          ap (λ o. kept itself o (of_both_kinds rest d)) (c.note.ensures.lines ∙ ap (λ b. kept itself p (unless (not b) c.later.result)) c.shared.ensures.decides
+          ∙ ap (λ l. kept itself p (unless (not (same_name r.name f.name)) l)) last)
+          ∙ sym (kept-append itself p (unless (not (same_name r.name f.name)) (later_line r.line f.line)) (of_both_kinds rest d))
+          ∙ ap (λ ds. kept itself p (of_both_kinds ds d)) (sym split)
           ∙ c.loop-function.invariant.same;
       told = λ reducers there.
           let all = functions_named (map function_of fs) ++ reducers in

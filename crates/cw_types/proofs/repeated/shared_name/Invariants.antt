@@ -1,17 +1,17 @@
 use Rattle.std.proofs.Common.{◌≡◌, ℕ, ◌++◌, List, Contains, drop, map}
-use Rattle.cw_model.specs.Lines.{lowest}
+use Rattle.cw_reasons.specs.Rising.{kept}
 use Rattle.cw_model.specs.Syntax.{Name}
 use Rattle.cw_model.specs.Typing.{of_both_kinds}
 use Rattle.cw_tree.specs.SyntaxView.{function_of}
 use Rattle.cw_types.specs.Named.{functions_named}
-use Rattle.cw_types.specs.Telling.{Tells, line_told}
+use Rattle.cw_reasons.specs.Told.{Tells, itself, lines_at}
 use Rattle.cw_types.specs.Told.{IsRepeatedIn}
 use Rattle.cw_types.proofs.repeated.shared_name.Given as goal
 
 abbrev pub invariant-loop-function : goal.invariant-loop-function
 invariant-loop-function l = record {
-  same : lowest (line_told l.told) (of_both_kinds (functions_named (map function_of (drop l.function-index l.functions))) (l.reducer.name, l.reducer.line))
-      ≡ lowest (line_told l.fn.told) (of_both_kinds (functions_named (map function_of l.functions)) (l.reducer.name, l.reducer.line));
+  same : kept itself (lines_at l.told.places) (of_both_kinds (functions_named (map function_of (drop l.function-index l.functions))) (l.reducer.name, l.reducer.line))
+      ≡ kept itself (lines_at l.fn.told.places) (of_both_kinds (functions_named (map function_of l.functions)) (l.reducer.name, l.reducer.line));
   told : (reducers : List (Name × ℕ)) → Contains reducers (l.reducer.name, l.reducer.line) →
       Tells (IsRepeatedIn (functions_named (map function_of l.functions) ++ reducers)) l.fn.told l.told;
 }

@@ -1,15 +1,15 @@
 use Rattle.std.proofs.Common.{◌≡◌, ℕ, ◌∷◌, ◌++◌, ◌+◌, List, drop, map, flat_map, ap, sym, ◌∙◌, arith}
 use Rattle.std.proofs.lemmas.Grind.{common_steps}
-use Rattle.cw_model.specs.Lines.{lowest}
+use Rattle.cw_reasons.specs.Rising.{kept}
 use Rattle.cw_model.specs.Syntax.{Name, Reducer}
 use Rattle.cw_model.specs.Typing.{of_both_kinds}
-use Rattle.cw_model.specs.lemmas.Lowest.{lowest-append}
+use Rattle.cw_reasons.specs.lemmas.Kept.{kept-append}
 use Rattle.cw_tree.specs.SyntaxView.{function_of, reducer_of}
 use Rattle.cw_types.specs.Named.{functions_named, reducers_named}
-use Rattle.cw_types.specs.Telling.{line_told}
+use Rattle.cw_reasons.specs.Told.{itself, lines_at}
 use Rattle.cw_types.specs.Told.{IsRepeatedIn}
 use Rattle.cw_types.proofs.Repeating.{in_maps}
-use Rattle.cw_types.proofs.Telling.{and_then}
+use Rattle.cw_reasons.specs.lemmas.Telling.{and_then}
 use Rattle.cw_types.proofs.repeated.shared_names.Goals as goal
 
 pub loop-reducer-preserved : goal.loop-reducer-preserved
@@ -21,12 +21,12 @@ loop-reducer-preserved c =
     let here : Name × ℕ = (c.reducer-item.result.name, c.reducer-item.result.line) in
     let rest = reducers_named (map reducer_of (drop (i + 1) rs)) in
     let split : reducers_named (map reducer_of (drop i rs)) ≡ here ∷ rest = grind (arith, common_steps) in
-    let p = line_told c.loop-reducer.told in
+    let p = lines_at c.loop-reducer.told.places in
     record {
       same =
-          ap (λ o. lowest o (flat_map both rest)) c.shared_name.ensures.lines
-          ∙ sym (lowest-append p (both here) (flat_map both rest))
-          ∙ ap (λ (ds : List (Name × ℕ)). lowest p (flat_map both ds)) (sym split)
+          ap (λ o. kept itself o (flat_map both rest)) c.shared_name.ensures.lines
+          ∙ sym (kept-append itself p (both here) (flat_map both rest))
+          ∙ ap (λ (ds : List (Name × ℕ)). kept itself p (flat_map both ds)) (sym split)
           ∙ c.loop-reducer.invariant.same;
       told =
           and_then (IsRepeatedIn (names ++ reducers_named (map reducer_of rs))) c.args.told.now c.loop-reducer.told c.shared_name.new.told c.loop-reducer.invariant.told

@@ -1,0 +1,4 @@
+pub mod Rising
+pub mod Told
+pub mod Laws
+pub mod lemmas
