@@ -16,6 +16,7 @@ ghost use Rattle.cw_cli.specs.Tools.{
 };
 
 use crate::analysis::analyse;
+use crate::compiling::compile;
 use crate::misuse::misused;
 use cw_greedy::code::MOST_STRANDS;
 use cw_model::limits::MOST_SOURCE_BYTES;
@@ -23,7 +24,8 @@ use cw_pool::crew::Body;
 use cw_pool::gate::Gate;
 use cw_report::{Input, Sink, write_fault, write_text};
 use cw_text::Fault;
-use cw_told::{Refused, explain, explain_unread};
+use cw_told::{Named, Refused, explain, explain_unread};
+use cw_trapped::{Trapping, add_trap};
 use cw_words::{Request, Said};
 use std::alloc::Global;
 use std::io;
@@ -124,11 +126,33 @@ fn tell<E: Sink>(alloc: Global, asked: &Request, bytes: &[u8], fault: &Fault, er
         limit: asked.options.limit,
         strands: MOST_STRANDS,
     };
-    let Ok(text) = explain(alloc, &refused, fault) else {
+    let Ok(mut text) = explain(alloc, &refused, fault) else {
         return status;
     };
+    if matches!(fault, Fault::Trap { .. }) {
+        let _ = add_values(alloc, asked, bytes, &mut text);
+    }
     let _ = write_text(err, text.as_bytes());
     status
+}
+
+// Adds the values of a trap, and the calls and loops round it, as far as there is memory for the run that finds them.
+fn add_values(
+    alloc: Global,
+    asked: &Request,
+    bytes: &[u8],
+    text: &mut String,
+) -> Result<(), Fault> {
+    let code = compile(alloc, bytes)?;
+    let file = Named {
+        path: asked.file.as_str(),
+    };
+    let run = Trapping {
+        code: &code,
+        args: asked.args.as_slice(),
+        limit: asked.options.limit,
+    };
+    add_trap(alloc, text, file, &run)
 }
 
 // Writes the line of a fault of these words to `err`, and behind it which of them it is for; gives the exit status.

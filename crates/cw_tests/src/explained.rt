@@ -17,7 +17,7 @@ const EXPLAINED: &[Row] = &[
         "int main() {\n  int x = 0;\n  return 1 / x;\n}",
         3,
         "",
-        "trap 2 line 3\nf:3: a division or a remainder by 0\n  3 |   return 1 / x;\n",
+        "trap 2 line 3\nf:3: a division or a remainder by 0\n  3 |   return 1 / x;\nf:3: the operands of / are 1 and 0\nf:1: in main\n",
     ),
     (
         "--explain scale f 1",
@@ -90,4 +90,121 @@ fn tells_what_is_misused(rt: HostRuntime) -> Result<(), Fail> {
 #[test]
 fn explains_where_it_is_asked(rt: HostRuntime) -> Result<(), Fail> {
     all_hold(rt, EXPLAINED)
+}
+
+const ABOVE: &str = "int main(int n) {\n  return 9223372036854775807 + n;\n}";
+
+const OUTSIDE: &str = "int get(const int a[], int i) {
+  return a[i];
+}
+int both(const int a[], int i) {
+  int x = 0;
+  int y = 0;
+  x = cilk_spawn get(a, i);
+  y = get(a, 0);
+  cilk_sync;
+  return x + y;
+}
+int main(int n) {
+  int a[n];
+  int r = 0;
+  r = both(a, n);
+  return r;
+}";
+
+const ENDLESS: &str = "int f(int n) {
+  int r = 0;
+  r = f(n + 1);
+  return r;
+}
+int main() {
+  int r = 0;
+  r = f(0);
+  return r;
+}";
+
+// the sixth turn of eight, in a call that each turn makes
+const IN_TURNS: &str = "reducer sum s;
+void add(int i) {
+  s += 6 / (i - 5);
+}
+int main(int n) {
+  cilk_for (int i = 0; i < n; i++) grain 1 {
+    add(i);
+  }
+  return 0;
+}";
+
+const BEHIND: &str = "int main(int n) {
+  int a[4];
+  int b[6];
+  cilk_for (int i = 1; i < n; i++) over (b, a) {
+    b[i] = a[i];
+  }
+  return 0;
+}";
+
+// A trap of each kind with its values, and the calls and loops round it.
+const TRAPPED: &[Row] = &[
+    (
+        "run f 1 --explain",
+        ABOVE,
+        3,
+        "",
+        "trap 1 line 2\nf:2: the result of an operation is no integer of 64 bits: it is below -2^63 or above 2^63 - 1\n  2 |   return 9223372036854775807 + n;\nf:2: the operands of + are 9223372036854775807 and 1\nf:1: in main\n",
+    ),
+    (
+        "scale --workers 3 f 3 --explain",
+        OUTSIDE,
+        3,
+        "",
+        "trap 3 line 2\nf:2: an index, the place of a cut or the range of a loop lies outside of its array\n  2 |   return a[i];\nf:2: the index is 3, and the array's length is 3\nf:7: in get, spawned here\nf:15: in both, called here\nf:12: in main\n",
+    ),
+    (
+        "run f --explain",
+        "int main() {\n  int a[3];\n  cut a at 4 as l, r {\n  }\n  return 0;\n}",
+        3,
+        "",
+        "trap 3 line 3\nf:3: an index, the place of a cut or the range of a loop lies outside of its array\n  3 |   cut a at 4 as l, r {\nf:3: the array is cut at 4, and its length is 3\nf:1: in main\n",
+    ),
+    (
+        "gain f 5 --explain",
+        BEHIND,
+        3,
+        "",
+        "trap 3 line 4\nf:4: an index, the place of a cut or the range of a loop lies outside of its array\n  4 |   cilk_for (int i = 1; i < n; i++) over (b, a) {\nf:4: the range is 1 to 5, and the length of its shortest array is 4\nf:1: in main\n",
+    ),
+    (
+        "sites f --explain",
+        "int main() {\n  int a[0 - 1];\n  return 0;\n}",
+        3,
+        "",
+        "trap 4 line 2\nf:2: the length of an array is below 0 or above 16777216\n  2 |   int a[0 - 1];\nf:2: the length that is asked for is -1; it may be 0 to 16777216\nf:1: in main\n",
+    ),
+    (
+        "run f --explain",
+        "int main() {\n  cilk_for (int i = 0; i < 2147483648; i++) {\n  }\n  return 0;\n}",
+        3,
+        "",
+        "trap 5 line 2\nf:2: a cilk_for has more than 2147483647 turns\n  2 |   cilk_for (int i = 0; i < 2147483648; i++) {\nf:2: the range is 0 to 2147483648, and a loop has at most 2147483647 turns\nf:1: in main\n",
+    ),
+    (
+        "greedy 2 f 8 --explain",
+        IN_TURNS,
+        3,
+        "",
+        "trap 2 line 3\nf:3: a division or a remainder by 0\n  3 |   s += 6 / (i - 5);\nf:3: the operands of / are 6 and 0\nf:7: in add, called here\nf:6: in turns of this cilk_for\nf:5: in main\n",
+    ),
+    (
+        "run f --explain",
+        ENDLESS,
+        3,
+        "",
+        "trap 6 line 3\nf:3: more than 10000 calls lie inside one another, that of main among them\n  3 |   r = f(n + 1);\nf:3: the call of f is made at depth 10000, and 10000 is the greatest\nf:3: in f, called here\nf:3: in f, called here\nf:3: in f, called here\nf:3: in f, called here\nf:3: in f, called here\nf:3: in f, called here\nf:3: in f, called here\nf:3: in f, called here\nf:3: in f, called here\nf:3: in f, called here\nf:6: in main, 9989 calls and loops further out\n",
+    ),
+];
+
+#[test]
+fn tells_the_values_of_traps(rt: HostRuntime) -> Result<(), Fail> {
+    all_hold(rt, TRAPPED)
 }

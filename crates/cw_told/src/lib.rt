@@ -14,4 +14,4 @@ mod unparsed;
 mod words;
 
 pub use explaining::{Refused, explain};
-pub use others::explain_unread;
+pub use others::{Named, explain_unread};
