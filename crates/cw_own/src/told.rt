@@ -3,9 +3,9 @@
 ghost use Rattle.std.specs.Prelude.{◌≡◌};
 ghost use Rattle.cw_reasons.specs.Told.{no_place};
 ghost use Rattle.cw_own.specs.Reasons.{reasons_at};
-ghost use Rattle.cw_own.specs.Views.{Noted, places_told, told_of};
+ghost use Rattle.cw_own.specs.Views.{Noted, places_told, reason_of, told_of};
 
-use crate::reason::Disowned;
+use crate::reason::{Disowned, Holder};
 use crate::row::Row;
 use cw_reasons::Reasons;
 
@@ -45,6 +45,36 @@ impl Watch {
         }
     }
 
+    // Since which line the local of a slot is held, where it is watched.
+    fn since(&self, slot: u32, holder: Holder, since: Option<u32>) -> Option<u32> {
+        let is_watched = match holder {
+            Holder::Result => self.is_int(slot),
+            Holder::Argument | Holder::Reader | Holder::Cut => self.is_array(slot),
+        };
+        if is_watched {
+            return since;
+        }
+        None
+    }
+
+    // The same reason, which tells since which line of what is watched alone.
+    fn told<'a>(&self, reason: Disowned<'a>) -> Disowned<'a>
+        ensures { reason_of result ≡ reason_of reason.entry }
+    {
+        match reason {
+            Disowned::Held(used, touch, holder, since) => Disowned::Held(
+                used,
+                touch,
+                holder,
+                self.since(used.slot, holder, since),
+            ),
+            Disowned::EndsHeld(used, holder, since) => {
+                Disowned::EndsHeld(used, holder, self.since(used.slot, holder, since))
+            }
+            _ => reason,
+        }
+    }
+
     /// Whether what is watched is one of these locals.
     pub fn is_in(&self, known: &Row) -> bool {
         match self.local {
@@ -77,6 +107,8 @@ impl<'a> Told<'a> {
     pub fn note(&mut self, found: Option<Disowned<'a>>, line: u32)
         ensures { Noted self.old self.new (reasons_at line (told_of found.entry)) }
     {
-        self.reasons.note(found, line);
+        if let Some(reason) = found {
+            self.reasons.note(Some(self.watch.told(reason)), line);
+        }
     }
 }

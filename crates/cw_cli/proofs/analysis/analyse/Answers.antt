@@ -22,8 +22,8 @@ has_tables : (m : Mode) → (m ≡ mode.Scale) ⊎ (m ≡ mode.Sites) → HasTab
 has_tables m (inl is) = subst HasTables (sym is) tt
 has_tables m (inr is) = subst HasTables (sym is) tt
 
-pub returns-then-len : goal.returns-then-len
-returns-then-len g c = by_crowd g.W.Sink.seen c.args.out.now c.args.bytes.now c.args.args.now c.args.options _ (search rules)
+pub returns-then-len-gt-MOST_BODIES : goal.returns-then-len-gt-MOST_BODIES
+returns-then-len-gt-MOST_BODIES g c = by_crowd g.W.Sink.seen c.args.out.now c.args.bytes.now c.args.args.now c.args.options _ (search rules)
 
 pub returns-then-is_empty : goal.returns-then-is_empty
 returns-then-is_empty g c = by_crew g.W.Sink.seen c.args.out.now _ c.args.bytes.now c.args.args.now c.args.options _ _ (search rules) c.analyse_alone.ensures

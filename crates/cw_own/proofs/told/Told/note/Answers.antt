@@ -1,7 +1,14 @@
-use Rattle.std.proofs.Common.{ap, ◌∙◌}
-use Rattle.cw_own.specs.Views.{told_at}
+use Rattle.std.proofs.Common.{Option, Some, sym, ap, ◌∙◌}
+use Rattle.cw_reasons.specs.Rising.{kept}
+use Rattle.cw_own.specs.Reasons.{Reason, line_in, reasons_at}
+use Rattle.cw_own.specs.Views.{told_at, told_of}
+use Rattle.cw_own.specs.declared.reason.Disowned.{Disowned}
 use Rattle.cw_own.proofs.Small.{found_kept}
 use Rattle.cw_own.proofs.told.Told.note.Goals as goal
 
-pub returns : goal.returns
-returns c = ap told_at c.note.ensures.is ∙ found_kept c.args.line c.args.found c.args.self.now.reasons.places
+pub returns-in-Some : goal.returns-in-Some
+returns-in-Some c =
+    ap told_at c.note.ensures.is
+    ∙ found_kept c.args.line (Some c.told.result) c.args.self.now.reasons.places
+    ∙ ap (λ (r : Reason). kept line_in (told_at c.args.self.now.reasons.places) (reasons_at c.args.line (Some r))) c.told.ensures
+    ∙ ap (λ (o : Option Disowned). kept line_in (told_at c.args.self.now.reasons.places) (reasons_at c.args.line (told_of o))) (sym c.in-Some.is)
