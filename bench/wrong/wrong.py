@@ -146,8 +146,8 @@ def words_of(crate, libraries, only):
     for name in ["std", *of_kit]:
         words += ["--extern", "%s=%s/rlibs/%s.rlib" % (name, home, name)]
     words += ["-L", "dependency=%s/rlibs" % home]
-    for name in uses[crate]:
-        words += ["--extern", "%s=%s/%s.rlib" % (name, built[name], name)] * (name in built)
+    for name in filter(built.get, uses[crate]):
+        words += ["--extern", "%s=%s/%s.rlib" % (name, built[name], name)]
     for at in built.values():
         words += ["-L", "dependency=" + at]
     words += ["--antt-project", home + "/rattle/logic/antt-project.json", "--logic-built", home + "/logic_built"]

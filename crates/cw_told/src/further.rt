@@ -116,8 +116,9 @@ pub fn add_types(
     file: Named<'_>,
     told: &Reasons<IllTyped<'_>>,
 ) -> Result<(), Fault> {
-    for place in 1..told.places.len() {
-        if let Some(at) = told.places[place] {
+    let places = &told.places[..];
+    for place in 1..places.len() {
+        if let Some(at) = places[place] {
             if out.len() < MOST_BYTES {
                 let line = at.line;
                 let reason = Untyped { reason: at.reason };
@@ -134,8 +135,9 @@ pub fn add_unowned(
     file: Named<'_>,
     told: &Reasons<Disowned<'_>>,
 ) -> Result<(), Fault> {
-    for place in 1..told.places.len() {
-        if let Some(at) = told.places[place] {
+    let places = &told.places[..];
+    for place in 1..places.len() {
+        if let Some(at) = places[place] {
             if out.len() < MOST_BYTES {
                 let line = at.line;
                 let reason = Unowned { at };
