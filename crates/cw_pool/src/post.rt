@@ -21,10 +21,14 @@ use std::alloc::Global;
 /// A strand goes on by at most so many instructions before it is looked whether the run is given up.
 const QUANTUM: u64 = 262_144;
 
-/// A strand hands out all rests of its first instructions, so many: a short run is shared whole.
+/// A strand hands out all rests of its first instructions, so many, while few of its jobs are out: a short run is shared
+/// whole.
 const FIRST: u64 = 8_192;
 
-/// Behind these, with so many jobs in its worker's deque, it hands nothing out: it goes on with its spawns in place.
+/// So many are no longer few.
+const FEW: usize = 64;
+
+/// Else, with so many jobs in its worker's deque, it hands nothing out: it goes on with its spawns in place.
 const ENOUGH: usize = 3;
 
 /// It does so by at most so many instructions before it is looked whether the deque is still as long.
@@ -190,11 +194,12 @@ impl Post {
     // How a strand that has done so many instructions goes on, and by how many at most: it hands the rests of its blocks out
     // as long as its worker's deque is short, since whoever can take work finds some there.
     #[inline(always)]
-    fn way(yard: &Yard, seat: &mut Seat, done: u64) -> (Spawns, u64)
+    fn way(&self, yard: &Yard, seat: &mut Seat, done: u64) -> (Spawns, u64)
         requires { IsSeatOf yard.now seat.old }
         ensures { IsSeatOf yard.now seat.new }
     {
-        if done < FIRST || yard.waiting(seat) < ENOUGH {
+        let is_at_first = done < FIRST && self.kept.len() < FEW;
+        if is_at_first || yard.waiting(seat) < ENOUGH {
             (Spawns::HandedOut, QUANTUM)
         } else {
             (Spawns::InPlace, STINT)
@@ -216,7 +221,7 @@ impl Post {
         ensures turn { TurnsTo yard.now self.new result }
     {
         let before = self.strand.done();
-        let (spawns, most) = Post::way(yard, seat, before);
+        let (spawns, most) = self.way(yard, seat, before);
         match self.strand.next_event(most, spawns) {
             Event::Spawned(rest) => {
                 self.count(tally, before);
