@@ -11,7 +11,7 @@ use Rattle.cw_model.specs.Report.{report_text}
 use Rattle.cw_text.specs.declared.fault.Fault.{Fault}
 use Rattle.cw_text.specs.declared.fault.Fault.TheVariants as fault
 use Rattle.cw_pool.specs.declared.run.TheConstants.{MOST_BODIES}
-use Rattle.cw_scheduled.specs.declared.schedules.TheConstants.{MOST_PROCESSORS}
+use Rattle.cw_schedule.specs.declared.schedules.TheConstants.{MOST_PROCESSORS}
 use Rattle.cw_report.specs.Seen.{Seen}
 use Rattle.cw_report.specs.Sinks.{WritesAll, WritesPart}
 use Rattle.cw_cli.specs.Schedules.{greedy_text, IsScheduledIn, HasTooManyStrands}

@@ -22,7 +22,7 @@ use cw_pool::gate::Gate;
 use cw_pool::run::MOST_BODIES;
 use cw_report::{Sink, ok, schedule};
 use cw_runnable::verified::Verified;
-use cw_scheduled::schedules::schedule_alone;
+use cw_schedule::schedules::schedule_alone;
 use cw_text::Fault;
 use cw_words::{Mode, Options};
 use std::alloc::Global;

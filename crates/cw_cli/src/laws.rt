@@ -2,7 +2,7 @@
 
 ghost use Rattle.std.specs.Prelude.{◌≡◌};
 ghost use Rattle.cw_cli.specs.Laws.{CompiledAreNotRefused, HaveOneProgram, HaveOneRefusal};
-ghost use Rattle.cw_scheduled.specs.declared.schedules.TheConstants as schedules;
+ghost use Rattle.cw_schedule.specs.declared.schedules.TheConstants as schedules;
 ghost use Rattle.cw_words.specs.declared.number.TheConstants as words;
 ghost use Rattle.cw_yard.specs.declared.open.TheConstants as yard;
 

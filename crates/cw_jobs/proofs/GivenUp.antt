@@ -3,7 +3,7 @@ use Rattle.std.proofs.Common.{◌≡◌, ℕ, Some, List, [], refl}
 use Rattle.std.specs.Prelude.{slice_get}
 use Rattle.cw_slices.specs.Placed.{Placed}
 use Rattle.cw_runnable.specs.declared.verified.Verified.{Verified}
-use Rattle.cw_strands.specs.Jobs.{Job, Memory, Short}
+use Rattle.cw_strand_laws.specs.Jobs.{Job, Memory, Short}
 use Rattle.cw_jobs.specs.declared.call.Parts.{Parts}
 use Rattle.cw_jobs.specs.declared.effect.Effect.TheVariants as effect
 use Rattle.cw_jobs.specs.Jobs.{Ok, KeepsHomes}

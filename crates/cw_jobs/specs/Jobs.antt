@@ -16,8 +16,8 @@ use Rattle.cw_code.specs.Good.{Seat, GoodState}
 use Rattle.cw_runnable.specs.declared.verified.Verified.{Verified}
 use Rattle.cw_runnable.specs.Resolved.{IsVerified}
 use Rattle.cw_meter.specs.Origins.{Origin, Main, Rest}
-use Rattle.cw_strands.specs.Jobs.{Extent, WholeCall, ToJoin, Job, job_start, root_job}
-use Rattle.cw_strands.specs.Over.{under}
+use Rattle.cw_strand_laws.specs.Jobs.{Extent, WholeCall, ToJoin, Job, job_start, root_job}
+use Rattle.cw_strand_laws.specs.Over.{under}
 use Rattle.cw_jobs.specs.declared.call.Extent as declared
 use Rattle.cw_jobs.specs.declared.call.Extent.TheVariants as extent
 use Rattle.cw_jobs.specs.declared.call.Parts.{Parts}

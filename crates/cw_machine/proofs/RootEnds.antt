@@ -14,13 +14,13 @@ use Rattle.cw_model.specs.Ints.{trap_number}
 use Rattle.cw_code.specs.declared.code.Func.{Func}
 use Rattle.cw_code.specs.Code.{Code, code_view}
 use Rattle.cw_code.specs.Run.{On, first_state, first_transition, code_serial}
-use Rattle.cw_strands.specs.Jobs as jobs
-use Rattle.cw_strands.specs.Jobs.{Came, Arrives, Returns, Falls, Beyond, Lost, IsOf, JobMeaning, Same, Passed, Short, root_job, course}
-use Rattle.cw_strands.specs.RestLaws.{RootsAreSerial}
+use Rattle.cw_strand_laws.specs.Jobs as jobs
+use Rattle.cw_strand_laws.specs.Jobs.{Came, Arrives, Returns, Falls, Beyond, Lost, IsOf, JobMeaning, Same, Passed, Short, root_job, course}
+use Rattle.cw_strand_laws.specs.RestLaws.{RootsAreSerial}
 use Rattle.cw_meter.specs.Whole.{AreMeasures}
 use Rattle.cw_meter.specs.Origins.{Main as MainOrigin}
 use Rattle.cw_meter.specs.Meters.{Meters}
-use Rattle.cw_metered.specs.Opens.{whole}
+use Rattle.cw_meter_laws.specs.Opens.{whole}
 use Rattle.cw_runnable.specs.declared.verified.Verified.{Verified}
 use Rattle.cw_jobs.specs.declared.effect.Effect.{Effect}
 use Rattle.cw_jobs.specs.declared.effect.Effect.TheVariants as effect

@@ -17,7 +17,7 @@ use Rattle.cw_code.specs.Code.{code_view}
 use Rattle.cw_code.specs.Run.{Slots, Readers, Taken, Whole, slot_taken, Waiting, Around, Caller, State, On, Stops, Stuck, is_full, and_array, reader, lent_in, moved_out, arrays_in, on_arrays, may_begin, begun, begins, call_of, enter, passed_by, lent_by, act, step}
 use Rattle.cw_code.specs.Fits.{Row, Outer, is_full_in, slots_lent, with_gone, leaves, nexts, Covers, FlowsIntoEach}
 use Rattle.cw_code.specs.Good.{Seat, GoodState}
-use Rattle.cw_strands.specs.Strands.{Goes, HandsOut, turn_of}
+use Rattle.cw_strand_laws.specs.Strands.{Goes, HandsOut, turn_of}
 use Rattle.cw_jobs.specs.Jobs.{IsFrozenBy}
 use Rattle.cw_runnable.specs.declared.verified.Verified.{Verified}
 use Rattle.cw_machine.specs.Arrays.{IsFit, is_among, slots_lent_by, KeepsLent}

@@ -31,7 +31,7 @@ use Rattle.cw_code.specs.declared.code.Instr.TheVariants as instr
 use Rattle.cw_code.specs.declared.code.Reducer as coded
 use Rattle.cw_code.specs.Code.{Code, reducer_names}
 use Rattle.cw_code.specs.Run.{Slots, Results, Around, Caller, Block, Opened, State, Transition, On, Ends, Stops, Stuck, synced, is_full, on_top, on_two, stored, operated, set_array, apply_unary, jumped, onto, prints, adds, settled, put_in, Entering, Whole, arguments_of, may_begin, begun, begins, call_of, on_arrays, arrays_in, enter, recur, parts_of, looped, start, given, awaited, result_of, event_of, rejoined, going_on, returns_to, given_back, back, opened, opened_region, opens, cut_arrays, may_cut, cuts, resumes, closed, uncut_arrays, resumes_uncut, cut_ends, moved_out, reader, lent_in, lent_by, passed_by, act, step, go_on, steps, reducers_of}
-use Rattle.cw_strands.specs.Jobs.{WholeCall, Came, Arrives, Returns, Falls, Beyond, Lost, moved, travel}
+use Rattle.cw_strand_laws.specs.Jobs.{WholeCall, Came, Arrives, Returns, Falls, Beyond, Lost, moved, travel}
 use Rattle.cw_jobs.specs.Totals.{kept, AllFit, HoldsTotals}
 use Rattle.cw_machine.proofs.Going as going
 

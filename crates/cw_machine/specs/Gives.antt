@@ -8,7 +8,7 @@ use Rattle.cw_code.specs.Code.{code_view}
 use Rattle.cw_code.specs.Run.{Slots, Results, Around, Caller, Block, State, is_full, settled}
 use Rattle.cw_code.specs.Frozen.{AreBlocks}
 use Rattle.cw_code.specs.Good.{IsNotAmong, slots_in, Seat, GoodState}
-use Rattle.cw_strands.specs.Jobs.{Standing}
+use Rattle.cw_strand_laws.specs.Jobs.{Standing}
 use Rattle.cw_runnable.specs.declared.verified.Verified.{Verified}
 use Rattle.cw_jobs.specs.declared.call.Rest.{Rest}
 use Rattle.cw_jobs.specs.Calls.{placed, HasArrays, HoldsFrame}

@@ -12,7 +12,7 @@ ghost use Rattle.cw_machine.specs.Runs.{RunsAsCode};
 use crate::alone::{Ended, end_of};
 use cw_jobs::effect::Effect;
 use cw_runnable::verified::Verified;
-use cw_strands::laws::the_root_answers_what_the_code_gives;
+use cw_strand_laws::laws::the_root_answers_what_the_code_gives;
 use cw_text::Fault;
 use std::alloc::Global;
 

@@ -25,9 +25,9 @@ use Rattle.cw_reduce.specs.Greatest.{greater}
 use Rattle.cw_reduce.specs.Shown.{totals_joined}
 use Rattle.cw_reduce.specs.Shown as views
 use Rattle.cw_reduce.specs.SumsOfIntegers.{SumsHoldIntegers}
-use Rattle.cw_strands.specs.Jobs.{Standing, Effect, Ended, Joined, TrapIn, OverLimit}
-use Rattle.cw_strands.specs.Jobs as jobs
-use Rattle.cw_strands.specs.Strands.{HasStopped, resumed, stopped_after, dropped}
+use Rattle.cw_strand_laws.specs.Jobs.{Standing, Effect, Ended, Joined, TrapIn, OverLimit}
+use Rattle.cw_strand_laws.specs.Jobs as jobs
+use Rattle.cw_strand_laws.specs.Strands.{HasStopped, resumed, stopped_after, dropped}
 use Rattle.cw_jobs.specs.Totals.{kept, HoldsTotals}
 use Rattle.cw_part.specs.declared.read.Read.{Read}
 use Rattle.cw_part.specs.Parts.{Came, Completed, Trapped, Over, Memory, followed}

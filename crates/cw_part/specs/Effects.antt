@@ -12,9 +12,9 @@ use Rattle.cw_meter.specs.declared.meter.Readings.{Readings}
 use Rattle.cw_meter.specs.Whole.{AreReadings}
 use Rattle.cw_reduce.specs.Held.{held}
 use Rattle.cw_reduce.specs.Shown as views
-use Rattle.cw_strands.specs.Jobs.{Standing, Effect, Ended, Joined, TrapIn, OverLimit}
-use Rattle.cw_strands.specs.Jobs as jobs
-use Rattle.cw_strands.specs.Strands.{HasStopped, resumed, stopped_after, dropped}
+use Rattle.cw_strand_laws.specs.Jobs.{Standing, Effect, Ended, Joined, TrapIn, OverLimit}
+use Rattle.cw_strand_laws.specs.Jobs as jobs
+use Rattle.cw_strand_laws.specs.Strands.{HasStopped, resumed, stopped_after, dropped}
 use Rattle.cw_jobs.specs.declared.effect.Shown.{Shown}
 use Rattle.cw_jobs.specs.Means.{HasShown}
 use Rattle.cw_part.specs.declared.read.Read.{Read}

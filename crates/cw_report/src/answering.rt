@@ -15,7 +15,7 @@ use cw_gains::gains::Gains;
 use cw_machine::alone::Ended;
 use cw_machine::values::Values;
 use cw_runnable::verified::Verified;
-use cw_scheduled::schedules::Schedule;
+use cw_schedule::schedules::Schedule;
 use cw_text::Fault;
 use std::alloc::Global;
 

@@ -14,7 +14,7 @@ use cw_code::code::{Code, Site};
 use cw_machine::alone::Ended;
 use cw_model::syntax::CallKind;
 use cw_regions::RegionRow;
-use cw_scheduled::schedules::Schedule;
+use cw_schedule::schedules::Schedule;
 use cw_sites::table::SiteRow;
 use cw_text::Fault;
 use indexmap::IndexMap;

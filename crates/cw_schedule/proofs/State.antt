@@ -15,7 +15,7 @@ use Rattle.cw_greedy.specs.Jumping.{Block, Last, Fork, size, Going, Ready, Befor
 use Rattle.cw_greedy.specs.Jumping as j
 use Rattle.cw_greedy.specs.Rounds.{IsAfter, RoundsKeep}
 use Rattle.cw_greedy.specs.Slots.{Slots, nones, slots, ready_slots, run_slots, EachLeft, RoomFor, ShowsBoard}
-use Rattle.cw_board.specs.Boards.{Advances, stays, runs}
+use Rattle.cw_schedule.specs.Boards.{Advances, stays, runs}
 use Rattle.cw_schedule.specs.declared.plan.Begins.{Begins}
 use Rattle.cw_schedule.specs.declared.plan.Begins.TheVariants as w
 use Rattle.cw_schedule.specs.declared.plan.Strand.{Strand}

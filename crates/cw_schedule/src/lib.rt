@@ -1,5 +1,8 @@
-//! How long a greedy schedule of a run's strands takes.
+//! How long a greedy schedule of a run's strands takes: of a record of strands, and of the run of a program.
 #![tactic(auto)]
 
+mod block;
+mod board;
 mod plan;
 pub mod schedule;
+pub mod schedules;

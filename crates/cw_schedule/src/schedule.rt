@@ -10,11 +10,11 @@ ghost use Rattle.cw_greedy.specs.Slots.{nones};
 ghost use Rattle.cw_schedule.specs.declared.plan.Begins.TheVariants.{Start};
 ghost use Rattle.cw_schedule.specs.Planned.{strands_of};
 ghost use Rattle.cw_greedy.specs.Records.{IsRecordOf};
-ghost use Rattle.cw_board.specs.Boards.{least_slot};
+ghost use Rattle.cw_schedule.specs.Boards.{least_slot};
 ghost use Rattle.cw_schedule.specs.State.{flag_at, strand_at, Begun, IsWithin, Puts, Reaches, Stands, Takes};
 
 use crate::plan::{Begins, Strand, plan};
-use cw_board::board::Board;
+use crate::board::Board;
 use cw_greedy::laws::{greedy_is_bounded, lists_show_boards, rounds_keep_the_length};
 use cw_greedy::strands::Strands;
 use std::alloc::{AllocError, Global};

@@ -8,12 +8,12 @@ use Rattle.cw_model.specs.declared.trap.Trap.{Trap}
 use Rattle.cw_slices.specs.Blocks.{Lodged, IsWhole as IsUnshared}
 use Rattle.cw_code.specs.Code.{Code, code_view}
 use Rattle.cw_code.specs.Run.{State}
-use Rattle.cw_strands.specs.Jobs as jobs
-use Rattle.cw_strands.specs.Jobs.{ToJoin, has_come, standing, job_start, Memory, Short, JobMeaning}
-use Rattle.cw_strands.specs.Strands as strands
-use Rattle.cw_strands.specs.Strands.{Going, Waits, Halted}
-use Rattle.cw_strands.specs.Promises.{IsStrandOf}
-use Rattle.cw_strands.specs.Steps.{CallsKeep}
+use Rattle.cw_strand_laws.specs.Jobs as jobs
+use Rattle.cw_strand_laws.specs.Jobs.{ToJoin, has_come, standing, job_start, Memory, Short, JobMeaning}
+use Rattle.cw_strand_laws.specs.Strands as strands
+use Rattle.cw_strand_laws.specs.Strands.{Going, Waits, Halted}
+use Rattle.cw_strand_laws.specs.Promises.{IsStrandOf}
+use Rattle.cw_strand_laws.specs.Steps.{CallsKeep}
 use Rattle.cw_slices.specs.Placed.{Placed}
 use Rattle.cw_runnable.specs.declared.verified.Verified.{Verified}
 use Rattle.cw_jobs.specs.declared.call.Parts.{Parts}

@@ -10,14 +10,14 @@ use Rattle.cw_code.specs.Fits.{Fits, slots_lent}
 use Rattle.cw_code.specs.Run.{State}
 use Rattle.cw_code.specs.Good.{FitSettles}
 use Rattle.cw_code.specs.Staying.{SeatsLie}
-use Rattle.cw_metered.specs.Strands.{CallsKeepMeters, CountsEffect, TellsAll, site_at, MeansMeasured}
+use Rattle.cw_meter_laws.specs.Strands.{CallsKeepMeters, CountsEffect, TellsAll, site_at, MeansMeasured}
 use Rattle.cw_meter.specs.Meters.{Rests}
-use Rattle.cw_strands.specs.Jobs as jobs
-use Rattle.cw_strands.specs.Jobs.{ToJoin, Standing, JobMeaning}
-use Rattle.cw_strands.specs.Over.{under}
-use Rattle.cw_strands.specs.Strands.{Going, Waits, resumed}
-use Rattle.cw_strands.specs.Staying.{RestsStayInside}
-use Rattle.cw_strands.specs.Steps.{CallsKeep}
+use Rattle.cw_strand_laws.specs.Jobs as jobs
+use Rattle.cw_strand_laws.specs.Jobs.{ToJoin, Standing, JobMeaning}
+use Rattle.cw_strand_laws.specs.Over.{under}
+use Rattle.cw_strand_laws.specs.Strands.{Going, Waits, resumed}
+use Rattle.cw_strand_laws.specs.Staying.{RestsStayInside}
+use Rattle.cw_strand_laws.specs.Steps.{CallsKeep}
 use Rattle.cw_runnable.specs.declared.verified.Verified.{Verified}
 use Rattle.cw_jobs.specs.declared.call.Parts.{Parts}
 use Rattle.cw_jobs.specs.declared.call.Rest.{Rest}

@@ -5,10 +5,10 @@ use Rattle.std.proofs.Math.Logic.{∥∥₁_map}
 use Rattle.cw_model.specs.declared.trap.Trap.{Trap}
 use Rattle.cw_slices.specs.Placed.{Placed}
 use Rattle.cw_code.specs.Code.{Code, code_view}
-use Rattle.cw_strands.specs.Jobs as jobs
-use Rattle.cw_strands.specs.Jobs.{ToJoin, Standing, JobMeaning}
-use Rattle.cw_strands.specs.Strands.{Halted}
-use Rattle.cw_strands.specs.Steps.{CallsKeep}
+use Rattle.cw_strand_laws.specs.Jobs as jobs
+use Rattle.cw_strand_laws.specs.Jobs.{ToJoin, Standing, JobMeaning}
+use Rattle.cw_strand_laws.specs.Strands.{Halted}
+use Rattle.cw_strand_laws.specs.Steps.{CallsKeep}
 use Rattle.cw_runnable.specs.declared.verified.Verified.{Verified}
 use Rattle.cw_jobs.specs.declared.call.Parts.{Parts}
 use Rattle.cw_jobs.specs.declared.effect.Effect.{Effect}

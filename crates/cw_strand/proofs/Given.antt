@@ -9,13 +9,13 @@ use Rattle.cw_code.specs.Fits.{Fits, Shape, slots_lent}
 use Rattle.cw_code.specs.Run.{Results, Waiting, Around, Caller, Block, State, is_full}
 use Rattle.cw_code.specs.Good.{IsNotAmong, slots_in, ints_round, all_of, Good, GoodState, FitSettles}
 use Rattle.cw_code.specs.Staying.{SeatsLie, IsInside, outermost}
-use Rattle.cw_strands.specs.Jobs as jobs
-use Rattle.cw_strands.specs.Jobs.{ToJoin, Standing, Came, Arrives, Returns, Falls, Beyond, Lost, travel, course, IsOf, Same, Passed, Short, job_start, JobMeaning, Joined}
-use Rattle.cw_strands.specs.Over.{beneath, results_under, under}
-use Rattle.cw_strands.specs.Strands.{Waits, rest_of, rest_at, resumed}
-use Rattle.cw_strands.specs.Promises.{IsStrandOf}
-use Rattle.cw_strands.specs.Staying.{RestsStayInside}
-use Rattle.cw_strands.specs.lemmas.JobsFit.{Upon, Arrived, arrived, gives_fit}
+use Rattle.cw_strand_laws.specs.Jobs as jobs
+use Rattle.cw_strand_laws.specs.Jobs.{ToJoin, Standing, Came, Arrives, Returns, Falls, Beyond, Lost, travel, course, IsOf, Same, Passed, Short, job_start, JobMeaning, Joined}
+use Rattle.cw_strand_laws.specs.Over.{beneath, results_under, under}
+use Rattle.cw_strand_laws.specs.Strands.{Waits, rest_of, rest_at, resumed}
+use Rattle.cw_strand_laws.specs.Promises.{IsStrandOf}
+use Rattle.cw_strand_laws.specs.Staying.{RestsStayInside}
+use Rattle.cw_strand_laws.specs.lemmas.JobsFit.{Upon, Arrived, arrived, gives_fit}
 use Rattle.cw_runnable.specs.declared.verified.Verified.{Verified}
 use Rattle.cw_jobs.specs.declared.call.Parts.{Parts}
 use Rattle.cw_jobs.specs.declared.call.Rest.{Rest}

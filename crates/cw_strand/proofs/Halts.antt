@@ -4,12 +4,12 @@ use Rattle.std.specs.Prelude.{reverse, Some, slice_get}
 use Rattle.std.proofs.Math.Logic.{∥∥₁_map}
 use Rattle.cw_model.specs.declared.trap.Trap.{Trap}
 use Rattle.cw_code.specs.Code.{Code, code_view}
-use Rattle.cw_strands.specs.Jobs as jobs
-use Rattle.cw_strands.specs.Jobs.{has_come}
-use Rattle.cw_strands.specs.Over.{beneath, under}
-use Rattle.cw_strands.specs.Strands as strands
-use Rattle.cw_strands.specs.Strands.{Going, Waits, Halted, ComesBack, outs_of}
-use Rattle.cw_strands.specs.Steps.{CallsKeep}
+use Rattle.cw_strand_laws.specs.Jobs as jobs
+use Rattle.cw_strand_laws.specs.Jobs.{has_come}
+use Rattle.cw_strand_laws.specs.Over.{beneath, under}
+use Rattle.cw_strand_laws.specs.Strands as strands
+use Rattle.cw_strand_laws.specs.Strands.{Going, Waits, Halted, ComesBack, outs_of}
+use Rattle.cw_strand_laws.specs.Steps.{CallsKeep}
 use Rattle.cw_runnable.specs.declared.verified.Verified.{Verified}
 use Rattle.cw_jobs.specs.declared.call.Parts.{Parts}
 use Rattle.cw_jobs.specs.Jobs.{extent_of, code_of}

@@ -5,12 +5,12 @@ use Rattle.std.proofs.Math.Logic.{∥∥₁_map}
 use Rattle.cw_code.specs.Code.{Code, code_view}
 use Rattle.cw_code.specs.Fits.{slots_lent}
 use Rattle.cw_code.specs.Run.{Whole, passed_by}
-use Rattle.cw_metered.specs.Strands.{TellsAll}
-use Rattle.cw_strands.specs.Jobs as jobs
-use Rattle.cw_strands.specs.Jobs.{has_come}
-use Rattle.cw_strands.specs.Over.{beneath, under}
-use Rattle.cw_strands.specs.Strands.{Going, HandsOut, rest_of, spawn_job}
-use Rattle.cw_strands.specs.Steps.{CallsKeep}
+use Rattle.cw_meter_laws.specs.Strands.{TellsAll}
+use Rattle.cw_strand_laws.specs.Jobs as jobs
+use Rattle.cw_strand_laws.specs.Jobs.{has_come}
+use Rattle.cw_strand_laws.specs.Over.{beneath, under}
+use Rattle.cw_strand_laws.specs.Strands.{Going, HandsOut, rest_of, spawn_job}
+use Rattle.cw_strand_laws.specs.Steps.{CallsKeep}
 use Rattle.cw_runnable.specs.declared.verified.Verified.{Verified}
 use Rattle.cw_jobs.specs.declared.call.Parts.{Parts}
 use Rattle.cw_jobs.specs.Jobs.{origin_of}

@@ -11,15 +11,15 @@ use Rattle.cw_code.specs.Fits.{Fits}
 use Rattle.cw_code.specs.Staying.{SeatsLie, IsInside, outermost}
 use Rattle.cw_meter.specs.Meters.{Meters}
 use Rattle.cw_meter.specs.Origins.{Main, Rest}
-use Rattle.cw_metered.specs.Opens.{whole}
-use Rattle.cw_metered.specs.Strands.{CallsKeepMeters, TellsAll}
-use Rattle.cw_strands.specs.Jobs as jobs
-use Rattle.cw_strands.specs.Jobs.{WholeCall, ToJoin, has_come, standing, job_start, JobMeaning}
-use Rattle.cw_strands.specs.Over.{under}
-use Rattle.cw_strands.specs.Strands.{Going}
-use Rattle.cw_strands.specs.Promises.{IsStrandOf}
-use Rattle.cw_strands.specs.Staying.{RestsStayInside}
-use Rattle.cw_strands.specs.Steps.{CallsKeep}
+use Rattle.cw_meter_laws.specs.Opens.{whole}
+use Rattle.cw_meter_laws.specs.Strands.{CallsKeepMeters, TellsAll}
+use Rattle.cw_strand_laws.specs.Jobs as jobs
+use Rattle.cw_strand_laws.specs.Jobs.{WholeCall, ToJoin, has_come, standing, job_start, JobMeaning}
+use Rattle.cw_strand_laws.specs.Over.{under}
+use Rattle.cw_strand_laws.specs.Strands.{Going}
+use Rattle.cw_strand_laws.specs.Promises.{IsStrandOf}
+use Rattle.cw_strand_laws.specs.Staying.{RestsStayInside}
+use Rattle.cw_strand_laws.specs.Steps.{CallsKeep}
 use Rattle.cw_runnable.specs.declared.verified.Verified.{Verified}
 use Rattle.cw_jobs.specs.declared.call.Extent.{Extent}
 use Rattle.cw_jobs.specs.declared.call.Extent.TheVariants as extent

@@ -5,12 +5,12 @@ use Rattle.std.specs.Coded.{le_prop}
 use Rattle.std.proofs.Math.Logic.{∥∥₁_elim}
 use Rattle.cw_model.specs.declared.limits.TheConstants.{MOST_BURDEN}
 use Rattle.cw_code.specs.Code.{Code, code_view}
-use Rattle.cw_strands.specs.Jobs as jobs
-use Rattle.cw_strands.specs.Jobs.{WholeCall, ToJoin, job_start}
-use Rattle.cw_strands.specs.Over.{under}
-use Rattle.cw_strands.specs.Strands.{Going}
-use Rattle.cw_strands.specs.Steps.{CallsKeep}
-use Rattle.cw_metered.specs.Strands.{CallsKeepMeters, StartsFrom, TellsAll}
+use Rattle.cw_strand_laws.specs.Jobs as jobs
+use Rattle.cw_strand_laws.specs.Jobs.{WholeCall, ToJoin, job_start}
+use Rattle.cw_strand_laws.specs.Over.{under}
+use Rattle.cw_strand_laws.specs.Strands.{Going}
+use Rattle.cw_strand_laws.specs.Steps.{CallsKeep}
+use Rattle.cw_meter_laws.specs.Strands.{CallsKeepMeters, StartsFrom, TellsAll}
 use Rattle.cw_runnable.specs.declared.verified.Verified.{Verified}
 use Rattle.cw_jobs.specs.declared.call.Extent.{Extent}
 use Rattle.cw_jobs.specs.declared.call.Extent.TheVariants as extent

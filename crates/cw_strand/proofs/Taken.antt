@@ -16,9 +16,9 @@ use Rattle.cw_code.specs.Code.{Code, code_view}
 use Rattle.cw_code.specs.Run.{Around, State}
 use Rattle.cw_code.specs.Good.{GoodState}
 use Rattle.cw_code.specs.Fits.{Fits}
-use Rattle.cw_strands.specs.Jobs.{Extent, WholeCall, ToJoin, Standing}
-use Rattle.cw_strands.specs.Over.{trace_under, under}
-use Rattle.cw_strands.specs.Strands.{resumed}
+use Rattle.cw_strand_laws.specs.Jobs.{Extent, WholeCall, ToJoin, Standing}
+use Rattle.cw_strand_laws.specs.Over.{trace_under, under}
+use Rattle.cw_strand_laws.specs.Strands.{resumed}
 use Rattle.cw_runnable.specs.declared.verified.Verified.{Verified}
 use Rattle.cw_jobs.specs.Totals.{greater, joined_total, kept, wrapped, AllFit, HoldsTotals}
 use Rattle.cw_machine.specs.declared.machine.Machine.{Machine}

@@ -4,13 +4,13 @@ use Rattle.std.specs.Prelude.{slice_get, Some}
 use Rattle.cw_model.specs.declared.limits.TheConstants.{MOST_LIMIT, MOST_BURDEN}
 use Rattle.cw_code.specs.Code.{code_view}
 use Rattle.cw_code.specs.Run.{State}
-use Rattle.cw_strands.specs.Jobs as jobs
-use Rattle.cw_strands.specs.Jobs.{ToJoin}
-use Rattle.cw_strands.specs.Over.{beneath, under}
-use Rattle.cw_strands.specs.Strands as strands
-use Rattle.cw_strands.specs.Strands.{Going, Waits, Halted, rest_of}
-use Rattle.cw_strands.specs.Promises.{IsStrandOf}
-use Rattle.cw_metered.specs.Strands.{IsFrom, site_at}
+use Rattle.cw_strand_laws.specs.Jobs as jobs
+use Rattle.cw_strand_laws.specs.Jobs.{ToJoin}
+use Rattle.cw_strand_laws.specs.Over.{beneath, under}
+use Rattle.cw_strand_laws.specs.Strands as strands
+use Rattle.cw_strand_laws.specs.Strands.{Going, Waits, Halted, rest_of}
+use Rattle.cw_strand_laws.specs.Promises.{IsStrandOf}
+use Rattle.cw_meter_laws.specs.Strands.{IsFrom, site_at}
 use Rattle.cw_code.specs.Fits.{slots_lent}
 use Rattle.cw_machine.specs.Calls.{loans_of}
 use Rattle.cw_runnable.specs.declared.verified.Verified.{Verified}

@@ -9,7 +9,7 @@ ghost use Rattle.cw_strand.specs.Moves.{AdvancesBy, CountsBy, DoesOne, EndsAt, I
 use crate::strand::{Advance, End, Event, Mode, Spawns, Step, Strand};
 use cw_machine::laws::machines_that_stop_remain;
 use cw_machine::run::Stop;
-use cw_strands::laws::calls_on_a_strand_keep_its_job;
+use cw_strand_laws::laws::calls_on_a_strand_keep_its_job;
 
 impl Strand {
     // What a strand that does not go on is at: a join, or its end.

@@ -17,10 +17,10 @@ use cw_machine::laws::machines_that_stop_remain;
 use cw_machine::machine::Machine;
 use cw_machine::run::Run;
 use cw_meter::Meter;
-use cw_metered::laws::calls_keep_what_meters_tell;
+use cw_meter_laws::laws::calls_keep_what_meters_tell;
 use cw_model::burden::{Burden, Edges};
 use cw_slices::Slice;
-use cw_strands::laws::{calls_on_a_strand_keep_its_job, rests_stay_in_their_functions};
+use cw_strand_laws::laws::{calls_on_a_strand_keep_its_job, rests_stay_in_their_functions};
 use std::mem;
 
 const NO_BURDEN: Burden = Burden {

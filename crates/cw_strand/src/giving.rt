@@ -18,12 +18,12 @@ use cw_jobs::totals::joined;
 use cw_machine::laws::machines_that_stop_remain;
 use cw_machine::machine::Machine;
 use cw_machine::run::Run;
-use cw_metered::laws::calls_keep_what_meters_tell;
+use cw_meter_laws::laws::calls_keep_what_meters_tell;
 use cw_model::total::Total;
 use cw_model::trap::Trap;
 use cw_runnable::verified::Verified;
 use cw_slices::Slice;
-use cw_strands::laws::{calls_on_a_strand_keep_its_job, rests_stay_in_their_functions};
+use cw_strand_laws::laws::{calls_on_a_strand_keep_its_job, rests_stay_in_their_functions};
 use std::alloc::{AllocError, Global};
 
 // A total, with another one joined to it, where there is one.

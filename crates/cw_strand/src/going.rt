@@ -13,7 +13,7 @@ use crate::strand::{End, Event, Mode, Spawns, Step, Strand};
 use cw_jobs::effect::Effect;
 use cw_machine::laws::machines_that_stop_remain;
 use cw_machine::run::Stop;
-use cw_strands::laws::calls_on_a_strand_keep_its_job;
+use cw_strand_laws::laws::calls_on_a_strand_keep_its_job;
 
 // Whether a job goes on behind so many instructions.
 #[inline(always)]

@@ -17,7 +17,7 @@ use cw_machine::hands::Lender;
 use cw_machine::laws::machines_that_stop_remain;
 use cw_machine::run::Spawn;
 use cw_runnable::verified::Verified;
-use cw_strands::laws::calls_on_a_strand_keep_its_job;
+use cw_strand_laws::laws::calls_on_a_strand_keep_its_job;
 use std::alloc::{AllocError, Global};
 use std::snapshot::Snapshot;
 

@@ -2,7 +2,7 @@
 
 ghost use Rattle.std.specs.Prelude.{◌≡◌, IfOk, IfErr, MatchResult};
 ghost use Rattle.cw_jobs.specs.Jobs.{begins_at, IsSound};
-ghost use Rattle.cw_metered.specs.Strands.{StartsFrom};
+ghost use Rattle.cw_meter_laws.specs.Strands.{StartsFrom};
 ghost use Rattle.cw_strand.specs.Moves.{Begins, BeginsRun};
 
 use crate::strand::{Mode, Strand};
@@ -11,9 +11,9 @@ use cw_jobs::job::Job;
 use cw_machine::machine::Machine;
 use cw_machine::run::Run;
 use cw_meter::Meter;
-use cw_metered::laws::calls_keep_what_meters_tell;
+use cw_meter_laws::laws::calls_keep_what_meters_tell;
 use cw_model::burden::Burden;
-use cw_strands::laws::calls_on_a_strand_keep_its_job;
+use cw_strand_laws::laws::calls_on_a_strand_keep_its_job;
 use std::alloc::{AllocError, Global};
 use std::snapshot::Snapshot;
 

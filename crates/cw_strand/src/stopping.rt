@@ -15,7 +15,7 @@ use cw_machine::laws::machines_that_stop_remain;
 use cw_machine::machine::Machine;
 use cw_runnable::verified::Verified;
 use cw_slices::Slice;
-use cw_strands::laws::calls_on_a_strand_keep_its_job;
+use cw_strand_laws::laws::calls_on_a_strand_keep_its_job;
 
 // Where a job that was out comes back to.
 pub(crate) fn home_of(lent: Option<Lent>) -> Home

@@ -10,7 +10,7 @@ use crate::lending::loans_named;
 use crate::strand::{Mode, Strand};
 use cw_jobs::call::Parts;
 use cw_jobs::job::Job;
-use cw_strands::laws::calls_on_a_strand_keep_its_job;
+use cw_strand_laws::laws::calls_on_a_strand_keep_its_job;
 
 // A box that there is no room to keep is let go.
 #[cold]

@@ -3,7 +3,7 @@ use Rattle.std.proofs.Common.{◌≡◌, ◌≢◌, ◌∙◌, ℕ, zero, suc, �
 use Rattle.std.proofs.lemmas.Option.{slice_get_read}
 use Rattle.std.specs.Prelude.{map, slice_get, slice_set, position}
 use Rattle.std.specs.List.{position_or_len}
-use Rattle.cw_sched.specs.Board.{newest, oldest, of_worker}
+use Rattle.cw_world.specs.core.Board.{newest, oldest, of_worker}
 use Rattle.cw_world.proofs.Lists.{set_same}
 
 pub map_set : {A B : Type 0} (f : A → B) (xs : List A) (k : ℕ) (y : A) → map f (slice_set xs k y) ≡ slice_set (map f xs) k (f y)

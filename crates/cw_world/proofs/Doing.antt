@@ -9,7 +9,7 @@ use Rattle.cw_jobs.specs.declared.job.Job.{Job}
 use Rattle.cw_jobs.specs.Means.{IsMeaningOf}
 use Rattle.cw_machine.specs.Answering.{IsOfWhole}
 use Rattle.cw_strand.specs.Holds.{its_job, outs, IsRunning, IsAtSync}
-use Rattle.cw_sched.specs.Board.{newest, oldest, but_oldest, of_worker}
+use Rattle.cw_world.specs.core.Board.{newest, oldest, but_oldest, of_worker}
 use Rattle.cw_world.specs.declared.board.Offer.{Offer}
 use Rattle.cw_world.specs.declared.post.Out.{Out}
 use Rattle.cw_world.specs.declared.post.Out.TheVariants as out

@@ -10,7 +10,7 @@ use Rattle.cw_runnable.specs.declared.verified.Verified.{Verified}
 use Rattle.cw_jobs.specs.Jobs.{IsRoot}
 use Rattle.cw_machine.specs.declared.alone.Ended as alone
 use Rattle.cw_machine.specs.Runs.{RunsAsCode}
-use Rattle.cw_sched.specs.Board.{oldest, of_worker}
+use Rattle.cw_world.specs.core.Board.{oldest, of_worker}
 use Rattle.cw_world.specs.declared.world.Begun.{Begun}
 use Rattle.cw_world.specs.declared.world.World.{World}
 use Rattle.cw_world.specs.Scenes.{Stage, Goes, Made, Answered, scene, staged, stage_of}

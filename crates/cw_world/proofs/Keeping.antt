@@ -9,7 +9,7 @@ use Rattle.cw_runnable.specs.declared.verified.Verified.{Verified}
 use Rattle.cw_machine.specs.declared.alone.Ended as alone
 use Rattle.cw_strand.specs.Holds.{has_failed, IsGoing, IsWaiting, HasFailed}
 use Rattle.cw_strand.specs.Losing.{MayLack, MayLose, TakesIn, TellsFailure}
-use Rattle.cw_sched.specs.Board.{pushed, newest, but_newest, oldest, of_worker}
+use Rattle.cw_world.specs.core.Board.{pushed, newest, but_newest, oldest, of_worker}
 use Rattle.cw_world.specs.declared.board.Cell.{Cell}
 use Rattle.cw_world.specs.declared.event.Event.{Event}
 use Rattle.cw_world.specs.declared.event.Event.TheVariants as event

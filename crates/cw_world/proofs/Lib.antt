@@ -1,3 +1,4 @@
+pub mod core
 pub mod Lists
 pub mod Boards
 pub mod Strands

@@ -5,7 +5,7 @@ use Rattle.std.proofs.lemmas.List.{reverse-append, length-reverse}
 use Rattle.std.specs.Prelude.{map, slice_get, slice_set}
 use Rattle.std.specs.Vec.{vec_len}
 use Rattle.cw_world.specs.Boards.{Each}
-use Rattle.cw_sched.specs.Board.{pushed, newest, but_newest, oldest, but_oldest, of_worker}
+use Rattle.cw_world.specs.core.Board.{pushed, newest, but_newest, oldest, but_oldest, of_worker}
 
 pub newest_pushed : {A : Type 0} (xs : List A) (x : A) → newest (xs ++ x ∷ []) ≡ Some x
 newest_pushed [] x = refl

@@ -3,7 +3,7 @@ use Rattle.std.proofs.Common.{◌≡◌, ◌⊎◌, ◌∙◌, ℕ, zero, suc, �
 use Rattle.std.specs.Prelude.{slice_get, slice_set, nat_eq, take, drop}
 use Rattle.std.specs.List.{remove}
 use Rattle.cw_runnable.specs.declared.verified.Verified.{Verified}
-use Rattle.cw_sched.specs.Board.{newest, but_newest, oldest, but_oldest, of_worker}
+use Rattle.cw_world.specs.core.Board.{newest, but_newest, oldest, but_oldest, of_worker}
 use Rattle.cw_world.specs.declared.board.Offer.{Offer}
 use Rattle.cw_world.specs.declared.board.Cell.{Cell}
 use Rattle.cw_world.specs.declared.event.Event.{Event}
@@ -11,7 +11,7 @@ use Rattle.cw_world.specs.declared.event.Event.TheVariants as event
 use Rattle.cw_world.specs.declared.post.Out.{Out}
 use Rattle.cw_world.specs.declared.post.Out.TheVariants as out
 use Rattle.cw_jobs.specs.declared.effect.Effect.{Effect}
-use Rattle.cw_sched.specs.Laws.{one_if}
+use Rattle.cw_world.specs.core.Laws.{one_if}
 use Rattle.cw_world.specs.Boards.{Boarded, back_number, newest_number}
 use Rattle.cw_world.specs.Scenes.{Posted, Stage, Goes, Made, Answered, Scene, top}
 use Rattle.cw_world.specs.Places.{once, sum_of, sum_over, out_at, out_of, held_at, held_by, run_by, offered_at, settled_at, OnePlace, IsRootStage, RootIsFirst}

@@ -1,7 +1,7 @@
 -- Room in a list changes nothing that matters.
 use Rattle.std.proofs.Common.{◌≡◌, ℕ, true, ◌&&◌, List, ap, Vec, Global}
 use Rattle.std.specs.Prelude.{is_some, not, ◌||◌, slice_get}
-use Rattle.cw_sched.specs.Board.{oldest, of_worker}
+use Rattle.cw_world.specs.core.Board.{oldest, of_worker}
 use Rattle.cw_world.specs.declared.event.Event.TheVariants as event
 use Rattle.cw_world.specs.Table.{is_possible, is_at_join}
 use Rattle.cw_world.specs.declared.world.Begun.{Begun}

@@ -5,7 +5,7 @@ use Rattle.std.specs.List.{remove}
 use Rattle.cw_runnable.specs.declared.verified.Verified.{Verified}
 use Rattle.cw_jobs.specs.declared.effect.Effect.{Effect}
 use Rattle.cw_jobs.specs.declared.job.Job.{Job}
-use Rattle.cw_sched.specs.Board.{pushed, but_newest, of_worker}
+use Rattle.cw_world.specs.core.Board.{pushed, but_newest, of_worker}
 use Rattle.cw_world.specs.declared.board.Offer.{Offer}
 use Rattle.cw_world.specs.declared.board.Cell.{Cell}
 use Rattle.cw_world.specs.declared.event.Event.{Event}

@@ -6,7 +6,7 @@ use Rattle.cw_text.specs.declared.fault.Fault.{Fault}
 use Rattle.cw_runnable.specs.declared.verified.Verified.{Verified}
 use Rattle.cw_jobs.specs.declared.effect.Effect.{Effect}
 use Rattle.cw_machine.specs.declared.alone.Ended as alone
-use Rattle.cw_sched.specs.Board.{but_newest, oldest, of_worker}
+use Rattle.cw_world.specs.core.Board.{but_newest, oldest, of_worker}
 use Rattle.cw_world.specs.declared.event.Event.{Event}
 use Rattle.cw_world.specs.declared.event.Event.TheVariants as event
 use Rattle.cw_world.specs.declared.event.Refused.{Refused}

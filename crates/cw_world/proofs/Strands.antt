@@ -7,7 +7,7 @@ use Rattle.cw_jobs.specs.declared.job.Job.{Job}
 use Rattle.cw_jobs.specs.Means.{IsMeaningOf}
 use Rattle.cw_machine.specs.Answering.{IsOfWhole}
 use Rattle.cw_strand.specs.Holds.{its_job, outs}
-use Rattle.cw_sched.specs.Board.{newest}
+use Rattle.cw_world.specs.core.Board.{newest}
 use Rattle.cw_world.specs.declared.post.Out.{Out}
 use Rattle.cw_world.specs.Boards.{Each}
 use Rattle.cw_world.specs.Scenes.{Posted, Stage, Goes, Made, Answered}

@@ -3,7 +3,7 @@ use Rattle.std.proofs.Common.{◌≡◌, ◌≢◌, ◌∙◌, ℕ, zero, suc, �
 use Rattle.std.proofs.lemmas.Option.{get_or_from_slice_get}
 use Rattle.std.specs.Prelude.{map, slice_get, slice_set, Result, Ok, Err, OnOk}
 use Rattle.std.specs.Option.{option_copied}
-use Rattle.cw_sched.specs.Board.{pushed, newest, but_newest, of_worker}
+use Rattle.cw_world.specs.core.Board.{pushed, newest, but_newest, of_worker}
 use Rattle.cw_text.specs.declared.fault.Fault.{Fault}
 use Rattle.cw_jobs.specs.declared.effect.Effect.{Effect}
 use Rattle.cw_machine.specs.declared.alone.Ended as alone

@@ -7,7 +7,7 @@ use Rattle.std.specs.VecDeque.{deque_len, deque_capacity}
 use Rattle.std.specs.List.{remove}
 use Rattle.cw_jobs.specs.declared.effect.Effect.{Effect}
 use Rattle.cw_jobs.specs.declared.job.Job.{Job}
-use Rattle.cw_sched.specs.Board.{pushed, newest, laid, without_newest, without_oldest, of_worker}
+use Rattle.cw_world.specs.core.Board.{pushed, newest, laid, without_newest, without_oldest, of_worker}
 use Rattle.cw_world.specs.declared.board.Board.{Board}
 use Rattle.cw_world.specs.declared.board.Offer.{Offer}
 use Rattle.cw_world.specs.declared.board.Cell.{Cell}

@@ -15,7 +15,7 @@ use Rattle.cw_machine.specs.Answering.{IsAnswerOf}
 use Rattle.cw_strand.specs.Holds.{its_job, its_end, IsWaiting, HasFailed}
 use Rattle.cw_strand.specs.Losing.{cost_in, MayLack, MayLose, TakesIn}
 use Rattle.cw_strand.specs.Moves.{CountsIn}
-use Rattle.cw_sched.specs.Board.{of_worker, pushed, newest, laid, without_newest, oldest}
+use Rattle.cw_world.specs.core.Board.{of_worker, pushed, newest, laid, without_newest, oldest}
 use Rattle.cw_world.specs.declared.board.Offer.{Offer}
 use Rattle.cw_world.specs.declared.event.Refused.{Refused}
 use Rattle.cw_world.specs.declared.event.Event.{Event}

@@ -1,3 +1,4 @@
+pub mod core
 pub mod Boards
 pub mod Scenes
 pub mod Table
@@ -9,3 +10,4 @@ pub mod Events
 pub mod Wants
 pub mod Copied
 pub mod Worlds
+pub mod lemmas

@@ -1,7 +1,7 @@
 -- Where each job is.
 use Rattle.std.specs.Prelude.{◌≡◌, ℕ, ◌+◌, ◌≤◌, nat_eq, List, [], ◌∷◌, length, Option, Some, None}
-use Rattle.cw_sched.specs.Board.{of_worker, oldest}
-use Rattle.cw_sched.specs.Laws.{one_if}
+use Rattle.cw_world.specs.core.Board.{of_worker, oldest}
+use Rattle.cw_world.specs.core.Laws.{one_if}
 use Rattle.cw_world.specs.declared.board.Offer.{Offer}
 use Rattle.cw_world.specs.declared.board.Cell.{Cell}
 use Rattle.cw_world.specs.declared.post.Out.{Out}

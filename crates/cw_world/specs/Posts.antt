@@ -13,7 +13,7 @@ use Rattle.cw_strand.specs.declared.strand.Strand.{Strand}
 use Rattle.cw_strand.specs.Losing.{cost_in, TakesIn}
 use Rattle.cw_strand.specs.Moves.{CountsIn, IsBefore, IsUnended}
 use Rattle.cw_strand.specs.Holds.{its_job, its_end, outs, IsRunning, IsGoing, IsWaiting, IsAtSync, HasStopped}
-use Rattle.cw_sched.specs.Board.{pushed}
+use Rattle.cw_world.specs.core.Board.{pushed}
 use Rattle.cw_world.specs.declared.post.Out.{Out}
 use Rattle.cw_world.specs.declared.post.Out.TheVariants as out
 use Rattle.cw_world.specs.declared.post.Post.{Post}

@@ -8,7 +8,7 @@ use Rattle.cw_jobs.specs.declared.effect.Effect.{Effect}
 use Rattle.cw_jobs.specs.declared.job.Job.{Job}
 use Rattle.cw_machine.specs.declared.alone.Ended as alone
 use Rattle.cw_strand.specs.declared.strand.Strand.{Strand}
-use Rattle.cw_sched.specs.Board.{of_worker, newest}
+use Rattle.cw_world.specs.core.Board.{of_worker, newest}
 use Rattle.cw_world.specs.Boards.{Boarded, boarded}
 use Rattle.cw_world.specs.declared.post.Out.{Out}
 use Rattle.cw_world.specs.declared.post.Post.{Post}

@@ -1,7 +1,7 @@
 -- Which event is possible in a world.
 use Rattle.std.specs.Prelude.{ℕ, Bool, true, false, nat_eq, Option, Some, None, is_some, slice_get}
-use Rattle.cw_sched.specs.Board.{newest, oldest, of_worker}
-use Rattle.cw_sched.specs.Table as table
+use Rattle.cw_world.specs.core.Board.{newest, oldest, of_worker}
+use Rattle.cw_world.specs.core.Table as table
 use Rattle.cw_world.specs.declared.event.Event.{Event}
 use Rattle.cw_world.specs.declared.event.Event.TheVariants as event
 use Rattle.cw_world.specs.declared.post.Out.{Out}

@@ -1,7 +1,7 @@
 -- Where an event may want memory for the lists of its world.
 use Rattle.std.specs.Prelude.{◌≡◌, ◌⊎◌, ℕ, Some, slice_get}
 use Rattle.std.specs.Global.{Vec}
-use Rattle.cw_sched.specs.Board.{newest}
+use Rattle.cw_world.specs.core.Board.{newest}
 use Rattle.cw_world.specs.declared.event.Event.{Event}
 use Rattle.cw_world.specs.declared.event.Event.TheVariants as event
 use Rattle.cw_world.specs.declared.post.Post.{Post}

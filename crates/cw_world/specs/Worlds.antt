@@ -11,7 +11,7 @@ use Rattle.cw_jobs.specs.Jobs.{is_request}
 use Rattle.cw_machine.specs.declared.alone.Ended as alone
 use Rattle.cw_machine.specs.Runs.{RunsAsCode}
 use Rattle.cw_strand.specs.Holds.{IsGoing}
-use Rattle.cw_sched.specs.Board.{of_worker, oldest}
+use Rattle.cw_world.specs.core.Board.{of_worker, oldest}
 use Rattle.cw_world.specs.declared.event.Event.{Event}
 use Rattle.cw_world.specs.declared.event.Refused.{Refused}
 use Rattle.cw_world.specs.declared.event.Refused.TheVariants as refused

@@ -2,7 +2,7 @@
 
 ghost use Rattle.std.specs.Prelude.{◌≡◌, ◌≢◌, ◌<◌, None, Some, length, is_some, IfOk, IfErr, OnOk, OnErr};
 ghost use Rattle.std.specs.Vec.{vec_len, vec_capacity};
-ghost use Rattle.cw_sched.specs.Board.{of_worker, oldest};
+ghost use Rattle.cw_world.specs.core.Board.{of_worker, oldest};
 ghost use Rattle.cw_world.specs.Boards.{boarded, newest_number, cell_of, retaken, stolen, collected, opened, returned};
 ghost use Rattle.cw_world.specs.Boards.{HasOffered, HasRoomAt, HasSettled, IsCellAt, IsDequeFull, IsFull, IsNewest};
 

@@ -4,6 +4,7 @@
 pub mod board;
 pub mod copy;
 pub mod event;
+pub mod laws;
 pub mod play;
 pub mod post;
 pub mod world;

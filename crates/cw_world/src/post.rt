@@ -6,7 +6,7 @@ ghost use Rattle.cw_strand.specs.Holds.{outs, IsAtSync, IsGoing, HasFailed, IsRu
 ghost use Rattle.cw_strand.specs.Losing.{LeavesEnd, MayLack, MayLose};
 ghost use Rattle.cw_strand.specs.Giving.{IsGiven};
 ghost use Rattle.cw_strand.specs.Moves.{IsUnended};
-ghost use Rattle.cw_sched.specs.Board.{pushed};
+ghost use Rattle.cw_world.specs.core.Board.{pushed};
 ghost use Rattle.cw_world.specs.Scenes.{jobs_of, posted};
 ghost use Rattle.cw_world.specs.Boards.{IsFull};
 ghost use Rattle.cw_world.specs.Lacking.{LacksAfter};

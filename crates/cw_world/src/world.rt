@@ -4,7 +4,7 @@ ghost use Rattle.std.specs.Prelude.{◌≡◌, ◌≢◌, ◌<◌, ◌↔◌, fa
 ghost use Rattle.std.specs.Arc.{arc_value};
 ghost use Rattle.std.specs.Option.{option_copied};
 ghost use Rattle.cw_machine.specs.Answering.{IsOfWhole};
-ghost use Rattle.cw_sched.specs.Board.{newest, oldest, of_worker};
+ghost use Rattle.cw_world.specs.core.Board.{newest, oldest, of_worker};
 ghost use Rattle.cw_world.specs.declared.event.Event.TheVariants as event;
 ghost use Rattle.cw_world.specs.declared.event.Refused.TheVariants as refused;
 ghost use Rattle.cw_world.specs.Scenes.{jobs_of, top, posted, scene, stacks, stage_of, staged, out_of, Goes, Made};

@@ -7,10 +7,10 @@ use Rattle.std.proofs.lemmas.List.{append-nil}
 use Rattle.cw_model.specs.Outcome.{Trace, quiet, joined}
 use Rattle.cw_code.specs.Run.{Slots, Results, Around, Caller, Block, State, is_full}
 use Rattle.cw_code.specs.Good.{IsNotAmong, slots_in, ints_round, all_of}
-use Rattle.cw_strands.specs.Jobs.{Standing}
-use Rattle.cw_strands.specs.Over.{trace_under, under}
-use Rattle.cw_strands.specs.Strands.{resumed}
-use Rattle.cw_strands.specs.lemmas.Under.{same_trace}
+use Rattle.cw_strand_laws.specs.Jobs.{Standing}
+use Rattle.cw_strand_laws.specs.Over.{trace_under, under}
+use Rattle.cw_strand_laws.specs.Strands.{resumed}
+use Rattle.cw_strand_laws.specs.lemmas.Under.{same_trace}
 use Rattle.cw_machine.specs.Shows.{cell, Comes}
 use Rattle.cw_machine.specs.Gives.{Waits, went_on, ComesBut, RoundComesBut}
 use Rattle.cw_machine.specs.Hands.{ComesRound}

@@ -1,6 +1,6 @@
 use Rattle.std.proofs.Common.{◌≡◌, ◌∙◌, ◌-◌, ap, length, rules}
 use Rattle.std.specs.Prelude.{slice_get}
-use Rattle.cw_sched.specs.Board.{newest}
+use Rattle.cw_world.specs.core.Board.{newest}
 use Rattle.cw_world.specs.Scenes.{staged}
 use Rattle.cw_world.specs.Table as table
 use Rattle.cw_world.proofs.Tops.{out_last}

@@ -1,6 +1,6 @@
 use Rattle.std.proofs.Common.{◌∙◌, Some, refl, sym, ap, length, arith}
 use Rattle.std.proofs.lemmas.Option.{slice_get_read}
-use Rattle.cw_sched.specs.Board.{newest, of_worker}
+use Rattle.cw_world.specs.core.Board.{newest, of_worker}
 use Rattle.cw_world.specs.Scenes.{stacks, stage_of}
 use Rattle.cw_world.proofs.Lists.{newest_pushed}
 use Rattle.cw_world.proofs.Boards.{get_set}

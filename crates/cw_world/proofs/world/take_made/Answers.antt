@@ -1,5 +1,5 @@
 use Rattle.std.proofs.Common.{◌∙◌, Some, sym, ap}
-use Rattle.cw_sched.specs.Board.{newest, of_worker}
+use Rattle.cw_world.specs.core.Board.{newest, of_worker}
 use Rattle.cw_world.specs.Scenes.{stacks, stage_of}
 use Rattle.cw_world.proofs.Tops.{made_some, made_not, top_popped, left_popped, none_popped, goes_never, told_never, there}
 use Rattle.cw_world.proofs.world.take_made.Goals as goal

@@ -1,5 +1,5 @@
 use Rattle.std.proofs.Common.{◌≡◌, ◌∙◌, sym, ap, length, arith}
-use Rattle.cw_sched.specs.Board.{newest}
+use Rattle.cw_world.specs.core.Board.{newest}
 use Rattle.cw_world.proofs.Boards.{worker_read}
 use Rattle.std.proofs.Common.{◌<◌, ◌≤◌, get_or}
 use Rattle.cw_world.specs.Boards.{back_number}

@@ -1,6 +1,6 @@
 use Rattle.std.proofs.Common.{List, refl, ap, length}
 use Rattle.std.proofs.lemmas.Option.{slice_get_read}
-use Rattle.cw_sched.specs.Board.{pushed}
+use Rattle.cw_world.specs.core.Board.{pushed}
 use Rattle.cw_world.specs.declared.board.Offer.{Offer}
 use Rattle.cw_world.proofs.Boards.{worker_set, worker_kept}
 use Rattle.cw_world.proofs.board.Board.offer.Goals as goal

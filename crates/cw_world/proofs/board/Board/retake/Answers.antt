@@ -1,6 +1,6 @@
 use Rattle.std.proofs.Common.{◌≡◌, ◌≢◌, ◌∙◌, List, Some, None, sym, ap}
 use Rattle.std.specs.Prelude.{map}
-use Rattle.cw_sched.specs.Board.{newest, but_newest, of_worker}
+use Rattle.cw_world.specs.core.Board.{newest, but_newest, of_worker}
 use Rattle.cw_world.specs.declared.board.Offer.{Offer}
 use Rattle.cw_world.proofs.Lists.{newest_pushed, but_newest_pushed}
 use Rattle.cw_world.proofs.Boards.{worker_read, worker_set, newest_there}

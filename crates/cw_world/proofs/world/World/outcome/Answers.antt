@@ -1,6 +1,6 @@
 use Rattle.std.proofs.Common.{◌≡◌, ◌∙◌, true, false, Some, None, refl, sym, ap, subst}
 use Rattle.cw_code.specs.Code.{code_view}
-use Rattle.cw_sched.specs.Board.{oldest, of_worker}
+use Rattle.cw_world.specs.core.Board.{oldest, of_worker}
 use Rattle.cw_world.specs.Scenes.{stacks}
 use Rattle.cw_world.specs.Worlds.{answer_in, is_answered}
 use Rattle.cw_world.specs.Copied.{IsOptionCopy}

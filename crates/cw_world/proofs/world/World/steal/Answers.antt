@@ -1,6 +1,6 @@
 use Rattle.std.proofs.Common.{sym, subst, length}
 use Rattle.std.specs.Arc.{arc_value}
-use Rattle.cw_sched.specs.Board.{oldest, of_worker}
+use Rattle.cw_world.specs.core.Board.{oldest, of_worker}
 use Rattle.cw_world.specs.Scenes.{Scene, scene, stages}
 use Rattle.cw_world.proofs.Doing.{is_there, there_in, oldest_some}
 use Rattle.std.proofs.Common.{◌<◌}

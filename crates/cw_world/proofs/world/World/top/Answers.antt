@@ -1,6 +1,6 @@
 use Rattle.std.proofs.Common.{◌≡◌, ◌∙◌, ◌<◌, ◌-◌, sym, ap, length, get_or, arith}
 use Rattle.std.specs.Prelude.{slice_get}
-use Rattle.cw_sched.specs.Board.{newest}
+use Rattle.cw_world.specs.core.Board.{newest}
 use Rattle.cw_world.specs.Scenes.{stages}
 use Rattle.cw_world.proofs.Boards.{worker_read, worker_past}
 use Rattle.cw_world.proofs.Tops.{staged_last}

@@ -1,3 +1,0 @@
-pub mod Jumps
-pub mod Slots
-pub mod Halves

@@ -1,8 +1,0 @@
-use Rattle.std.proofs.Common.{rules, ◌∙◌}
-use Rattle.cw_board.specs.Boards.{runs}
-use Rattle.cw_board.proofs.Jumps.{each_left}
-use Rattle.cw_board.proofs.board.Board.advance.Goals as goal
-
-pub returns-clause-advances : goal.returns-clause-advances
-returns-clause-advances c =
-    runs (each_left c.args.self.now (λ e. let f = c.least.ensures ∙ e in search rules)) c.jump-steps.ensures.room c.jump-steps.ensures.run

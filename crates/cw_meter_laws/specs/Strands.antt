@@ -1,0 +1,186 @@
+-- Strands with meters.
+use Rattle.std.specs.Prelude.{◌≡◌, ℕ, ◌+◌, ◌≤◌, ℤ, Bool, true, false, List, [], ◌∷◌, length, Option, Some, slice_get}
+use Rattle.cw_model.specs.declared.burden.Burden.{Burden}
+use Rattle.cw_model.specs.declared.limits.TheConstants.{MOST_LIMIT}
+use Rattle.cw_model.specs.Frames.{no_frame}
+use Rattle.cw_model.specs.Trees.{Marked, Invocation, normal, tree_of}
+use Rattle.cw_model.specs.Outcome.{Trace, Done}
+use Rattle.cw_model.specs.Answers.{answer_of}
+use Rattle.cw_code.specs.declared.code.Func.{Func}
+use Rattle.cw_code.specs.Code.{Code}
+use Rattle.cw_code.specs.Run.{Slots, Around, State, On, Ends, step, first_transition, first_state, reducers_of}
+use Rattle.cw_code.specs.Run.{code_serial}
+use Rattle.cw_measure.specs.OpenParts.{Open, no_joins}
+use Rattle.cw_sites.specs.OpenPaths.{here_in}
+use Rattle.cw_regions.specs.Regions.{Tags}
+use Rattle.cw_meter.specs.declared.meter.Meter.{Meter}
+use Rattle.cw_meter.specs.declared.meter.Measures.{Measures}
+use Rattle.cw_meter.specs.Origins.{Origin, Main, Rest, base_of, first_open}
+use Rattle.cw_meter.specs.Meters.{Meters, Rests}
+use Rattle.cw_meter.specs.Whole.{AreMeasures, Reads}
+use Rattle.cw_strand_laws.specs.Jobs.{Extent, WholeCall, ToJoin, has_come, Standing, standing, Job, job_start, root_job}
+use Rattle.cw_strand_laws.specs.Jobs.{Effect, Ended, Joined, TrapIn, OverLimit, Memory, JobMeaning}
+use Rattle.cw_strand_laws.specs.Strands.{Strand, Going, Waits, Halted, Turn, Goes, HandsOut, ComesBack, turn, goes_on}
+use Rattle.cw_strand_laws.specs.Strands.{resumed}
+use Rattle.cw_strand_laws.specs.Promises.{IsStrandOf}
+use Rattle.cw_meter_laws.specs.Opens.{opens_round, whole, Gauge, IsToldOf}
+
+-- a strand of a whole run has the meter of a run, and one of the rest of a block that of a rest
+abbrev pub IsFrom : Origin → Extent → Type 0
+IsFrom Main WholeCall = Unit {0}
+IsFrom Main ToJoin = ⊥
+IsFrom (Rest site) WholeCall = ⊥
+IsFrom (Rest site) ToJoin = Unit {0}
+
+-- a meter begins
+abbrev pub StartsFrom : Origin → Burden → Meter → Type 0
+StartsFrom from burden m = (tags : Tags) → Meters burden tags from 0 (first_open from) [] m
+
+-- the site of the innermost invocation at a state
+abbrev pub site_at : Origin → List Around → ℕ
+site_at from around = here_in (base_of from) (opens_round from around)
+
+-- the meter of a strand tells of the run that its state is one of; that of a strand that stopped tells of nothing
+abbrev pub TellsStrand : (code : Code) → Gauge code → Origin → Strand → Meter → Type 0
+TellsStrand code g from (Going s count outs) m =
+    Meters g.burden g.tags from count (opens_round from s.around) s.trace.events m
+TellsStrand code g from (Waits s count outs) m =
+    Meters g.burden g.tags from count (opens_round from s.around) s.trace.events m
+TellsStrand code g from (Halted e outs) m = Unit {0}
+
+-- by whichever numbers of the code's tags
+abbrev pub TellsAll : (code : Code) → Burden → Origin → Strand → Meter → Type 0
+TellsAll code burden from strand m = (g : Gauge code) → g.burden ≡ burden → TellsStrand code g from strand m
+
+-- what the effect of a rest carries of its measures: a meter that tells of what the effect shows
+abbrev pub CountsEffect : (code : Code) → Burden → (site : ℕ) → Effect → Meter → Type 0
+CountsEffect code burden site (Joined frame t cost) m =
+    (g : Gauge code) → g.burden ≡ burden → Meters g.burden g.tags (Rest site) cost [] t.events m
+CountsEffect code burden site (Ended v arrays t cost) m = Unit {0}
+CountsEffect code burden site (TrapIn trap line lines cost) m = Unit {0}
+CountsEffect code burden site OverLimit m = Unit {0}
+CountsEffect code burden site Memory m = Unit {0}
+
+-- an effect with a meter means a job that was handed out with a burden and a site. It is said of these values alone, so
+-- that whatever carries
+-- them from one worker to another can keep it
+pub record MeansMeasured (code : Code) (job : Job) (burden : Burden) (site : ℕ) (e : Effect) (m : Meter) : Type 0 where
+  pub means : JobMeaning code job e
+  pub counts : CountsEffect code burden site e m
+
+-- the calls on a strand and on its meter keep what the meter tells
+pub record MetersKeep (code : Code) (burden : Burden) : Type 0 where
+  pub starting : (from : Origin) (job : Job) (m : Meter) → StartsFrom from burden m
+      → TellsAll code burden from (Going (job_start job) 0 []) m
+  -- an instruction, of which the meter is told
+  pub advancing : (from : Origin) (job : Job) (s s' : State) (count : ℕ) (outs : List Job) (m m' : Meter)
+      → job.before + (count + 1) ≤ job.limit → job.limit ≤ MOST_LIMIT → step code s ≡ On s'
+      → IsToldOf m m' count (slice_get code.instrs s.place)
+      → TellsAll code burden from (Going s count outs) m
+      → TellsAll code burden from (goes_on (turn code s) s s' job.limit job.before (count + 1) outs) m'
+  -- the rest beside a call that has ended was got back unrun: nothing is done
+  pub taking_back : (from : Origin) (out : Job) (s : State) (count : ℕ) (outs : List Job) (m : Meter)
+      → TellsAll code burden from (Waits s count (out ∷ outs)) m → TellsAll code burden from (Going s count outs) m
+  -- it was run apart, up to its join, by a strand whose meter knew the site and nothing else
+  pub giving : (from : Origin) (job out : Job) (s : State) (count cost : ℕ) (outs : List Job) (frame : Standing)
+      (t : Trace) (m r m' : Meter)
+      → IsStrandOf code job (Waits s count (out ∷ outs)) → job.before + (count + cost) ≤ job.limit
+      → job.limit ≤ MOST_LIMIT
+      → MeansMeasured code out burden (site_at from s.around) (Joined frame t cost) r → Rests m r m' count cost
+      → TellsAll code burden from (Waits s count (out ∷ outs)) m
+      → TellsAll code burden from (Going (resumed s frame t) (count + cost) outs) m'
+  -- a rest has come to its join
+  pub arriving : (job : Job) (site : ℕ) (t : State) (cost : ℕ) (m : Meter) → IsStrandOf code job (Going t cost [])
+      → has_come job.extent code t ≡ true
+      → TellsAll code burden (Rest site) (Going t cost []) m
+      → MeansMeasured code job burden site (Joined (standing t) t.trace cost) m
+  -- a whole run ends, by an instruction of which the meter is told
+  pub ending : (g : Gauge code) → g.burden ≡ burden
+      → (s : State) (count limit : ℕ) (outs : List Job) (v : Option ℤ) (arrays : Slots (List ℤ)) (t : Trace)
+      (m m' : Meter)
+      → count + 1 ≤ limit → limit ≤ MOST_LIMIT → step code s ≡ Ends v arrays t
+      → IsToldOf m m' count (slice_get code.instrs s.place)
+      → TellsAll code burden Main (Going s count outs) m → Meters g.burden g.tags Main (count + 1) [] (whole t) m'
+
+abbrev pub CallsKeepMeters : Type 0
+CallsKeepMeters = (code : Code) (burden : Burden) → MetersKeep code burden
+
+-- what a strand with a meter may come to: one rule for each step that it goes on by
+pub data Metered (code : Code) (burden : Burden) : (from : Origin) (job : Job) → Strand → Meter → Type 0 where
+  Started : (from : Origin) (job : Job) (m : Meter) → IsFrom from job.extent → job.before ≤ job.limit
+      → job.limit ≤ MOST_LIMIT → StartsFrom from burden m
+      → Metered code burden from job (Going (job_start job) 0 []) m
+  Ran : (from : Origin) (job : Job) (s s' : State) (count : ℕ) (outs : List Job) (m m' : Meter)
+      → Metered code burden from job (Going s count outs) m → has_come job.extent code s ≡ false → step code s ≡ On s'
+      → job.before + (count + 1) ≤ job.limit
+      → IsToldOf m m' count (slice_get code.instrs s.place)
+      → Metered code burden from job (goes_on (turn code s) s s' job.limit job.before (count + 1) outs) m'
+  TakenBack : (from : Origin) (job out : Job) (s : State) (count : ℕ) (outs : List Job) (m : Meter)
+      → Metered code burden from job (Waits s count (out ∷ outs)) m
+      → Metered code burden from job (Going s count outs) m
+  Given : (from : Origin) (job out : Job) (s t : State) (count cost : ℕ) (outs : List Job) (m r m' : Meter)
+      → Metered code burden from job (Waits s count (out ∷ outs)) m
+      → Metered code burden (Rest (site_at from s.around)) out (Going t cost []) r
+      → has_come out.extent code t ≡ true → job.before + (count + cost) ≤ job.limit → Rests m r m' count cost
+      → Metered code burden from job (Going (resumed s (standing t) t.trace) (count + cost) outs) m'
+
+-- whatever is handed out, got back, or run apart and given, in whatever order and however deep: the strand is one of
+-- the serial run, and its meter tells of
+-- that run
+pub record StrandsTell (code : Code) (burden : Burden) : Type 0 where
+  pub serial : (from : Origin) (job : Job) (strand : Strand) (m : Meter) → Metered code burden from job strand m
+      → IsStrandOf code job strand
+  pub told : (from : Origin) (job : Job) (strand : Strand) (m : Meter) → Metered code burden from job strand m
+      → TellsAll code burden from strand m
+
+abbrev pub MetersTellStrands : Type 0
+MetersTellStrands = (code : Code) (burden : Burden) → StrandsTell code burden
+
+-- the sites of the rests that are out at open parts, the newest first: each is the site that its spawner is in
+abbrev pub site_if : (spawned : Bool) → ℕ → List ℕ → List ℕ
+site_if true site sites = site ∷ sites
+site_if false site sites = sites
+
+abbrev pub rest_sites : (base : ℕ) → List Open → List ℕ
+rest_sites base [] = []
+rest_sites base (o ∷ os) = site_if o.spawned (here_in base os) (rest_sites base os)
+
+abbrev pub sites_at : Origin → List Around → List ℕ
+sites_at from around = rest_sites (base_of from) (opens_round from around)
+
+-- a spawn hands out a rest with the site that it is in; where its call comes back, the strand is in that site; no other
+-- instruction changes any
+abbrev pub SitesAfter : Origin → Turn → (before after : List Around) → Type 0
+SitesAfter from Goes around around' = sites_at from around' ≡ sites_at from around
+SitesAfter from (HandsOut target taken) around around' =
+    sites_at from around' ≡ site_at from around ∷ sites_at from around
+SitesAfter from ComesBack around around' = site_at from around' ∷ sites_at from around' ≡ sites_at from around
+
+abbrev pub RestsAreOut : Type 0
+RestsAreOut =
+    (code : Code) (from : Origin) (s s' : State) → step code s ≡ On s'
+    → SitesAfter from (turn code s) s.around s'.around
+
+-- where the strand of a whole run ends, with no rest out: the run answers what the code gives, and its meter, told of
+-- the last instruction, reads the
+-- measures of the run's tree
+pub record IsMeasured (code : Code) (g : Gauge code) (args : List ℤ) (limit sites : ℕ) (v : Option ℤ) (t : Trace)
+    (all : Measures) : Type 0 where
+  pub answer : code_serial code args limit ≡ Some (answer_of (reducers_of code) (Done (v, no_frame) 0 t))
+  pub measures : AreMeasures g.burden sites code.tags (normal (Marked (Invocation 0) (tree_of t.events))) all
+
+abbrev pub RootsAreMeasured : Type 0
+RootsAreMeasured =
+    (code : Code) (g : Gauge code) (f : Func) (args : List ℤ) (limit count sites : ℕ) (s : State) (v : Option ℤ)
+    (arrays : Slots (List ℤ)) (t : Trace) (m m' : Meter) (all : Measures)
+    → first_transition (slice_get code.funcs code.main) args ≡ On (first_state f args [] [])
+    → Metered code g.burden Main (root_job f args limit) (Going s count []) m
+    → step code s ≡ Ends v arrays t → count + 1 ≤ limit → IsToldOf m m' count (slice_get code.instrs s.place)
+    → Reads m' (count + 1) sites (length code.tags) all
+    → IsMeasured code g args limit sites v t all
+
+-- up to its join the block that a rest begins in has no join
+abbrev pub RestsHaveNoJoins : Type 0
+RestsHaveNoJoins =
+    (code : Code) (job : Job) (frame : Standing) (t : Trace) (cost : ℕ) → job.extent ≡ ToJoin
+    → JobMeaning code job (Joined frame t cost) → no_joins t.events ≡ true

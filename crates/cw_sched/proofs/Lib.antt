@@ -1,8 +1,0 @@
-pub mod Walks
-pub mod Tally
-pub mod Events
-pub mod Ample
-pub mod Outcomes
-pub mod TakeBack
-pub mod Root
-pub mod Ledgers

@@ -1,5 +1,0 @@
-use Rattle.cw_sched.proofs.TakeBack.{runs_alike}
-use Rattle.cw_sched.proofs.laws.a_rest_taken_back_runs_alike.Goals as goal
-
-pub returns : goal.returns
-returns c = runs_alike

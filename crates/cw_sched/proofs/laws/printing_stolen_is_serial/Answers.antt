@@ -1,5 +1,0 @@
-use Rattle.cw_sched.proofs.Walks.{stolen_walk}
-use Rattle.cw_sched.proofs.laws.printing_stolen_is_serial.Goals as goal
-
-pub returns : goal.returns
-returns c = stolen_walk

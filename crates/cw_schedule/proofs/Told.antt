@@ -1,0 +1,83 @@
+-- What is told together of one run by what measures it and by what keeps its strands.
+use Rattle.std.proofs.Common.{◌≡◌, ◌≤◌, ◌<◌, ℕ, ℤ, Bool, true, false, ◌&&◌, Some, None, List, refl, sym, ap, ◌∙◌, subst, arith}
+use Rattle.std.specs.Prelude.{IsErrAnd, IsSome, MatchResult, Ok, Err, Result, nat_le, nat_eq, length}
+use Rattle.std.proofs.lemmas.Bool.Decides.{nat_tests}
+use Rattle.cw_model.specs.declared.limits.TheConstants.{MOST_LIMIT, MOST_BURDEN}
+use Rattle.cw_model.specs.declared.total.Total.{Total}
+use Rattle.cw_model.specs.Burdens.{no_burden}
+use Rattle.cw_model.specs.Trees.{Tree}
+use Rattle.cw_model.specs.Answers.{Ended}
+use Rattle.cw_text.specs.declared.fault.Fault.{Fault}
+use Rattle.cw_text.specs.declared.fault.Fault.TheVariants as fault
+use Rattle.cw_greedy.specs.declared.code.TheConstants.{MOST_STRANDS}
+use Rattle.cw_greedy.specs.Recorded.{Recorded}
+use Rattle.cw_greedy.specs.Records.{IsRecordOf}
+use Rattle.cw_greedy.specs.Blocks.{strand_count}
+use Rattle.cw_meter.specs.declared.meter.Readings.{Readings}
+use Rattle.cw_code.specs.Code.{Code}
+use Rattle.cw_code.specs.Fits.{main_params}
+use Rattle.cw_machine.specs.Runs.{is_request, IsFailure}
+use Rattle.cw_recorded.specs.Recording.{IsKept}
+use Rattle.cw_machine.specs.Recorded.{Records}
+use Rattle.cw_schedule.specs.declared.schedules.TheConstants.{MOST_PROCESSORS}
+use Rattle.cw_schedule.specs.Schedules.{is_counted, is_asked, Ends, Measured, IsNotScheduled}
+
+first_true : (a b : Bool) → (a && b) ≡ true → a ≡ true
+first_true true b h = cc
+first_true false b h = cc
+
+second_true : (a b : Bool) → (a && b) ≡ true → b ≡ true
+second_true true b h = h
+second_true false b h = cc
+
+le_of : (a b : ℕ) → nat_le a b ≡ true → a ≤ b
+le_of a b h = grind (arith, nat_tests)
+
+-- a fault that is handed on
+pub handed_on : {A : Type 0} (Q : A → Type 0) (P : Fault → Type 0) (e : Fault) (r : Result A Fault) → P e → IsErrAnd r (λ x. x ≡ e) → MatchResult r Q P
+handed_on Q P e (Ok x) p h = absurd h
+handed_on Q P e (Err x) p h = subst P (sym h) p
+
+-- a schedule is asked for of a run that can be asked for
+pub requested : (code : Code) (args : List ℤ) (n processors : ℕ) → is_asked code args n processors ≡ true → is_request code args n no_burden ≡ true
+requested code args n processors h = second_true (is_counted processors) (is_request code args n no_burden) h
+
+-- why a run has no value is why it has no schedule
+pub not_scheduled : (code : Code) (args : List ℤ) (n processors : ℕ) (e : Fault) → is_asked code args n processors ≡ true → IsFailure code args n no_burden e → IsNotScheduled code args n processors e
+not_scheduled code args n processors fault.Arguments asked h = ap (λ b. is_counted processors && b) h ∙ none (is_counted processors)
+  where
+    none : (b : Bool) → (b && false) ≡ false
+    none true = cc
+    none false = cc
+not_scheduled code args n processors fault.OverLimit asked h = (asked, h.1)
+not_scheduled code args n processors (fault.Trap trap line output) asked h = (asked, h.1)
+not_scheduled code args n processors fault.Memory asked h = asked
+not_scheduled code args n processors (fault.Lexical place) asked h = absurd h
+not_scheduled code args n processors (fault.Syntax place) asked h = absurd h
+not_scheduled code args n processors (fault.Types place) asked h = absurd h
+not_scheduled code args n processors (fault.Ownership place) asked h = absurd h
+not_scheduled code args n processors (fault.Size place) asked h = absurd h
+not_scheduled code args n processors fault.Code asked h = absurd h
+not_scheduled code args n processors fault.Write asked h = absurd h
+not_scheduled code args n processors fault.Strands asked h = absurd h
+
+same_tree : (v w : ℤ) (lines more : List ℤ) (totals others : List Total) (t u : Tree) → Some (Ended v lines totals t) ≡ Some (Ended w more others u) → t ≡ u
+same_tree v w lines more totals others t u e = cc
+
+-- a run ends with one tree
+pub one_tree : (code : Code) (args : List ℤ) (n : ℕ) (t u : Tree) → Ends code args n t → Ends code args n u → t ≡ u
+one_tree code args n t u a b =
+    same_tree a.value b.value a.lines b.lines a.totals b.totals t u (sym a.answer ∙ b.answer)
+
+pub ends_so : (code : Code) (args : List ℤ) (n : ℕ) (kept : Recorded) (r : Records code args n kept) → Ends code args n r.tree
+ends_so code args n kept r = record { value = r.value; lines = r.lines; totals = r.totals; answer = r.answer }
+
+-- what is kept of the strands of a run is that of the tree that was measured
+pub kept_of : (code : Code) (args : List ℤ) (n : ℕ) (whole : Readings) (kept : Recorded) (m : Measured code args n whole) → Records code args n kept → IsKept m.tree kept
+kept_of code args n whole kept m r =
+    subst (λ t. IsKept t kept) (one_tree code args n r.tree m.tree (ends_so code args n kept r) m.ends) r.is_kept
+
+-- what is kept of few enough strands
+pub record_kept : (t : Tree) (kept : Recorded) → IsSome kept → IsKept t kept → (strand_count t ≤ MOST_STRANDS) × IsRecordOf t kept
+record_kept t None some k = cc
+record_kept t (Some codes) some k = k

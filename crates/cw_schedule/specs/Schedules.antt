@@ -1,0 +1,84 @@
+-- What is told of the greedy schedule of a run.
+use Rattle.std.specs.Prelude.{◌≡◌, ◌≤◌, ◌<◌, ℕ, ℤ, Bool, true, false, ◌&&◌, nat_le, List, Some, Result, MatchResult}
+use Rattle.cw_model.specs.declared.total.Total.{Total}
+use Rattle.cw_model.specs.Burdens.{no_burden}
+use Rattle.cw_model.specs.Trees.{Tree, work, span}
+use Rattle.cw_model.specs.Answers.{Ended, TrappedAt, OverLimit}
+use Rattle.cw_text.specs.declared.fault.Fault.{Fault}
+use Rattle.cw_text.specs.declared.fault.Fault.TheVariants as fault
+use Rattle.cw_greedy.specs.declared.code.TheConstants.{MOST_STRANDS}
+use Rattle.cw_greedy.specs.Blocks.{strand_count}
+use Rattle.cw_greedy.specs.Greedy.{greedy_length}
+use Rattle.cw_schedule.specs.State.{IsWithin}
+use Rattle.cw_meter.specs.declared.meter.Readings.{Readings}
+use Rattle.cw_meter.specs.Whole.{AreReadings}
+use Rattle.cw_code.specs.Code.{Code}
+use Rattle.cw_code.specs.Run.{code_serial}
+use Rattle.cw_machine.specs.Runs.{is_request, IsFailure}
+use Rattle.cw_schedule.specs.declared.schedules.Schedule.{Schedule}
+use Rattle.cw_schedule.specs.declared.schedules.TheConstants.{MOST_PROCESSORS}
+
+-- so many processors can be asked for
+abbrev pub is_counted : (processors : ℕ) → Bool
+is_counted processors = nat_le 1 processors && nat_le processors MOST_PROCESSORS
+
+-- the code can be asked for this schedule: as many arguments as its main takes, a limit in its range, and processors in
+-- theirs
+abbrev pub is_asked : Code → List ℤ → (n processors : ℕ) → Bool
+is_asked code args n processors = is_counted processors && is_request code args n no_burden
+
+-- the run ends, with this strand tree
+pub record Ends (code : Code) (args : List ℤ) (n : ℕ) (tree : Tree) : Type 0 where
+  pub value : ℤ
+  pub lines : List ℤ
+  pub totals : List Total
+  pub answer : code_serial code args n ≡ Some (Ended value lines totals tree)
+
+-- what was asked for is in range, the run ends, and these are the work and the span of its tree, which has no more
+-- strands than are kept, and the length of its greedy schedule, within its bounds
+pub record Schedules (code : Code) (args : List ℤ) (n p : ℕ) (s : Schedule) : Type 0 where
+  pub asked : is_asked code args n p ≡ true
+  pub tree : Tree
+  pub ends : Ends code args n tree
+  pub fits : strand_count tree ≤ MOST_STRANDS
+  pub processors : s.processors ≡ p
+  pub work : s.work ≡ work tree
+  pub span : s.span ≡ span tree
+  pub greedy : s.greedy ≡ greedy_length p tree
+  pub bounds : IsWithin p s.greedy tree
+
+-- what was asked for is in range, and the run ends within the limit, with a tree of this work and span
+pub record Measured (code : Code) (args : List ℤ) (n : ℕ) (r : Readings) : Type 0 where
+  pub asked : is_request code args n no_burden ≡ true
+  pub tree : Tree
+  pub ends : Ends code args n tree
+  pub within : work tree ≤ n
+  pub measure : AreReadings no_burden tree r
+
+-- work and span of a run as the code's meaning gives them, or why there are none
+abbrev pub MeasuresAsCode : Code → List ℤ → (n : ℕ) → Result Readings Fault → Type 0
+MeasuresAsCode code args n result = MatchResult result (Measured code args n) (IsFailure code args n no_burden)
+
+-- what was asked for is in range, and the run ends with more strands than are kept
+pub record HasTooManyStrands (code : Code) (args : List ℤ) (n processors : ℕ) : Type 0 where
+  pub asked : is_asked code args n processors ≡ true
+  pub tree : Tree
+  pub ends : Ends code args n tree
+  pub many : MOST_STRANDS < strand_count tree
+
+-- why a run has no schedule: what was asked for is out of range; or the run costs more than its limit, or traps, or has
+-- too many strands, or memory ran out
+abbrev pub IsNotScheduled : Code → List ℤ → (n processors : ℕ) → Fault → Type 0
+IsNotScheduled code args n processors fault.Arguments = is_asked code args n processors ≡ false
+IsNotScheduled code args n processors fault.OverLimit =
+    (is_asked code args n processors ≡ true) × (code_serial code args n ≡ Some OverLimit)
+IsNotScheduled code args n processors (fault.Trap trap line output) =
+    (is_asked code args n processors ≡ true) × (code_serial code args n ≡ Some (TrappedAt trap line output.items))
+IsNotScheduled code args n processors fault.Strands = HasTooManyStrands code args n processors
+IsNotScheduled code args n processors fault.Memory = is_asked code args n processors ≡ true
+IsNotScheduled code args n processors _ = ⊥
+
+-- a run of code is told by its schedule as the code's meaning gives it, or why there is none
+abbrev pub SchedulesAsCode : Code → List ℤ → (n processors : ℕ) → Result Schedule Fault → Type 0
+SchedulesAsCode code args n processors result =
+    MatchResult result (Schedules code args n processors) (IsNotScheduled code args n processors)

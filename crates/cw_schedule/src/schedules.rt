@@ -1,0 +1,93 @@
+//! The greedy schedule of a run on so many processors.
+
+ghost use Rattle.cw_code.specs.Code.{code_view};
+ghost use Rattle.std.specs.Prelude.{◌≡◌};
+ghost use Rattle.cw_schedule.specs.Schedules as schedules;
+
+use cw_machine::alone::{main_takes, run_alone};
+use cw_machine::recorded::strands_alone;
+use cw_meter::Readings;
+use cw_model::burden::{Burden, Edges};
+use cw_model::limits::MOST_LIMIT;
+use cw_runnable::verified::Verified;
+use crate::schedule::greedy;
+use cw_text::Fault;
+use std::alloc::Global;
+use std::sync::Arc;
+
+/// Processors that a schedule may be asked for.
+pub const MOST_PROCESSORS: u64 = 1_000_000;
+
+/// What is told of the greedy schedule of a run.
+#[derive(Debug, Clone, Copy, PartialEq, Eq)]
+pub struct Schedule {
+    /// How many processors share the strands.
+    pub processors: u64,
+    /// The work of the run, in instructions.
+    pub work: u64,
+    /// The span of the run, in instructions.
+    pub span: u64,
+    /// The length of the greedy schedule, in steps: in each step a processor does one instruction or none.
+    pub greedy: u64,
+}
+
+/// Runs code on these arguments within `n` instructions, and tells its work, its span and the length of the greedy
+/// schedule of its strands on so many processors, exactly those of its strand tree. The length is no shorter than the
+/// work for each processor and than the span, and no longer than both together.
+///
+/// The error is `Arguments` exactly where the count of the arguments is not that of `main`'s parameters, or `n` is not
+/// in 1..=2^62, or `processors` is not in 1..=1,000,000; otherwise `OverLimit` exactly where the run costs more than
+/// `n`, `Trap` exactly where it traps, with its line and the values printed before, `Strands` exactly where it ends
+/// with more than 1,000,000 strands, and `Memory` where memory runs out.
+pub fn schedule_alone(
+    alloc: Global,
+    code: Arc<Verified>,
+    args: &[i64],
+    n: u64,
+    processors: u64,
+) -> Result<Schedule, Fault>
+    ensures { schedules.SchedulesAsCode (code_view code.value.code) args.now n processors result }
+{
+    if !is_asked(&code, args, n, processors) {
+        return Err(Fault::Arguments);
+    }
+    let share = Arc::try_clone(&code)?;
+    let whole = measured(alloc, share, args, n)?;
+    let strands = strands_alone(alloc, code, args, n)?;
+    if !strands.fits() {
+        return Err(Fault::Strands);
+    }
+    let steps = greedy(alloc, &strands, processors)?;
+    Ok(Schedule {
+        processors,
+        work: whole.work,
+        span: whole.span,
+        greedy: steps,
+    })
+}
+
+// Work and span of a run; what else is counted of it is let go.
+fn measured(alloc: Global, code: Arc<Verified>, args: &[i64], n: u64) -> Result<Readings, Fault>
+    ensures { schedules.MeasuresAsCode (code_view code.value.code) args.now n result }
+{
+    let burden = Burden {
+        charge: 0,
+        edges: Edges::Spawn,
+    };
+    let ended = run_alone(alloc, code, args, n, burden)?;
+    Ok(ended.measure)
+}
+
+// Whether there are as many arguments as `main` takes, and the limit and the processors are in their ranges.
+fn is_asked(code: &Verified, args: &[i64], n: u64, processors: u64) -> bool
+    ensures { result ≡ schedules.is_asked (code_view code.now.code) args.now n processors }
+{
+    is_counted(processors) && args.len() == main_takes(code) && 1 <= n && n <= MOST_LIMIT
+}
+
+// Whether so many processors can be asked for.
+fn is_counted(processors: u64) -> bool
+    ensures { result ≡ schedules.is_counted processors }
+{
+    1 <= processors && processors <= MOST_PROCESSORS
+}

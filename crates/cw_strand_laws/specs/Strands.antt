@@ -1,0 +1,204 @@
+-- Strands: what runs a job, hands the rest of a sync block out as a job at a spawn and goes on with the call.
+use Rattle.std.specs.Prelude.{◌≡◌, ℕ, ◌+◌, ◌≤◌, ◌<◌, ℤ, true, false, List, [], ◌∷◌, ◌++◌, map, Option, Some, None}
+use Rattle.std.specs.Prelude.{slice_get}
+use Rattle.cw_model.specs.declared.trap.Trap.{Trap}
+use Rattle.cw_model.specs.declared.syntax.CallKind.{CallKind}
+use Rattle.cw_model.specs.declared.syntax.CallKind.TheVariants.{Plain, Spawned}
+use Rattle.cw_model.specs.Outcome.{Trace, joined}
+use Rattle.cw_code.specs.declared.code.Instr.{Instr}
+use Rattle.cw_code.specs.declared.code.Instr.TheVariants as instr
+use Rattle.cw_code.specs.Code.{Code}
+use Rattle.cw_code.specs.Run.{Waiting, Around, Caller, State, On, Ends, Stops, Slots, settled, Taken, Whole}
+use Rattle.cw_code.specs.Run.{slot_taken, taken_from, moved_out, passed_by, step}
+use Rattle.cw_strand_laws.specs.Jobs.{ToJoin, has_come, Standing, standing, Job, job_start, Effect, Ended, Joined, TrapIn}
+use Rattle.cw_strand_laws.specs.Jobs.{OverLimit, Memory}
+
+-- a strand and the jobs that it handed out and was not given back, the newest first: it goes on, from a state of the
+-- serial run, so many instructions after its job's start; or a spawned call in it has ended, so that it waits for the
+-- rest of the block that spawned it, the newest job out; or it has stopped
+pub data Strand : Type 0 where
+  Going : State → (count : ℕ) → (outs : List Job) → Strand
+  Waits : State → (count : ℕ) → (outs : List Job) → Strand
+  Halted : Effect → (outs : List Job) → Strand
+
+-- the jobs that are out, the newest first
+abbrev pub outs_of : Strand → List Job
+outs_of (Going s count outs) = outs
+outs_of (Waits s count outs) = outs
+outs_of (Halted e outs) = outs
+
+-- the rest of a block that waits for a spawned call, as a job
+abbrev pub rest_of : Waiting → (limit before : ℕ) → Job
+rest_of w limit before =
+    record {
+      extent = ToJoin;
+      place = w.place;
+      slots = w.slots;
+      arrays = w.arrays;
+      readers = w.readers;
+      depth = w.depth;
+      limit = limit;
+      before = before;
+    }
+
+-- the job that is out where a strand waits: the rest of the block that it will go on with
+abbrev pub rest_at : State → (limit before : ℕ) → Job
+rest_at s limit before =
+    record {
+      extent = ToJoin;
+      place = s.place;
+      slots = s.slots;
+      arrays = s.arrays;
+      readers = s.readers;
+      depth = s.depth;
+      limit = limit;
+      before = before;
+    }
+
+-- what an instruction is to a strand: it hands out the rest of its block, ends a spawned call, or does neither
+pub data Turn : Type 0 where
+  Goes : Turn
+  HandsOut : (target : Option ℕ) → List Taken → Turn
+  ComesBack : Turn
+
+abbrev pub turn_back : CallKind → Turn
+turn_back Plain = Goes
+turn_back Spawned = ComesBack
+
+abbrev pub turn_in : List Around → Turn
+turn_in (Caller w ∷ around) = turn_back w.kind
+turn_in _ = Goes
+
+-- a spawn hands out the rest of its block
+abbrev pub turn_call : CallKind → Option ℕ → List Taken → Turn
+turn_call Plain target taken = Goes
+turn_call Spawned target taken = HandsOut target taken
+
+abbrev pub turn_of : Code → Option Instr → List Around → Turn
+turn_of code (Some (instr.Call kind c)) around = turn_call kind c.target (map (λ a. Whole a) (passed_by code c.passed))
+turn_of code (Some (instr.Recur kind c)) around = turn_call kind None (map (λ a. Whole a) (passed_by code c.passed))
+turn_of code (Some instr.ReturnValue) around = turn_in around
+turn_of code (Some instr.Return) around = turn_in around
+turn_of code _ around = Goes
+
+abbrev pub turn : Code → State → Turn
+turn code s = turn_of code (slice_get code.instrs s.place) s.around
+
+-- the job of a spawn: the rest of its block, from the next place, with the slots of the result and of what was taken
+-- empty
+abbrev pub spawn_job : State → Option ℕ → List Taken → (limit before : ℕ) → Job
+spawn_job s target taken limit before = record {
+  extent = ToJoin;
+  place = s.place + 1;
+  slots = taken_from Spawned target s.slots;
+  arrays = moved_out (map slot_taken taken) s.arrays;
+  readers = s.readers;
+  depth = s.depth;
+  limit = limit;
+  before = before;
+}
+
+-- a strand after an instruction that led from one state to another
+abbrev pub goes_on : Turn → (from to : State) → (limit before count : ℕ) → List Job → Strand
+goes_on Goes from to limit before count outs = Going to count outs
+goes_on (HandsOut target taken) from to limit before count outs =
+    Going to count (spawn_job from target taken limit (before + count) ∷ outs)
+goes_on ComesBack from to limit before count outs = Waits to count outs
+
+-- the join: the rest is done, what waits goes back into its slots, and the block goes on from its join
+abbrev pub resumed : State → Standing → Trace → State
+resumed s frame t =
+    record s {
+      place = frame.place;
+      operands = frame.operands;
+      slots = settled s.results frame.slots;
+      arrays = settled s.arrived frame.arrays;
+      readers = frame.readers;
+      results = [];
+      arrived = [];
+      trace = joined s.trace t;
+    }
+
+-- an effect that stopped
+abbrev pub HasStopped : Effect → Type 0
+HasStopped (Ended v arrays t cost) = ⊥
+HasStopped (Joined frame t cost) = ⊥
+HasStopped (TrapIn trap line lines cost) = Unit {0}
+HasStopped OverLimit = Unit {0}
+HasStopped Memory = Unit {0}
+
+-- a rest that stopped, after what its block and the call before it have shown and counted
+abbrev pub stopped_after : State → (count : ℕ) → Effect → Effect
+stopped_after s count (TrapIn trap line lines cost) = TrapIn trap line (s.trace.lines ++ lines) (count + cost)
+stopped_after s count e = e
+
+-- what was dropped counts only for want of memory
+abbrev pub dropped : Effect → Effect → Effect
+dropped e Memory = Memory
+dropped e (Ended v arrays t cost) = e
+dropped e (Joined frame t cost) = e
+dropped e (TrapIn trap line lines cost) = e
+dropped e OverLimit = e
+
+-- what an effect has counted
+abbrev pub cost_of : Effect → ℕ
+cost_of (Ended v arrays t cost) = cost
+cost_of (Joined frame t cost) = cost
+cost_of (TrapIn trap line lines cost) = cost
+cost_of OverLimit = 0
+cost_of Memory = 0
+
+mutual
+  -- what a strand that runs a job may come to, whatever else happens: one rule for each step
+  pub data Reached (code : Code) : (job : Job) → Strand → Type 0 where
+    Started : (job : Job) → job.before ≤ job.limit → Reached code job (Going (job_start job) 0 [])
+    -- an instruction within the limit
+    Ran : (job : Job) (s s' : State) (count : ℕ) (outs : List Job)
+        → Reached code job (Going s count outs) → has_come job.extent code s ≡ false → step code s ≡ On s'
+        → job.before + (count + 1) ≤ job.limit
+        → Reached code job (goes_on (turn code s) s s' job.limit job.before (count + 1) outs)
+    Fell : (job : Job) (s : State) (count : ℕ) (outs : List Job) (trap : Trap) (line : ℕ) (lines : List ℤ)
+        → Reached code job (Going s count outs) → has_come job.extent code s ≡ false
+        → step code s ≡ Stops trap line lines → job.before + (count + 1) ≤ job.limit
+        → Reached code job (Halted (TrapIn trap line lines (count + 1)) outs)
+    -- the next instruction would pass the limit
+    TooMuch : (job : Job) (s : State) (count : ℕ) (outs : List Job)
+        → Reached code job (Going s count outs) → has_come job.extent code s ≡ false
+        → job.limit < job.before + (count + 1)
+        → Reached code job (Halted OverLimit outs)
+    -- memory may be wanting at any step
+    NoMemory : (job : Job) (strand : Strand)
+        → Reached code job strand → Reached code job (Halted Memory (outs_of strand))
+    -- give: the effect of the newest rest out
+    Given : (job out : Job) (s : State) (count : ℕ) (outs : List Job) (frame : Standing) (t : Trace) (cost : ℕ)
+        → Reached code job (Waits s count (out ∷ outs)) → Makes code out (Joined frame t cost)
+        → job.before + (count + cost) ≤ job.limit
+        → Reached code job (Going (resumed s frame t) (count + cost) outs)
+    GivenTooMuch : (job out : Job) (s : State) (count : ℕ) (outs : List Job) (e : Effect)
+        → Reached code job (Waits s count (out ∷ outs)) → Makes code out e
+        → job.limit < job.before + (count + cost_of e)
+        → Reached code job (Halted OverLimit outs)
+    GivenStop : (job out : Job) (s : State) (count : ℕ) (outs : List Job) (e : Effect)
+        → Reached code job (Waits s count (out ∷ outs)) → Makes code out e → HasStopped e
+        → job.before + (count + cost_of e) ≤ job.limit
+        → Reached code job (Halted (stopped_after s count e) outs)
+    -- skip: the call stopped, and its rest was got back unrun
+    Skipped : (job out : Job) (e : Effect) (outs : List Job)
+        → Reached code job (Halted e (out ∷ outs)) → Reached code job (Halted e outs)
+    -- the call stopped, and its rest was run elsewhere
+    Dropped : (job out : Job) (e e' : Effect) (outs : List Job)
+        → Reached code job (Halted e (out ∷ outs)) → Makes code out e' → Reached code job (Halted (dropped e e') outs)
+
+  -- the effects that strands may make of a job
+  pub data Makes (code : Code) : (job : Job) → Effect → Type 0 where
+    Arrived : (job : Job) (s : State) (count : ℕ)
+        → Reached code job (Going s count []) → has_come job.extent code s ≡ true
+        → Makes code job (Joined (standing s) s.trace count)
+    Returned : (job : Job) (s : State) (count : ℕ) (v : Option ℤ) (arrays : Slots (List ℤ)) (t : Trace)
+        → Reached code job (Going s count []) → has_come job.extent code s ≡ false → step code s ≡ Ends v arrays t
+        → job.before + (count + 1) ≤ job.limit
+        → Makes code job (Ended v arrays t (count + 1))
+    Stopped : (job : Job) (e : Effect)
+        → Reached code job (Halted e []) → Makes code job e
+    -- a job given up for want of memory, before any strand was made
+    GivenUp : (job : Job) → Makes code job Memory

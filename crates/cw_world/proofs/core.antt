@@ -1,0 +1,9 @@
+-- The laws of the scheduler's core.
+pub mod Walks
+pub mod Tally
+pub mod Events
+pub mod Ample
+pub mod Outcomes
+pub mod TakeBack
+pub mod Root
+pub mod Ledgers
