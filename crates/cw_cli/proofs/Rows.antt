@@ -22,9 +22,9 @@ use Rattle.cw_meter.specs.Whole.{AreReadings, AreSiteRows, AreRegionRows}
 use Rattle.cw_code.specs.Code.{Code, told_sites}
 use Rattle.cw_machine.specs.declared.alone.Ended as run
 use Rattle.cw_machine.specs.Runs.{tags_in}
-use Rattle.cw_gains.specs.Counts.{head_view}
+use Rattle.cw_code.specs.Heads.{head_view}
 use Rattle.cw_gains.specs.Gains.{FreeRow, free_row, gain_view, all_sites, root_at}
-use Rattle.cw_gains.specs.declared.counts.Head.{Head}
+use Rattle.cw_code.specs.declared.head.Head.{Head}
 use Rattle.cw_gains.specs.declared.gains.FunctionGain.{FunctionGain}
 use Rattle.cw_gains.specs.declared.gains.Gains.{Gains}
 use Rattle.cw_report.specs.Texts as texts

@@ -34,8 +34,8 @@ use Rattle.cw_report.specs.Answers.{AnswersLess}
 use Rattle.cw_report.specs.Texts.{totals_text, handed_text, schedule_header, schedule_report, gain_report}
 use Rattle.cw_gen.specs.Emit.{coded_reducers}
 use Rattle.cw_gen.specs.Generates.{Generates}
-use Rattle.cw_cli.specs.Compiled.{IsCompiled}
-use Rattle.cw_cli.specs.Sources.{IsRefused}
+use Rattle.cw_compile.specs.Compiled.{IsCompiled}
+use Rattle.cw_compile.specs.Sources.{IsRefused}
 use Rattle.cw_cli.specs.Analyses as analyses
 use Rattle.cw_words.specs.declared.asked.Mode.{Mode}
 use Rattle.cw_words.specs.declared.asked.Mode.TheVariants as mode
@@ -44,9 +44,9 @@ use Rattle.cw_cli.specs.Analyses.{IsModeInRange}
 use Rattle.cw_cli.specs.Schedules.{HasTooManyStrands, IsScheduled, IsScheduledIn}
 use Rattle.cw_cli.specs.Told.{HasTables, told_of}
 use Rattle.cw_cli.proofs.Rows.{scale_is, sites_are, gains_are}
-use Rattle.cw_gains.specs.Counts.{head_view}
+use Rattle.cw_code.specs.Heads.{head_view}
 use Rattle.cw_gains.specs.Gains.{Gains, GainsAsCode}
-use Rattle.cw_gains.specs.declared.counts.Head as counted
+use Rattle.cw_code.specs.declared.head.Head as counted
 use Rattle.cw_gains.specs.declared.gains.Gains as declared
 use Rattle.cw_model.specs.SiteLaw.{SitesAreNumbered}
 use Rattle.cw_model.specs.Sites.{call_sites, are_numbered, heads_of}

@@ -10,7 +10,7 @@ use Rattle.cw_text.specs.declared.fault.Fault.{Fault}
 use Rattle.cw_text.specs.declared.fault.Fault.TheVariants as fault
 use Rattle.cw_report.specs.Seen.{Seen}
 use Rattle.cw_report.specs.Sinks.{Writes}
-use Rattle.cw_cli.specs.Sources as sources
+use Rattle.cw_compile.specs.Sources as sources
 use Rattle.cw_cli.specs.Analyses as analyses
 use Rattle.cw_cli.specs.Analyses.{IsAnalysed, IsAnalysedBy}
 use Rattle.cw_words.specs.declared.asked.Mode.{Mode}

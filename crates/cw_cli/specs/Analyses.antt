@@ -15,7 +15,7 @@ use Rattle.cw_schedule.specs.declared.schedules.TheConstants.{MOST_PROCESSORS}
 use Rattle.cw_report.specs.Seen.{Seen}
 use Rattle.cw_report.specs.Sinks.{WritesAll, WritesPart}
 use Rattle.cw_cli.specs.Schedules.{greedy_text, IsScheduledIn, HasTooManyStrands}
-use Rattle.cw_cli.specs.Sources.{Compiles, IsRefused}
+use Rattle.cw_compile.specs.Sources.{Compiles, IsRefused}
 use Rattle.cw_words.specs.declared.asked.Mode.{Mode}
 use Rattle.cw_words.specs.declared.asked.Mode.TheVariants as mode
 use Rattle.cw_words.specs.declared.asked.Options.{Options}

@@ -5,14 +5,14 @@ ghost use Rattle.cw_code.specs.Code.{code_view};
 ghost use Rattle.cw_machine.specs.Runs.{RunsAsCode};
 ghost use Rattle.cw_pool.specs.declared.run.TheConstants.{MOST_BODIES};
 ghost use Rattle.cw_words.specs.declared.asked.Mode.TheVariants as mode;
-ghost use Rattle.cw_cli.specs.Compiled.{AreMade, IsCompiled, IsMade};
+ghost use Rattle.cw_compile.specs.Compiled.{AreMade, IsCompiled, IsMade};
 ghost use Rattle.cw_cli.specs.Analyses.{IsModeInRange};
 ghost use Rattle.cw_cli.specs.Analyses.{IsAnalysed, IsAnalysedBy, IsRun};
 ghost use Rattle.cw_cli.specs.Told.{HasTables};
 
-use crate::compiling::{Compiled, compile_with_heads};
 use crate::reporting::{are_words, write_gains, write_tables, write_values};
-use cw_gains::counts::Head;
+use cw_code::head::Head;
+use cw_compile::{Compiled, compile_with_heads};
 use cw_gains::gains::gains_of_run;
 use cw_machine::alone::{Ended, run_alone};
 use cw_machine::values::values_alone;

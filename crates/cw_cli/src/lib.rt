@@ -2,7 +2,6 @@
 #![tactic(auto)]
 
 mod analysis;
-mod compiling;
 mod crews;
 pub mod laws;
 mod misuse;
@@ -10,6 +9,5 @@ mod reporting;
 mod telling;
 
 pub use analysis::{analyse, analyse_alone};
-pub use compiling::compile;
 pub use crews::crew_of;
 pub use telling::{refuse, say, say_why, tool, unread};

@@ -16,8 +16,8 @@ ghost use Rattle.cw_cli.specs.Tools.{
 };
 
 use crate::analysis::analyse;
-use crate::compiling::compile;
 use crate::misuse::misused;
+use cw_compile::compile;
 use cw_greedy::code::MOST_STRANDS;
 use cw_model::limits::MOST_SOURCE_BYTES;
 use cw_pool::crew::Body;

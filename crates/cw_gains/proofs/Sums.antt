@@ -17,9 +17,10 @@ use Rattle.cw_sites.specs.declared.table.SiteRow.{SiteRow}
 use Rattle.cw_sites.specs.Tables as tables
 use Rattle.cw_meter.specs.Whole.{AreSiteRows}
 use Rattle.cw_code.specs.Code.{CodeSite}
-use Rattle.cw_gains.specs.Counts.{no_sums, and_row, sums_from, sums_of, counted_of, head_view, row_view}
+use Rattle.cw_code.specs.Heads.{head_view}
+use Rattle.cw_gains.specs.Counts.{no_sums, and_row, sums_from, sums_of, counted_of, row_view}
 use Rattle.cw_gains.specs.Gains.{root_at}
-use Rattle.cw_gains.specs.declared.counts.Head.{Head}
+use Rattle.cw_code.specs.declared.head.Head.{Head}
 use Rattle.cw_gains.specs.declared.counts.Sums.{Sums}
 
 -- the second sums are the first ones and the rows of these sites in a tree

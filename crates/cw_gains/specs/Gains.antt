@@ -11,8 +11,9 @@ use Rattle.cw_meter.specs.Whole.{AreReadings}
 use Rattle.cw_code.specs.Code.{Code, told_sites}
 use Rattle.cw_code.specs.Run.{code_serial}
 use Rattle.cw_machine.specs.Runs.{is_request, IsFailure}
-use Rattle.cw_gains.specs.Counts.{head_view, row_view}
-use Rattle.cw_gains.specs.declared.counts.Head.{Head}
+use Rattle.cw_code.specs.Heads.{head_view}
+use Rattle.cw_gains.specs.Counts.{row_view}
+use Rattle.cw_code.specs.declared.head.Head.{Head}
 use Rattle.cw_gains.specs.declared.gains.FunctionGain.{FunctionGain}
 use Rattle.cw_gains.specs.declared.gains.Gains as declared
 

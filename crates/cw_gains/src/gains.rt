@@ -6,8 +6,9 @@ ghost use Rattle.cw_gains.specs.Free.{AreFreeOf, AreFrees, IsFreeOf, OnlyMemory}
 ghost use Rattle.cw_gains.specs.Gains.{GainsAsCode};
 ghost use Rattle.cw_machine.specs.Runs.{Runs, RunsAsCode};
 
-use crate::counts::{Counted, Head, ranked};
+use crate::counts::{Counted, ranked};
 use cw_code::code::Code;
+use cw_code::head::Head;
 use cw_machine::alone::Ended;
 use cw_machine::freed::freed_alone;
 use cw_meter::Readings;

@@ -13,8 +13,8 @@ ghost use Rattle.cw_greedy.specs.Records.{IsRecordOf};
 ghost use Rattle.cw_schedule.specs.Boards.{least_slot};
 ghost use Rattle.cw_schedule.specs.State.{flag_at, strand_at, Begun, IsWithin, Puts, Reaches, Stands, Takes};
 
-use crate::plan::{Begins, Strand, plan};
 use crate::board::Board;
+use crate::plan::{Begins, Strand, plan};
 use cw_greedy::laws::{greedy_is_bounded, lists_show_boards, rounds_keep_the_length};
 use cw_greedy::strands::Strands;
 use std::alloc::{AllocError, Global};

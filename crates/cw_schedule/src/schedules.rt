@@ -4,13 +4,13 @@ ghost use Rattle.cw_code.specs.Code.{code_view};
 ghost use Rattle.std.specs.Prelude.{◌≡◌};
 ghost use Rattle.cw_schedule.specs.Schedules as schedules;
 
+use crate::schedule::greedy;
 use cw_machine::alone::{main_takes, run_alone};
 use cw_machine::recorded::strands_alone;
 use cw_meter::Readings;
 use cw_model::burden::{Burden, Edges};
 use cw_model::limits::MOST_LIMIT;
 use cw_runnable::verified::Verified;
-use crate::schedule::greedy;
 use cw_text::Fault;
 use std::alloc::Global;
 use std::sync::Arc;

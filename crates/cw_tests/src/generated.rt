@@ -1,7 +1,7 @@
 //! The code of whole sources, written by hand from the rules.
 
-use cw_cli::compile;
 use cw_code::code::{BlockKind, Callee, Code, Func, Halves, Inner, Instr, UnaryOperator};
+use cw_compile::compile;
 use cw_model::syntax::{CallKind, Operator};
 use std::alloc::Global;
 

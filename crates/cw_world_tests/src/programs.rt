@@ -1,16 +1,8 @@
 //! Small programs, and their code.
 
-use cw_gen::generate;
-use cw_lex::lex;
-use cw_loops::laws::derived_is_source_like;
-use cw_loops::lower;
-use cw_model::laws::derived_sites_are_numbered;
-use cw_own::own;
-use cw_parse::parse;
+use cw_compile::compile;
 use cw_runnable::verified::Verified;
-use cw_text::{Fault, Source};
-use cw_types::check;
-use cw_verify::verify::verify;
+use cw_text::Fault;
 use std::alloc::Global;
 use std::sync::Arc;
 
@@ -78,15 +70,6 @@ int main(int n) { int r = 0; r = fib(n); return r; }
 
 /// The code of a program.
 pub fn code_of(alloc: Global, bytes: &[u8]) -> Result<Arc<Verified>, Fault> {
-    derived_sites_are_numbered();
-    derived_is_source_like();
-    let source = Source::read(alloc, bytes)?;
-    let tokens = lex(alloc, &source)?;
-    let ast = parse(alloc, &source, tokens.as_slice())?;
-    let typed = check(alloc, ast)?;
-    let owned = own(alloc, typed)?;
-    let core = lower(alloc, owned)?;
-    let code = generate(alloc, &core)?;
-    let verified = verify(alloc, code)?;
+    let verified = compile(alloc, bytes)?;
     Ok(Arc::new(alloc, verified)?)
 }

@@ -2,7 +2,7 @@ use Rattle.std.proofs.Common.{◌≡◌, ◌∙◌, sym, subst}
 use Rattle.cw_code.specs.Code.{code_view}
 use Rattle.cw_runnable.specs.declared.verified.Verified.{Verified}
 use Rattle.cw_machine.specs.Runs.{GivesAsCode}
-use Rattle.cw_cli.specs.Compiled.{IsCompiled}
+use Rattle.cw_compile.specs.Compiled.{IsCompiled}
 use Rattle.cw_cli.proofs.analysis.run_plain_with.Goals as goal
 
 pub returns : goal.returns

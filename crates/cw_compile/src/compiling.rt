@@ -1,13 +1,13 @@
 //! From bytes to code.
 
 ghost use Rattle.std.specs.Prelude.{◌≡◌, IfOk, MatchResult, map};
-ghost use Rattle.cw_gains.specs.Counts.{head_view};
+ghost use Rattle.cw_code.specs.Heads.{head_view};
 ghost use Rattle.cw_tree.specs.ResolvedView.{function_of};
 ghost use Rattle.cw_code.specs.Code.{code_view};
-ghost use Rattle.cw_cli.specs.Compiled.{IsCompiled, IsMade, head_of};
-ghost use Rattle.cw_cli.specs.Sources.{IsRefused};
+ghost use Rattle.cw_compile.specs.Compiled.{IsCompiled, IsMade, head_of};
+ghost use Rattle.cw_compile.specs.Sources.{IsRefused};
 
-use cw_gains::counts::Head;
+use cw_code::head::Head;
 use cw_gen::generate;
 use cw_lex::lex;
 use cw_loops::laws::derived_is_source_like;
@@ -24,7 +24,7 @@ use std::alloc::{AllocError, Global};
 
 /// What a source is compiled to.
 #[derive(Debug, Drop)]
-pub(crate) struct Compiled {
+pub struct Compiled {
     /// The code of its program.
     pub code: Verified,
     /// The heads of its functions, by place.
@@ -50,7 +50,7 @@ pub fn compile(alloc: Global, bytes: &[u8]) -> Result<Verified, Fault>
 }
 
 /// The same, with the heads of the program's functions beside the code.
-pub(crate) fn compile_with_heads(alloc: Global, bytes: &[u8]) -> Result<Compiled, Fault>
+pub fn compile_with_heads(alloc: Global, bytes: &[u8]) -> Result<Compiled, Fault>
     ensures { MatchResult result (IsMade bytes.now) (IsRefused bytes.now) }
 {
     derived_sites_are_numbered();

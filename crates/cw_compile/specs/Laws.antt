@@ -3,7 +3,7 @@ use Rattle.std.specs.Prelude.{◌≡◌, ℕ, List, ◌⊎◌}
 use Rattle.cw_model.specs.Syntax.{Program}
 use Rattle.cw_text.specs.declared.fault.Fault.{Fault}
 use Rattle.cw_text.specs.declared.fault.Fault.TheVariants as fault
-use Rattle.cw_cli.specs.Sources.{IsSourceOf, Compiles, IsRefused}
+use Rattle.cw_compile.specs.Sources.{IsSourceOf, Compiles, IsRefused}
 
 -- bytes are a source of at most one program
 abbrev pub HaveOneProgram : Type 0

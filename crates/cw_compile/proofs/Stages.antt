@@ -17,7 +17,7 @@ use Rattle.cw_parse.specs.Parsed.{HasOneTree, FaultsAreOne}
 use Rattle.cw_text.specs.declared.fault.Place.{Place}
 use Rattle.cw_text.specs.declared.fault.Fault.{Fault}
 use Rattle.cw_text.specs.declared.fault.Fault.TheVariants as fault
-use Rattle.cw_cli.specs.Sources as sources
+use Rattle.cw_compile.specs.Sources as sources
 
 -- ---- one stage
 

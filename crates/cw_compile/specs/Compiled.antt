@@ -4,12 +4,12 @@ use Rattle.cw_model.specs.Syntax.{Program}
 use Rattle.cw_model.specs.Sites.{Head, heads_of}
 use Rattle.cw_tree.specs.Resolved.{Function}
 use Rattle.cw_code.specs.Code.{Code, code_view}
-use Rattle.cw_gains.specs.Counts.{head_view}
-use Rattle.cw_gains.specs.declared.counts.Head as counted
+use Rattle.cw_code.specs.Heads.{head_view}
+use Rattle.cw_code.specs.declared.head.Head as counted
 use Rattle.cw_runnable.specs.declared.verified.Verified.{Verified}
 use Rattle.cw_gen.specs.Generates.{Generates}
-use Rattle.cw_cli.specs.Sources.{Compiles}
-use Rattle.cw_cli.specs.declared.compiling.Compiled.{Compiled}
+use Rattle.cw_compile.specs.Sources.{Compiles}
+use Rattle.cw_compile.specs.declared.compiling.Compiled.{Compiled}
 
 -- the code of the program that the bytes are a source of: it does what that program's serial elision does
 pub record IsCompiled (bytes : List ℕ) (code : Code) : Type 0 where

@@ -1,5 +1,5 @@
-use Rattle.cw_cli.proofs.Stages.{compiled_apart, one_refusal}
-use Rattle.cw_cli.proofs.laws.one_answer.Goals as goal
+use Rattle.cw_compile.proofs.Stages.{compiled_apart, one_refusal}
+use Rattle.cw_compile.proofs.laws.one_answer.Goals as goal
 
 pub returns-clause-compiled : goal.returns-clause-compiled
 returns-clause-compiled c = λ bytes p f h k.

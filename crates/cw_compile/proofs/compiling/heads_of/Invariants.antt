@@ -1,8 +1,8 @@
 use Rattle.std.proofs.Common.{◌≡◌, ◌++◌, map, drop}
 use Rattle.cw_tree.specs.ResolvedView.{function_of}
-use Rattle.cw_gains.specs.Counts.{head_view}
-use Rattle.cw_cli.specs.Compiled.{head_of}
-use Rattle.cw_cli.proofs.compiling.heads_of.Given as goal
+use Rattle.cw_code.specs.Heads.{head_view}
+use Rattle.cw_compile.specs.Compiled.{head_of}
+use Rattle.cw_compile.proofs.compiling.heads_of.Given as goal
 
 -- the heads so far, and those of the functions that are left
 abbrev pub invariant-loop-function : goal.invariant-loop-function

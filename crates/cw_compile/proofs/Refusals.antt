@@ -23,18 +23,14 @@ use Rattle.cw_model.specs.Sizes.{loop_faults}
 use Rattle.cw_loops.specs.Seen.{WhyNotLowered}
 use Rattle.cw_loops.specs.SourceLike.{is_source_like}
 use Rattle.cw_loops.specs.LoweringLaws.{DerivedIsSourceLike}
-use Rattle.cw_cli.specs.Sources
-use Rattle.cw_cli.specs.Compiled.{IsMade, head_of}
+use Rattle.cw_compile.specs.Sources
+use Rattle.cw_compile.specs.Compiled.{IsMade, head_of}
+use Rattle.cw_compile.specs.lemmas.HandedOn.{handed_on}
 use Rattle.std.specs.Global.{Vec}
 use Rattle.cw_tree.specs.Resolved.{Function, plain_function}
 use Rattle.cw_runnable.specs.declared.verified.Verified.{Verified}
-use Rattle.cw_gains.specs.Counts.{head_view}
-use Rattle.cw_gains.specs.declared.counts.Head.{Head}
-
--- a fault that is handed on
-pub handed_on : {A : Type 0} (Q : A → Type 0) (P : Fault → Type 0) (e : Fault) (r : Result A Fault) → P e → IsErrAnd r (λ x. x ≡ e) → MatchResult r Q P
-handed_on Q P e (Ok x) p h = absurd h
-handed_on Q P e (Err x) p h = subst P (sym h) p
+use Rattle.cw_code.specs.Heads.{head_view}
+use Rattle.cw_code.specs.declared.head.Head.{Head}
 
 -- what is known of a function beside its name and its line says nothing of its head
 plain_heads : (functions : List Function) → map head_of functions ≡ map (λ f. record { name = f.name; line = f.line }) (map plain_function functions)

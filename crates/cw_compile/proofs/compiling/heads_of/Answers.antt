@@ -4,10 +4,10 @@ use Rattle.cw_model.specs.Syntax.{Name}
 use Rattle.cw_model.specs.Sites as model
 use Rattle.cw_tree.specs.declared.resolved.Function.{Function}
 use Rattle.cw_tree.specs.ResolvedView.{function_of}
-use Rattle.cw_gains.specs.Counts.{head_view}
-use Rattle.cw_gains.specs.declared.counts.Head.{Head}
-use Rattle.cw_cli.specs.Compiled.{head_of}
-use Rattle.cw_cli.proofs.compiling.heads_of.Goals as goal
+use Rattle.cw_code.specs.Heads.{head_view}
+use Rattle.cw_code.specs.declared.head.Head.{Head}
+use Rattle.cw_compile.specs.Compiled.{head_of}
+use Rattle.cw_compile.proofs.compiling.heads_of.Goals as goal
 
 -- the heads of functions
 abbrev heads : List Function → List model.Head

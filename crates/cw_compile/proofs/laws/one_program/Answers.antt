@@ -1,6 +1,6 @@
 use Rattle.std.proofs.Common.{subst}
 use Rattle.cw_model.specs.Grammar.{Derives}
-use Rattle.cw_cli.proofs.laws.one_program.Goals as goal
+use Rattle.cw_compile.proofs.laws.one_program.Goals as goal
 
 pub returns : goal.returns
 returns c = λ bytes p q h k.

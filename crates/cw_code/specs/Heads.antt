@@ -1,0 +1,6 @@
+-- The heads of functions, as the definitions have them.
+use Rattle.cw_model.specs.Sites as model
+use Rattle.cw_code.specs.declared.head.Head.{Head}
+
+abbrev pub head_view : Head → model.Head
+head_view head = record { name = head.name; line = head.line }

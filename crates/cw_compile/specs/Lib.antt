@@ -1,0 +1,4 @@
+pub mod Sources
+pub mod Compiled
+pub mod Laws
+pub mod lemmas
