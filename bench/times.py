@@ -3,7 +3,8 @@
 
     times.py PROGRAM [ROUNDS]        the least of so many interleaved rounds (15), and the ratios beside those that are wanted;
                                      wants gcc, which compiles bench/switch.c and bench/measures.c
-    times.py PROGRAM gain [ROUNDS]   the same of `gain` by `scale`: of one function more, and of ten
+    times.py PROGRAM gain [ROUNDS]   the same of `gain` by `scale`: of one function more, and of ten; and by the clock, with
+                                     1, 2 and 4 workers
 
 Sizes are such that what begins and ends a process is a small part, and rounds short: a machine that is shared is now and
 then slower for seconds. Where other work runs beside, ratios still compare, since the rounds are interleaved; seconds do
@@ -15,12 +16,15 @@ import resource
 import subprocess
 import sys
 import tempfile
+import time
 
 HERE = pathlib.Path(__file__).resolve().parent
 LIMIT = "4611686018427387904"
 # programs, their argument, and the ratios that are wanted without measures and with them
 PROGRAMS = [("fib", "29", 0.65, 0.75), ("chain", "4000", 0.9, 0.85), ("sieve", "1000000", 0.5, 0.5),
             ("mergesort", "100000", 0.55, 0.6), ("matrix", "110", 0.6, 0.65), ("queens", "10", 0.7, 0.8)]
+
+CREWS = ("1", "2", "4")
 
 
 def source(name):
@@ -35,6 +39,13 @@ def taken(command):
     subprocess.run(command, stdout=subprocess.DEVNULL, stderr=subprocess.DEVNULL)
     after = resource.getrusage(resource.RUSAGE_CHILDREN)
     return after.ru_utime + after.ru_stime - before.ru_utime - before.ru_stime
+
+
+def clock(command):
+    """Seconds by the clock of a command."""
+    before = time.perf_counter()
+    subprocess.run(command, stdout=subprocess.DEVNULL, stderr=subprocess.DEVNULL)
+    return time.perf_counter() - before
 
 
 def commands(program, folder):
@@ -57,7 +68,7 @@ def commands(program, folder):
 
 
 def gains(program, rounds="15"):
-    """A table of `gain` beside `scale`."""
+    """Tables of `gain` beside `scale`, and by workers."""
     least, above = {}, 0
     for _ in range(int(rounds)):
         for name, size, *_ in PROGRAMS:
@@ -70,7 +81,24 @@ def gains(program, rounds="15"):
         scale, one, ten = (least[name, *more] for more in ([], ["--top", "1"], ["--top", "10"]))
         above += (one - scale > 0.8 * scale) + (ten > 11 * scale)
         print(f"| {name} {size} | {scale:.3f} | {one:.3f} | {(one - scale) / scale:.2f} | 0.8 | {ten:.3f} | {ten / scale:.2f} | 11 |")
+    crews(program, rounds)
     return above
+
+
+def crews(program, rounds):
+    """A table of `gain --top 10` by workers, and how many functions it tells."""
+    least, told = {}, {}
+    for _ in range(int(rounds)):
+        for name, size, *_ in PROGRAMS:
+            words = [program, "gain", source(name), size, "--workers"]
+            told[name] = told.get(name) or subprocess.run([*words, "1"], capture_output=True, text=True).stdout.count("\n") - 2
+            for workers in CREWS:
+                least[name, workers] = min(least.get((name, workers), 1e9), clock([*words, workers]))
+    print("\n| program, functions | " + " | ".join(f"{workers} workers" for workers in CREWS) + " | 1 by 4 |")
+    print("|---" * (len(CREWS) + 2) + "|")
+    for name, size, *_ in PROGRAMS:
+        row = [least[name, workers] for workers in CREWS]
+        print(f"| {name} {size}, {told[name]} | " + " | ".join(f"{it:.3f}" for it in row) + f" | {row[0] / row[-1]:.2f} |")
 
 
 def main(program, rounds="15"):

@@ -2,19 +2,17 @@
 
 ghost use Rattle.std.specs.Prelude.{◌≡◌, ◌<◌, ◌≤◌, ◌-◌, ◌^◌, ℕ, List, MatchResult, length};
 ghost use Rattle.cw_code.specs.Code.{code_view};
-ghost use Rattle.cw_machine.specs.Runs.{RunsAsCode};
 ghost use Rattle.cw_pool.specs.declared.run.TheConstants.{MOST_BODIES};
 ghost use Rattle.cw_words.specs.declared.asked.Mode.TheVariants as mode;
-ghost use Rattle.cw_compile.specs.Compiled.{AreMade, IsCompiled, IsMade};
+ghost use Rattle.cw_compile.specs.Compiled.{IsCompiled, IsMade};
 ghost use Rattle.cw_cli.specs.Analyses.{IsModeInRange};
 ghost use Rattle.cw_cli.specs.Analyses.{IsAnalysed, IsAnalysedBy, IsRun};
 ghost use Rattle.cw_cli.specs.Told.{HasTables};
 
 use crate::reporting::{are_words, write_gains, write_tables, write_values};
-use cw_code::head::Head;
 use cw_compile::{Compiled, compile_with_heads};
-use cw_gains::gains::gains_of_run;
-use cw_machine::alone::{Ended, run_alone};
+use cw_gains::gains::{gains_of_run, gains_of_run_with};
+use cw_machine::alone::run_alone;
 use cw_machine::values::values_alone;
 use cw_model::limits::{MOST_BURDEN, MOST_TOP};
 use cw_pool::crew::Body;
@@ -65,8 +63,9 @@ pub fn analyse_alone<W: Sink>(
 /// and one for each body of the crew as workers that steal from each other.
 ///
 /// The errors and what is written are those of `analyse_alone`, which it calls where the crew is empty: no byte depends
-/// on the crew, on what its bodies and the gate do, or on the order in which workers come to steal. A check, a schedule
-/// and the runs behind the first one in mode `Gain` are made by the caller's thread alone.
+/// on the crew, on what its bodies and the gate do, or on the order in which workers come to steal. A check and a schedule
+/// are made by the caller's thread alone. In mode `Gain` the crew does the first run, and behind it as many threads as
+/// there are workers the further ones, side by side.
 ///
 /// Before all that, a crew of more than 63 bodies is `Arguments` in each mode, with nothing written.
 ///
@@ -230,12 +229,15 @@ fn run_gain<W: Sink>(
     let most = top_of(top)?;
     let code = Arc::new(alloc, made.code)?;
     let share = Arc::try_clone(&code)?;
-    let ended = run_alone(alloc, share, args, options.limit, options.burden);
+    let (limit, burden) = (options.limit, options.burden);
+    let ended = run_alone(alloc, share, args, limit, burden);
     let heads = made.heads.as_slice();
-    tell_gains(alloc, code, heads, args, most, options, ended, out)
+    let gains = gains_of_run(alloc, code, heads, args, limit, burden, most, ended);
+    write_gains(alloc, args, options, gains, out)
 }
 
-// Runs code with a crew, and once more for each function that is told, and writes what these would bring.
+// Runs code with a crew, and once more for each function that is told, as many of these runs side by side as there are
+// workers, and writes what these functions would bring.
 fn run_gain_with<
     W: Sink,
     G: Gate + Drop + Send + Sync + 'static,
@@ -260,39 +262,13 @@ fn run_gain_with<
     let most = top_of(top)?;
     let code = Arc::new(alloc, made.code)?;
     let share = Arc::try_clone(&code)?;
-    let ended = cw_pool::run::run(
-        rt,
-        alloc,
-        share,
-        args,
-        options.limit,
-        options.burden,
-        crew,
-        gate,
-    );
-    let heads = made.heads.as_slice();
-    tell_gains(alloc, code, heads, args, most, options, ended, out)
-}
-
-// Runs code that ended so once more for each function that is told, and writes what these would bring.
-fn tell_gains<W: Sink>(
-    alloc: Global,
-    code: Arc<Verified>,
-    heads: &[Head],
-    args: &[i64],
-    most: usize,
-    options: Options,
-    ended: Result<Ended, Fault>,
-    out: &mut W,
-) -> Result<(), Fault>
-    requires { (W.seen out.old).failures < 2 ^ 64 - 1 }
-    ensures { (bytes : List ℕ) → options.mode ≡ mode.Gain most → IsModeInRange options.mode
-        → AreMade bytes code.value heads.now
-        → RunsAsCode (code_view code.value.code) args.now options.limit options.burden ended
-        → IsRun W.seen out.old out.new bytes args.now options result }
-{
     let (limit, burden) = (options.limit, options.burden);
-    let gains = gains_of_run(alloc, code, heads, args, limit, burden, most, ended);
+    let workers = crew.len() + 1;
+    let ended = cw_pool::run::run(rt, alloc, share, args, limit, burden, crew, gate);
+    let heads = made.heads.as_slice();
+    let gains = gains_of_run_with(
+        rt, alloc, code, heads, args, limit, burden, most, workers, ended,
+    );
     write_gains(alloc, args, options, gains, out)
 }
 

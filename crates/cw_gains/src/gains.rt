@@ -6,7 +6,7 @@ ghost use Rattle.cw_gains.specs.Free.{AreFreeOf, AreFrees, IsFreeOf, OnlyMemory}
 ghost use Rattle.cw_gains.specs.Gains.{GainsAsCode};
 ghost use Rattle.cw_machine.specs.Runs.{Runs, RunsAsCode};
 
-use crate::counts::{Counted, ranked};
+use crate::counts::{Counted, greatest};
 use cw_code::code::Code;
 use cw_code::head::Head;
 use cw_machine::alone::Ended;
@@ -17,6 +17,8 @@ use cw_runnable::verified::Verified;
 use cw_text::Fault;
 use std::alloc::{AllocError, Global};
 use std::sync::Arc;
+use std::thread;
+use std::thread::Threads;
 
 /// A function, and what the spans of the run would be if its instructions were free.
 #[derive(Debug, Drop)]
@@ -39,7 +41,7 @@ pub struct Gains {
 }
 
 /// What functions of a run would bring, at most `top` of them: of a run of this code on these arguments within `n`
-/// instructions that was done, and answered this. Each function that is told costs a further run.
+/// instructions that was done, and answered this. Each function that is told costs a further run, one after another.
 ///
 /// The error is that of the run, or `Memory` where memory runs out.
 pub fn gains_of_run(
@@ -64,6 +66,34 @@ pub fn gains_of_run(
     }
 }
 
+/// The same, by so many threads, of which the caller's is one: the further runs go side by side. With one no thread is
+/// started, and where a thread can't be started the caller's does its runs, too. What is told is the same.
+pub fn gains_of_run_with<R: Threads>(
+    rt: &R,
+    alloc: Global,
+    code: Arc<Verified>,
+    heads: &[Head],
+    args: &[i64],
+    n: u64,
+    burden: Burden,
+    top: usize,
+    threads: usize,
+    ended: Result<Ended, Fault>,
+) -> Result<Gains, Fault>
+    ensures { RunsAsCode (code_view code.value.code) args.now n burden ended
+        → GainsAsCode (code_view code.value.code) heads.now args.now n burden top result }
+{
+    match ended {
+        Ok(ended) => {
+            let gains = gains_of_ended_with(
+                rt, alloc, &code, heads, args, n, burden, top, threads, &ended,
+            )?;
+            Ok(gains)
+        }
+        Err(fault) => Err(fault),
+    }
+}
+
 // The same of a run that ended.
 fn gains_of_ended(
     alloc: Global,
@@ -78,13 +108,55 @@ fn gains_of_ended(
     ensures { Runs (code_view code.now.value.code) args.now n burden ended.now
         → GainsAsCode (code_view code.now.value.code) heads.now args.now n burden top result }
 {
-    let mut counted = ranked(alloc, heads, &code.code, ended.sites.values().as_slice())?;
-    counted.truncate(top);
+    let counted = greatest(
+        alloc,
+        heads,
+        &code.code,
+        ended.sites.values().as_slice(),
+        top,
+    )?;
     let functions = freed(alloc, code, args, n, burden, counted.as_slice())?;
     Ok(Gains {
         measure: ended.measure,
         functions,
     })
+}
+
+// The same by so many threads.
+fn gains_of_ended_with<R: Threads>(
+    rt: &R,
+    alloc: Global,
+    code: &Arc<Verified>,
+    heads: &[Head],
+    args: &[i64],
+    n: u64,
+    burden: Burden,
+    top: usize,
+    threads: usize,
+    ended: &Ended,
+) -> Result<Gains, Fault>
+    ensures { Runs (code_view code.now.value.code) args.now n burden ended.now
+        → GainsAsCode (code_view code.now.value.code) heads.now args.now n burden top result }
+{
+    let counted = greatest(
+        alloc,
+        heads,
+        &code.code,
+        ended.sites.values().as_slice(),
+        top,
+    )?;
+    let functions = freed_with(
+        rt,
+        alloc,
+        code,
+        args,
+        n,
+        burden,
+        threads,
+        counted.as_slice(),
+    )?;
+    let measure = ended.measure;
+    Ok(Gains { measure, functions })
 }
 
 // Functions with the spans of the run if each were free.
@@ -104,6 +176,45 @@ fn freed(
         let gain = gain_of(alloc, code, args, n, burden, counted)?;
         gains.push(gain)?;
     }
+    Ok(gains)
+}
+
+// The same by so many threads at most: one of its own does the first functions, and beside it the caller's and the others
+// do the rest.
+#[cycle(threads)]
+fn freed_with<R: Threads>(
+    rt: &R,
+    alloc: Global,
+    code: &Arc<Verified>,
+    args: &[i64],
+    n: u64,
+    burden: Burden,
+    threads: usize,
+    all: &[Counted],
+) -> Result<Vec<FunctionGain>, Fault>
+    ensures ok { IfOk result (AreFreeOf code.now.value args.now n burden all.now) }
+    ensures why { IfErr result (OnlyMemory code.now.value args.now n burden) }
+{
+    let threads = threads.min(all.len());
+    if threads < 2 {
+        return freed(alloc, code, args, n, burden, all);
+    }
+    let left = threads - 1;
+    let (share, rest) = all.split_at(all.len() / threads);
+    let one = move || -> Result<Vec<FunctionGain>, Fault>
+        ensures ok { IfOk result
+            (AreFreeOf code.entry.now.value args.entry.now n burden share.entry.now) }
+        ensures why { IfErr result (OnlyMemory code.entry.now.value args.entry.now n burden) }
+    { freed(alloc, code, args, n, burden, share) };
+    let others = move || -> Result<Vec<FunctionGain>, Fault>
+        ensures ok { IfOk result
+            (AreFreeOf code.entry.now.value args.entry.now n burden rest.entry.now) }
+        ensures why { IfErr result (OnlyMemory code.entry.now.value args.entry.now n burden) }
+    { freed_with(rt, alloc, code, args, n, burden, left, rest) };
+    let (first, later) = thread::join(rt, one, others);
+    let mut gains = first?;
+    let mut later = later?;
+    gains.append(&mut later)?;
     Ok(gains)
 }
 

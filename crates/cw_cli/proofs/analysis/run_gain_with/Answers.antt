@@ -24,4 +24,5 @@ returns g c = λ bytes is made.
     let of_most : c.args.options.mode ≡ mode.Gain c.in_ok-most.most = subst (λ n. c.args.options.mode ≡ mode.Gain n) (sym c.in_ok-most.ensures.0) is in
     let of_code = subst (λ v. AreMade bytes v c.args.made.heads.items) (sym c.in_ok-code.ensures.ok) made in
     let of_heads = subst (λ hs. AreMade bytes c.in_ok-code.code.value hs) (sym c.as_slice-heads.ensures.value) of_code in
-    c.tell_gains.ensures bytes of_most of_mode of_heads ran
+    c.write_gains.ensures bytes c.in_ok-code.code.value c.as_slice-heads.result.now c.in_ok-most.most of_most of_mode of_heads
+    (c.gains_of_run_with-gains.ensures ran)
