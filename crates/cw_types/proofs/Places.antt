@@ -1,5 +1,5 @@
 -- The place of a name, where one more name comes.
-use Rattle.std.proofs.Common.{arith, ◌≡◌, ℕ, suc, ◌+◌, ◌<◌, ◌^◌, Bool, true, false, if◌then◌else◌, cond, bytes_eq, List, [], ◌∷◌, ◌++◌, length, Option, Some, None, option_map, is_some, refl, sym, ap, ◌∙◌, Bor, length-append}
+use Rattle.std.proofs.Common.{arith, ◌≡◌, ℕ, suc, ◌+◌, ◌<◌, ◌^◌, Bool, true, false, if◌then◌else◌, cond, bytes_eq, List, [], ◌∷◌, ◌++◌, length, Option, Some, None, IfSome, option_map, is_some, refl, sym, ap, ◌∙◌, Bor, length-append}
 use Rattle.std.proofs.lemmas.Slice.Eq.{bytes_eq-Decides}
 use Rattle.std.proofs.lemmas.Map.Text.{hash_map_updates_str}
 use Rattle.std.specs.HashMap as hash
@@ -27,6 +27,11 @@ slot_is_place x (y ∷ names) = first (slot_is_place x names) (same_name x y)
 
 pub slot_found : (x : Name) (names : List Name) (p : ℕ) → place_of x names ≡ Some p → slot_of x names ≡ p
 slot_found x names p h = slot_is_place x names ∙ ap (λ o. place_or o (length names)) h
+
+-- what is found in the map, if something is, is the slot
+pub found_first : (x : Name) (names : List Name) (found : Option ℕ) → found ≡ place_of x names → IfSome found (λ p. p ≡ slot_of x names)
+found_first x names None h = tt
+found_first x names (Some p) h = sym (slot_found x names p (sym h))
 
 pub slot_missing : (x : Name) (names : List Name) → place_of x names ≡ None → slot_of x names ≡ length names
 slot_missing x names h = slot_is_place x names ∙ ap (λ o. place_or o (length names)) h

@@ -117,15 +117,20 @@ fn name_alone(
 ) -> Result<tree::Argument, AllocError>
     ensures { IfOk result (looked.IsNameAlone locals.now params.now name.now) }
 {
-    if locals.arrays.has(name.as_bytes()) {
-        let used = use_of(alloc, &locals.arrays, name)?;
-        if is_reader(params) {
-            return Ok(tree::Argument::Shared(used));
+    match locals.arrays.place(name.as_bytes()) {
+        None => {
+            let used = use_of(alloc, &locals.ints, name)?;
+            Ok(tree::Argument::Int(tree::Expr::Variable(used)))
         }
-        return Ok(tree::Argument::Array(used));
+        Some(slot) => {
+            let name = copy(alloc, name)?;
+            let used = tree::Use { name, slot };
+            if is_reader(params) {
+                return Ok(tree::Argument::Shared(used));
+            }
+            Ok(tree::Argument::Array(used))
+        }
     }
-    let used = use_of(alloc, &locals.ints, name)?;
-    Ok(tree::Argument::Int(tree::Expr::Variable(used)))
 }
 
 // An argument for the first of these parameters, with each name looked up.

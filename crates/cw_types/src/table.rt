@@ -1,6 +1,6 @@
 //! Names by their places.
 
-ghost use Rattle.std.specs.Prelude.{◌≡◌, ◌<◌, ◌≤◌, ◌+◌, ◌-◌, ◌^◌, [], ◌∷◌, ◌++◌, length, take};
+ghost use Rattle.std.specs.Prelude.{◌≡◌, ◌<◌, ◌≤◌, ◌+◌, ◌-◌, ◌^◌, [], ◌∷◌, ◌++◌, IfSome, is_some, length, take};
 ghost use Rattle.cw_model.specs.Names.{is_among};
 ghost use Rattle.cw_types.specs.Grows.{Becomes};
 ghost use Rattle.cw_tree.specs.Resolved.{slot_of};
@@ -47,6 +47,14 @@ impl<'a> Table<'a> {
             Some(place) => *place,
             None => self.names.len() as u32,
         }
+    }
+
+    /// The first place of a name, from 0, if the name is there.
+    pub fn place(&self, name: &[u8]) -> Option<u32>
+        ensures there { is_some result ≡ is_among name.now self.now }
+        ensures first { IfSome result (λ place. place ≡ slot_of name.now self.now) }
+    {
+        self.places.get(name).copied()
     }
 
     /// How many names there are.
