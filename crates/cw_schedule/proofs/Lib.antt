@@ -2,7 +2,9 @@ pub mod Plans
 pub mod Reading
 pub mod Releasing
 pub mod State
+pub mod Weighing
 pub mod Jumps
 pub mod Slots
 pub mod Halves
 pub mod Told
+pub mod Within

@@ -185,22 +185,22 @@ pub makes_all : (block : Block) (p : Planning) → Makes block [] p → p.strand
 makes_all block p h = made block p h.frames h.begun h.plans h.reads
 
 -- joins
-snoc_same : (xs ys : List Open) (x y : Open) → xs ++ x ∷ [] ≡ ys ++ y ∷ [] → (xs ≡ ys) × (x ≡ y)
-snoc_same [] [] x y e = (refl, head x y e)
+pub snoc_same : {A : Type 0} (xs ys : List A) (x y : A) → xs ++ x ∷ [] ≡ ys ++ y ∷ [] → (xs ≡ ys) × (x ≡ y)
+snoc_same {A = A} [] [] x y e = (refl, head x y e)
   where
-    head : (x y : Open) → x ∷ [] ≡ y ∷ [] → x ≡ y
+    head : (x y : A) → x ∷ [] ≡ y ∷ [] → x ≡ y
     head x y e = cc
-snoc_same [] (z ∷ ys) x y e = absurd (let f = ap length e in omega (arith, f, length-append ys (y ∷ [])))
-snoc_same (z ∷ xs) [] x y e = absurd (let f = ap length e in omega (arith, f, length-append xs (x ∷ [])))
-snoc_same (z ∷ xs) (u ∷ ys) x y e =
+snoc_same {A = A} [] (z ∷ ys) x y e = absurd (let f = ap length e in omega (arith, f, length-append ys (y ∷ [])))
+snoc_same {A = A} (z ∷ xs) [] x y e = absurd (let f = ap length e in omega (arith, f, length-append xs (x ∷ [])))
+snoc_same {A = A} (z ∷ xs) (u ∷ ys) x y e =
     let f : z ≡ u = head z u (xs ++ x ∷ []) (ys ++ y ∷ []) e in
     let g = snoc_same xs ys x y (tail z u (xs ++ x ∷ []) (ys ++ y ∷ []) e) in
-    (ap (λ (w : Open). w ∷ xs) f ∙ ap (λ (l : List Open). u ∷ l) g.0, g.1)
+    (ap (λ (w : A). w ∷ xs) f ∙ ap (λ (l : List A). u ∷ l) g.0, g.1)
   where
-    head : (a b : Open) (as' bs : List Open) → a ∷ as' ≡ b ∷ bs → a ≡ b
+    head : (a b : A) (as' bs : List A) → a ∷ as' ≡ b ∷ bs → a ≡ b
     head a b as' bs e = cc
 
-    tail : (a b : Open) (as' bs : List Open) → a ∷ as' ≡ b ∷ bs → as' ≡ bs
+    tail : (a b : A) (as' bs : List A) → a ∷ as' ≡ b ∷ bs → as' ≡ bs
     tail a b as' bs e = cc
 
 -- one join of several: the last one, or the others are left
@@ -252,7 +252,7 @@ pub joins_some : (end : List Frame × Block) (p : Planning) → Joins end p → 
 joins_some end p h s = open_spawn end p h.frames h.begun h.plans h.joins s
 
 -- after a join the codes behind it are read
-read_joined : (block : Block) (codes : List Code) (o : Option (List Frame × Block)) → after_join (λ more later. read codes more later) o ≡ Some block →
+pub read_joined : (block : Block) (codes : List Code) (o : Option (List Frame × Block)) → after_join (λ more later. read codes more later) o ≡ Some block →
     (end : List Frame × Block) × ((o ≡ Some end) × (read codes end.0 end.1 ≡ Some block))
 read_joined block codes None e = absurd (differ e)
   where

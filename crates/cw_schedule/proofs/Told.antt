@@ -1,4 +1,4 @@
--- What is told together of one run by what measures it and by what keeps its strands.
+-- What is told of a run by what keeps its strands.
 use Rattle.std.proofs.Common.{◌≡◌, ◌≤◌, ◌<◌, ℕ, ℤ, Bool, true, false, ◌&&◌, Some, None, List, refl, sym, ap, ◌∙◌, subst, arith}
 use Rattle.std.specs.Prelude.{IsErrAnd, IsSome, MatchResult, Ok, Err, Result, nat_le, nat_eq, length}
 use Rattle.std.proofs.lemmas.Bool.Decides.{nat_tests}
@@ -13,14 +13,13 @@ use Rattle.cw_greedy.specs.declared.code.TheConstants.{MOST_STRANDS}
 use Rattle.cw_greedy.specs.Recorded.{Recorded}
 use Rattle.cw_greedy.specs.Records.{IsRecordOf}
 use Rattle.cw_greedy.specs.Blocks.{strand_count}
-use Rattle.cw_meter.specs.declared.meter.Readings.{Readings}
 use Rattle.cw_code.specs.Code.{Code}
 use Rattle.cw_code.specs.Fits.{main_params}
 use Rattle.cw_machine.specs.Runs.{is_request, IsFailure}
 use Rattle.cw_recorded.specs.Recording.{IsKept}
 use Rattle.cw_machine.specs.Recorded.{Records}
 use Rattle.cw_schedule.specs.declared.schedules.TheConstants.{MOST_PROCESSORS}
-use Rattle.cw_schedule.specs.Schedules.{is_counted, is_asked, Ends, Measured, IsNotScheduled}
+use Rattle.cw_schedule.specs.Schedules.{is_counted, is_asked, Ends, IsNotScheduled}
 
 first_true : (a b : Bool) → (a && b) ≡ true → a ≡ true
 first_true true b h = cc
@@ -38,9 +37,14 @@ pub handed_on : {A : Type 0} (Q : A → Type 0) (P : Fault → Type 0) (e : Faul
 handed_on Q P e (Ok x) p h = absurd h
 handed_on Q P e (Err x) p h = subst P (sym h) p
 
--- a schedule is asked for of a run that can be asked for
-pub requested : (code : Code) (args : List ℤ) (n processors : ℕ) → is_asked code args n processors ≡ true → is_request code args n no_burden ≡ true
-requested code args n processors h = second_true (is_counted processors) (is_request code args n no_burden) h
+-- where a schedule is asked for the limit is in its range
+pub at_most : (code : Code) (args : List ℤ) (n processors k : ℕ) → is_asked code args n processors ≡ true → k ≤ n → k ≤ MOST_LIMIT
+at_most code args n processors k asked within =
+    let low = nat_le no_burden.charge MOST_BURDEN in
+    let request = second_true (is_counted processors) (is_request code args n no_burden) asked in
+    let limits = second_true (nat_eq (length args) (main_params code)) (nat_le 1 n && (nat_le n MOST_LIMIT && low)) request in
+    let most = first_true (nat_le n MOST_LIMIT) low (second_true (nat_le 1 n) (nat_le n MOST_LIMIT && low) limits) in
+    omega (arith, le_of n MOST_LIMIT most, within)
 
 -- why a run has no value is why it has no schedule
 pub not_scheduled : (code : Code) (args : List ℤ) (n processors : ℕ) (e : Fault) → is_asked code args n processors ≡ true → IsFailure code args n no_burden e → IsNotScheduled code args n processors e
@@ -61,21 +65,8 @@ not_scheduled code args n processors fault.Code asked h = absurd h
 not_scheduled code args n processors fault.Write asked h = absurd h
 not_scheduled code args n processors fault.Strands asked h = absurd h
 
-same_tree : (v w : ℤ) (lines more : List ℤ) (totals others : List Total) (t u : Tree) → Some (Ended v lines totals t) ≡ Some (Ended w more others u) → t ≡ u
-same_tree v w lines more totals others t u e = cc
-
--- a run ends with one tree
-pub one_tree : (code : Code) (args : List ℤ) (n : ℕ) (t u : Tree) → Ends code args n t → Ends code args n u → t ≡ u
-one_tree code args n t u a b =
-    same_tree a.value b.value a.lines b.lines a.totals b.totals t u (sym a.answer ∙ b.answer)
-
 pub ends_so : (code : Code) (args : List ℤ) (n : ℕ) (kept : Recorded) (r : Records code args n kept) → Ends code args n r.tree
 ends_so code args n kept r = record { value = r.value; lines = r.lines; totals = r.totals; answer = r.answer }
-
--- what is kept of the strands of a run is that of the tree that was measured
-pub kept_of : (code : Code) (args : List ℤ) (n : ℕ) (whole : Readings) (kept : Recorded) (m : Measured code args n whole) → Records code args n kept → IsKept m.tree kept
-kept_of code args n whole kept m r =
-    subst (λ t. IsKept t kept) (one_tree code args n r.tree m.tree (ends_so code args n kept r) m.ends) r.is_kept
 
 -- what is kept of few enough strands
 pub record_kept : (t : Tree) (kept : Recorded) → IsSome kept → IsKept t kept → (strand_count t ≤ MOST_STRANDS) × IsRecordOf t kept

@@ -10,11 +10,9 @@ use Rattle.cw_greedy.specs.declared.code.TheConstants.{MOST_STRANDS}
 use Rattle.cw_greedy.specs.Blocks.{strand_count}
 use Rattle.cw_greedy.specs.Greedy.{greedy_length}
 use Rattle.cw_schedule.specs.State.{IsWithin}
-use Rattle.cw_meter.specs.declared.meter.Readings.{Readings}
-use Rattle.cw_meter.specs.Whole.{AreReadings}
 use Rattle.cw_code.specs.Code.{Code}
 use Rattle.cw_code.specs.Run.{code_serial}
-use Rattle.cw_machine.specs.Runs.{is_request, IsFailure}
+use Rattle.cw_machine.specs.Runs.{is_request}
 use Rattle.cw_schedule.specs.declared.schedules.Schedule.{Schedule}
 use Rattle.cw_schedule.specs.declared.schedules.TheConstants.{MOST_PROCESSORS}
 
@@ -46,18 +44,6 @@ pub record Schedules (code : Code) (args : List ℤ) (n p : ℕ) (s : Schedule) 
   pub span : s.span ≡ span tree
   pub greedy : s.greedy ≡ greedy_length p tree
   pub bounds : IsWithin p s.greedy tree
-
--- what was asked for is in range, and the run ends within the limit, with a tree of this work and span
-pub record Measured (code : Code) (args : List ℤ) (n : ℕ) (r : Readings) : Type 0 where
-  pub asked : is_request code args n no_burden ≡ true
-  pub tree : Tree
-  pub ends : Ends code args n tree
-  pub within : work tree ≤ n
-  pub measure : AreReadings no_burden tree r
-
--- work and span of a run as the code's meaning gives them, or why there are none
-abbrev pub MeasuresAsCode : Code → List ℤ → (n : ℕ) → Result Readings Fault → Type 0
-MeasuresAsCode code args n result = MatchResult result (Measured code args n) (IsFailure code args n no_burden)
 
 -- what was asked for is in range, and the run ends with more strands than are kept
 pub record HasTooManyStrands (code : Code) (args : List ℤ) (n processors : ℕ) : Type 0 where

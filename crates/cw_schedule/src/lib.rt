@@ -6,3 +6,4 @@ mod board;
 mod plan;
 pub mod schedule;
 pub mod schedules;
+pub mod weights;

@@ -5,12 +5,13 @@ ghost use Rattle.std.specs.Prelude.{◌≡◌};
 ghost use Rattle.cw_schedule.specs.Schedules as schedules;
 
 use crate::schedule::greedy;
-use cw_machine::alone::{main_takes, run_alone};
+use crate::weights::weigh;
+use cw_machine::alone::main_takes;
 use cw_machine::recorded::strands_alone;
-use cw_meter::Readings;
-use cw_model::burden::{Burden, Edges};
+use cw_model::laws::normal_form_reads_the_same;
 use cw_model::limits::MOST_LIMIT;
 use cw_runnable::verified::Verified;
+use cw_strand_laws::laws::cost_is_the_work_that_is_shown;
 use cw_text::Fault;
 use std::alloc::Global;
 use std::sync::Arc;
@@ -48,34 +49,23 @@ pub fn schedule_alone(
 ) -> Result<Schedule, Fault>
     ensures { schedules.SchedulesAsCode (code_view code.value.code) args.now n processors result }
 {
+    cost_is_the_work_that_is_shown();
+    normal_form_reads_the_same();
     if !is_asked(&code, args, n, processors) {
         return Err(Fault::Arguments);
     }
-    let share = Arc::try_clone(&code)?;
-    let whole = measured(alloc, share, args, n)?;
     let strands = strands_alone(alloc, code, args, n)?;
     if !strands.fits() {
         return Err(Fault::Strands);
     }
+    let weights = weigh(alloc, &strands)?;
     let steps = greedy(alloc, &strands, processors)?;
     Ok(Schedule {
         processors,
-        work: whole.work,
-        span: whole.span,
+        work: weights.work,
+        span: weights.span,
         greedy: steps,
     })
-}
-
-// Work and span of a run; what else is counted of it is let go.
-fn measured(alloc: Global, code: Arc<Verified>, args: &[i64], n: u64) -> Result<Readings, Fault>
-    ensures { schedules.MeasuresAsCode (code_view code.value.code) args.now n result }
-{
-    let burden = Burden {
-        charge: 0,
-        edges: Edges::Spawn,
-    };
-    let ended = run_alone(alloc, code, args, n, burden)?;
-    Ok(ended.measure)
 }
 
 // Whether there are as many arguments as `main` takes, and the limit and the processors are in their ranges.

@@ -1,0 +1,175 @@
+//! Work and span of the strands of a record.
+
+ghost use Rattle.std.specs.Prelude.{◌≡◌, ◌+◌, ◌≤◌, ◌++◌, ◌∷◌, [], max, Some, List, IfOk, OnOk};
+ghost use Rattle.cw_model.specs.Trees.{Tree, work, span};
+ghost use Rattle.cw_model.specs.declared.limits.TheConstants.{MOST_LIMIT};
+ghost use Rattle.cw_greedy.specs.declared.code.Code.{Code};
+ghost use Rattle.cw_greedy.specs.Jumping.{Block, Last};
+ghost use Rattle.cw_greedy.specs.Records.{IsRecordOf};
+ghost use Rattle.cw_schedule.specs.declared.weights.Spawn.{Spawn};
+ghost use Rattle.cw_schedule.specs.Planned.{instructions_of};
+ghost use Rattle.cw_schedule.specs.Reading.{instructions, read, Frame};
+ghost use Rattle.cw_schedule.specs.Weighed.{counted, path_of, spawn, Weighs, WillJoin, WillWeigh};
+
+use cw_greedy::code::Code;
+use cw_greedy::strands::Strands;
+use std::alloc::{AllocError, Global};
+
+/// What a strand tree weighs, in instructions.
+#[derive(Clone, Copy, Debug, PartialEq, Eq)]
+pub struct Weights {
+    /// All its strands.
+    pub work: u64,
+    /// Those on a heaviest path.
+    pub span: u64,
+}
+
+// A spawn whose join has not come: the heaviest path of its block up to it, and through its child, once that has ended;
+// and whether it is the first one of its sync block.
+#[derive(Debug, Clone, Copy, Drop)]
+struct Spawn {
+    before: u64,
+    child: u64,
+    first: bool,
+}
+
+// The work so far, the heaviest path through the block that has begun, and the open spawns. Sums stop at the greatest
+// number.
+#[derive(Debug, Drop)]
+struct Ways {
+    work: u64,
+    path: u64,
+    spawns: Vec<Spawn>,
+}
+
+impl Ways {
+    // So many instructions more.
+    fn worked(&mut self, count: u64)
+        ensures work { self.new.work ≡ counted (self.old.work + count) }
+        ensures path { self.new.path ≡ counted (self.old.path + count) }
+        ensures spawns { self.new.spawns.items ≡ self.old.spawns.items }
+    {
+        self.work = self.work.saturating_add(count);
+        self.path = self.path.saturating_add(count);
+    }
+
+    // A spawned child begins.
+    fn spawned(&mut self, first: bool) -> Result<(), AllocError>
+        ensures work { OnOk result (self.new.work ≡ self.old.work) }
+        ensures path { OnOk result (self.new.path ≡ 0) }
+        ensures spawns { OnOk result (self.new.spawns.items
+            ≡ self.old.spawns.items ++ spawn self.old.path 0 first ∷ []) }
+    {
+        self.spawns.push(Spawn {
+            before: self.path,
+            child: 0,
+            first,
+        })?;
+        self.path = 0;
+        Ok(())
+    }
+
+    // A child ends, and its continuation begins.
+    fn ended(&mut self) -> Result<(), AllocError>
+        ensures work { OnOk result (self.new.work ≡ self.old.work) }
+        ensures path { OnOk result (self.new.path ≡ 0) }
+        ensures spawns { (outer : List Spawn) (top : Spawn) → self.old.spawns.items ≡ outer ++ top ∷ []
+            → OnOk result (self.new.spawns.items
+            ≡ outer ++ spawn top.before self.old.path top.first ∷ []) }
+    {
+        let child = self.path;
+        self.path = 0;
+        let Some(top) = self.spawns.pop() else {
+            return Ok(());
+        };
+        self.spawns.push(Spawn {
+            before: top.before,
+            child,
+            first: top.first,
+        })?;
+        Ok(())
+    }
+
+    // The last open spawn is joined.
+    fn join_last(&mut self, top: Spawn)
+        ensures work { self.new.work ≡ self.old.work }
+        ensures path { self.new.path ≡ counted (top.before + max top.child self.old.path) }
+        ensures spawns { self.new.spawns.items ≡ self.old.spawns.items }
+    {
+        self.path = top.before.saturating_add(top.child.max(self.path));
+    }
+
+    // The spawns of a sync block are joined, from the last one back to the first.
+    fn joined(&mut self)
+        ensures work { self.new.work ≡ self.old.work }
+        ensures joined { (end : List Frame × Block) → WillJoin end self.old
+            → Weighs end.0 end.1 self.new }
+    {
+        while let Some(top) = self.spawns.pop() {
+            self.join_last(top);
+            if top.first {
+                return;
+            }
+        }
+    }
+
+    // One code more.
+    fn follow(&mut self, code: Code) -> Result<(), AllocError>
+        ensures work { OnOk result
+            (counted self.new.work ≡ counted (self.old.work + instructions_of code)) }
+        ensures weighs { (block : Block) (later : List Code)
+            → WillWeigh block (code ∷ later) self.old → OnOk result (WillWeigh block later self.new) }
+    {
+        match code {
+            Code::Instructions(count) => {
+                self.worked(count);
+                Ok(())
+            }
+            Code::Spawned(first) => {
+                self.spawned(first)?;
+                Ok(())
+            }
+            Code::Ended => {
+                self.ended()?;
+                Ok(())
+            }
+            Code::Joined => {
+                self.joined();
+                Ok(())
+            }
+            Code::Called => Ok(()),
+        }
+    }
+}
+
+// What codes weigh, and the block that they are read as.
+fn weighed(alloc: Global, codes: &[Code]) -> Result<Weights, AllocError>
+    ensures work { IfOk result (λ w. counted w.work ≡ counted (instructions codes.now)) }
+    ensures span { (block : Block) → read codes.now [] (Last 0) ≡ Some block
+        → IfOk result (λ w. w.span ≡ counted (path_of block)) }
+{
+    let mut ways = Ways {
+        work: 0,
+        path: 0,
+        spawns: Vec::new(alloc),
+    };
+    for code in codes {
+        ways.follow(*code)?;
+    }
+    Ok(Weights {
+        work: ways.work,
+        span: ways.path,
+    })
+}
+
+/// Work and span of the strands of a record: those of every strand tree with this record.
+///
+/// Takes time in proportion to the strands. Fails for want of memory alone; the record is as it was.
+pub fn weigh(alloc: Global, kept: &Strands) -> Result<Weights, AllocError>
+    requires { (t : Tree) × (IsRecordOf t kept.now × (work t ≤ MOST_LIMIT)) }
+    ensures work { (t : Tree) → IsRecordOf t kept.now → IfOk result (λ w. w.work ≡ work t) }
+    ensures span { (t : Tree) → IsRecordOf t kept.now → IfOk result (λ w. w.span ≡ span t) }
+{
+    let weights = weighed(alloc, kept.codes())?;
+    Ok(weights)
+}
