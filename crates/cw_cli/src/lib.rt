@@ -10,4 +10,5 @@ mod telling;
 
 pub use analysis::{analyse, analyse_alone};
 pub use crews::crew_of;
+pub use cw_compile::compile;
 pub use telling::{refuse, say, say_why, tool, unread};
