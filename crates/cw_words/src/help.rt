@@ -138,8 +138,10 @@ greatest first, at most as many as --top says.
   parallelism_if_free    work by that, to three digits and rounded down; 0.000
                          where that is 0
   burdened_span_if_free  the same of the burdened span
-However one function alone is changed, the span stays that long at least. Each
-function that is told takes one more run, with one thread.
+However fast a function's own instructions are made, the span stays that long
+at least. What it brings to let calls run side by side that wait for each other
+now, no line tells. Each function that is told takes one more run, with one
+thread.
 How to read them: GUIDE.md, which lies where 'cilkwork --help' tells.
 
 --explain tells why a source is refused or a run traps. What ARGS and numbers
