@@ -1,5 +1,3 @@
-mod Refusals
-mod Stages
 mod Rows
 mod Runs
 mod Tools
