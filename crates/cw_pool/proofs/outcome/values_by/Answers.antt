@@ -1,18 +1,18 @@
-use Rattle.std.proofs.Common.{sym, subst}
-use Rattle.cw_runnable.specs.declared.verified.Verified.{Verified}
-use Rattle.cw_jobs.specs.Jobs.{IsRoot}
+use Rattle.cw_meter.specs.declared.detail.Detail.TheVariants.{Values}
 use Rattle.cw_pool.proofs.outcome.values_by.Goals as goal
 
-pub answer-requires : goal.answer-requires
-answer-requires c =
+pub values_of-requires : goal.values_of-requires
+values_of-requires c =
     let end = c.requires in
-    record {
-      whole = ∣ record {
+    ∣ (
+      c.args.outcome.code.value,
+      record {
         args = c.args.args.now;
         limit = c.args.n;
         burden = c.args.burden;
+        detail = Values;
         root = end.root;
-        is = subst (λ (v : Verified). IsRoot v c.args.args.now c.args.n c.args.burden end.root.parts.value) (sym c.deref.ensures) end.is;
+        is = end.is;
         means = end.means;
-      } ∣₁;
-    }
+      },
+    ) ∣₁
