@@ -4,6 +4,13 @@ pub mod Places
 pub mod Writes
 pub mod Cells
 pub mod Holding
+pub mod Frames
+pub mod Operands
+pub mod Together
+pub mod Rowing
+pub mod Indexing
+pub mod Moving
+pub mod Singly
 pub mod Order
 pub mod Seats
 pub mod Stepping
@@ -57,6 +64,7 @@ pub mod Lender
 pub mod JobBegins
 pub mod JobSlots
 pub mod JobEnds
+pub mod Unread
 pub mod Unwinds
 pub mod Inner
 pub mod Nothing

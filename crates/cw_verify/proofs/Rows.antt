@@ -8,7 +8,7 @@ use Rattle.cw_code.specs.declared.code.Loan.{Loan}
 use Rattle.cw_code.specs.declared.code.Loan.TheVariants.{Array, Reader}
 use Rattle.cw_verify.specs.Views.{frozen_by, with_loans}
 use Rattle.cw_verify.specs.Table.{either_empty, brings, has_all, any_empty, are_unmarked, unmarked, IsEither}
-use Rattle.cw_verify.proofs.Lists.{drop_at, get_set, set_other, or_false, or_again}
+use Rattle.cw_verify.proofs.Lists.{drop_at, get_set, set_other, or_false}
 use Rattle.cw_verify.proofs.Decided.{below, eq_of, equal, not_equal, lt_of, first_false, second_false, both_true, first_true, second_true}
 
 -- a row that is brought nothing stays

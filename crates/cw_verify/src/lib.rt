@@ -14,5 +14,6 @@ mod resolve;
 mod round;
 mod row;
 mod search;
+mod stands;
 pub mod verify;
 mod work;
