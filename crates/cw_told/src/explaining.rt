@@ -3,14 +3,14 @@
 ghost use Rattle.std.specs.Prelude.{IfOk};
 ghost use Rattle.cw_model.specs.Tokens.{IsTokenCut};
 
-use crate::further::{add_text, add_tokens, add_types, add_unowned};
+use crate::further::{add_refusals, add_text, add_tokens};
 use crate::hinting::{closed_return, hint_in};
 use crate::others::{Named, of_run, parameters_of_main};
-use crate::owning::Unowned;
+use crate::refusals::Refusals;
 use crate::unparsed::first_unparsed;
 use crate::words::BYTES;
 use cw_explain::{
-    Passed, Trapped, Unreadable, Untyped, add_lines, line_of, no_token, not_ascii, passed_by_code,
+    Passed, Trapped, Unreadable, add_lines, line_of, no_token, not_ascii, passed_by_code,
     passed_by_tokens,
 };
 use cw_lex::lex;
@@ -199,21 +199,11 @@ fn of_types(
 ) -> Result<(), Fault> {
     let bytes = refused.bytes;
     let ast = tree_of(alloc, bytes)?;
-    let told = ill_typed(alloc, &ast)?;
-    match told.first() {
-        Some(at) => {
-            let reason = Untyped { reason: at.reason };
-            write!(out, "{reason}\n")?;
-            add_lines(out, bytes, line, reason.other_line())?;
-        }
-        None => {
-            out.push_str("a rule of names and types is broken\n")?;
-            add_lines(out, bytes, line, None)?;
-        }
-    }
+    let told = Refusals::Types(ill_typed(alloc, &ast)?);
+    add_first(out, bytes, line, &told)?;
     add_hints(alloc, out, refused, line)?;
     let path = refused.file;
-    add_types(out, Named { path }, &told)
+    add_refusals(out, Named { path }, &told)
 }
 
 // Of ownership.
@@ -226,20 +216,26 @@ fn of_ownership(
     let bytes = refused.bytes;
     let ast = tree_of(alloc, bytes)?;
     let typed = check(alloc, ast)?;
-    let told = disowned(alloc, &typed)?;
-    match told.first() {
-        Some(at) => {
-            let reason = Unowned { at };
-            write!(out, "{reason}\n")?;
-            add_lines(out, bytes, line, reason.other_line())?;
+    let told = Refusals::Ownership(disowned(alloc, &typed)?);
+    add_first(out, bytes, line, &told)?;
+    let path = refused.file;
+    add_refusals(out, Named { path }, &told)
+}
+
+// Adds the rule that the first line breaks, and the lines that matter.
+fn add_first(out: &mut String, bytes: &[u8], line: u32, told: &Refusals<'_>) -> Result<(), Fault> {
+    match told.at(0) {
+        Some(first) => {
+            let rule = first.rule;
+            write!(out, "{rule}\n")?;
+            add_lines(out, bytes, line, rule.other_line())?;
         }
         None => {
-            out.push_str("a rule of ownership is broken\n")?;
+            out.push_str("a rule is broken here\n")?;
             add_lines(out, bytes, line, None)?;
         }
     }
-    let path = refused.file;
-    add_unowned(out, Named { path }, &told)
+    Ok(())
 }
 
 // Of limits: of the bytes, a name, the tokens, the program's parts, and its code, in this order.

@@ -9,6 +9,7 @@ mod hinting;
 mod near;
 mod others;
 mod owning;
+mod refusals;
 mod shortened;
 mod unparsed;
 mod words;
