@@ -1,5 +1,5 @@
 -- Lists one after another.
-use Rattle.std.proofs.Common.{◌≡◌, ℕ, List, [], ◌∷◌, ◌++◌, Option, Some, None, true, false, is_some, refl, ap, ◌∙◌}
+use Rattle.std.proofs.Common.{◌≡◌, ℕ, List, [], ◌∷◌, ◌++◌, Option, Some, None, refl, ap}
 use Rattle.std.specs.Option.{option_or}
 use Rattle.cw_reasons.specs.Rising.{kept}
 use Rattle.cw_reasons.specs.Told.{with_found}
@@ -22,11 +22,12 @@ pub found_kept : (line : ℕ) (found : Option Disowned) (ps : List (Option (At D
 found_kept line None ps = refl
 found_kept line (Some r) ps = keep-map line_in line_and_reason (record { line = line; reason = r }) ps
 
--- a first one of more is told or passed
-pub first_found : (found : Option Disowned) (one more all : Option Reason) → told_of found ≡ one → is_some found ≡ true → option_or one more ≡ all → told_of found ≡ all
-first_found None one more all h k e = cc
-first_found (Some r) one more all h k e = ap (λ o. option_or o more) h ∙ e
+-- nothing is found beside what was found
+pub found_nothing : (a : Option Reason) → option_or a None ≡ a
+found_nothing None = refl
+found_nothing (Some r) = refl
 
-pub first_passed : (found : Option Disowned) (one more all : Option Reason) → told_of found ≡ one → is_some found ≡ false → option_or one more ≡ all → more ≡ all
-first_passed None one more all h k e = ap (λ o. option_or o more) h ∙ e
-first_passed (Some r) one more all h k e = cc
+-- what is found first of three
+pub found_grouped : (a b c : Option Reason) → option_or (option_or a b) c ≡ option_or a (option_or b c)
+found_grouped None b c = refl
+found_grouped (Some r) b c = refl

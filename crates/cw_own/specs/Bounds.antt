@@ -1,5 +1,5 @@
 -- How great the slots are that are declared, held or listed: each is below the most names of a function.
-use Rattle.std.specs.Prelude.{Bool, true, ◌&&◌, nat_lt, nat_le, Option, Some, None, length}
+use Rattle.std.specs.Prelude.{Bool, true, false, ◌&&◌, nat_lt, nat_le, Option, Some, None, length}
 use Rattle.std.specs.List.{list_all}
 use Rattle.cw_model.specs.declared.limits.TheConstants.{MOST_DECLARED, MOST_PARAMETERS}
 use Rattle.cw_tree.specs.Resolved.{Use, Argument, Int, Array, Shared, Stmt, Declare, DeclareArray, Call, If, IfElse}
@@ -40,6 +40,11 @@ abbrev mutual
   pub small_block : Block → Bool
   small_block End = true
   small_block (Then line s b) = small_stmt s && small_block b
+
+-- a statement has two branches
+abbrev pub is_if_else : Stmt → Bool
+is_if_else (IfElse e b c) = true
+is_if_else _ = false
 
 -- the same of a function, which has few parameters
 abbrev pub small_function : Function → Bool

@@ -121,11 +121,6 @@ known_after known (Declare u e) = with_int u.slot known
 known_after known (DeclareArray u e) = with_array u.slot known
 known_after known _ = known
 
--- what is done where the test of a statement does not hold
-abbrev pub other_of : Stmt → Block
-other_of (IfElse e b c) = c
-other_of _ = End
-
 abbrev mutual
   -- what the spawns of the innermost sync block hold after a statement, where these locals are known before it
   pub after : (known : Row) → Stmt → Held → Held

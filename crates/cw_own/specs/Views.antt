@@ -1,9 +1,12 @@
 -- The definitions over what the code holds: its rows, its loop, its lines and its statements.
-use Rattle.std.specs.Prelude.{◌≡◌, ℕ, List, ◌∷◌, Option, map, option_map, flat_map, length, drop}
+use Rattle.std.specs.Prelude.{◌≡◌, ℕ, List, ◌∷◌, Option, Some, map, option_map, flat_map, length, drop}
+use Rattle.std.specs.Option.{option_or}
 use Rattle.cw_model.specs.Ownership.{Joins, Leaves}
 use Rattle.cw_tree.specs.declared.resolved.Use as code_use
 use Rattle.cw_tree.specs.declared.resolved.Expr as code_expr
 use Rattle.cw_tree.specs.declared.resolved.Call as code_call
+use Rattle.cw_tree.specs.declared.resolved.Head as code_head
+use Rattle.cw_tree.specs.declared.resolved.Cut as code_cut
 use Rattle.cw_tree.specs.declared.resolved.Stmt as code_stmt
 use Rattle.cw_tree.specs.declared.resolved.Line as code_line
 use Rattle.cw_tree.specs.declared.resolved.Function as code_function
@@ -12,9 +15,9 @@ use Rattle.cw_reasons.specs.declared.reasons.Reasons.{Reasons}
 use Rattle.cw_reasons.specs.Rising.{kept}
 use Rattle.cw_reasons.specs.Told.{no_place}
 use Rattle.cw_tree.specs.declared.resolved.Tree.{Tree}
-use Rattle.cw_tree.specs.Resolved.{Use, Expr, Block, Scope}
-use Rattle.cw_tree.specs.ResolvedView.{use_of, listed_of, expr_of, argument_of, stmt_of, block_of, function_of}
-use Rattle.cw_tree.specs.ResolvedView.{resolved_of}
+use Rattle.cw_tree.specs.Resolved.{Use, Expr, Stmt, For, Scope, Cut}
+use Rattle.cw_tree.specs.ResolvedView.{use_of, listed_of, expr_of, argument_of, head_of, parts_of, stmt_of, block_of}
+use Rattle.cw_tree.specs.ResolvedView.{function_of, resolved_of}
 use Rattle.cw_own.specs.declared.bits.Bits as code_bits
 use Rattle.cw_own.specs.declared.row.Row as code_row
 use Rattle.cw_own.specs.declared.held.Held as code_held
@@ -23,13 +26,13 @@ use Rattle.cw_own.specs.declared.around.Loop as code_loop
 use Rattle.cw_own.specs.declared.reason.Disowned as code_reason
 use Rattle.cw_own.specs.declared.reason.Disowned.TheVariants as reason
 use Rattle.cw_own.specs.declared.told.Told as code_told
-use Rattle.cw_own.specs.Sets.{Slots, slots_of, with_slot, without_slot, row_of}
-use Rattle.cw_own.specs.Taken.{Held, held_within, held_of, Taken, taken_of, inside, inside_cut, taken_by_call, other_of}
-use Rattle.cw_own.specs.Taken.{after_all, gain, turns, turns_in}
-use Rattle.cw_own.specs.Taken.{turns_within, cuts_after_all, left_by, taken_after_all}
+use Rattle.cw_own.specs.Sets.{Slots, slots_of, with_int, row_of}
+use Rattle.cw_own.specs.Taken.{Held, either_held, held_within, held_of, Taken, taken_of, inside, inside_cut, taken_by_call}
+use Rattle.cw_own.specs.Taken.{after_all, with_parts, gain, turns, turns_in}
+use Rattle.cw_own.specs.Taken.{turns_within, left_by, taken_after_all}
 use Rattle.cw_own.specs.Rules.{seen_by}
 use Rattle.cw_own.specs.Reasons.{Reason, Held as IsHeld, EndsHeld, GivenTwice, GivenAndRead, OverTwice, OuterWritten}
-use Rattle.cw_own.specs.Reasons.{OuterArray, OtherElement, Turn, why_call, left_reasons, reasons_within, reasons_in}
+use Rattle.cw_own.specs.Reasons.{OuterArray, OtherElement, Turn, turn_in, why_call, left_reasons, reasons_within, reasons_in}
 use Rattle.cw_own.specs.Reasons.{block_reasons, function_reasons, line_in, ownership_reasons}
 
 -- the set of slots that the code holds
@@ -54,6 +57,10 @@ reason_of (reason.OtherElement u variable line) = OtherElement (use_of u.now) (u
 -- one, if it tells one
 abbrev pub told_of : Option code_reason.Disowned → Option Reason
 told_of found = option_map reason_of found
+
+-- this was found, unless something was found before
+abbrev pub Finds : (before after : Option code_reason.Disowned) → (found : Option Reason) → Type 0
+Finds before after found = told_of after ≡ option_or (told_of before) found
 
 -- one with its line
 abbrev pub line_and_reason : At code_reason.Disowned → ℕ × Reason
@@ -89,9 +96,13 @@ used target = option_map use_of target
 abbrev pub returned : Option code_expr.Expr → Option Expr
 returned e = option_map expr_of e
 
--- what a statement does where its test does not hold
-abbrev pub other_block : code_stmt.Stmt → Block
-other_block stmt = other_of (stmt_of stmt)
+-- a loop of this head over these lines
+abbrev pub for_of : code_head.Head → List code_line.Line → Stmt
+for_of head lines = For (head_of head) (block_of lines)
+
+-- a cut for these lines
+abbrev pub cut_of : code_cut.Cut → List code_line.Line → Stmt
+cut_of cut lines = Cut (parts_of cut) (block_of lines)
 
 -- what the spawns of a sync block hold after a call
 abbrev pub after_call : code_call.Call → code_held.Held → Held
@@ -112,9 +123,13 @@ why_of_call around taken call =
 abbrev pub after_lines : (known : code_row.Row) → List code_line.Line → code_held.Held → Held
 after_lines known lines here = held_within (row_of known) (after_all (row_of known) (block_of lines) (held_of here))
 
--- the same after what a statement does where its test does not hold
-abbrev pub after_other : (known : code_row.Row) → code_stmt.Stmt → code_held.Held → Held
-after_other known stmt here = held_within (row_of known) (after_all (row_of known) (other_block stmt) (held_of here))
+-- the same after an `if` with these lines
+abbrev pub after_if : (known : code_row.Row) → List code_line.Line → code_held.Held → Held
+after_if known lines here = either_held (after_lines known lines here) (held_of here)
+
+-- the same after a `while` with these lines
+abbrev pub after_while : (known : code_row.Row) → List code_line.Line → code_held.Held → Held
+after_while known lines here = either_held (held_of here) (gain (row_of known) (block_of lines))
 
 -- what the test and the blocks of a statement see as taken
 abbrev pub sees : (known : code_row.Row) → code_taken.Taken → code_stmt.Stmt → Taken
@@ -128,23 +143,22 @@ left_after known taken stmt = left_by (row_of known) (stmt_of stmt) (taken_of ta
 abbrev pub left_by_scope : (known : code_row.Row) → code_taken.Taken → List code_line.Line → Taken
 left_by_scope known taken lines = left_by (row_of known) (Scope (block_of lines)) (taken_of taken)
 
--- the same behind the block of a cut of this array, which is whole again
-abbrev pub left_by_cut : (array : ℕ) → code_taken.Taken → List code_line.Line → Taken
-left_by_cut array taken lines =
-    let before = taken_of taken in
+-- the same behind the block of a cut, whose array is whole again
+abbrev pub left_by_cut : (known : code_row.Row) → code_taken.Taken → code_cut.Cut → List code_line.Line → Taken
+left_by_cut known taken cut lines = left_by (row_of known) (cut_of cut lines) (taken_of taken)
+
+-- the same behind an `if` with these lines
+abbrev pub left_by_if : (known : code_row.Row) → code_taken.Taken → List code_line.Line → Taken
+left_by_if known taken lines =
     record {
-      outer = before.outer;
-      here = before.here;
-      cuts = without_slot array (cuts_after_all (block_of lines) (with_slot array before.cuts));
+      outer = (taken_of taken).outer;
+      here = after_if known lines taken.here;
+      cuts = (taken_of taken).cuts;
     }
 
 -- what is taken after these lines
 abbrev pub taken_after_lines : (known : code_row.Row) → code_taken.Taken → List code_line.Line → Taken
 taken_after_lines known taken lines = taken_after_all (row_of known) (block_of lines) (taken_of taken)
-
--- what is taken after what a statement does where its test does not hold
-abbrev pub taken_after_other : (known : code_row.Row) → code_taken.Taken → code_stmt.Stmt → Taken
-taken_after_other known taken stmt = taken_after_all (row_of known) (other_block stmt) (taken_of taken)
 
 -- what one turn of each `while` takes, of a statement
 abbrev pub turns_of : (known : code_row.Row) → code_stmt.Stmt → List Held
@@ -153,10 +167,6 @@ turns_of known stmt = turns (row_of known) (stmt_of stmt)
 -- the same, in the blocks of a statement
 abbrev pub turns_inside : (known : code_row.Row) → code_stmt.Stmt → List Held
 turns_inside known stmt = turns_within (row_of known) (stmt_of stmt)
-
--- the same, in what a statement does where its test does not hold
-abbrev pub turns_of_other : (known : code_row.Row) → code_stmt.Stmt → List Held
-turns_of_other known stmt = turns_in (row_of known) (other_block stmt)
 
 -- the same, in these lines
 abbrev pub turns_of_lines : (known : code_row.Row) → List code_line.Line → List Held
@@ -192,11 +202,11 @@ abbrev pub reasons_joining : Option code_loop.Loop → (known : code_row.Row) �
 reasons_joining around known taken lines =
     block_reasons (around_of around) (row_of known) (taken_of taken) Joins (block_of lines)
 
--- the same, of what a statement does where its test does not hold
-abbrev pub reasons_of_other : Option code_loop.Loop → (known : code_row.Row) → code_taken.Taken → code_stmt.Stmt →
+-- the same, in the branches of a statement: of what line it is says a loop alone
+abbrev pub reasons_of_either : Option code_loop.Loop → (known : code_row.Row) → code_taken.Taken → code_stmt.Stmt →
     List (ℕ × Reason)
-reasons_of_other around known taken stmt =
-    block_reasons (around_of around) (row_of known) (taken_of taken) Leaves (other_block stmt)
+reasons_of_either around known taken stmt =
+    reasons_within (around_of around) (row_of known) (taken_of taken) 0 (stmt_of stmt)
 
 -- the same, in the blocks of a statement of this line
 abbrev pub reasons_inside : Option code_loop.Loop → (known : code_row.Row) → code_taken.Taken → (line : ℕ) →
@@ -210,11 +220,19 @@ abbrev pub reasons_of_scope : Option code_loop.Loop → (known : code_row.Row) �
 reasons_of_scope around known taken lines =
     block_reasons (around_of around) (row_of known) (inside (taken_of taken)) Joins (block_of lines)
 
--- the same, of the block of a cut of this array
-abbrev pub reasons_of_cut : Option code_loop.Loop → (known : code_row.Row) → (array : ℕ) → code_taken.Taken →
+-- the same, of the block of a loop with this head, of this line
+abbrev pub reasons_of_for : (known : code_row.Row) → code_taken.Taken → (line : ℕ) → code_head.Head →
     List code_line.Line → List (ℕ × Reason)
-reasons_of_cut around known array taken lines =
-    block_reasons (around_of around) (row_of known) (inside_cut array (taken_of taken)) Joins (block_of lines)
+reasons_of_for known taken line head lines =
+    block_reasons (Some (turn_in line (head_of head) (row_of known)))
+    (with_int (head_of head).variable.slot (row_of known)) (inside (taken_of taken)) Joins (block_of lines)
+
+-- the same, of the block of a cut
+abbrev pub reasons_of_cut : Option code_loop.Loop → (known : code_row.Row) → code_taken.Taken → code_cut.Cut →
+    List code_line.Line → List (ℕ × Reason)
+reasons_of_cut around known taken cut lines =
+    block_reasons (around_of around) (with_parts (parts_of cut) (row_of known))
+    (inside_cut (parts_of cut).array.slot (taken_of taken)) Joins (block_of lines)
 
 -- the same, of a function
 abbrev pub reasons_of : code_function.Function → List (ℕ × Reason)

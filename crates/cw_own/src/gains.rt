@@ -7,13 +7,12 @@
 ghost use Rattle.std.specs.Prelude.{◌≡◌, ◌∷◌, [], length, slice_set, map, true};
 ghost use Rattle.std.specs.List.{list_all};
 ghost use Rattle.cw_tree.specs.ResolvedView.{argument_of, stmt_of, block_of};
-ghost use Rattle.cw_own.specs.Bounds.{small_target, small_argument, small_stmt, small_block};
+ghost use Rattle.cw_own.specs.Bounds.{small_target, small_argument, small_stmt, small_block, is_if_else};
 ghost use Rattle.cw_own.specs.Sets.{row_of};
 ghost use Rattle.cw_own.specs.Grown.{Grown};
 ghost use Rattle.cw_own.specs.Taken.{none_held, held_of, with_target, with_arrays, known_after, after, after_all};
-ghost use Rattle.cw_own.specs.Taken.{gain, turns, turns_in};
-ghost use Rattle.cw_own.specs.Views.{used, after_call, after_lines, after_other};
-ghost use Rattle.cw_own.specs.Views.{turns_of_other, turns_of_while};
+ghost use Rattle.cw_own.specs.Views.{used, after_call, after_lines, after_if, after_while};
+ghost use Rattle.cw_own.specs.Views.{turns_of, turns_of_lines, turns_of_while};
 
 use crate::held::Held;
 use crate::row::Row;
@@ -22,24 +21,21 @@ use cw_model::syntax::CallKind;
 use cw_tree::resolved::{Argument, Call, Line, Stmt, Use};
 use std::alloc::Global;
 
-// With the integer that a result goes to, if there is one.
-fn with_target(held: Held, target: &Option<Use>, watch: &Watch) -> Held
+// The integer that a result goes to is taken, if there is one.
+fn take_target(held: &mut Held, target: &Option<Use>, watch: &Watch)
     requires { small_target (used target.now) ≡ true }
-    ensures { held_of result ≡ with_target (used target.now) (held_of held) }
+    ensures { held_of held.new ≡ with_target (used target.now) (held_of held.old) }
 {
-    let mut held = held;
     if let Some(used) = target {
         held.take_int(used.slot, watch);
     }
-    held
 }
 
-// With the arrays that are given away, and those that are only read.
-fn with_arrays(held: Held, es: &[Argument], watch: &Watch) -> Held
+// The arrays that are given away are taken, and those that are only read are frozen.
+fn take_arrays(held: &mut Held, es: &[Argument], watch: &Watch)
     requires { list_all small_argument (map argument_of es.now) ≡ true }
-    ensures { held_of result ≡ with_arrays (map argument_of es.now) (held_of held) }
+    ensures { held_of held.new ≡ with_arrays (map argument_of es.now) (held_of held.old) }
 {
-    let mut held = held;
     for e in es {
         match e {
             Argument::Int(_) => {}
@@ -47,37 +43,33 @@ fn with_arrays(held: Held, es: &[Argument], watch: &Watch) -> Held
             Argument::Shared(used) => held.freeze(used.slot, watch),
         }
     }
-    held
 }
 
-/// What the spawns of a sync block hold after a call: a spawn takes its target and the arrays that are given away, and
-/// freezes those that it only reads.
-pub fn after_call(here: Held, call: &Call, watch: &Watch) -> Held
+/// A call: a spawn takes its target and the arrays that are given away, and freezes those that it only reads.
+pub fn after_call(here: &mut Held, call: &Call, watch: &Watch)
     requires target { small_target (used call.now.target) ≡ true }
     requires arguments { list_all small_argument (map argument_of call.now.arguments.items) ≡ true }
-    ensures { held_of result ≡ after_call call.now here }
+    ensures { held_of here.new ≡ after_call call.now here.old }
 {
     match call.kind {
-        CallKind::Plain => here,
+        CallKind::Plain => {}
         CallKind::Spawned => {
-            let taken = with_target(here, &call.target, watch);
-            with_arrays(taken, &call.arguments, watch)
+            take_target(here, &call.target, watch);
+            take_arrays(here, &call.arguments, watch);
         }
     }
 }
 
-/// The locals that are known after a statement.
-pub fn known_after(known: Row, stmt: &Stmt) -> Row
+/// The local that a statement declares is known, if it declares one.
+pub fn know(known: &mut Row, stmt: &Stmt)
     requires { small_stmt (stmt_of stmt.now) ≡ true }
-    ensures { row_of result ≡ known_after (row_of known) (stmt_of stmt.now) }
+    ensures { row_of known.new ≡ known_after (row_of known.old) (stmt_of stmt.now) }
 {
-    let mut known = known;
     match stmt {
         Stmt::Declare(used, _) => known.add_int(used.slot),
         Stmt::DeclareArray(used, _) => known.add_array(used.slot),
         _ => {}
     }
-    known
 }
 
 /// What one turn of each `while` holds, in order, as far as there was memory for it; and what is watched.
@@ -127,92 +119,69 @@ impl Gains {
 
 // What the spawns of the innermost sync block hold after these statements; adds what a turn of each `while` holds.
 #[cycle(gains)]
-fn after_all(known: Row, lines: &[Line], here: Held, gains: &mut Gains) -> Held
+fn after_all(known: &Row, lines: &[Line], here: &mut Held, gains: &mut Gains)
     requires { small_block (block_of lines.now) ≡ true }
-    ensures row { held_of result ≡ after_all (row_of known) (block_of lines.now) (held_of here) }
-    ensures gains { Grown gains.old gains.new (turns_in (row_of known) (block_of lines.now)) }
+    ensures row { held_of here.new
+        ≡ after_all (row_of known.now) (block_of lines.now) (held_of here.old) }
+    ensures gains { Grown gains.old gains.new (turns_of_lines known.now lines.now) }
 {
-    let mut known = known;
-    let mut here = here;
+    let mut known = *known;
     for line in lines {
-        let next = known_after(known, &line.stmt);
         gains.watch.line = line.line;
-        here = after(&known, &line.stmt, here, gains);
-        known = next;
+        after(&known, &line.stmt, here, gains);
+        know(&mut known, &line.stmt);
     }
-    here
 }
 
 // The same of a block, without the locals that end with it.
 #[cycle(gains)]
-fn after_block(known: &Row, lines: &[Line], here: Held, gains: &mut Gains) -> Held
+fn after_block(known: &Row, lines: &[Line], here: &mut Held, gains: &mut Gains)
     requires { small_block (block_of lines.now) ≡ true }
-    ensures row { held_of result ≡ after_lines known.now lines.now here }
-    ensures gains { Grown gains.old gains.new (turns_in (row_of known.now) (block_of lines.now)) }
+    ensures row { held_of here.new ≡ after_lines known.now lines.now here.old }
+    ensures gains { Grown gains.old gains.new (turns_of_lines known.now lines.now) }
 {
-    let held = after_all(*known, lines, here, gains);
-    held.within(known, &gains.watch)
+    after_all(known, lines, here, gains);
+    *here = here.within(known, &gains.watch);
 }
 
-// The same of a statement.
+// The same of a block whose spawns are joined at its end: nothing of it is held.
 #[cycle(gains)]
-fn after(known: &Row, stmt: &Stmt, here: Held, gains: &mut Gains) -> Held
-    requires { small_stmt (stmt_of stmt.now) ≡ true }
-    ensures row { held_of result ≡ after (row_of known.now) (stmt_of stmt.now) (held_of here) }
-    ensures gains { Grown gains.old gains.new (turns (row_of known.now) (stmt_of stmt.now)) }
+fn after_scope(known: &Row, lines: &[Line], gains: &mut Gains)
+    requires { small_block (block_of lines.now) ≡ true }
+    ensures { Grown gains.old gains.new (turns_of_lines known.now lines.now) }
 {
-    match stmt {
-        Stmt::Call(call) => after_call(here, call, &gains.watch),
-        Stmt::Sync => Held::none(),
-        Stmt::Return(_) => Held::none(),
-        Stmt::If(_, block) => {
-            let branch = after_block(known, block, here, gains);
-            branch.either(&here)
-        }
-        Stmt::IfElse(_, block, _) => {
-            let branch = after_block(known, block, here, gains);
-            let other = after_other(known, stmt, here, gains);
-            branch.either(&other)
-        }
-        Stmt::While(_, block) => {
-            let gain = turn(known, block, gains);
-            here.either(&gain)
-        }
-        Stmt::For(head, block) => {
-            let mut inner = *known;
-            inner.add_int(head.variable.slot);
-            after_all(inner, block, Held::none(), gains);
-            here
-        }
-        Stmt::Cut(cut, block) => {
-            let mut inner = *known;
-            inner.add_array(cut.left.slot);
-            inner.add_array(cut.right.slot);
-            after_all(inner, block, Held::none(), gains);
-            here
-        }
-        Stmt::Scope(block) | Stmt::Region(_, block) => {
-            after_all(*known, block, Held::none(), gains);
-            here
-        }
-        Stmt::Declare(_, _)
-        | Stmt::DeclareArray(_, _)
-        | Stmt::Assign(_, _)
-        | Stmt::AssignElement(_, _, _)
-        | Stmt::Reduce(_, _, _)
-        | Stmt::Print(_) => here,
-    }
+    let mut inside = Held::none();
+    after_all(known, lines, &mut inside, gains);
 }
 
-// The same of what a statement does where its test does not hold.
+// The same of an `if` with this block.
 #[cycle(gains)]
-fn after_other(known: &Row, stmt: &Stmt, here: Held, gains: &mut Gains) -> Held
-    requires { small_stmt (stmt_of stmt.now) ≡ true }
-    ensures row { held_of result ≡ after_other known.now stmt.now here }
-    ensures gains { Grown gains.old gains.new (turns_of_other known.now stmt.now) }
+fn after_if(known: &Row, lines: &[Line], here: &mut Held, gains: &mut Gains)
+    requires { small_block (block_of lines.now) ≡ true }
+    ensures row { held_of here.new ≡ after_if known.now lines.now here.old }
+    ensures gains { Grown gains.old gains.new (turns_of_lines known.now lines.now) }
+{
+    let mut branch = *here;
+    after_block(known, lines, &mut branch, gains);
+    *here = branch.either(here);
+}
+
+// The same of a statement with two branches.
+#[cycle(gains)]
+fn after_either(known: &Row, stmt: &Stmt, here: &mut Held, gains: &mut Gains)
+    requires small { small_stmt (stmt_of stmt.now) ≡ true }
+    requires either { is_if_else (stmt_of stmt.now) ≡ true }
+    ensures row { held_of here.new
+        ≡ after (row_of known.now) (stmt_of stmt.now) (held_of here.old) }
+    ensures gains { Grown gains.old gains.new (turns_of known.now stmt.now) }
 {
     match stmt {
-        Stmt::IfElse(_, _, block) => after_block(known, block, here, gains),
+        Stmt::IfElse(_, block, other) => {
+            let mut branch = *here;
+            after_block(known, block, &mut branch, gains);
+            after_block(known, other, here, gains);
+            *here = branch.either(here);
+        }
         Stmt::Declare(_, _)
         | Stmt::DeclareArray(_, _)
         | Stmt::Assign(_, _)
@@ -227,27 +196,64 @@ fn after_other(known: &Row, stmt: &Stmt, here: Held, gains: &mut Gains) -> Held
         | Stmt::Cut(_, _)
         | Stmt::Region(_, _)
         | Stmt::Print(_)
-        | Stmt::Return(_) => here.within(known, &gains.watch),
+        | Stmt::Return(_) => {}
     }
 }
 
-// What one turn of a `while` holds where nothing is held before it; it stands before those of its body.
+// The same of a `while` with this block: what one turn holds where nothing is held before it, beside what is held. What the
+// turn holds stands before that of its body.
 #[cycle(gains)]
-fn turn(known: &Row, block: &[Line], gains: &mut Gains) -> Held
-    requires { small_block (block_of block.now) ≡ true }
-    ensures row { held_of result ≡ gain (row_of known.now) (block_of block.now) }
-    ensures gains { Grown gains.old gains.new (turns_of_while known.now block.now) }
+fn after_while(known: &Row, lines: &[Line], here: &mut Held, gains: &mut Gains)
+    requires { small_block (block_of lines.now) ≡ true }
+    ensures row { held_of here.new ≡ after_while known.now lines.now here.old }
+    ensures gains { Grown gains.old gains.new (turns_of_while known.now lines.now) }
 {
     let place = gains.keep();
-    let gain = after_block(known, block, Held::none(), gains);
+    let mut gain = Held::none();
+    after_block(known, lines, &mut gain, gains);
     gains.set(place, gain);
-    gain
+    *here = here.either(&gain);
+}
+
+// The same of a statement.
+#[cycle(gains)]
+fn after(known: &Row, stmt: &Stmt, here: &mut Held, gains: &mut Gains)
+    requires { small_stmt (stmt_of stmt.now) ≡ true }
+    ensures row { held_of here.new
+        ≡ after (row_of known.now) (stmt_of stmt.now) (held_of here.old) }
+    ensures gains { Grown gains.old gains.new (turns_of known.now stmt.now) }
+{
+    match stmt {
+        Stmt::Call(call) => after_call(here, call, &gains.watch),
+        Stmt::Sync | Stmt::Return(_) => here.clear(),
+        Stmt::If(_, block) => after_if(known, block, here, gains),
+        Stmt::IfElse(_, _, _) => after_either(known, stmt, here, gains),
+        Stmt::While(_, block) => after_while(known, block, here, gains),
+        Stmt::For(head, block) => {
+            let mut inner = *known;
+            inner.add_int(head.variable.slot);
+            after_scope(&inner, block, gains);
+        }
+        Stmt::Cut(cut, block) => {
+            let mut inner = *known;
+            inner.add_array(cut.left.slot);
+            inner.add_array(cut.right.slot);
+            after_scope(&inner, block, gains);
+        }
+        Stmt::Scope(block) | Stmt::Region(_, block) => after_scope(known, block, gains),
+        Stmt::Declare(_, _)
+        | Stmt::DeclareArray(_, _)
+        | Stmt::Assign(_, _)
+        | Stmt::AssignElement(_, _, _)
+        | Stmt::Reduce(_, _, _)
+        | Stmt::Print(_) => {}
+    }
 }
 
 /// What one turn of each `while` of a function holds, and whether there was memory for that.
-pub fn turns(known: Row, lines: &[Line], gains: &mut Gains)
+pub fn turns(known: &Row, lines: &[Line], gains: &mut Gains)
     requires { small_block (block_of lines.now) ≡ true }
-    ensures { Grown gains.old gains.new (turns_in (row_of known) (block_of lines.now)) }
+    ensures { Grown gains.old gains.new (turns_of_lines known.now lines.now) }
 {
-    after_all(known, lines, Held::none(), gains);
+    after_scope(known, lines, gains);
 }

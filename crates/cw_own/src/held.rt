@@ -73,6 +73,13 @@ impl Held {
         }
     }
 
+    /// Nothing is held any more.
+    pub fn clear(&mut self)
+        ensures { held_of self.new ≡ none_held }
+    {
+        *self = Held::none();
+    }
+
     /// What one of two holds.
     pub fn either(&self, other: &Held) -> Held
         ensures { held_of result ≡ either_held (held_of self.now) (held_of other.now) }

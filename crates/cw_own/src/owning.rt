@@ -128,15 +128,15 @@ fn note_function<'a>(
 {
     let known = with_params(&function.params);
     let mut gains = Gains::new(alloc, told.watch.local);
-    turns(known, &function.body, &mut gains);
+    turns(&known, &function.body, &mut gains);
     if !gains.complete {
         return Err(AllocError);
     }
     let mut rest = Turns {
         left: gains.rows.as_slice(),
     };
-    let nothing = Taken::nothing();
-    note_sync_block(&None, known, nothing, &function.body, &mut rest, told);
+    let mut taken = Taken::nothing();
+    note_sync_block(&None, &known, &mut taken, &function.body, &mut rest, told);
     Ok(())
 }
 

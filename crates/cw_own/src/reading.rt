@@ -1,6 +1,8 @@
-//! Which rule a statement breaks by what it reads, writes and passes.
+//! Which rule a statement breaks by what it reads, writes and passes. Each function looks at one part of a statement, and
+//! notes the first rule that this part breaks where no part before it broke one: so what keeps the rules is only looked at.
+#![tactic(auto, using(crate::proofs::Small::found_nothing, crate::proofs::Small::found_grouped))]
 
-ghost use Rattle.std.specs.Prelude.{◌≡◌, map, option_map, true};
+ghost use Rattle.std.specs.Prelude.{◌≡◌, Some, map, option_map, true};
 ghost use Rattle.std.specs.List.{list_all};
 ghost use Rattle.cw_tree.specs.ResolvedView.{use_of, listed_of, expr_of, argument_of, parts_of, head_of, stmt_of};
 ghost use Rattle.cw_own.specs.Bounds.{is_small, small_argument, small_stmt};
@@ -12,6 +14,7 @@ ghost use Rattle.cw_own.specs.Reasons.{why_taken, why_read, why_write, why_whole
 ghost use Rattle.cw_own.specs.Reasons.{why_arguments, why_return, why_twice, why_read_too, why_over_twice, why_over};
 ghost use Rattle.cw_own.specs.Reasons.{why_head, why_cut, why_element, why};
 ghost use Rattle.cw_own.specs.Views.{set_of, turn_of, around_of, used, returned, reason_of, told_of, why_here, why_of_call};
+ghost use Rattle.cw_own.specs.Views.{Finds};
 ghost use Rattle.cw_own.specs.declared.reason.Touch.TheVariants as touch;
 
 use crate::around::{Loop, for_head};
@@ -20,18 +23,55 @@ use crate::reason::{Disowned, Holder, Touch};
 use crate::taken::Taken;
 use cw_tree::resolved::{Argument, Call, Cut, Expr, Head, Listed, Stmt, Use};
 
+// Notes a rule that is broken, unless one was before.
+#[inline(never)]
+fn keep<'a>(reason: Disowned<'a>, first: &mut Option<Disowned<'a>>)
+    ensures { Finds first.old first.new (Some (reason_of reason.entry)) }
+{
+    match *first {
+        None => *first = Some(reason),
+        Some(_) => {}
+    }
+}
+
+// Notes a rule that was found to be broken, if one was.
+fn of_found<'a>(found: Option<Disowned<'a>>, first: &mut Option<Disowned<'a>>)
+    ensures { Finds first.old first.new (told_of found.entry) }
+{
+    if let Some(reason) = found {
+        keep(reason, first);
+    }
+}
+
 // A name is touched while this holds it.
+#[inline(never)]
+fn of_held<'a>(
+    taken: &Taken,
+    used: &'a Use,
+    touch: Touch,
+    holder: Holder,
+    first: &mut Option<Disowned<'a>>,
+)
+    ensures { Finds first.old first.new (held_by (use_of used.now) touch (Some holder)) }
+{
+    keep(
+        Disowned::Held(used, touch, holder, taken.since(holder)),
+        first,
+    );
+}
+
+// A name is touched while this holds it, if something does.
 fn of_holder<'a>(
     taken: &Taken,
     used: &'a Use,
     touch: Touch,
     holder: Option<Holder>,
-) -> Option<Disowned<'a>>
-    ensures { told_of result ≡ held_by (use_of used.now) touch holder }
+    first: &mut Option<Disowned<'a>>,
+)
+    ensures { Finds first.old first.new (held_by (use_of used.now) touch holder) }
 {
-    match holder {
-        None => None,
-        Some(holder) => Some(Disowned::Held(used, touch, holder, taken.since(holder))),
+    if let Some(holder) = holder {
+        of_held(taken, used, touch, holder, first);
     }
 }
 
@@ -46,105 +86,138 @@ fn is_variable(slot: u32, e: &Expr) -> bool
 }
 
 // An array from outside the loop is named in another way than it may be.
-fn outside<'a>(outer: &Loop<'a>, used: &'a Use) -> Disowned<'a>
-    ensures { reason_of result ≡ outside (turn_of outer.now) (use_of used.now) }
+#[inline(never)]
+fn of_outside<'a>(outer: &Loop<'a>, used: &'a Use, first: &mut Option<Disowned<'a>>)
+    ensures { Finds first.old first.new (Some (outside (turn_of outer.now) (use_of used.now))) }
 {
     if outer.over.has(used.slot) {
-        return Disowned::OtherElement(used, outer.variable, outer.line);
+        keep(
+            Disowned::OtherElement(used, outer.variable, outer.line),
+            first,
+        );
+    } else {
+        keep(Disowned::OuterArray(used, outer.line), first);
     }
-    Disowned::OuterArray(used, outer.line)
 }
 
 // An array is indexed: one from outside may be where the loop is over it, by the loop's variable.
-fn of_index<'a>(around: &Option<Loop<'a>>, used: &'a Use, e: &Expr) -> Option<Disowned<'a>>
-    ensures { told_of result ≡ why_index (around_of around.now) (use_of used.now) (expr_of e.now) }
+fn of_index<'a>(
+    around: &Option<Loop<'a>>,
+    used: &'a Use,
+    e: &Expr,
+    first: &mut Option<Disowned<'a>>,
+)
+    ensures { Finds first.old first.new
+        (why_index (around_of around.now) (use_of used.now) (expr_of e.now)) }
 {
-    match around {
-        None => None,
-        Some(outer) => {
-            let own = outer.may_name(used.slot) && is_variable(outer.variable.slot, e);
-            if own || !outer.outer.arrays.has(used.slot) {
-                return None;
-            }
-            Some(outside(outer, used))
+    if let Some(outer) = around {
+        let own = outer.may_name(used.slot) && is_variable(outer.variable.slot, e);
+        if own || !outer.outer.arrays.has(used.slot) {
+            return;
         }
+        of_outside(outer, used, first);
     }
 }
 
 // An array from outside the loop is named as a whole.
-fn of_outer_array<'a>(around: &Option<Loop<'a>>, used: &'a Use) -> Option<Disowned<'a>>
-    ensures { told_of result ≡ why_outer_array (around_of around.now) (use_of used.now) }
+fn of_outer_array<'a>(around: &Option<Loop<'a>>, used: &'a Use, first: &mut Option<Disowned<'a>>)
+    ensures { Finds first.old first.new (why_outer_array (around_of around.now) (use_of used.now)) }
 {
-    match around {
-        None => None,
-        Some(outer) => {
-            if outer.outer.arrays.has(used.slot) {
-                return Some(outside(outer, used));
-            }
-            None
+    if let Some(outer) = around {
+        if outer.outer.arrays.has(used.slot) {
+            of_outside(outer, used, first);
         }
     }
 }
 
 // An integer from outside the loop is written.
-fn of_outer_int<'a>(around: &Option<Loop<'a>>, used: &'a Use) -> Option<Disowned<'a>>
-    ensures { told_of result ≡ why_outer_int (around_of around.now) (use_of used.now) }
+fn of_outer_int<'a>(around: &Option<Loop<'a>>, used: &'a Use, first: &mut Option<Disowned<'a>>)
+    ensures { Finds first.old first.new (why_outer_int (around_of around.now) (use_of used.now)) }
 {
-    match around {
-        None => None,
-        Some(outer) => {
-            if outer.outer.ints.has(used.slot) {
-                return Some(Disowned::OuterWritten(used, outer.line));
-            }
-            None
+    if let Some(outer) = around {
+        if outer.outer.ints.has(used.slot) {
+            keep(Disowned::OuterWritten(used, outer.line), first);
         }
     }
 }
 
 // An expression names what is taken, or breaks the rule of the loop around.
-fn of_expr<'a>(around: &Option<Loop<'a>>, taken: &Taken, e: &'a Expr) -> Option<Disowned<'a>>
-    ensures { told_of result ≡ why_here why_read around.now taken.now (expr_of e.now) }
+fn of_expr<'a>(
+    around: &Option<Loop<'a>>,
+    taken: &Taken,
+    e: &'a Expr,
+    first: &mut Option<Disowned<'a>>,
+)
+    ensures { Finds first.old first.new (why_here why_read around.now taken.now (expr_of e.now)) }
 {
     match e {
-        Expr::Number(_) => None,
-        Expr::Variable(used) => of_read(taken, used),
-        Expr::Element(used, e) => of_taken(taken, used)
-            .or(of_expr(around, taken, e))
-            .or(of_index(around, used, e)),
-        Expr::Length(used) => of_lent(around, taken, used),
-        Expr::Negative(e) => of_expr(around, taken, e),
-        Expr::Not(e) => of_expr(around, taken, e),
-        Expr::Binary(_, d, e) => of_expr(around, taken, d).or(of_expr(around, taken, e)),
+        Expr::Number(_) => {}
+        Expr::Variable(used) => of_read(taken, used, first),
+        Expr::Element(used, e) => {
+            of_taken(taken, used, first);
+            of_expr(around, taken, e, first);
+            of_index(around, used, e, first);
+        }
+        Expr::Length(used) => of_lent(around, taken, used, first),
+        Expr::Negative(e) => of_expr(around, taken, e, first),
+        Expr::Not(e) => of_expr(around, taken, e, first),
+        Expr::Binary(_, d, e) => {
+            of_expr(around, taken, d, first);
+            of_expr(around, taken, e, first);
+        }
     }
 }
 
 // An integer that is read is taken.
-fn of_read<'a>(taken: &Taken, used: &'a Use) -> Option<Disowned<'a>>
-    ensures { told_of result ≡ why_int (taken_of taken.now) touch.Read (use_of used.now) }
+fn of_read<'a>(taken: &Taken, used: &'a Use, first: &mut Option<Disowned<'a>>)
+    ensures { Finds first.old first.new (why_int (taken_of taken.now) touch.Read (use_of used.now)) }
 {
-    of_holder(taken, used, Touch::Read, taken.int_holder(used.slot))
+    of_holder(taken, used, Touch::Read, taken.int_holder(used.slot), first);
 }
 
 // An array that is read is taken.
-fn of_taken<'a>(taken: &Taken, used: &'a Use) -> Option<Disowned<'a>>
-    ensures { told_of result ≡ why_taken (taken_of taken.now) (use_of used.now) }
+fn of_taken<'a>(taken: &Taken, used: &'a Use, first: &mut Option<Disowned<'a>>)
+    ensures { Finds first.old first.new (why_taken (taken_of taken.now) (use_of used.now)) }
 {
-    of_holder(taken, used, Touch::Read, taken.array_taker(used.slot))
+    of_holder(
+        taken,
+        used,
+        Touch::Read,
+        taken.array_taker(used.slot),
+        first,
+    );
 }
 
 // An array that is read as a whole is taken, or from outside the loop.
-fn of_lent<'a>(around: &Option<Loop<'a>>, taken: &Taken, used: &'a Use) -> Option<Disowned<'a>>
-    ensures { told_of result ≡ why_here why_lend around.now taken.now (use_of used.now) }
+fn of_lent<'a>(
+    around: &Option<Loop<'a>>,
+    taken: &Taken,
+    used: &'a Use,
+    first: &mut Option<Disowned<'a>>,
+)
+    ensures { Finds first.old first.new (why_here why_lend around.now taken.now (use_of used.now)) }
 {
-    of_taken(taken, used).or(of_outer_array(around, used))
+    of_taken(taken, used, first);
+    of_outer_array(around, used, first);
 }
 
 // An integer that is written is taken, or from outside the loop.
-fn of_write<'a>(around: &Option<Loop<'a>>, taken: &Taken, used: &'a Use) -> Option<Disowned<'a>>
-    ensures { told_of result ≡ why_here why_write around.now taken.now (use_of used.now) }
+fn of_write<'a>(
+    around: &Option<Loop<'a>>,
+    taken: &Taken,
+    used: &'a Use,
+    first: &mut Option<Disowned<'a>>,
+)
+    ensures { Finds first.old first.new (why_here why_write around.now taken.now (use_of used.now)) }
 {
-    let held = of_holder(taken, used, Touch::Written, taken.int_holder(used.slot));
-    held.or(of_outer_int(around, used))
+    of_holder(
+        taken,
+        used,
+        Touch::Written,
+        taken.int_holder(used.slot),
+        first,
+    );
+    of_outer_int(around, used, first);
 }
 
 // An array that is given away, cut or named in the head of a loop is held, or from outside the loop around.
@@ -153,12 +226,13 @@ fn of_whole<'a>(
     taken: &Taken,
     touch: Touch,
     used: &'a Use,
-) -> Option<Disowned<'a>>
-    ensures { told_of result
-        ≡ why_whole (around_of around.now) (taken_of taken.now) touch (use_of used.now) }
+    first: &mut Option<Disowned<'a>>,
+)
+    ensures { Finds first.old first.new
+        (why_whole (around_of around.now) (taken_of taken.now) touch (use_of used.now)) }
 {
-    let held = of_holder(taken, used, touch, taken.array_holder(used.slot));
-    held.or(of_outer_array(around, used))
+    of_holder(taken, used, touch, taken.array_holder(used.slot), first);
+    of_outer_array(around, used, first);
 }
 
 // The integer that a result goes to may not be written, if there is one.
@@ -166,12 +240,13 @@ fn of_target<'a>(
     around: &Option<Loop<'a>>,
     taken: &Taken,
     target: &'a Option<Use>,
-) -> Option<Disowned<'a>>
-    ensures { told_of result ≡ why_here why_target around.now taken.now (used target.now) }
+    first: &mut Option<Disowned<'a>>,
+)
+    ensures { Finds first.old first.new
+        (why_here why_target around.now taken.now (used target.now)) }
 {
-    match target {
-        None => None,
-        Some(used) => of_write(around, taken, used),
+    if let Some(used) = target {
+        of_write(around, taken, used, first);
     }
 }
 
@@ -180,13 +255,15 @@ fn of_argument<'a>(
     around: &Option<Loop<'a>>,
     taken: &Taken,
     e: &'a Argument,
-) -> Option<Disowned<'a>>
-    ensures { told_of result ≡ why_here why_argument around.now taken.now (argument_of e.now) }
+    first: &mut Option<Disowned<'a>>,
+)
+    ensures { Finds first.old first.new
+        (why_here why_argument around.now taken.now (argument_of e.now)) }
 {
     match e {
-        Argument::Int(e) => of_expr(around, taken, e),
-        Argument::Array(used) => of_whole(around, taken, Touch::Passed, used),
-        Argument::Shared(used) => of_lent(around, taken, used),
+        Argument::Int(e) => of_expr(around, taken, e, first),
+        Argument::Array(used) => of_whole(around, taken, Touch::Passed, used, first),
+        Argument::Shared(used) => of_lent(around, taken, used, first),
     }
 }
 
@@ -195,17 +272,14 @@ fn of_arguments<'a>(
     around: &Option<Loop<'a>>,
     taken: &Taken,
     es: &'a [Argument],
-) -> Option<Disowned<'a>>
-    ensures { told_of result
-        ≡ why_arguments (around_of around.now) (taken_of taken.now) (map argument_of es.now) }
+    first: &mut Option<Disowned<'a>>,
+)
+    ensures { Finds first.old first.new
+        (why_arguments (around_of around.now) (taken_of taken.now) (map argument_of es.now)) }
 {
     for e in es {
-        let found = of_argument(around, taken, e);
-        if found.is_some() {
-            return found;
-        }
+        of_argument(around, taken, e, first);
     }
-    None
 }
 
 // What is returned may not be read, if anything is returned.
@@ -213,12 +287,13 @@ fn of_return<'a>(
     around: &Option<Loop<'a>>,
     taken: &Taken,
     e: &'a Option<Expr>,
-) -> Option<Disowned<'a>>
-    ensures { told_of result ≡ why_here why_return around.now taken.now (returned e.now) }
+    first: &mut Option<Disowned<'a>>,
+)
+    ensures { Finds first.old first.new
+        (why_here why_return around.now taken.now (returned e.now)) }
 {
-    match e {
-        None => None,
-        Some(e) => of_expr(around, taken, e),
+    if let Some(e) = e {
+        of_expr(around, taken, e, first);
     }
 }
 
@@ -269,15 +344,21 @@ fn read_too<'a>(callee: &'a Listed, given: &Bits, es: &'a [Argument]) -> Option<
 }
 
 // A call breaks a rule.
-fn of_call<'a>(around: &Option<Loop<'a>>, taken: &Taken, call: &'a Call) -> Option<Disowned<'a>>
+#[inline(never)]
+fn of_call<'a>(
+    around: &Option<Loop<'a>>,
+    taken: &Taken,
+    call: &'a Call,
+    first: &mut Option<Disowned<'a>>,
+)
     requires { list_all small_argument (map argument_of call.now.arguments.items) ≡ true }
-    ensures { told_of result ≡ why_of_call around.now taken.now call.now }
+    ensures { Finds first.old first.new (why_of_call around.now taken.now call.now) }
 {
+    of_arguments(around, taken, &call.arguments, first);
+    of_target(around, taken, &call.target, first);
+    of_found(given_twice(&call.callee, &call.arguments), first);
     let given = given_away(&call.arguments);
-    of_arguments(around, taken, &call.arguments)
-        .or(of_target(around, taken, &call.target))
-        .or(given_twice(&call.callee, &call.arguments))
-        .or(read_too(&call.callee, &given, &call.arguments))
+    of_found(read_too(&call.callee, &given, &call.arguments), first);
 }
 
 // A loop is over an array twice.
@@ -296,35 +377,49 @@ fn over_twice<'a>(uses: &'a [Use]) -> Option<Disowned<'a>>
 }
 
 // The first array of a loop that may not be named in its head.
-fn of_over<'a>(around: &Option<Loop<'a>>, taken: &Taken, uses: &'a [Use]) -> Option<Disowned<'a>>
-    ensures { told_of result ≡ why_here why_over around.now taken.now (map use_of uses.now) }
+fn of_over<'a>(
+    around: &Option<Loop<'a>>,
+    taken: &Taken,
+    uses: &'a [Use],
+    first: &mut Option<Disowned<'a>>,
+)
+    ensures { Finds first.old first.new
+        (why_here why_over around.now taken.now (map use_of uses.now)) }
 {
     for used in uses {
-        let found = of_whole(around, taken, Touch::NamedInOver, used);
-        if found.is_some() {
-            return found;
-        }
+        of_whole(around, taken, Touch::NamedInOver, used, first);
     }
-    None
 }
 
 // The head of a loop breaks a rule.
-fn of_head<'a>(around: &Option<Loop<'a>>, taken: &Taken, head: &'a Head) -> Option<Disowned<'a>>
+#[inline(never)]
+fn of_head<'a>(
+    around: &Option<Loop<'a>>,
+    taken: &Taken,
+    head: &'a Head,
+    first: &mut Option<Disowned<'a>>,
+)
     requires { list_all is_small (map use_of head.now.over.items) ≡ true }
-    ensures { told_of result ≡ why_here why_head around.now taken.now (head_of head.now) }
+    ensures { Finds first.old first.new (why_here why_head around.now taken.now (head_of head.now)) }
 {
     let inner = for_head(around);
-    of_expr(&inner, taken, &head.from)
-        .or(of_expr(&inner, taken, &head.to))
-        .or(of_over(&inner, taken, &head.over))
-        .or(over_twice(&head.over))
+    of_expr(&inner, taken, &head.from, first);
+    of_expr(&inner, taken, &head.to, first);
+    of_over(&inner, taken, &head.over, first);
+    of_found(over_twice(&head.over), first);
 }
 
 // A cut breaks a rule.
-fn of_cut<'a>(around: &Option<Loop<'a>>, taken: &Taken, cut: &'a Cut) -> Option<Disowned<'a>>
-    ensures { told_of result ≡ why_here why_cut around.now taken.now (parts_of cut.now) }
+fn of_cut<'a>(
+    around: &Option<Loop<'a>>,
+    taken: &Taken,
+    cut: &'a Cut,
+    first: &mut Option<Disowned<'a>>,
+)
+    ensures { Finds first.old first.new (why_here why_cut around.now taken.now (parts_of cut.now)) }
 {
-    of_expr(around, taken, &cut.at).or(of_whole(around, taken, Touch::Cut, &cut.array))
+    of_expr(around, taken, &cut.at, first);
+    of_whole(around, taken, Touch::Cut, &cut.array, first);
 }
 
 // An assignment to an element breaks a rule.
@@ -334,39 +429,53 @@ fn of_element<'a>(
     used: &'a Use,
     i: &'a Expr,
     e: &'a Expr,
-) -> Option<Disowned<'a>>
-    ensures { told_of result
-        ≡ why_here why_element around.now taken.now
-        (use_of used.now) (expr_of i.now) (expr_of e.now) }
+    first: &mut Option<Disowned<'a>>,
+)
+    ensures { Finds first.old first.new
+        (why_here why_element around.now taken.now
+        (use_of used.now) (expr_of i.now) (expr_of e.now)) }
 {
-    let held = of_holder(taken, used, Touch::Written, taken.array_holder(used.slot));
-    of_expr(around, taken, i)
-        .or(of_expr(around, taken, e))
-        .or(held)
-        .or(of_index(around, used, i))
+    of_expr(around, taken, i, first);
+    of_expr(around, taken, e, first);
+    of_holder(
+        taken,
+        used,
+        Touch::Written,
+        taken.array_holder(used.slot),
+        first,
+    );
+    of_index(around, used, i, first);
 }
 
-/// The first rule that a statement breaks, but for what stands in its blocks.
-pub fn of_stmt<'a>(around: &Option<Loop<'a>>, taken: &Taken, stmt: &'a Stmt) -> Option<Disowned<'a>>
+/// The first rule that a statement breaks, but for what stands in its blocks, where none was broken before.
+pub fn of_stmt<'a>(
+    around: &Option<Loop<'a>>,
+    taken: &Taken,
+    stmt: &'a Stmt,
+    first: &mut Option<Disowned<'a>>,
+)
     requires { small_stmt (stmt_of stmt.now) ≡ true }
-    ensures { told_of result ≡ why (around_of around.now) (taken_of taken.now) (stmt_of stmt.now) }
+    ensures { Finds first.old first.new (why_here why around.now taken.now (stmt_of stmt.now)) }
 {
     match stmt {
-        Stmt::Declare(_, e) => of_expr(around, taken, e),
-        Stmt::DeclareArray(_, e) => of_expr(around, taken, e),
-        Stmt::Assign(used, e) => of_expr(around, taken, e).or(of_write(around, taken, used)),
-        Stmt::AssignElement(used, i, e) => of_element(around, taken, used, i, e),
-        Stmt::Reduce(_, _, e) => of_expr(around, taken, e),
-        Stmt::Call(call) => of_call(around, taken, call),
-        Stmt::Sync => None,
-        Stmt::If(e, _) => of_expr(around, taken, e),
-        Stmt::IfElse(e, _, _) => of_expr(around, taken, e),
-        Stmt::While(e, _) => of_expr(around, taken, e),
-        Stmt::For(head, _) => of_head(around, taken, head),
-        Stmt::Scope(_) => None,
-        Stmt::Cut(cut, _) => of_cut(around, taken, cut),
-        Stmt::Region(_, _) => None,
-        Stmt::Print(e) => of_expr(around, taken, e),
-        Stmt::Return(e) => of_return(around, taken, e),
+        Stmt::Declare(_, e) => of_expr(around, taken, e, first),
+        Stmt::DeclareArray(_, e) => of_expr(around, taken, e, first),
+        Stmt::Assign(used, e) => {
+            of_expr(around, taken, e, first);
+            of_write(around, taken, used, first);
+        }
+        Stmt::AssignElement(used, i, e) => of_element(around, taken, used, i, e, first),
+        Stmt::Reduce(_, _, e) => of_expr(around, taken, e, first),
+        Stmt::Call(call) => of_call(around, taken, call, first),
+        Stmt::Sync => {}
+        Stmt::If(e, _) => of_expr(around, taken, e, first),
+        Stmt::IfElse(e, _, _) => of_expr(around, taken, e, first),
+        Stmt::While(e, _) => of_expr(around, taken, e, first),
+        Stmt::For(head, _) => of_head(around, taken, head, first),
+        Stmt::Scope(_) => {}
+        Stmt::Cut(cut, _) => of_cut(around, taken, cut, first),
+        Stmt::Region(_, _) => {}
+        Stmt::Print(e) => of_expr(around, taken, e, first),
+        Stmt::Return(e) => of_return(around, taken, e, first),
     }
 }

@@ -1,28 +1,27 @@
 //! Which lines break a rule of ownership.
 
 ghost use Rattle.std.specs.Prelude.{◌≡◌, ◌∷◌, ◌<◌, length, drop, true};
-ghost use Rattle.cw_model.specs.declared.limits.TheConstants.{MOST_DECLARED};
 ghost use Rattle.cw_tree.specs.ResolvedView.{use_of, stmt_of, block_of};
-ghost use Rattle.cw_own.specs.Bounds.{small_stmt, small_block};
+ghost use Rattle.cw_own.specs.Bounds.{small_stmt, small_block, is_if_else};
 ghost use Rattle.cw_own.specs.Sets.{row_of};
-ghost use Rattle.cw_own.specs.Taken.{held_of, taken_of, BeginWith};
+ghost use Rattle.cw_own.specs.Taken.{held_of, joined, taken_of, turns, BeginWith};
 ghost use Rattle.cw_own.specs.Reasons.{ends_by, why_left};
-ghost use Rattle.cw_own.specs.Views.{rows_of, sees, left_after, left_by_cut, left_by_scope};
-ghost use Rattle.cw_own.specs.Views.{taken_after_lines, taken_after_other};
-ghost use Rattle.cw_own.specs.Views.{turns_of, turns_inside, turns_of_other, turns_of_lines, Past};
-ghost use Rattle.cw_own.specs.Views.{reasons_among, reasons_leaving, reasons_joining};
-ghost use Rattle.cw_own.specs.Views.{reasons_of_other, reasons_inside, reasons_of_cut, reasons_of_scope};
+ghost use Rattle.cw_own.specs.Views.{rows_of, for_of, cut_of, sees, taken_after_lines};
+ghost use Rattle.cw_own.specs.Views.{left_after, left_by_if, left_by_scope, left_by_cut};
+ghost use Rattle.cw_own.specs.Views.{turns_of, turns_inside, turns_of_lines, Past};
+ghost use Rattle.cw_own.specs.Views.{reasons_among, reasons_leaving, reasons_joining, reasons_inside};
+ghost use Rattle.cw_own.specs.Views.{reasons_of_either, reasons_of_for, reasons_of_scope, reasons_of_cut};
 ghost use Rattle.cw_own.specs.Views.{told_of, still_taken, Noted};
 
 use crate::around::Loop;
-use crate::gains::{after_call, known_after};
+use crate::gains::{after_call, know};
 use crate::held::Held;
 use crate::reading::of_stmt;
 use crate::reason::{Disowned, Holder};
 use crate::row::Row;
 use crate::taken::Taken;
 use crate::told::Told;
-use cw_tree::resolved::{Line, Stmt, Use};
+use cw_tree::resolved::{Cut, Head, Line, Stmt, Use};
 
 /// What one turn of each `while` holds that is still to come, in order.
 #[derive(Drop)]
@@ -32,20 +31,20 @@ pub struct Turns<'a> {
 
 impl<'a> Turns<'a> {
     // What a turn of the next `while` holds.
-    fn next(&mut self) -> Held
+    fn next(&mut self) -> &'a Held
         requires { 0 < length self.old.left.now }
-        ensures { rows_of self.old.left.now ≡ held_of result ∷ rows_of self.new.left.now }
+        ensures { rows_of self.old.left.now ≡ held_of result.now ∷ rows_of self.new.left.now }
     {
-        let first = self.left[0];
+        let first = &self.left[0];
         self.left = &self.left[1..];
         first
     }
 }
 
 // What the test and the body of a `while` see as held: also what a turn holds. Another statement sees what is held.
-fn seen_by(known: &Row, taken: Taken, stmt: &Stmt, rest: &mut Turns<'_>) -> Taken
+fn see(known: &Row, taken: &mut Taken, stmt: &Stmt, rest: &mut Turns<'_>)
     requires { BeginWith (turns_of known.now stmt.now) (rows_of rest.old.left.now) }
-    ensures seen { taken_of result ≡ sees known.now taken stmt.now }
+    ensures seen { taken_of taken.new ≡ sees known.now taken.old stmt.now }
     ensures begin { BeginWith (turns_inside known.now stmt.now) (rows_of rest.new.left.now) }
     ensures left { drop (length (turns_inside known.now stmt.now)) (rows_of rest.new.left.now)
         ≡ drop (length (turns_of known.now stmt.now)) (rows_of rest.old.left.now) }
@@ -53,10 +52,7 @@ fn seen_by(known: &Row, taken: Taken, stmt: &Stmt, rest: &mut Turns<'_>) -> Take
     match stmt {
         Stmt::While(_, _) => {
             let gain = rest.next();
-            Taken {
-                here: taken.here.either(&gain),
-                ..taken
-            }
+            taken.here = taken.here.either(gain);
         }
         Stmt::Declare(_, _)
         | Stmt::DeclareArray(_, _)
@@ -72,7 +68,7 @@ fn seen_by(known: &Row, taken: Taken, stmt: &Stmt, rest: &mut Turns<'_>) -> Take
         | Stmt::Cut(_, _)
         | Stmt::Region(_, _)
         | Stmt::Print(_)
-        | Stmt::Return(_) => taken,
+        | Stmt::Return(_) => {}
     }
 }
 
@@ -106,99 +102,131 @@ fn note_left<'a>(taken: &Taken, lines: &'a [Line], told: &mut Told<'a>)
     }
 }
 
-// Notes the lines of these statements that break a rule; what is held after them.
+// Notes the lines of these statements that break a rule, and holds what is held after them.
 #[cycle(rules)]
 #[tactic(auto, using(crate::proofs::Small::kept_append))]
 fn note_all<'a>(
     around: &Option<Loop<'a>>,
-    known: Row,
-    taken: Taken,
+    known: &Row,
+    taken: &mut Taken,
     lines: &'a [Line],
     rest: &mut Turns<'_>,
     told: &mut Told<'a>,
-) -> Taken
+)
     requires small { small_block (block_of lines.now) ≡ true }
-    requires turns { BeginWith (turns_of_lines known lines.now) (rows_of rest.old.left.now) }
-    ensures taken { taken_of result ≡ taken_after_lines known taken lines.now }
-    ensures lines { Noted told.old told.new (reasons_among around.now known taken lines.now) }
-    ensures turns { Past (turns_of_lines known lines.now) rest.old.left.now rest.new.left.now }
+    requires turns { BeginWith (turns_of_lines known.now lines.now) (rows_of rest.old.left.now) }
+    ensures taken { taken_of taken.new ≡ taken_after_lines known.now taken.old lines.now }
+    ensures lines { Noted told.old told.new
+        (reasons_among around.now known.now taken.old lines.now) }
+    ensures turns { Past (turns_of_lines known.now lines.now) rest.old.left.now rest.new.left.now }
 {
-    let mut known = known;
-    let mut taken = taken;
+    let mut known = *known;
     for line in lines {
-        let next = known_after(known, &line.stmt);
-        let seen = seen_by(&known, taken, &line.stmt, rest);
-        told.note(of_stmt(around, &seen, &line.stmt), line.line);
+        see(&known, taken, &line.stmt, rest);
+        let mut first = None;
+        of_stmt(around, taken, &line.stmt, &mut first);
+        told.note(first, line.line);
         told.watch.line = line.line;
-        taken = note_within(around, &known, seen, line.line, &line.stmt, rest, told);
-        known = next;
+        note_within(around, &known, taken, line.line, &line.stmt, rest, told);
+        know(&mut known, &line.stmt);
     }
-    taken
 }
 
-// Notes the lines of a block that break a rule, where it joins no spawn at its end; what is held at its end.
+// Notes the lines of a block that break a rule, where it joins no spawn at its end, and holds what is held at its end.
 #[cycle(rules)]
 #[tactic(auto, using(crate::proofs::Small::kept_append))]
 fn note_block<'a>(
     around: &Option<Loop<'a>>,
-    known: Row,
-    taken: Taken,
+    known: &Row,
+    taken: &mut Taken,
     lines: &'a [Line],
     rest: &mut Turns<'_>,
     told: &mut Told<'a>,
-) -> Taken
+)
     requires small { small_block (block_of lines.now) ≡ true }
-    requires turns { BeginWith (turns_of_lines known lines.now) (rows_of rest.old.left.now) }
-    ensures taken { taken_of result ≡ taken_after_lines known taken lines.now }
-    ensures lines { Noted told.old told.new (reasons_leaving around.now known taken lines.now) }
-    ensures turns { Past (turns_of_lines known lines.now) rest.old.left.now rest.new.left.now }
+    requires turns { BeginWith (turns_of_lines known.now lines.now) (rows_of rest.old.left.now) }
+    ensures taken { taken_of taken.new ≡ taken_after_lines known.now taken.old lines.now }
+    ensures lines { Noted told.old told.new
+        (reasons_leaving around.now known.now taken.old lines.now) }
+    ensures turns { Past (turns_of_lines known.now lines.now) rest.old.left.now rest.new.left.now }
 {
-    let after = note_all(around, known, taken, lines, rest, told);
-    note_left(&after, lines, told);
-    after
+    note_all(around, known, taken, lines, rest, told);
+    note_left(taken, lines, told);
 }
 
-/// Notes the lines of a sync block that break a rule; what is held at its end, before it joins its spawns.
+/// Notes the lines of a sync block that break a rule, and holds what is held once it has joined its spawns.
 #[cycle(rules)]
 #[tactic(auto, using(crate::proofs::Small::kept_append))]
 pub fn note_sync_block<'a>(
     around: &Option<Loop<'a>>,
-    known: Row,
-    taken: Taken,
+    known: &Row,
+    taken: &mut Taken,
     lines: &'a [Line],
     rest: &mut Turns<'_>,
     told: &mut Told<'a>,
-) -> Taken
+)
     requires small { small_block (block_of lines.now) ≡ true }
-    requires turns { BeginWith (turns_of_lines known lines.now) (rows_of rest.old.left.now) }
-    ensures taken { taken_of result ≡ taken_after_lines known taken lines.now }
-    ensures lines { Noted told.old told.new (reasons_joining around.now known taken lines.now) }
-    ensures turns { Past (turns_of_lines known lines.now) rest.old.left.now rest.new.left.now }
+    requires turns { BeginWith (turns_of_lines known.now lines.now) (rows_of rest.old.left.now) }
+    ensures taken { taken_of taken.new
+        ≡ joined (taken_after_lines known.now taken.old lines.now) }
+    ensures lines { Noted told.old told.new
+        (reasons_joining around.now known.now taken.old lines.now) }
+    ensures turns { Past (turns_of_lines known.now lines.now) rest.old.left.now rest.new.left.now }
 {
-    let after = note_all(around, known, taken, lines, rest, told);
-    note_left(&after.joined(), lines, told);
-    after
+    note_all(around, known, taken, lines, rest, told);
+    taken.join();
+    note_left(taken, lines, told);
 }
 
-// The same of what a statement does where its test does not hold.
+// Notes the lines that break a rule of an `if` with this block, and holds what is held behind it.
 #[cycle(rules)]
 #[tactic(auto, using(crate::proofs::Small::kept_append))]
-fn note_other<'a>(
+fn note_if<'a>(
     around: &Option<Loop<'a>>,
     known: &Row,
-    taken: Taken,
+    taken: &mut Taken,
+    lines: &'a [Line],
+    rest: &mut Turns<'_>,
+    told: &mut Told<'a>,
+)
+    requires small { small_block (block_of lines.now) ≡ true }
+    requires turns { BeginWith (turns_of_lines known.now lines.now) (rows_of rest.old.left.now) }
+    ensures taken { taken_of taken.new ≡ left_by_if known.now taken.old lines.now }
+    ensures lines { Noted told.old told.new
+        (reasons_leaving around.now known.now taken.old lines.now) }
+    ensures turns { Past (turns_of_lines known.now lines.now) rest.old.left.now rest.new.left.now }
+{
+    let mut branch = *taken;
+    note_block(around, known, &mut branch, lines, rest, told);
+    taken.here = branch.here.within(known, &told.watch).either(&taken.here);
+}
+
+// The same of a statement with two branches.
+#[cycle(rules)]
+#[tactic(auto, using(crate::proofs::Small::kept_append))]
+fn note_either<'a>(
+    around: &Option<Loop<'a>>,
+    known: &Row,
+    taken: &mut Taken,
     stmt: &'a Stmt,
     rest: &mut Turns<'_>,
     told: &mut Told<'a>,
-) -> Taken
+)
     requires small { small_stmt (stmt_of stmt.now) ≡ true }
-    requires turns { BeginWith (turns_of_other known.now stmt.now) (rows_of rest.old.left.now) }
-    ensures taken { taken_of result ≡ taken_after_other known.now taken stmt.now }
-    ensures lines { Noted told.old told.new (reasons_of_other around.now known.now taken stmt.now) }
-    ensures turns { Past (turns_of_other known.now stmt.now) rest.old.left.now rest.new.left.now }
+    requires either { is_if_else (stmt_of stmt.now) ≡ true }
+    requires turns { BeginWith (turns_inside known.now stmt.now) (rows_of rest.old.left.now) }
+    ensures taken { taken_of taken.new ≡ left_after known.now taken.old stmt.now }
+    ensures lines { Noted told.old told.new
+        (reasons_of_either around.now known.now taken.old stmt.now) }
+    ensures turns { Past (turns_inside known.now stmt.now) rest.old.left.now rest.new.left.now }
 {
     match stmt {
-        Stmt::IfElse(_, _, block) => note_block(around, *known, taken, block, rest, told),
+        Stmt::IfElse(_, block, other) => {
+            let mut branch = *taken;
+            note_block(around, known, &mut branch, block, rest, told);
+            note_block(around, known, taken, other, rest, told);
+            *taken = Taken::after_branches(known, &branch, taken, &told.watch);
+        }
         Stmt::Declare(_, _)
         | Stmt::DeclareArray(_, _)
         | Stmt::Assign(_, _)
@@ -213,122 +241,143 @@ fn note_other<'a>(
         | Stmt::Cut(_, _)
         | Stmt::Region(_, _)
         | Stmt::Print(_)
-        | Stmt::Return(_) => taken,
+        | Stmt::Return(_) => {}
     }
 }
 
-// Notes the lines that break a rule of a sync block inside another; what is held behind it.
+// The same of a `while` with this block, which sees all that is held behind it.
 #[cycle(rules)]
-#[tactic(auto, using(crate::proofs::Small::kept_append))]
+fn note_while<'a>(
+    around: &Option<Loop<'a>>,
+    known: &Row,
+    taken: &Taken,
+    lines: &'a [Line],
+    rest: &mut Turns<'_>,
+    told: &mut Told<'a>,
+)
+    requires small { small_block (block_of lines.now) ≡ true }
+    requires turns { BeginWith (turns_of_lines known.now lines.now) (rows_of rest.old.left.now) }
+    ensures lines { Noted told.old told.new
+        (reasons_leaving around.now known.now taken.now lines.now) }
+    ensures turns { Past (turns_of_lines known.now lines.now) rest.old.left.now rest.new.left.now }
+{
+    let mut inside = *taken;
+    note_block(around, known, &mut inside, lines, rest, told);
+}
+
+// The same of a sync block inside another.
+#[cycle(rules)]
 fn note_scope<'a>(
     around: &Option<Loop<'a>>,
-    known: Row,
-    taken: Taken,
+    known: &Row,
+    taken: &mut Taken,
     lines: &'a [Line],
     rest: &mut Turns<'_>,
     told: &mut Told<'a>,
-) -> Taken
+)
     requires small { small_block (block_of lines.now) ≡ true }
-    requires turns { BeginWith (turns_of_lines known lines.now) (rows_of rest.old.left.now) }
-    ensures taken { taken_of result ≡ left_by_scope known taken lines.now }
-    ensures lines { Noted told.old told.new (reasons_of_scope around.now known taken lines.now) }
-    ensures turns { Past (turns_of_lines known lines.now) rest.old.left.now rest.new.left.now }
+    requires turns { BeginWith (turns_of_lines known.now lines.now) (rows_of rest.old.left.now) }
+    ensures taken { taken_of taken.new ≡ left_by_scope known.now taken.old lines.now }
+    ensures lines { Noted told.old told.new
+        (reasons_of_scope around.now known.now taken.old lines.now) }
+    ensures turns { Past (turns_of_lines known.now lines.now) rest.old.left.now rest.new.left.now }
 {
-    let after = note_sync_block(around, known, taken.inside(), lines, rest, told);
-    Taken {
-        cuts: after.cuts,
-        ..taken
-    }
+    let mut inside = taken.inside();
+    note_sync_block(around, known, &mut inside, lines, rest, told);
+    taken.cuts = inside.cuts;
 }
 
-// The same of the block of a cut of this array, in which its parts are known.
+// The same of a loop with this head, of this line.
 #[cycle(rules)]
-#[tactic(auto, using(crate::proofs::Small::kept_append))]
+fn note_for<'a>(
+    known: &Row,
+    taken: &mut Taken,
+    line: u32,
+    head: &'a Head,
+    lines: &'a [Line],
+    rest: &mut Turns<'_>,
+    told: &mut Told<'a>,
+)
+    requires small { small_stmt (for_of head.now lines.now) ≡ true }
+    requires turns { BeginWith (turns (row_of known.now) (for_of head.now lines.now))
+        (rows_of rest.old.left.now) }
+    ensures taken { taken_of taken.new ≡ left_by_scope known.now taken.old lines.now }
+    ensures lines { Noted told.old told.new
+        (reasons_of_for known.now taken.old line head.now lines.now) }
+    ensures turns { Past (turns (row_of known.now) (for_of head.now lines.now))
+        rest.old.left.now rest.new.left.now }
+{
+    let around = Some(Loop::new(line, head, known));
+    let mut known = *known;
+    known.add_int(head.variable.slot);
+    note_scope(&around, &known, taken, lines, rest, told);
+}
+
+// The same of a cut, in whose block its parts are known.
+#[cycle(rules)]
 fn note_cut<'a>(
     around: &Option<Loop<'a>>,
-    known: Row,
-    taken: Taken,
-    array: u32,
+    known: &Row,
+    taken: &mut Taken,
+    cut: &Cut,
     lines: &'a [Line],
     rest: &mut Turns<'_>,
     told: &mut Told<'a>,
-) -> Taken
-    requires array { array < MOST_DECLARED }
-    requires small { small_block (block_of lines.now) ≡ true }
-    requires turns { BeginWith (turns_of_lines known lines.now) (rows_of rest.old.left.now) }
-    ensures taken { taken_of result ≡ left_by_cut array taken lines.now }
+)
+    requires small { small_stmt (cut_of cut.now lines.now) ≡ true }
+    requires turns { BeginWith (turns (row_of known.now) (cut_of cut.now lines.now))
+        (rows_of rest.old.left.now) }
+    ensures taken { taken_of taken.new ≡ left_by_cut known.now taken.old cut.now lines.now }
     ensures lines { Noted told.old told.new
-        (reasons_of_cut around.now known array taken lines.now) }
-    ensures turns { Past (turns_of_lines known lines.now) rest.old.left.now rest.new.left.now }
+        (reasons_of_cut around.now known.now taken.old cut.now lines.now) }
+    ensures turns { Past (turns (row_of known.now) (cut_of cut.now lines.now))
+        rest.old.left.now rest.new.left.now }
 {
-    let inside = taken.inside_cut(array, &told.watch);
-    let after = note_sync_block(around, known, inside, lines, rest, told);
-    let mut cuts = after.cuts;
-    cuts.remove(array);
-    Taken { cuts, ..taken }
+    let mut known = *known;
+    known.add_array(cut.left.slot);
+    known.add_array(cut.right.slot);
+    let array = cut.array.slot;
+    let mut inside = taken.inside_cut(array, &told.watch);
+    note_sync_block(around, &known, &mut inside, lines, rest, told);
+    inside.cuts.remove(array);
+    taken.cuts = inside.cuts;
 }
 
-// Notes the lines in the blocks of a statement that break a rule; what is held after the statement.
+// Notes the lines in the blocks of a statement that break a rule, and holds what is held after the statement.
 #[cycle(rules)]
 #[tactic(auto, using(crate::proofs::Small::kept_append))]
 fn note_within<'a>(
     around: &Option<Loop<'a>>,
     known: &Row,
-    taken: Taken,
+    taken: &mut Taken,
     line: u32,
     stmt: &'a Stmt,
     rest: &mut Turns<'_>,
     told: &mut Told<'a>,
-) -> Taken
+)
     requires small { small_stmt (stmt_of stmt.now) ≡ true }
     requires turns { BeginWith (turns_inside known.now stmt.now) (rows_of rest.old.left.now) }
-    ensures taken { taken_of result ≡ left_after known.now taken stmt.now }
+    ensures taken { taken_of taken.new ≡ left_after known.now taken.old stmt.now }
     ensures lines { Noted told.old told.new
-        (reasons_inside around.now known.now taken line stmt.now) }
+        (reasons_inside around.now known.now taken.old line stmt.now) }
     ensures turns { Past (turns_inside known.now stmt.now) rest.old.left.now rest.new.left.now }
 {
     match stmt {
-        Stmt::Call(call) => Taken {
-            here: after_call(taken.here, call, &told.watch),
-            ..taken
-        },
-        Stmt::Sync => taken.joined(),
-        Stmt::Return(_) => taken.joined(),
-        Stmt::If(_, block) => {
-            let branch = note_block(around, *known, taken, block, rest, told);
-            Taken {
-                here: branch.here.within(known, &told.watch).either(&taken.here),
-                ..taken
-            }
+        Stmt::Call(call) => after_call(&mut taken.here, call, &told.watch),
+        Stmt::Sync | Stmt::Return(_) => taken.join(),
+        Stmt::If(_, block) => note_if(around, known, taken, block, rest, told),
+        Stmt::IfElse(_, _, _) => note_either(around, known, taken, stmt, rest, told),
+        Stmt::While(_, block) => note_while(around, known, taken, block, rest, told),
+        Stmt::For(head, block) => note_for(known, taken, line, head, block, rest, told),
+        Stmt::Cut(cut, block) => note_cut(around, known, taken, cut, block, rest, told),
+        Stmt::Scope(block) | Stmt::Region(_, block) => {
+            note_scope(around, known, taken, block, rest, told)
         }
-        Stmt::IfElse(_, block, _) => {
-            let branch = note_block(around, *known, taken, block, rest, told);
-            let other = note_other(around, known, taken, stmt, rest, told);
-            Taken::after_branches(known, &branch, &other, &told.watch)
-        }
-        Stmt::While(_, block) => {
-            note_block(around, *known, taken, block, rest, told);
-            taken
-        }
-        Stmt::For(head, block) => {
-            let inner = Some(Loop::new(line, head, known));
-            let mut known = *known;
-            known.add_int(head.variable.slot);
-            note_scope(&inner, known, taken, block, rest, told)
-        }
-        Stmt::Scope(block) => note_scope(around, *known, taken, block, rest, told),
-        Stmt::Cut(cut, block) => {
-            let mut known = *known;
-            known.add_array(cut.left.slot);
-            known.add_array(cut.right.slot);
-            note_cut(around, known, taken, cut.array.slot, block, rest, told)
-        }
-        Stmt::Region(_, block) => note_scope(around, *known, taken, block, rest, told),
         Stmt::Declare(_, _)
         | Stmt::DeclareArray(_, _)
         | Stmt::Assign(_, _)
         | Stmt::AssignElement(_, _, _)
         | Stmt::Reduce(_, _, _)
-        | Stmt::Print(_) => taken,
+        | Stmt::Print(_) => {}
     }
 }

@@ -99,14 +99,11 @@ impl Taken {
         }
     }
 
-    /// What is held after a join, and as a sync block ends: nothing by its own spawns.
-    pub fn joined(&self) -> Taken
-        ensures { taken_of result ≡ joined (taken_of self.now) }
+    /// A join, and the end of a sync block: nothing is held by its own spawns.
+    pub fn join(&mut self)
+        ensures { taken_of self.new ≡ joined (taken_of self.old) }
     {
-        Taken {
-            here: Held::none(),
-            ..*self
-        }
+        self.here.clear();
     }
 
     /// What is held after two branches: what one of them leaves held, of the locals that are known.

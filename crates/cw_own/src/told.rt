@@ -1,6 +1,6 @@
 //! The lines that break a rule, and which.
 
-ghost use Rattle.std.specs.Prelude.{◌≡◌};
+ghost use Rattle.std.specs.Prelude.{◌≡◌, Some};
 ghost use Rattle.cw_reasons.specs.Told.{no_place};
 ghost use Rattle.cw_own.specs.Reasons.{reasons_at};
 ghost use Rattle.cw_own.specs.Views.{Noted, places_told, reason_of, told_of};
@@ -104,11 +104,20 @@ impl<'a> Told<'a> {
     }
 
     /// One line more, where it breaks a rule.
+    #[inline(always)]
     pub fn note(&mut self, found: Option<Disowned<'a>>, line: u32)
         ensures { Noted self.old self.new (reasons_at line (told_of found.entry)) }
     {
         if let Some(reason) = found {
-            self.reasons.note(Some(self.watch.told(reason)), line);
+            self.keep(reason, line);
         }
+    }
+
+    // One line more, which breaks this rule.
+    #[inline(never)]
+    fn keep(&mut self, reason: Disowned<'a>, line: u32)
+        ensures { Noted self.old self.new (reasons_at line (Some (reason_of reason.entry))) }
+    {
+        self.reasons.note(Some(self.watch.told(reason)), line);
     }
 }

@@ -3,7 +3,7 @@ use Rattle.std.specs.List.{list_all}
 use Rattle.cw_tree.specs.ResolvedView.{argument_of}
 use Rattle.cw_own.specs.Bounds.{small_argument}
 use Rattle.cw_own.specs.Taken.{held_of, with_arrays}
-use Rattle.cw_own.proofs.gains.with_arrays.Given as goal
+use Rattle.cw_own.proofs.gains.take_arrays.Given as goal
 
 abbrev pub invariant-loop-e : goal.invariant-loop-e
 invariant-loop-e l = record {
