@@ -18,7 +18,7 @@ use Rattle.cw_model.specs.Report.{check_text, csv_line, value_line, reduction_wo
 use Rattle.cw_greedy.specs.Greedy.{greedy_length}
 use Rattle.cw_pool.specs.declared.run.TheConstants.{MOST_BODIES}
 use Rattle.cw_schedule.specs.State.{IsWithin}
-use Rattle.cw_schedule.specs.declared.schedules.TheConstants.{MOST_PROCESSORS}
+use Rattle.cw_model.specs.declared.limits.TheConstants.{MOST_PROCESSORS}
 use Rattle.cw_schedule.specs.Schedules.{IsNotScheduled, Schedules, is_asked, is_counted}
 use Rattle.cw_code.specs.Code.{Code}
 use Rattle.cw_code.specs.Run.{code_serial}

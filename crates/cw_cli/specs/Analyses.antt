@@ -1,7 +1,7 @@
 -- What an analysis of bytes answers, and what it writes.
 use Rattle.std.specs.Prelude.{◌≡◌, ◌≢◌, ◌≤◌, ◌<◌, ℕ, ℤ, List, length, Result, Err, MatchResult}
 use Rattle.cw_model.specs.declared.burden.Burden.{Burden}
-use Rattle.cw_model.specs.declared.limits.TheConstants.{MOST_LIMIT, MOST_BURDEN, MOST_TOP}
+use Rattle.cw_model.specs.declared.limits.TheConstants.{MOST_LIMIT, MOST_BURDEN, MOST_TOP, MOST_PROCESSORS}
 use Rattle.cw_model.specs.declared.trap.Trap.{Trap}
 use Rattle.cw_model.specs.Syntax.{Program}
 use Rattle.cw_model.specs.Meaning.{function_named}
@@ -11,7 +11,6 @@ use Rattle.cw_model.specs.Report.{report_text}
 use Rattle.cw_text.specs.declared.fault.Fault.{Fault}
 use Rattle.cw_text.specs.declared.fault.Fault.TheVariants as fault
 use Rattle.cw_pool.specs.declared.run.TheConstants.{MOST_BODIES}
-use Rattle.cw_schedule.specs.declared.schedules.TheConstants.{MOST_PROCESSORS}
 use Rattle.cw_report.specs.Seen.{Seen}
 use Rattle.cw_report.specs.Sinks.{WritesAll, WritesPart}
 use Rattle.cw_cli.specs.Schedules.{greedy_text, IsScheduledIn, HasTooManyStrands}

@@ -3,7 +3,6 @@
 
 mod analysis;
 mod crews;
-pub mod laws;
 mod misuse;
 mod reporting;
 mod telling;

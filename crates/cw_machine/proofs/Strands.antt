@@ -5,7 +5,7 @@ use native.Mathlib.Nat.{ℕ_set}
 use Rattle.cw_model.specs.Trees.{Tree}
 use Rattle.cw_greedy.specs.declared.code.Code as greedy
 use Rattle.cw_greedy.specs.declared.code.Code.TheVariants as codes
-use Rattle.cw_greedy.specs.declared.code.TheConstants.{MOST_STRANDS}
+use Rattle.cw_model.specs.declared.limits.TheConstants.{MOST_STRANDS}
 use Rattle.cw_greedy.specs.Recorded.{Recorded}
 use Rattle.cw_greedy.specs.Records.{merged}
 use Rattle.cw_greedy.specs.Blocks.{AsChild, codes_of, strand_count}

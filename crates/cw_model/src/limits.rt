@@ -66,6 +66,15 @@ pub const USUAL_LIMIT: u64 = 1_000_000_000;
 /// Instructions that a spawn is burdened with where no burden is given.
 pub const USUAL_BURDEN: u64 = 15_000;
 
+/// Workers of a run, the caller's thread among them.
+pub const MOST_WORKERS: usize = 64;
+
+/// Processors that a schedule may be asked for.
+pub const MOST_PROCESSORS: u64 = 1_000_000;
+
+/// Strands of a run that a schedule keeps.
+pub const MOST_STRANDS: u64 = 1_000_000;
+
 /// Functions that a report of gains may be asked to tell.
 pub const MOST_TOP: u64 = 64;
 

@@ -26,7 +26,7 @@ const QUANTUM: u64 = 262_144;
 const FIRST: u64 = 8_192;
 
 /// So many are no longer few.
-const FEW: usize = 64;
+const FEW: usize = 24;
 
 /// Else, with so many jobs in its worker's deque, it hands nothing out: it goes on with its spawns in place.
 const ENOUGH: usize = 3;

@@ -7,7 +7,7 @@ use Rattle.cw_measure.specs.OpenParts.{Open, spawned_after, has_spawned_from, ha
 use Rattle.cw_meter.specs.Meters.{ticked, synced, begun}
 use Rattle.cw_greedy.specs.declared.code.Code.{Code}
 use Rattle.cw_greedy.specs.declared.code.Code.TheVariants.{Instructions, Spawned, Ended, Joined, Called}
-use Rattle.cw_greedy.specs.declared.code.TheConstants.{MOST_STRANDS}
+use Rattle.cw_model.specs.declared.limits.TheConstants.{MOST_STRANDS}
 use Rattle.cw_greedy.specs.Recorded.{Recorded, cut, cuts, followed}
 use Rattle.cw_greedy.specs.RecordLaws.{cuts-append, by_few}
 use Rattle.cw_greedy.specs.Records.{instructions_before}

@@ -10,7 +10,7 @@ use Rattle.cw_meter.specs.Origins.{main_open}
 use Rattle.cw_greedy.specs.Records.{IsRecordOf}
 use Rattle.cw_greedy.specs.declared.code.Code.{Code}
 use Rattle.cw_greedy.specs.declared.code.Code.TheVariants.{Instructions, Spawned, Ended, Called}
-use Rattle.cw_greedy.specs.declared.code.TheConstants.{MOST_STRANDS}
+use Rattle.cw_model.specs.declared.limits.TheConstants.{MOST_STRANDS}
 use Rattle.cw_greedy.specs.Recorded.{Recorded, cuts}
 use Rattle.cw_greedy.specs.Blocks.{AsChild, codes_of, record_of, strand_count}
 use Rattle.cw_recorded.specs.declared.recorder.PartKind.{PartKind}

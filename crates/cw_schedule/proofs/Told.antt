@@ -9,7 +9,7 @@ use Rattle.cw_model.specs.Trees.{Tree}
 use Rattle.cw_model.specs.Answers.{Ended}
 use Rattle.cw_text.specs.declared.fault.Fault.{Fault}
 use Rattle.cw_text.specs.declared.fault.Fault.TheVariants as fault
-use Rattle.cw_greedy.specs.declared.code.TheConstants.{MOST_STRANDS}
+use Rattle.cw_model.specs.declared.limits.TheConstants.{MOST_STRANDS}
 use Rattle.cw_greedy.specs.Recorded.{Recorded}
 use Rattle.cw_greedy.specs.Records.{IsRecordOf}
 use Rattle.cw_greedy.specs.Blocks.{strand_count}
@@ -18,7 +18,7 @@ use Rattle.cw_code.specs.Fits.{main_params}
 use Rattle.cw_machine.specs.Runs.{is_request, IsFailure}
 use Rattle.cw_recorded.specs.Recording.{IsKept}
 use Rattle.cw_machine.specs.Recorded.{Records}
-use Rattle.cw_schedule.specs.declared.schedules.TheConstants.{MOST_PROCESSORS}
+use Rattle.cw_model.specs.declared.limits.TheConstants.{MOST_PROCESSORS}
 use Rattle.cw_schedule.specs.Schedules.{is_counted, is_asked, Ends, IsNotScheduled}
 
 first_true : (a b : Bool) → (a && b) ≡ true → a ≡ true

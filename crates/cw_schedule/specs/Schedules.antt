@@ -6,7 +6,7 @@ use Rattle.cw_model.specs.Trees.{Tree, work, span}
 use Rattle.cw_model.specs.Answers.{Ended, TrappedAt, OverLimit}
 use Rattle.cw_text.specs.declared.fault.Fault.{Fault}
 use Rattle.cw_text.specs.declared.fault.Fault.TheVariants as fault
-use Rattle.cw_greedy.specs.declared.code.TheConstants.{MOST_STRANDS}
+use Rattle.cw_model.specs.declared.limits.TheConstants.{MOST_PROCESSORS, MOST_STRANDS}
 use Rattle.cw_greedy.specs.Blocks.{strand_count}
 use Rattle.cw_greedy.specs.Greedy.{greedy_length}
 use Rattle.cw_schedule.specs.State.{IsWithin}
@@ -14,7 +14,6 @@ use Rattle.cw_code.specs.Code.{Code}
 use Rattle.cw_code.specs.Run.{code_serial}
 use Rattle.cw_machine.specs.Runs.{is_request}
 use Rattle.cw_schedule.specs.declared.schedules.Schedule.{Schedule}
-use Rattle.cw_schedule.specs.declared.schedules.TheConstants.{MOST_PROCESSORS}
 
 -- so many processors can be asked for
 abbrev pub is_counted : (processors : ℕ) → Bool

@@ -9,15 +9,12 @@ use crate::weights::weigh;
 use cw_machine::alone::main_takes;
 use cw_machine::recorded::strands_alone;
 use cw_model::laws::normal_form_reads_the_same;
-use cw_model::limits::MOST_LIMIT;
+use cw_model::limits::{MOST_LIMIT, MOST_PROCESSORS};
 use cw_runnable::verified::Verified;
 use cw_strand_laws::laws::cost_is_the_work_that_is_shown;
 use cw_text::Fault;
 use std::alloc::Global;
 use std::sync::Arc;
-
-/// Processors that a schedule may be asked for.
-pub const MOST_PROCESSORS: u64 = 1_000_000;
 
 /// What is told of the greedy schedule of a run.
 #[derive(Debug, Clone, Copy, PartialEq, Eq)]

@@ -7,8 +7,7 @@ use Rattle.clap.specs.declared.builder.Command.TheViews.{out-Command}
 use Rattle.clap.specs.declared.builder.ArgAction.TheVariants.{Append, Set}
 use Rattle.cw_model.specs.declared.burden.Edges.{Edges}
 use Rattle.cw_model.specs.declared.burden.Edges.TheVariants.{Spawn, Both}
-use Rattle.cw_model.specs.declared.limits.TheConstants.{MOST_LIMIT, MOST_BURDEN, MOST_TOP}
-use Rattle.cw_words.specs.declared.number.TheConstants.{MOST_PROCESSORS, MOST_WORKERS}
+use Rattle.cw_model.specs.declared.limits.TheConstants.{MOST_LIMIT, MOST_BURDEN, MOST_TOP, MOST_PROCESSORS, MOST_WORKERS}
 use Rattle.cw_words.specs.declared.verb.Verb.{Verb}
 use Rattle.cw_words.specs.declared.verb.Verb.TheVariants as verb
 

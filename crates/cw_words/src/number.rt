@@ -6,13 +6,7 @@ ghost use Rattle.std.specs.Option.{SomeIff};
 ghost use Rattle.cw_model.specs.Pieces.{is_digit, decimal_value};
 ghost use Rattle.cw_words.specs.Numbers.{IsNumber, IsNumberWithin};
 
-use cw_model::limits::{MOST_BURDEN, MOST_LIMIT, MOST_TOP};
-
-/// The greatest number of processors: as many as a schedule may be asked for.
-pub const MOST_PROCESSORS: u64 = 1_000_000;
-
-/// The greatest number of workers: as many as a run may have, the caller's thread among them.
-pub const MOST_WORKERS: u64 = 64;
+use cw_model::limits::{MOST_BURDEN, MOST_LIMIT, MOST_PROCESSORS, MOST_TOP, MOST_WORKERS};
 
 /// A number that a command takes.
 #[derive(Clone, Copy)]
@@ -51,7 +45,7 @@ pub const BURDEN: NumberOption = NumberOption {
 pub const WORKERS: NumberOption = NumberOption {
     name: "workers",
     least: 1,
-    most: MOST_WORKERS,
+    most: MOST_WORKERS as u64,
     usual: "2",
     help: "How many threads share the run",
 };

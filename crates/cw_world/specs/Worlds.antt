@@ -16,7 +16,7 @@ use Rattle.cw_world.specs.declared.event.Event.{Event}
 use Rattle.cw_world.specs.declared.event.Refused.{Refused}
 use Rattle.cw_world.specs.declared.event.Refused.TheVariants as refused
 use Rattle.cw_world.specs.declared.world.World.{World}
-use Rattle.cw_world.specs.declared.world.TheConstants.{MOST_WORKERS}
+use Rattle.cw_model.specs.declared.limits.TheConstants.{MOST_WORKERS}
 use Rattle.cw_world.specs.Boards.{opened}
 use Rattle.cw_world.specs.Scenes.{Posted, Stage, Goes, Answered, Scene, scene}
 use Rattle.cw_world.specs.Sound.{Sound, IsRunOf}

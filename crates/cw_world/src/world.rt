@@ -31,14 +31,12 @@ use cw_jobs::job::Job;
 use cw_machine::alone::Ended;
 use cw_machine::answering::answer;
 use cw_model::burden::Burden;
+use cw_model::limits::MOST_WORKERS;
 use cw_runnable::verified::Verified;
 use cw_text::Fault;
 use std::alloc::{AllocError, Global};
 use std::snapshot::Snapshot;
 use std::sync::Arc;
-
-/// Workers of a world.
-pub const MOST_WORKERS: usize = 64;
 
 /// What a worker has begun and not settled.
 #[derive(Drop)]

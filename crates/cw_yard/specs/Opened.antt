@@ -4,7 +4,8 @@ use Rattle.crossbeam_deque.specs.Handles.{view, stealer_deque, worker_deque}
 use Rattle.crossbeam_utils.specs.Padded.{padded_value}
 use Rattle.cw_text.specs.declared.fault.Fault.{Fault}
 use Rattle.cw_text.specs.declared.fault.Fault.TheVariants as fault
-use Rattle.cw_yard.specs.declared.open.TheConstants.{MOST_WORKERS, MOST_CELLS}
+use Rattle.cw_model.specs.declared.limits.TheConstants.{MOST_WORKERS}
+use Rattle.cw_yard.specs.declared.open.TheConstants.{MOST_CELLS}
 use Rattle.cw_yard.specs.declared.seat.Yard.{Yard}
 use Rattle.cw_yard.specs.declared.seat.Seat.{Seat}
 use Rattle.cw_yard.specs.declared.mark.MarkView.TheVariants.{Unseen}

@@ -19,11 +19,9 @@ use crate::ticket::FreeCell;
 use crate::{deque, mark};
 use crossbeam_utils::CachePadded;
 use crossbeam_utils::sync::EventCount;
+use cw_model::limits::MOST_WORKERS;
 use cw_text::Fault;
 use std::alloc::{AllocError, Global};
-
-/// Workers of a yard.
-pub const MOST_WORKERS: usize = 64;
 
 /// Cells of each worker.
 pub const MOST_CELLS: usize = 4_096;
