@@ -18,8 +18,7 @@ ghost use Rattle.cw_cli.specs.Tools.{
 use crate::analysis::analyse;
 use crate::misuse::misused;
 use cw_compile::compile;
-use cw_model::limits::MOST_STRANDS;
-use cw_model::limits::MOST_SOURCE_BYTES;
+use cw_model::limits::{MOST_SOURCE_BYTES, MOST_STRANDS};
 use cw_pool::crew::Body;
 use cw_pool::gate::Gate;
 use cw_report::{Input, Sink, write_fault, write_text};
