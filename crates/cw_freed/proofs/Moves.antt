@@ -61,6 +61,9 @@ kept_popped frees o os p old left e h = subst (λ (x : List Part). AreKept frees
 kept_as : (frees : ℕ → Bool) (os : List Open) (old new : List Part) → new ≡ old → AreKept frees os (reverse old) → AreKept frees os (reverse new)
 kept_as frees os old new e h = subst (λ (x : List Part). AreKept frees os (reverse x)) (sym e) h
 
+same_items : (old new : Vec Part) → new ≡ old → new.items ≡ old.items
+same_items old new e = ap (λ (x : Vec Part). x.items) e
+
 module _ (frees : ℕ → Bool) (burden : Burden) where
   -- the freed run
   abbrev events : (os : List Open) → List Event → List Event
@@ -150,7 +153,7 @@ module _ (frees : ℕ → Bool) (burden : Burden) where
           run = subst (λ (x : List Event). TellsRun burden (count + 1) (counted_at (count + 1) new) (record { spawned = true; mark = mark; outer = x } ∷ freed_open frees os) [] new.paths) (sym outer)
               (run_as (count + 1) (counted_at count old + j) (counted_at (count + 1) new) (record { spawned = true; mark = mark; outer = events os es ++ Work j ∷ [] } ∷ freed_open frees os) [] [] p new.paths (omega (arith, now, same, at)) refl k.paths run);
         };
-        parts = kept_pushed frees o os (record { child = true; spawned = true; free = mid.free }) mid.parts.items new.parts.items k.pushed (record { child = refl; spawned = refl; free = m.free }) (kept_as frees os old.parts.items mid.parts.items s.parts h.parts);
+        parts = kept_pushed frees o os (record { child = true; spawned = true; free = mid.free }) mid.parts.items new.parts.items k.pushed (record { child = refl; spawned = refl; free = m.free }) (kept_as frees os old.parts.items mid.parts.items (same_items old.parts mid.parts s.parts) h.parts);
       }
     where
       twice : (b : Bool) → not (not b) ≡ b
@@ -173,7 +176,7 @@ module _ (frees : ℕ → Bool) (burden : Burden) where
           run = run_as count (counted_at count mid) (counted_at count new) (freed_open frees os) (events os es ++ Join ∷ []) (events os (es ++ Join ∷ [])) p p refl (freed-append frees (here_in 0 os) es (Join ∷ [])) refl
               (run_joined burden count (counted_at count mid) (freed_open frees os) (events os es) mid.paths p small m.light (subst (λ (x : ℕ). JoinsBoth mid.paths p x) (sym now) joins) (freed_spawned frees false (here_in 0 os) es ∙ sym h.counts.spawned ∙ split) m.run);
         };
-        parts = kept_as frees os old.parts.items mid.parts.items s.parts h.parts;
+        parts = kept_as frees os old.parts.items mid.parts.items (same_items old.parts mid.parts s.parts) h.parts;
       }
 
   pub joined_not : LatePathsWait → (count : ℕ) (os : List Open) (es : List Event) (m : FreedMeter) → m.spawned ≡ false → count ≤ MOST_LIMIT → FreesIn frees burden count os es m → FreesIn frees burden count os (es ++ Join ∷ []) m
@@ -304,11 +307,16 @@ call_begins waits old mid new count next free is at s frees burden site os es fr
     let a = counted_now (count + 1) mid settled.noted in
     let b = counted_now (count + 1) new (s.noted ∙ settled.noted) in
     let c = s.counted in
-    place_begun frees burden (count + 1) (Some (Invocation site)) os (ticked es) free mid new s free_is (omega (arith, a, b, c)) t (kept_as frees os old.parts.items mid.parts.items settled.parts h.parts)
+    place_begun frees burden (count + 1) (Some (Invocation site)) os (ticked es) free mid new s free_is (omega (arith, a, b, c)) t (kept_as frees os old.parts.items mid.parts.items (same_items old.parts mid.parts settled.parts) h.parts)
 
 pub child_begins : LatePathsWait → (old mid : FreedMeter) (p : Paths) (new : FreedMeter) (count next : ℕ) (free : Bool) → (count < MOST_LIMIT → next ≡ count + 1) → Settles old mid next → SpawnsBoth mid.paths p mid.counted (not mid.spawned) → Stacks (record { paths = p; counted = mid.counted; noted = mid.noted; free = mid.free; spawned = mid.spawned; parts = mid.parts }) new true true free → BeginsChild old new count free
 child_begins waits old mid p new count next free is at spawns s frees burden mark os es free_is small h =
     child_begun frees burden waits count mark os es free old mid p new small (subst (λ (x : ℕ). Settles old mid x) (is small) at) spawns s free_is h
+
+pub first_child_begins : LatePathsWait → (old mid : FreedMeter) (p : Paths) (new : FreedMeter) (count next : ℕ) (free : Bool) → old.spawned ≡ false → (count < MOST_LIMIT → next ≡ count + 1) → Settles old mid next → SpawnsBoth mid.paths p mid.counted true → Stacks (record { paths = p; counted = mid.counted; noted = mid.noted; free = mid.free; spawned = mid.spawned; parts = mid.parts }) new true true free → BeginsChild old new count free
+first_child_begins waits old mid p new count next free first is at spawns s =
+    let e = sym (ap not (at.spawned ∙ first)) in
+    child_begins waits old mid p new count next free is at (subst (λ (b : Bool). SpawnsBoth mid.paths p mid.counted b) e spawns) s
 
 pub half_begins : (old new : FreedMeter) (count : ℕ) → BeginsChild old new count old.free → BeginsHalf old new count
 half_begins old new count begins frees burden mark os es same small h = begins frees burden mark os es (h.counts.free ∙ ap frees (sym same)) small h
@@ -345,7 +353,7 @@ with_parts m left = record { paths = m.paths; counted = m.counted; noted = m.not
 pub part_closes : (old settled : FreedMeter) (left : Vec Part) (new : FreedMeter) (part : Part) (count : ℕ) → Settles old settled count → settled.parts.items ≡ left.items ++ part ∷ [] → Leaves (with_parts settled left) new part → ClosesPart old new count
 part_closes old settled left new part count s pops leaves frees burden o os es small none h =
     let m = counts_settled frees burden count (o ∷ os) es old settled s small h.counts in
-    let k = kept_popped frees o os part old.parts.items left.items (sym s.parts ∙ pops) h.parts in
+    let k = kept_popped frees o os part old.parts.items left.items (sym (same_items old.parts settled.parts s.parts) ∙ pops) h.parts in
     let n = s.noted in
     let c = subst (λ (x : ℕ). CountsIn frees burden x (o ∷ os) es settled) (sym n) m in record {
       counts = subst (λ (x : ℕ). CountsIn frees burden x os (closed o es) new) n
@@ -356,7 +364,7 @@ part_closes old settled left new part count s pops leaves frees burden o os es s
 
 pub main_closes : (old settled : FreedMeter) (left : Vec Part) (count : ℕ) → Settles old settled count → settled.parts.items ≡ [] → left.items ≡ [] → ClosesPart old (with_parts settled left) count
 main_closes old settled left count s empty none_left frees burden o os es small none h =
-    let main : o ∷ os ≡ main_open = subst (λ (x : List Part). AreKept frees (o ∷ os) (reverse x)) (sym s.parts ∙ empty) h.parts in
+    let main : o ∷ os ≡ main_open = subst (λ (x : List Part). AreKept frees (o ∷ os) (reverse x)) (sym (same_items old.parts settled.parts s.parts) ∙ empty) h.parts in
     let rest : os ≡ [] = cc in
     let c = left_main frees burden o os es count settled main (s.spawned ∙ none) (counts_settled frees burden count (o ∷ os) es old settled s small h.counts) in record {
       counts = record { light = c.light; within = c.within; noted = c.noted; counted = c.counted; free = c.free; spawned = c.spawned; run = c.run };

@@ -1,5 +1,6 @@
 -- What a freed meter tells of a run so far, and what each call on it does.
 use Rattle.std.specs.Prelude.{◌≡◌, ℕ, ◌+◌, ◌-◌, ◌≤◌, ◌<◌, Bool, true, false, List, [], ◌∷◌, ◌++◌, reverse, Option, Some}
+use Rattle.std.specs.Vec.{vec_len, vec_capacity}
 use Rattle.cw_model.specs.declared.burden.Burden.{Burden}
 use Rattle.cw_model.specs.declared.limits.TheConstants.{MOST_LIMIT, MOST_BURDEN}
 use Rattle.cw_model.specs.Trees.{Tree, Marked, Mark, Invocation, Event, Series, Join, normal, tree_of}
@@ -12,7 +13,7 @@ use Rattle.cw_freed.specs.declared.meter.Freed.{Freed}
 use Rattle.cw_freed.specs.declared.meter.FreedMeter.{FreedMeter}
 use Rattle.cw_freed.specs.declared.meter.Part.{Part}
 use Rattle.cw_freed.specs.FreedRuns.{unless, freed_events, freed_open}
-use Rattle.cw_freed.specs.Paths.{TellsRun}
+use Rattle.cw_freed.specs.Paths.{HaveRoom, TellsRun}
 
 -- whether a block has spawned, once a part in it has ended
 abbrev pub spawned_behind : (child spawned : Bool) → Bool
@@ -122,8 +123,14 @@ pub record Settles (old new : FreedMeter) (count : ℕ) : Type 0 where
   pub counted : old.counted ≤ old.noted → old.noted ≤ count → count ≤ MOST_LIMIT → new.counted ≡ counted_at count old
   pub free : new.free ≡ old.free
   pub spawned : new.spawned ≡ old.spawned
-  pub parts : new.parts.items ≡ old.parts.items
+  pub parts : new.parts ≡ old.parts
   pub paths : new.paths ≡ old.paths
+
+-- the block that runs has not spawned since its last join, and there is room for a spawned part
+pub record IsReady (m : FreedMeter) : Type 0 where
+  pub first : m.spawned ≡ false
+  pub room : vec_len m.parts < vec_capacity m.parts
+  pub paths : HaveRoom m.paths
 
 -- one part more is kept
 pub record Stacks (old new : FreedMeter) (child after inner : Bool) : Type 0 where

@@ -6,7 +6,7 @@ use Rattle.cw_model.specs.Trees.{Mark, Event, Join, tree_of, span, burdened_span
 use Rattle.cw_measure.specs.declared.burdened_path.BurdenedPath.{BurdenedPath}
 use Rattle.cw_measure.specs.OpenParts.{Open, in_fork, closed, has_spawned, work_in}
 use Rattle.cw_measure.specs.BlockWeights.{burdened_work_in}
-use Rattle.cw_measure.specs.StrandWeights.{FitsRun, TellsLate}
+use Rattle.cw_measure.specs.StrandWeights.{FitsRun, HasRoomForBlock, TellsLate}
 use Rattle.cw_freed.specs.declared.paths.Paths.{Paths}
 
 -- a path that was told late, of a run whose work is told now, tells of what the run has come to: a spawned part begins
@@ -34,6 +34,11 @@ pub record TellBoth (burden : Burden) (os : List Open) (es : List Event) (p : Pa
   pub burden_is : p.burden ≡ burden
   pub plain : TellsLate no_burden os es p.plain
   pub burdened : TellsLate burden os es p.burdened
+
+-- both have room for a spawned part
+pub record HaveRoom (p : Paths) : Type 0 where
+  pub plain : HasRoomForBlock p.plain
+  pub burdened : HasRoomForBlock p.burdened
 
 -- the weights of both fit 128 bits
 pub record FitBoth (burden : Burden) (os : List Open) (es : List Event) : Type 0 where

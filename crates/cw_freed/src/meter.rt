@@ -1,7 +1,8 @@
 //! A meter of a run in which some sites are freed.
 
-ghost use Rattle.std.specs.Prelude.{◌≡◌, ◌≤◌, false, OnOk};
-ghost use Rattle.cw_freed.specs.Freeing.{since, BeginsCall, BeginsChild, BeginsHalf, BeginsQuiet, ClosesPart, Ends, JoinsBlock, Leaves, Reads, Returns, Settles, Stacks, Starts, Syncs};
+ghost use Rattle.std.specs.Prelude.{◌≡◌, ◌≤◌, ◌<◌, true, false, OnOk};
+ghost use Rattle.std.specs.Vec.{vec_len, vec_capacity};
+ghost use Rattle.cw_freed.specs.Freeing.{since, BeginsCall, BeginsChild, BeginsHalf, BeginsQuiet, ClosesPart, Ends, IsReady, JoinsBlock, Leaves, Reads, Returns, Settles, Stacks, Starts, Syncs};
 
 use crate::laws::instructions_need_no_call;
 use crate::paths::Paths;
@@ -98,9 +99,56 @@ impl FreedMeter {
         Ok(())
     }
 
+    // The same where there is room for it.
+    #[inline(always)]
+    fn stack_within(&mut self, child: bool, spawned: bool, free: bool)
+        requires { vec_len self.old.parts < vec_capacity self.old.parts }
+        ensures { Stacks self.old self.new child spawned free }
+    {
+        self.parts.push_reserved(Part {
+            child,
+            spawned,
+            free: self.free,
+        });
+        self.spawned = false;
+        self.free = free;
+    }
+
+    // Whether the block that runs has not spawned since its last join, and there is room for a spawned part.
+    #[inline(always)]
+    fn is_ready(&self) -> bool
+        ensures { result ≡ true → IsReady self.now }
+    {
+        !self.spawned && self.parts.len() < self.parts.capacity() && self.paths.have_room()
+    }
+
     /// A spawned call begins by the instruction after `count` ones; `free` says whether its site is freed.
     #[inline(never)]
     pub fn spawn(&mut self, count: u64, free: bool) -> Result<(), AllocError>
+        ensures { OnOk result (BeginsChild self.old self.new count free) }
+    {
+        if self.is_ready() {
+            self.spawn_ready(count, free);
+            return Ok(());
+        }
+        self.spawn_apart(count, free)
+    }
+
+    // The same where that is so.
+    #[inline(always)]
+    fn spawn_ready(&mut self, count: u64, free: bool)
+        requires { IsReady self.old }
+        ensures { BeginsChild self.old self.new count free }
+    {
+        late_paths_wait();
+        self.settle(count.wrapping_add(1));
+        self.paths.spawn_first(self.counted);
+        self.stack_within(true, true, free);
+    }
+
+    // The same in any case. Apart, so that nothing is kept over the call of a function where it need not be.
+    #[inline(never)]
+    fn spawn_apart(&mut self, count: u64, free: bool) -> Result<(), AllocError>
         ensures { OnOk result (BeginsChild self.old self.new count free) }
     {
         late_paths_wait();

@@ -1,7 +1,8 @@
 //! The heaviest paths of a run, without charges and with them.
 
-ghost use Rattle.std.specs.Prelude.{OnOk};
-ghost use Rattle.cw_freed.specs.Paths.{EndsBoth, EndsLate, JoinsBoth, JoinsLate, ReadsBoth, SpawnsBoth, SpawnsLate, StartsBoth};
+ghost use Rattle.std.specs.Prelude.{◌≡◌, true, OnOk};
+ghost use Rattle.cw_measure.specs.StrandWeights.{HasRoomForBlock};
+ghost use Rattle.cw_freed.specs.Paths.{EndsBoth, EndsLate, HaveRoom, JoinsBoth, JoinsLate, ReadsBoth, SpawnsBoth, SpawnsLate, StartsBoth};
 
 use cw_measure::BurdenedPath;
 use cw_model::burden::{Burden, Edges};
@@ -26,6 +27,16 @@ fn spawn_beside(path: &mut BurdenedPath, counted: u64, first: bool) -> Result<()
     path.note(counted);
     path.spawn(counted, first)?;
     Ok(())
+}
+
+// The same of the first one of its block since its last join, where there is room.
+#[inline(always)]
+fn spawn_first_beside(path: &mut BurdenedPath, counted: u64)
+    requires { HasRoomForBlock path.old }
+    ensures { SpawnsLate path.old path.new counted true }
+{
+    path.note(counted);
+    path.spawn_within(counted);
 }
 
 // The spawned part that runs ends, its block joined.
@@ -66,6 +77,24 @@ impl Paths {
         spawn_beside(&mut self.plain, counted, first)?;
         spawn_beside(&mut self.burdened, counted, first)?;
         Ok(())
+    }
+
+    /// Whether there is room for a spawned part.
+    #[inline(always)]
+    pub fn have_room(&self) -> bool
+        ensures { result ≡ true → HaveRoom self.now }
+    {
+        self.plain.has_room() && self.burdened.has_room()
+    }
+
+    /// The first spawned part of a block since its last join begins, where there is room.
+    #[inline(always)]
+    pub fn spawn_first(&mut self, counted: u64)
+        requires { HaveRoom self.old }
+        ensures { SpawnsBoth self.old self.new counted true }
+    {
+        spawn_first_beside(&mut self.plain, counted);
+        spawn_first_beside(&mut self.burdened, counted);
     }
 
     /// The spawned part that runs ends, its block joined. Apart, so that the loop of a run has room for calls in place.

@@ -1,0 +1,6 @@
+use Rattle.std.specs.Prelude.{true}
+use Rattle.cw_freed.proofs.PathLaws.{both_spawn}
+use Rattle.cw_freed.proofs.paths.Paths.spawn_first.Goals as goal
+
+pub returns : goal.returns
+returns c = both_spawn c.args.self.now c.spawn_first_beside.new.path c.spawn_first_beside-2.new.path c.args.counted true c.spawn_first_beside.ensures c.spawn_first_beside-2.ensures
