@@ -1,5 +1,5 @@
 -- Lists of what is left, lowered, counted and run in two halves.
-use Rattle.std.proofs.Common.{◌≡◌, ℕ, zero, suc, ◌+◌, ◌-◌, ◌≤◌, ◌<◌, [], ◌∷◌, ◌++◌, Option, Some, None, length, take, drop, arith, refl, ap, sym, ◌∙◌, subst}
+use Rattle.std.proofs.Common.{◌≡◌, ℕ, zero, suc, ◌+◌, ◌-◌, ◌≤◌, ◌<◌, [], ◌∷◌, ◌++◌, Option, Some, None, length, take, drop, get_or, set, arith, refl, ap, sym, ◌∙◌, subst}
 use Rattle.std.proofs.Math.ListN.{replicate}
 use Rattle.std.proofs.Math.Seq.{take-append_seam}
 use Rattle.std.specs.Prelude.{min}
@@ -225,3 +225,26 @@ pub ready-run : (p n : ℕ) (xs : Slots) → ready_slots (run_slots p n xs) ≡ 
 ready-run p n [] = refl
 ready-run p n (None ∷ xs) = ready-run p n xs
 ready-run p n (Some k ∷ xs) = ap (λ m. 1 + m) (ready-run (p - 1) n xs)
+
+lesser-swap : (a b : Option ℕ) → lesser a b ≡ lesser b a
+lesser-swap None None = refl
+lesser-swap None (Some b) = refl
+lesser-swap (Some a) None = refl
+lesser-swap (Some a) (Some b) = let e : min a b ≡ min b a = omega arith in ap Some e
+
+-- one more strand is ready
+pub ready-put : (xs : Slots) (i k : ℕ) → i < length xs → get_or xs i None ≡ None → ready_slots (set xs i (Some k)) ≡ ready_slots xs + 1
+ready-put [] i k h e = absurd (omega (arith, h))
+ready-put (None ∷ xs) zero k h e = omega arith
+ready-put (Some m ∷ xs) zero k h e = cc
+ready-put (None ∷ xs) (suc i) k h e = ready-put xs i k (omega (arith, h)) e
+ready-put (Some m ∷ xs) (suc i) k h e = omega (arith, ready-put xs i k (omega (arith, h)) e)
+
+pub least-put : (xs : Slots) (i k : ℕ) → i < length xs → get_or xs i None ≡ None
+    → least_slot (set xs i (Some k)) ≡ lesser (least_slot xs) (Some k)
+least-put [] i k h e = absurd (omega (arith, h))
+least-put (None ∷ xs) zero k h e = lesser-swap (Some k) (least_slot xs)
+least-put (Some m ∷ xs) zero k h e = cc
+least-put (None ∷ xs) (suc i) k h e = least-put xs i k (omega (arith, h)) e
+least-put (Some m ∷ xs) (suc i) k h e =
+    ap (lesser (Some m)) (least-put xs i k (omega (arith, h)) e) ∙ sym (lesser-regroup (Some m) (least_slot xs) (Some k))

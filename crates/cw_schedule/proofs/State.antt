@@ -614,6 +614,13 @@ within t p steps h e = record {
   greedy_bound = subst (λ n. p * n ≤ work t + (p - 1) * span t) (sym e) h.greedy_bound;
 }
 
+-- one processor does all the work, step by step
+pub on_one : (t : Tree) (p steps : ℕ) → p ≡ 1 → GreedyIsBounded p t → steps ≡ work t → steps ≡ greedy_length p t
+on_one t p steps e h w =
+    let one = subst (λ q. GreedyIsBounded q t) e h in
+    let is : steps ≡ greedy_length 1 t = omega (arith, one.work_law, one.greedy_bound, w) in
+    is ∙ ap (λ q. greedy_length q t) (sym e)
+
 -- the codes of a record
 pub record_of : (t : Tree) (r : Recorded) (codes : List Code) → Some codes ≡ r → IsRecordOf t r → IsRecordOf t (Some codes)
 record_of t r codes e h = subst (IsRecordOf t) (sym e) h

@@ -58,6 +58,7 @@ impl Block {
     }
 
     // Each ready strand does so many instructions.
+    #[inline(never)]
     pub(crate) fn lower(&mut self, by: u64)
         requires { HasRoom by (least_slot self.old) }
         ensures { self.new ≡ lowered by self.old }
@@ -71,7 +72,13 @@ impl Block {
         requires { place < length self.old }
         ensures { self.new ≡ slice_set self.old place (Some left) }
     {
+        let was = self.places[place];
         self.places[place] = Some(left);
+        if was.is_none() {
+            self.count += 1;
+            self.least = lesser_of(self.least, Some(left));
+            return;
+        }
         self.count = count_ready(&self.places);
         self.least = least_of_all(&self.places);
     }

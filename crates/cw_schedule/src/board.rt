@@ -90,9 +90,26 @@ impl Told {
             None => None,
         }
     }
+
+    // What two halves tell, of which nothing is owed.
+    fn renew(&mut self, first: &Board, second: &Board)
+        requires first { 1 ≤ length first.now }
+        requires second { 1 ≤ length second.now }
+        requires places { self.old.places ≡ length first.now }
+        requires fits { length first.now + length second.now < 2 ^ 64 }
+        ensures told { Tells first.now second.now self.new }
+        ensures settled { self.new.owed ≡ 0 }
+    {
+        let count = first.count() + second.count();
+        let least = lesser_of(first.least(), second.least());
+        self.count = count;
+        self.least = least;
+        self.owed = 0;
+    }
 }
 
 // Hands on to two halves what is owed.
+#[inline(always)]
 fn settle(first: &mut Board, second: &mut Board, told: Told)
     requires { Tells first.old second.old told }
     ensures first { first.new ≡ lowered told.owed first.old }
@@ -103,23 +120,6 @@ fn settle(first: &mut Board, second: &mut Board, told: Told)
     if told.owed > 0 {
         first.lower(told.owed);
         second.lower(told.owed);
-    }
-}
-
-// What two halves tell, of which nothing is owed.
-fn recount(first: &Board, second: &Board, places: usize) -> Told
-    requires first { 1 ≤ length first.now }
-    requires second { 1 ≤ length second.now }
-    requires places { places ≡ length first.now }
-    requires fits { length first.now + length second.now < 2 ^ 64 }
-    ensures told { Tells first.now second.now result }
-    ensures settled { result.owed ≡ 0 }
-{
-    Told {
-        places,
-        count: first.count() + second.count(),
-        least: lesser_of(first.least(), second.least()),
-        owed: 0,
     }
 }
 
@@ -136,7 +136,13 @@ impl Board {
         let first = places / 2;
         let left = Box::new(alloc, Board::new(alloc, first)?)?;
         let right = Box::new(alloc, Board::new(alloc, places - first)?)?;
-        let told = recount(&left, &right, first);
+        let mut told = Told {
+            places: first,
+            count: 0,
+            least: None,
+            owed: 0,
+        };
+        told.renew(&left, &right);
         Ok(Board {
             node: Node::Halves(left, right, told),
         })
@@ -265,7 +271,7 @@ fn put_in_halves(first: &mut Board, second: &mut Board, told: &mut Told, place: 
 {
     settle(first, second, *told);
     put_in_half(first, second, told.places, place, left);
-    *told = recount(first, second, told.places);
+    told.renew(first, second);
 }
 
 #[cycle(put)]
@@ -295,7 +301,7 @@ fn take_of_halves(first: &mut Board, second: &mut Board, told: &mut Told) -> usi
 {
     settle(first, second, *told);
     let place = take_of_half(first, second, told.places);
-    *told = recount(first, second, told.places);
+    told.renew(first, second);
     place
 }
 
@@ -353,7 +359,7 @@ fn run_halves(first: &mut Board, second: &mut Board, told: &mut Told, processors
 {
     settle(first, second, *told);
     run_half(first, second, processors, steps);
-    *told = recount(first, second, told.places);
+    told.renew(first, second);
 }
 
 #[cycle(run)]

@@ -22,9 +22,9 @@ put_in_half-returns-else-place-places-clause-put t c =
 
 pub put_in_halves-returns-clause-put : goal.put_in_halves-returns-clause-put
 put_in_halves-returns-clause-put t c =
-    whole c.args.told.now.owed c.recount.result.owed c.args.first.now c.args.second.now c.settle.new.first c.settle.new.second
+    whole c.args.told.now.owed c.renew.new.self.owed c.args.first.now c.args.second.now c.settle.new.first c.settle.new.second
     (c.put_in_half.new.first ++ c.put_in_half.new.second) (λ xs. slice_set xs c.args.place (Some c.args.left))
-    c.recount.ensures.settled c.settle.ensures.first c.settle.ensures.second c.put_in_half.ensures.put
+    c.renew.ensures.settled c.settle.ensures.first c.settle.ensures.second c.put_in_half.ensures.put
 
 pub Board::put-put_in_halves-requires : goal.Board::put-put_in_halves-requires
 Board::put-put_in_halves-requires t c =

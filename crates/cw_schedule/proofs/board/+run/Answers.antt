@@ -43,9 +43,9 @@ run_half-returns-else-ready-processors-clause-run t c =
 
 pub run_halves-returns-clause-run : goal.run_halves-returns-clause-run
 run_halves-returns-clause-run t c =
-    whole c.args.told.now.owed c.recount.result.owed c.args.first.now c.args.second.now c.settle.new.first c.settle.new.second
+    whole c.args.told.now.owed c.renew.new.self.owed c.args.first.now c.args.second.now c.settle.new.first c.settle.new.second
     (c.run_half.new.first ++ c.run_half.new.second) (λ xs. run_slots c.args.processors c.args.steps xs)
-    c.recount.ensures.settled c.settle.ensures.first c.settle.ensures.second c.run_half.ensures.run
+    c.renew.ensures.settled c.settle.ensures.first c.settle.ensures.second c.run_half.ensures.run
 
 pub Board::run-run_halves-requires : goal.Board::run-run_halves-requires
 Board::run-run_halves-requires t c =

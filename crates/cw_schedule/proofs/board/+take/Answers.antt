@@ -54,6 +54,6 @@ take_of_halves-returns-clause-place t c =
 
 pub take_of_halves-returns-clause-taken : goal.take_of_halves-returns-clause-taken
 take_of_halves-returns-clause-taken t c =
-    whole c.args.told.now.owed c.recount.result.owed c.args.first.now c.args.second.now c.settle.new.first c.settle.new.second
+    whole c.args.told.now.owed c.renew.new.self.owed c.args.first.now c.args.second.now c.settle.new.first c.settle.new.second
     (c.take_of_half-place.new.first ++ c.take_of_half-place.new.second) (λ xs. slice_set xs c.take_of_half-place.result None)
-    c.recount.ensures.settled c.settle.ensures.first c.settle.ensures.second c.take_of_half-place.ensures.taken
+    c.renew.ensures.settled c.settle.ensures.first c.settle.ensures.second c.take_of_half-place.ensures.taken

@@ -7,7 +7,7 @@ use Rattle.cw_greedy.specs.Slots.{nones}
 use Rattle.cw_schedule.specs.declared.plan.Begins.TheVariants.{Start}
 use Rattle.cw_schedule.specs.Planned.{strands_of}
 use Rattle.cw_schedule.proofs.Reading.{record_is_read, record_has_work}
-use Rattle.cw_schedule.proofs.State.{record_of, some_planned, within}
+use Rattle.cw_schedule.proofs.State.{on_one, record_of, some_planned, within}
 use Rattle.cw_schedule.proofs.schedule.greedy.Goals as goal
 
 pub plan-requires-clause-fits : goal.plan-requires-clause-fits
@@ -63,3 +63,14 @@ returns-clause-bounds c = λ t h.
     let e : c.deref.result.now ≡ strands_of Start (block_of t) = c.deref.ensures.value ∙ c.in_ok-strands.ensures (block_of t) (record_is_read t c.codes.result.now g) in
     let w : work t ≤ MOST_LIMIT = omega (arith, record_has_work t c.codes.result.now g, record_has_work c.requires.kept.0 c.codes.result.now (record_of c.requires.kept.0 c.args.kept.now c.codes.result.now c.codes.ensures c.requires.kept.1.0), c.requires.kept.1.1) in
     within t c.args.processors c.count_all-steps.result (c.greedy_is_bounded.ensures c.args.processors t c.requires.processors) (c.count_all-steps.ensures t e w)
+
+pub returns-then-processors-eq1-clause-length : goal.returns-then-processors-eq1-clause-length
+returns-then-processors-eq1-clause-length c = λ t h.
+    let one : c.args.processors ≡ 1 = omega arith in
+    on_one t c.args.processors c.in_ok-weights.weights.work one (c.greedy_is_bounded.ensures c.args.processors t c.requires.processors) (c.in_ok-weights.ensures.work t h)
+
+pub returns-then-processors-eq1-clause-bounds : goal.returns-then-processors-eq1-clause-bounds
+returns-then-processors-eq1-clause-bounds c = λ t h.
+    let bounded = c.greedy_is_bounded.ensures c.args.processors t c.requires.processors in
+    let one : c.args.processors ≡ 1 = omega arith in
+    within t c.args.processors c.in_ok-weights.weights.work bounded (on_one t c.args.processors c.in_ok-weights.weights.work one bounded (c.in_ok-weights.ensures.work t h))

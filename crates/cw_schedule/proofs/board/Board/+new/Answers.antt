@@ -4,13 +4,13 @@ use Rattle.cw_schedule.specs.Boards.{lowered}
 use Rattle.cw_schedule.proofs.Slots.{lowered-zero, length-nones, nones-append}
 use Rattle.cw_schedule.proofs.board.Board.+new.Goals as goal
 
-pub recount-told-requires-clause-places : goal.recount-told-requires-clause-places
-recount-told-requires-clause-places t c =
+pub renew-requires-clause-places : goal.renew-requires-clause-places
+renew-requires-clause-places t c =
     let a : c.deref.result.now ≡ nones (c.args.places / 2) = cc (c.in_ok-new-2.ensures, c.in_ok-left.ensures.ok) in
     omega (arith, ap length a, length-nones (c.args.places / 2))
 
-pub recount-told-requires-clause-fits : goal.recount-told-requires-clause-fits
-recount-told-requires-clause-fits t c =
+pub renew-requires-clause-fits : goal.renew-requires-clause-fits
+renew-requires-clause-fits t c =
     let a : c.deref.result.now ≡ nones (c.args.places / 2) = cc (c.in_ok-new-2.ensures, c.in_ok-left.ensures.ok) in
     let b : c.deref-2.result.now ≡ nones (c.args.places - c.args.places / 2) = cc (c.in_ok-new-3.ensures, c.in_ok-right.ensures.ok) in
     omega (arith, ap length a, length-nones (c.args.places / 2), ap length b, length-nones (c.args.places - c.args.places / 2))
@@ -22,5 +22,5 @@ returns t c =
     let a : l ≡ nones (c.args.places / 2) = cc (c.in_ok-new-2.ensures, c.in_ok-left.ensures.ok) in
     let b : r ≡ nones (c.args.places - c.args.places / 2) = cc (c.in_ok-new-3.ensures, c.in_ok-right.ensures.ok) in
     let e : c.args.places / 2 + (c.args.places - c.args.places / 2) ≡ c.args.places = omega arith in
-    ap (λ o. lowered o (l ++ r)) c.recount-told.ensures.settled ∙ lowered-zero (l ++ r) ∙ ap (λ x. x ++ r) a ∙ ap (λ y. nones (c.args.places / 2) ++ y) b
+    ap (λ o. lowered o (l ++ r)) c.renew.ensures.settled ∙ lowered-zero (l ++ r) ∙ ap (λ x. x ++ r) a ∙ ap (λ y. nones (c.args.places / 2) ++ y) b
     ∙ nones-append (c.args.places / 2) (c.args.places - c.args.places / 2) ∙ ap nones e
