@@ -379,6 +379,12 @@ static SOURCES: &[(&str, &str, &str)] = &[
         "no arrays outside of functions",
         "can stand",
     ),
+    // a parameter behind the first fault is none
+    (
+        "int at(int x) {\n  return x;\n}\nint first(int b[]) {\n  return b[0];\n}\nint one(int i, const int c[]) {\n  return c[i];\n}",
+        "at is a word of the language",
+        "no arrays outside of functions",
+    ),
     (
         "static int f() {\n  return 0;\n}",
         "there is no static",

@@ -233,6 +233,7 @@ impl<'a> Around<'a> {
         let word = self.word(token);
         match pattern {
             "" => true,
+            "first" => place == self.first,
             "x" => token.kind == Kind::Name,
             "1" => matches!(token.kind, Kind::Number(_)),
             "operator" => is_among(word, OPERATORS),
