@@ -10,6 +10,7 @@ use Rattle.cw_code.specs.declared.code.Func.{Func}
 use Rattle.cw_code.specs.Code.{code_view}
 use Rattle.cw_code.specs.Run.{full, slots_of, arrays_of, first_state}
 use Rattle.cw_code.specs.Fits.{params_of, array_params_of, readers_of, gives_value, main_params}
+use Rattle.cw_meter.specs.Details.{IsLight}
 use Rattle.cw_runnable.specs.declared.verified.Verified.{Verified}
 use Rattle.cw_strand_laws.specs.Jobs.{root_job}
 use Rattle.cw_jobs.specs.declared.call.Extent.TheVariants as extent
@@ -17,7 +18,7 @@ use Rattle.cw_jobs.specs.declared.call.Parts.{Parts}
 use Rattle.cw_jobs.specs.declared.call.Rest.{Rest}
 use Rattle.cw_slices.specs.Placed.{Placed, IsOwn}
 use Rattle.cw_jobs.specs.Calls.{cell, placed, Keeps, HasArrays, HasReaders, HoldsCall}
-use Rattle.cw_jobs.specs.Jobs.{Ok, OwnsSlots, IsJob, IsSound, is_asked, IsRoot, IsFirst, code_of}
+use Rattle.cw_jobs.specs.Jobs.{Ok, OwnsSlots, IsJob, IsSound, is_asked, IsRootOf, IsFirst, code_of}
 
 some_same : {A : Type 0} (x y : A) → Some x ≡ Some y → x ≡ y
 some_same x y e = cc
@@ -142,25 +143,25 @@ module _ (v : Verified) (f : Func) (args : List ℤ) (r : Rest) (ok : Ok v) (fou
   }
 
 -- the parts of the job of a whole run
-module _ (p : Parts) (f : Func) (args : List ℤ) (found : slice_get (code_view (code_of p).code).funcs (code_of p).code.main ≡ Some f) (asked : is_asked f.params (length args) p.limit p.burden ≡ true) (first : IsFirst f args p.rest) (whole : p.extent ≡ extent.WholeCall) (none : p.before ≡ 0) where
-  within : InRange f.params (length args) p.limit p.burden
-  within = in_range f.params (length args) p.limit p.burden asked
+module _ (p : Parts) (f : Func) (args : List ℤ) (b : Burden) (found : slice_get (code_view (code_of p).code).funcs (code_of p).code.main ≡ Some f) (asked : is_asked f.params (length args) p.limit b ≡ true) (first : IsFirst f args p.rest) (whole : p.extent ≡ extent.WholeCall) (none : p.before ≡ 0) where
+  within : InRange f.params (length args) p.limit b
+  within = in_range f.params (length args) p.limit b asked
 
-  pub root_sound : Ok (code_of p) → IsSound p
-  root_sound ok = record {
+  pub root_sound : (b.charge ≤ MOST_BURDEN → IsLight p.detail) → Ok (code_of p) → IsSound p
+  root_sound light ok = record {
     ok = ok;
     job = root_job f args p.limit;
     is = root_is (code_of p) f args p.rest ok found within.count_is first p p.limit whole refl refl none;
     within = omega (arith, none);
     range = within.most;
-    light = within.light;
+    light = light within.light;
   }
 
-  pub root_made : IsRoot (code_of p) args p.limit p.burden p
+  pub root_made : IsRootOf (code_of p) args p.limit b p.detail p
   root_made = record {
-    asked = ap (λ k. is_asked k (length args) p.limit p.burden) (params_same (code_of p) f found) ∙ asked;
+    asked = ap (λ k. is_asked k (length args) p.limit b) (params_same (code_of p) f found) ∙ asked;
     code = refl;
-    burden = refl;
+    detail = refl;
     whole = whole;
     is = λ ok g there. subst (λ (h : Func). IsJob (code_of p) ok p (root_job h args p.limit)) (main_same (code_of p) f g found there)
         (root_is (code_of p) f args p.rest ok found within.count_is first p p.limit whole refl refl none);

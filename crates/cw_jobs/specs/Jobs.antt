@@ -15,6 +15,9 @@ use Rattle.cw_code.specs.Frozen.{all_frozen, IsFrozenIn}
 use Rattle.cw_code.specs.Good.{Seat, GoodState}
 use Rattle.cw_runnable.specs.declared.verified.Verified.{Verified}
 use Rattle.cw_runnable.specs.Resolved.{IsVerified}
+use Rattle.cw_meter.specs.declared.detail.Detail.{Detail}
+use Rattle.cw_meter.specs.declared.detail.Detail.TheVariants.{Measures}
+use Rattle.cw_meter.specs.Details.{IsLight}
 use Rattle.cw_meter.specs.Origins.{Origin, Main, Rest}
 use Rattle.cw_strand_laws.specs.Jobs.{Extent, WholeCall, ToJoin, Job, job_start, root_job}
 use Rattle.cw_strand_laws.specs.Over.{under}
@@ -159,7 +162,7 @@ pub record IsSound (p : Parts) : Type 0 where
   pub is : IsJob (code_of p) ok p job
   pub within : p.before ≤ p.limit
   pub range : p.limit ≤ MOST_LIMIT
-  pub light : p.burden.charge ≤ MOST_BURDEN
+  pub light : IsLight p.detail
 
 -- as many arguments as there are parameters, and a limit and a burden in their ranges
 abbrev pub is_asked : (params count n : ℕ) → Burden → Bool
@@ -170,14 +173,18 @@ is_asked params count n burden =
 abbrev pub is_request : Code → List ℤ → (n : ℕ) → Burden → Bool
 is_request code args n burden = is_asked (main_params code) (length args) n burden
 
--- the job of a whole run: main on these arguments
-pub record IsRoot (v : Verified) (args : List ℤ) (n : ℕ) (b : Burden) (p : Parts) : Type 0 where
+-- the job of a whole run, of which so much is kept: main on these arguments
+pub record IsRootOf (v : Verified) (args : List ℤ) (n : ℕ) (b : Burden) (d : Detail) (p : Parts) : Type 0 where
   pub asked : is_request (code_view v.code) args n b ≡ true
   pub code : code_of p ≡ v
-  pub burden : p.burden ≡ b
+  pub detail : p.detail ≡ d
   pub whole : p.extent ≡ extent.WholeCall
   pub is : (ok : Ok v) (f : Func) → slice_get (code_view v.code).funcs v.code.main ≡ Some f
       → IsJob v ok p (root_job f args n)
+
+-- of which all is counted
+abbrev pub IsRoot : Verified → List ℤ → (n : ℕ) → Burden → Parts → Type 0
+IsRoot v args n b p = IsRootOf v args n b (Measures b) p
 
 -- why there is no such job: what was asked for is out of range, or memory ran out
 abbrev pub IsRefused : Code → List ℤ → (n : ℕ) → Burden → Fault → Type 0

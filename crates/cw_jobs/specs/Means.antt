@@ -1,9 +1,9 @@
 -- When an effect means a job.
 use Rattle.std.specs.Prelude.{◌≡◌, ℕ, []}
-use Rattle.cw_model.specs.declared.burden.Burden.{Burden}
 use Rattle.cw_model.specs.Outcome.{Trace}
 use Rattle.cw_code.specs.Code.{Code, code_view}
 use Rattle.cw_runnable.specs.declared.verified.Verified.{Verified}
+use Rattle.cw_meter.specs.declared.detail.Detail.{Detail}
 use Rattle.cw_meter.specs.Origins.{Main}
 use Rattle.cw_meter.specs.Meters.{Meters}
 use Rattle.cw_strand_laws.specs.Jobs as jobs
@@ -38,14 +38,14 @@ Tells code j r (effect.Memory back) jobs.Memory = Unit {0}
 Tells code j r (effect.GivenUp back) jobs.Memory = Unit {0}
 Tells code j r _ _ = ⊥
 
--- the meter of an effect tells of what the effect shows: that of a whole run with the call of main as its one event,
+-- the meter of an effect tells of what the effect shows, as much as its job keeps: that of a whole run with the call of main as its one event,
 -- that of a rest with the events of its block
-abbrev pub Counts : (code : Code) → (burden : Burden) → (site : ℕ) → Effect → jobs.Effect → Type 0
-Counts code burden site (effect.Ended value shown) (jobs.Ended v arrays t cost) =
-    (g : Gauge code) → g.burden ≡ burden → Meters g.burden g.tags Main cost [] (whole t) shown.meter
-Counts code burden site (effect.Joined back replaced shown) (jobs.Joined frame t cost) =
-    CountsEffect code burden site (jobs.Joined frame t cost) shown.meter
-Counts code burden site _ _ = Unit {0}
+abbrev pub Counts : (code : Code) → (detail : Detail) → (site : ℕ) → Effect → jobs.Effect → Type 0
+Counts code detail site (effect.Ended value shown) (jobs.Ended v arrays t cost) =
+    (g : Gauge code) → g.detail ≡ detail → Meters g.detail g.tags Main cost [] (whole t) shown.meter
+Counts code detail site (effect.Joined back replaced shown) (jobs.Joined frame t cost) =
+    CountsEffect code detail site (jobs.Joined frame t cost) shown.meter
+Counts code detail site _ _ = Unit {0}
 
 -- the arrays that an effect gives back come home; those of a whole call are its own, and of a run for which memory was
 -- wanting nothing is said of them
@@ -63,7 +63,7 @@ pub record MeansIt (v : Verified) (ok : Ok v) (p : Parts) (e : Effect) (j : jobs
   pub effect : jobs.Effect
   pub means : jobs.JobMeaning (code_view v.code) j effect
   pub tells : Tells (code_view v.code) j p.rest e effect
-  pub counts : Counts (code_view v.code) p.burden p.site e effect
+  pub counts : Counts (code_view v.code) p.detail p.site e effect
   pub homes : ComeHome v ok j p.rest e
 
 -- AN EFFECT MEANS A JOB, whichever of the definitions the job is: in the job's own code, of the values of the two alone

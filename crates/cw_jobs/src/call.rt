@@ -1,6 +1,6 @@
 //! What a job is made of.
 
-use cw_model::burden::Burden;
+use cw_meter::Detail;
 use cw_runnable::verified::Verified;
 use cw_slices::Slice;
 use std::sync::Arc;
@@ -40,8 +40,8 @@ pub struct Parts {
     pub rest: Rest,
     /// The number of the call site of that call: all that its meter must be told of what is open round it.
     pub site: u32,
-    /// What is charged for a spawn.
-    pub burden: Burden,
+    /// How much is kept of the whole run.
+    pub detail: Detail,
     /// The limit of the whole run, in instructions.
     pub limit: u64,
     /// The instructions that the run had done before this job.

@@ -13,7 +13,7 @@ pub struct Shown {
     pub lines: Vec<i64>,
     /// For each reducer what it comes to.
     pub totals: Vec<Total>,
-    /// Work, span, burdened span and all rows, of sites and of tags.
+    /// Work, span, burdened span and all rows, of sites and of tags, where its job counts.
     pub meter: Meter,
     /// The instructions that it did.
     pub cost: u64,

@@ -5,6 +5,7 @@ ghost use Rattle.cw_jobs.specs.Jobs.{IsSound};
 use crate::call::{Extent, Parts, Rest};
 use crate::effect::Effect;
 use crate::first::{first_rest, is_asked};
+use cw_meter::Detail;
 use cw_model::burden::Burden;
 use cw_runnable::verified::Verified;
 use cw_text::Fault;
@@ -19,13 +20,15 @@ pub struct Job {
 }
 
 impl Job {
-    ghost use Rattle.std.specs.Prelude.{MatchResult};
+    ghost use Rattle.std.specs.Prelude.{◌≤◌, MatchResult};
     ghost use Rattle.cw_code.specs.Code.{code_view};
-    ghost use Rattle.cw_jobs.specs.Jobs.{IsRefused, IsRoot};
+    ghost use Rattle.cw_model.specs.declared.limits.TheConstants.{MOST_BURDEN};
+    ghost use Rattle.cw_meter.specs.Details.{IsLight};
+    ghost use Rattle.cw_jobs.specs.Jobs.{IsRefused, IsRoot, IsRootOf};
     ghost use Rattle.cw_jobs.specs.Means.{IsMeaningOf};
 
-    /// The job of a whole run: `main` on these arguments, within `n` instructions. `burden` is what is charged for
-    /// a spawn, by which the burdened spans alone are told.
+    /// The job of a whole run of which all is counted: `main` on these arguments, within `n` instructions. `burden` is what is
+    /// charged for a spawn, by which the burdened spans alone are told.
     ///
     /// The error is `Arguments` exactly where the count of the arguments is not that of `main`'s parameters, or `n` is
     /// not in 1..=2^62, or more than 1,000,000,000 instructions are charged for an edge; otherwise `Memory`, where
@@ -37,7 +40,26 @@ impl Job {
         n: u64,
         burden: Burden,
     ) -> Result<Job, Fault>
-        ensures { MatchResult result (λ job. IsRoot code.value args.now n burden job.parts.value) (IsRefused (code_view code.value.code) args.now n burden) }
+        ensures { MatchResult result (λ job. IsRoot code.value args.now n burden job.parts.value)
+            (IsRefused (code_view code.value.code) args.now n burden) }
+    {
+        let job = Job::root_of(alloc, code, args, n, burden, Detail::Measures(burden))?;
+        Ok(job)
+    }
+
+    /// The same of which so much is kept. `burden` is what is charged for a spawn, where anything is counted; the error is the
+    /// same where nothing is.
+    pub fn root_of(
+        alloc: Global,
+        code: Arc<Verified>,
+        args: &[i64],
+        n: u64,
+        burden: Burden,
+        detail: Detail,
+    ) -> Result<Job, Fault>
+        requires { burden.charge ≤ MOST_BURDEN → IsLight detail }
+        ensures { MatchResult result (λ job. IsRootOf code.value args.now n burden detail job.parts.value)
+            (IsRefused (code_view code.value.code) args.now n burden) }
     {
         let verified: &Verified = &code;
         let f = verified.func(verified.code.main as usize);
@@ -52,7 +74,7 @@ impl Job {
                 extent: Extent::WholeCall,
                 rest,
                 site: 0,
-                burden,
+                detail,
                 limit: n,
                 before: 0,
             },
@@ -70,7 +92,7 @@ impl Job {
             extent: _,
             rest,
             site: _,
-            burden: _,
+            detail: _,
             limit: _,
             before: _,
         } = Box::into_inner(parts);

@@ -20,6 +20,8 @@ use Rattle.cw_strand_laws.specs.RestLaws.{RootsAreSerial}
 use Rattle.cw_meter.specs.Whole.{AreMeasures}
 use Rattle.cw_meter.specs.Origins.{Main as MainOrigin}
 use Rattle.cw_meter.specs.Meters.{Meters}
+use Rattle.cw_meter.specs.declared.detail.Detail.{Detail}
+use Rattle.cw_meter.specs.declared.detail.Detail.TheVariants.{Measures as Measured}
 use Rattle.cw_meter_laws.specs.Opens.{whole}
 use Rattle.cw_runnable.specs.declared.verified.Verified.{Verified}
 use Rattle.cw_jobs.specs.declared.effect.Effect.{Effect}
@@ -27,20 +29,22 @@ use Rattle.cw_jobs.specs.declared.effect.Effect.TheVariants as effect
 use Rattle.cw_jobs.specs.declared.effect.Shown.{Shown}
 use Rattle.cw_jobs.specs.declared.call.Rest.{Rest}
 use Rattle.cw_jobs.specs.declared.job.Job.{Job}
-use Rattle.cw_jobs.specs.Jobs.{Ok, IsJob, IsRoot}
+use Rattle.cw_jobs.specs.Jobs.{Ok, IsJob, IsRoot, IsRootOf}
 use Rattle.cw_jobs.specs.Means.{IsMeaningOf, MeansIt, Tells, Counts, HasShown}
 use Rattle.cw_machine.specs.declared.alone.Ended as alone
 use Rattle.cw_machine.specs.Arrays.{IsFit}
-use Rattle.cw_machine.specs.Runs.{is_asked, IsEndOf, Runs}
+use Rattle.cw_machine.specs.declared.values.Values.{Values}
+use Rattle.cw_machine.specs.Runs.{is_asked, IsEndOf, Gives, Runs}
 use Rattle.cw_machine.proofs.Updates.{ReturnsWithin, travelled, totals_are}
 use Rattle.cw_machine.proofs.Metering.{gauge_of}
+use Rattle.cw_machine.proofs.Given.{IsGiven, IsGiven-prop, is_given}
 use Rattle.cw_machine.proofs.FromMain.{Main, main_of, asked_of, told, IsEnded, IsEnded-prop, IsTrapped, IsTrapped-prop, was_trapped, is_over, was_over, same_as, same_totals_as, first_is, asked_count, asked_limit, asked_burden, main_room, main_arrays, main_readers}
 
 -- an effect that means the job of a whole run means what the definitions have as that job
-pub means_root : (v : Verified) (args : List ℤ) (n : ℕ) (burden : Burden) (root : Job) (e : Effect) → IsRoot v args n burden root.parts.value → IsMeaningOf root e
+pub means_root : (v : Verified) (args : List ℤ) (n : ℕ) (burden : Burden) (d : Detail) (root : Job) (e : Effect) → IsRootOf v args n burden d root.parts.value → IsMeaningOf root e
     → (ok : Ok v) (f : Func) → slice_get (code_view v.code).funcs v.code.main ≡ Some f → ∥ MeansIt v ok root.parts.value e (root_job f args n) ∥₁
 unfolding IsMeaningOf
-means_root v args n burden root e r means ok f found =
+means_root v args n burden d root e r means ok f found =
     subst (λ (w : Verified). (ok : Ok w) (j : jobs.Job) → IsJob w ok root.parts.value j → ∥ MeansIt w ok root.parts.value e j ∥₁) r.code means ok (root_job f args n) (r.is ok f found)
 
 -- the definition of the run of a whole call ends with a value only within the limit, and comes to no join
@@ -63,7 +67,7 @@ few code f args n e (Same h) = cases (course code (root_job f args n) n) (travel
 few code f args n e (Passed h k) = subst (Few n) (sym h) tt
 few code f args n e (Short h) = subst (Few n) (sym h) tt
 
-module _ (laws : RootsAreSerial) (v : Verified) (ok : IsFit v) (f : Func) (args : List ℤ) (n : ℕ) (burden : Burden) (root : Job) (found : slice_get (code_view v.code).funcs v.code.main ≡ Some f) (asked : is_asked f.params (length args) n burden ≡ true) (r : IsRoot v args n burden root.parts.value) where
+module _ (laws : RootsAreSerial) (v : Verified) (ok : IsFit v) (f : Func) (args : List ℤ) (n : ℕ) (burden : Burden) (d : Detail) (root : Job) (found : slice_get (code_view v.code).funcs v.code.main ≡ Some f) (asked : is_asked f.params (length args) n burden ≡ true) (r : IsRootOf v args n burden d root.parts.value) where
   begins : first_transition (slice_get (code_view v.code).funcs v.code.main) args ≡ On (first_state f args [] [])
   begins = first_is (code_view v.code) f args found (asked_count f args n burden asked) (main_room v f ok found) (main_arrays v f ok found) (main_readers v f ok found)
 
@@ -106,9 +110,32 @@ module _ (laws : RootsAreSerial) (v : Verified) (ok : IsFit v) (f : Func) (args 
       cases jobs.Memory h w = absurd h
 
   -- a run that ended: within the limit, and with what the code gives
-  pub ended : (x : Option ℤ) (shown : Shown) (e : alone.Ended) → (end : IsEndOf v.code x shown e) → MeansIt v ok root.parts.value (effect.Ended x shown) (root_job f args n)
+  pub gave : (x : Option ℤ) (shown : Shown) (e : Values) → e.value ≡ int_given x → e.lines ≡ shown.lines → e.totals ≡ shown.totals → MeansIt v ok root.parts.value (effect.Ended x shown) (root_job f args n)
+      → IsGiven e (code_serial (code_view v.code) args n)
+  gave x shown e value lines totals m = cases m.effect m.tells (few (code_view v.code) f args n m.effect m.means) (serial m.effect m.means)
+    where
+      most : n ≤ MOST_LIMIT
+      most = asked_limit f args n burden asked
+
+      cases : (w : jobs.Effect) → Tells (code_view v.code) (root_job f args n) root.parts.value.rest (effect.Ended x shown) w → Few n w
+          → (w ≡ jobs.Memory) ⊎ (jobs.answered (code_view v.code) w ≡ code_serial (code_view v.code) args n) → IsGiven e (code_serial (code_view v.code) args n)
+      cases (jobs.Ended y arrays t cost) h w (inr s) =
+          let has : HasShown (code_view v.code) shown t cost = h.2 in
+          subst (λ o. IsGiven e o) s (
+            ap int_given (sym h.1) ∙ sym value,
+            same_as t.lines e.lines.items (sym has.lines ∙ sym (ap (λ l. l.items) lines)),
+            same_totals_as _ e.totals.items (totals_are (code_view v.code) shown.totals.items t.updates has.totals (let le = w.0 in omega (arith, le, most)) ∙ sym (ap (λ l. l.items) totals)),
+          )
+      cases (jobs.Ended y arrays t cost) h w (inl s) = cc
+      cases (jobs.Joined frame t c) h w s = absurd h
+      cases (jobs.TrapIn t l ls c) h w s = absurd h
+      cases jobs.OverLimit h w s = absurd h
+      cases jobs.Memory h w s = absurd h
+
+  -- where all was counted, also with what the tree of the run has
+  pub ended : d ≡ Measured burden → (x : Option ℤ) (shown : Shown) (e : alone.Ended) → (end : IsEndOf v.code x shown e) → MeansIt v ok root.parts.value (effect.Ended x shown) (root_job f args n)
       → (shown.cost ≤ n) × IsEnded (code_view v.code) burden e end.all (code_serial (code_view v.code) args n)
-  ended x shown e end m = cases m.effect m.tells m.counts (few code f args n m.effect m.means) (serial m.effect m.means)
+  ended counted x shown e end m = cases m.effect m.tells m.counts (few (code_view v.code) f args n m.effect m.means) (serial m.effect m.means)
     where
       code : Code
       code = code_view v.code
@@ -116,15 +143,15 @@ module _ (laws : RootsAreSerial) (v : Verified) (ok : IsFit v) (f : Func) (args 
       most : n ≤ MOST_LIMIT
       most = asked_limit f args n burden asked
 
-      cases : (w : jobs.Effect) → Tells (code_view v.code) (root_job f args n) root.parts.value.rest (effect.Ended x shown) w → Counts (code_view v.code) root.parts.value.burden root.parts.value.site (effect.Ended x shown) w → Few n w
+      cases : (w : jobs.Effect) → Tells (code_view v.code) (root_job f args n) root.parts.value.rest (effect.Ended x shown) w → Counts (code_view v.code) root.parts.value.detail root.parts.value.site (effect.Ended x shown) w → Few n w
           → (w ≡ jobs.Memory) ⊎ (jobs.answered (code_view v.code) w ≡ code_serial (code_view v.code) args n) → (shown.cost ≤ n) × IsEnded (code_view v.code) burden e end.all (code_serial (code_view v.code) args n)
       cases (jobs.Ended y arrays t cost) h counts w (inr s) =
           let has : HasShown (code_view v.code) shown t cost = h.2 in
           let within : shown.cost ≤ n = let k = has.cost in let le = w.1 in omega (arith, k, le) in
           let light = asked_burden f args n burden asked in
-          let g = gauge_of v ok burden light in
+          let g = gauge_of v ok (Measured burden) light in
           let sites : length (code_view v.code).sites ≡ length v.code.sites.items = length-map v.code.sites.items _ in
-          let meters = subst (λ k. Meters g.burden g.tags MainOrigin k [] (whole t) shown.meter) (sym has.cost) (counts g (sym r.burden)) in (
+          let meters = subst (λ k. Meters g.detail g.tags MainOrigin k [] (whole t) shown.meter) (sym has.cost) (counts g (sym (r.detail ∙ counted))) in (
             within,
             subst (λ o. IsEnded (code_view v.code) burden e end.all o) s (
               ap int_given (sym h.1) ∙ sym end.value,
@@ -140,31 +167,38 @@ module _ (laws : RootsAreSerial) (v : Verified) (ok : IsFit v) (f : Func) (args 
       cases jobs.Memory h counts w s = absurd h
 
 -- whatever is a proposition and holds of the job's meaning holds
-on_root : {P : Type 0} → IsProp P → (v : Verified) (args : List ℤ) (n : ℕ) (burden : Burden) (root : Job) (e : Effect) → IsRoot v args n burden root.parts.value → IsMeaningOf root e
+on_root : {P : Type 0} → IsProp P → (v : Verified) (args : List ℤ) (n : ℕ) (burden : Burden) (d : Detail) (root : Job) (e : Effect) → IsRootOf v args n burden d root.parts.value → IsMeaningOf root e
     → ((ok : IsFit v) (main : Main v) → is_asked main.func.params (length args) n burden ≡ true → MeansIt v ok root.parts.value e (root_job main.func args n) → P) → P
-on_root prop v args n burden root e r means f = ∥∥₁_elim v.ok prop (λ ok.
+on_root prop v args n burden d root e r means f = ∥∥₁_elim v.ok prop (λ ok.
     let main = main_of v ok in
-    ∥∥₁_elim (means_root v args n burden root e r means ok main.func main.found) prop (f ok main (asked_of v main args n burden r.asked)))
+    ∥∥₁_elim (means_root v args n burden d root e r means ok main.func main.found) prop (f ok main (asked_of v main args n burden r.asked)))
+
+module _ (laws : RootsAreSerial) (v : Verified) (args : List ℤ) (n : ℕ) (burden : Burden) (d : Detail) (root : Job) (r : IsRootOf v args n burden d root.parts.value) where
+  pub gave_as_code : (x : Option ℤ) (shown : Shown) (e : Values) → IsMeaningOf root (effect.Ended x shown) → e.value ≡ int_given x → e.lines ≡ shown.lines → e.totals ≡ shown.totals → Gives (code_view v.code) args n burden e
+  gave_as_code x shown e means value lines totals =
+      let serial = code_serial (code_view v.code) args n in
+      let is = is_given e serial (on_root (IsGiven-prop e serial) v args n burden d root (effect.Ended x shown) r means (λ ok main asked m. gave laws v ok main.func args n burden d root main.found asked r x shown e value lines totals m)) in
+      record { asked = r.asked; tree = is.0; answer = is.1 }
+
+  pub trapped_as_code : (trap : Trap) (line : ℕ) (lines : _) (cost : ℕ) (back : _) → IsMeaningOf root (effect.Trapped trap line lines cost back) → code_serial (code_view v.code) args n ≡ Some (TrappedAt trap line lines.items)
+  trapped_as_code trap line lines cost back means =
+      let serial = code_serial (code_view v.code) args n in
+      was_trapped trap line lines.items serial (on_root (IsTrapped-prop trap line lines.items serial) v args n burden d root (effect.Trapped trap line lines cost back) r means
+      (λ ok main asked m. trapped laws v ok main.func args n burden d root main.found asked r trap line lines cost back m))
+
+  pub over_as_code : (back : _) → IsMeaningOf root (effect.OverLimit back) → code_serial (code_view v.code) args n ≡ Some OverLimit
+  over_as_code back means =
+      was_over (code_serial (code_view v.code) args n) (on_root (hlevel Bool-set) v args n burden d root (effect.OverLimit back) r means
+      (λ ok main asked m. over laws v ok main.func args n burden d root main.found asked r back m))
+
+  pub comes_to_no_join : (frame : Rest) (replaced : _) (shown : Shown) → IsMeaningOf root (effect.Joined frame replaced shown) → ⊥
+  comes_to_no_join frame replaced shown means =
+      on_root (hlevel le_prop) v args n burden d root (effect.Joined frame replaced shown) r means
+      (λ ok main asked m. never_joined laws v ok main.func args n burden d root main.found asked r frame replaced shown m)
 
 module _ (laws : RootsAreSerial) (v : Verified) (args : List ℤ) (n : ℕ) (burden : Burden) (root : Job) (r : IsRoot v args n burden root.parts.value) where
   pub ended_as_code : (x : Option ℤ) (shown : Shown) (e : alone.Ended) → IsMeaningOf root (effect.Ended x shown) → IsEndOf v.code x shown e → Runs (code_view v.code) args n burden e
   ended_as_code x shown e means end =
       let is_end = IsEnded-prop (code_view v.code) burden e end.all (code_serial (code_view v.code) args n) in
-      let both = on_root (hlevel (le_prop, is_end)) v args n burden root (effect.Ended x shown) r means (λ ok main asked m. ended laws v ok main.func args n burden root main.found asked r x shown e end m) in
+      let both = on_root (hlevel (le_prop, is_end)) v args n burden (Measured burden) root (effect.Ended x shown) r means (λ ok main asked m. ended laws v ok main.func args n burden (Measured burden) root main.found asked r refl x shown e end m) in
       told v args n burden x shown e r.asked both.0 end both.1
-
-  pub trapped_as_code : (trap : Trap) (line : ℕ) (lines : _) (cost : ℕ) (back : _) → IsMeaningOf root (effect.Trapped trap line lines cost back) → code_serial (code_view v.code) args n ≡ Some (TrappedAt trap line lines.items)
-  trapped_as_code trap line lines cost back means =
-      let serial = code_serial (code_view v.code) args n in
-      was_trapped trap line lines.items serial (on_root (IsTrapped-prop trap line lines.items serial) v args n burden root (effect.Trapped trap line lines cost back) r means
-      (λ ok main asked m. trapped laws v ok main.func args n burden root main.found asked r trap line lines cost back m))
-
-  pub over_as_code : (back : _) → IsMeaningOf root (effect.OverLimit back) → code_serial (code_view v.code) args n ≡ Some OverLimit
-  over_as_code back means =
-      was_over (code_serial (code_view v.code) args n) (on_root (hlevel Bool-set) v args n burden root (effect.OverLimit back) r means
-      (λ ok main asked m. over laws v ok main.func args n burden root main.found asked r back m))
-
-  pub comes_to_no_join : (frame : Rest) (replaced : _) (shown : Shown) → IsMeaningOf root (effect.Joined frame replaced shown) → ⊥
-  comes_to_no_join frame replaced shown means =
-      on_root (hlevel le_prop) v args n burden root (effect.Joined frame replaced shown) r means
-      (λ ok main asked m. never_joined laws v ok main.func args n burden root main.found asked r frame replaced shown m)

@@ -1,24 +1,30 @@
 -- The effect of a whole run.
 use Rattle.std.specs.Prelude.{◌≡◌, ℕ, ℤ, List, Result, Ok, Err}
 use Rattle.cw_model.specs.declared.burden.Burden.{Burden}
+use Rattle.cw_meter.specs.declared.detail.Detail.{Detail}
 use Rattle.cw_runnable.specs.declared.verified.Verified.{Verified}
 use Rattle.cw_text.specs.declared.fault.Fault.{Fault}
 use Rattle.cw_text.specs.declared.fault.Fault.TheVariants as fault
 use Rattle.cw_jobs.specs.declared.effect.Effect.{Effect}
 use Rattle.cw_jobs.specs.declared.effect.Effect.TheVariants as effect
 use Rattle.cw_jobs.specs.declared.job.Job.{Job}
-use Rattle.cw_jobs.specs.Jobs.{IsRoot}
+use Rattle.cw_jobs.specs.Jobs.{IsRootOf}
 use Rattle.cw_jobs.specs.Means.{IsMeaningOf}
 use Rattle.cw_machine.specs.declared.alone.Ended as alone
 
--- an effect means the job of some whole run of this code
+-- an effect means the job of some whole run of this code, however much is kept of it
 pub record IsOfWhole (v : Verified) (e : Effect) : Type 0 where
   pub args : List ℤ
   pub limit : ℕ
   pub burden : Burden
+  pub detail : Detail
   pub root : Job
-  pub is : IsRoot v args limit burden root.parts.value
+  pub is : IsRootOf v args limit burden detail root.parts.value
   pub means : IsMeaningOf root e
+
+-- of some code
+abbrev pub IsOfRun : Effect → Type 0
+IsOfRun e = (v : Verified) × IsOfWhole v e
 
 -- a run that ended, or memory, where there was none to tell of one
 abbrev pub IsEndOrMemory : Result alone.Ended Fault → Type 0

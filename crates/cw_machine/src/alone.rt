@@ -11,7 +11,7 @@ use crate::machine::Moved;
 use crate::run::Run;
 use cw_code::code::Code;
 use cw_jobs::effect::Shown;
-use cw_meter::Readings;
+use cw_meter::{Detail, Readings};
 use cw_model::burden::Burden;
 use cw_model::limits::{MOST_BURDEN, MOST_LIMIT};
 use cw_model::syntax::Name;
@@ -72,7 +72,7 @@ pub fn run_alone(
         verified.room(main),
         args,
         verified.code.reducers.as_slice(),
-        burden,
+        Detail::Measures(burden),
     )?;
     let (stop, count) = run.go(verified, n);
     match stop {

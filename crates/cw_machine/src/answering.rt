@@ -2,22 +2,25 @@
 
 ghost use Rattle.std.specs.Prelude.{ℕ, ℤ, List};
 ghost use Rattle.cw_code.specs.Code.{code_view};
-ghost use Rattle.cw_jobs.specs.Jobs.{IsRoot};
+ghost use Rattle.cw_jobs.specs.Jobs.{IsRoot, IsRootOf};
 ghost use Rattle.cw_jobs.specs.Means.{IsMeaningOf};
 ghost use Rattle.cw_jobs.specs.declared.job.Job as jobs;
+ghost use Rattle.cw_meter.specs.declared.detail.Detail as details;
 ghost use Rattle.cw_model.specs.declared.burden.Burden.{Burden};
-ghost use Rattle.cw_machine.specs.Answering.{IsOfWhole, IsAnswerOf};
-ghost use Rattle.cw_machine.specs.Runs.{RunsAsCode};
+ghost use Rattle.cw_runnable.specs.declared.verified.Verified as verified;
+ghost use Rattle.cw_machine.specs.Answering.{IsOfRun, IsOfWhole, IsAnswerOf};
+ghost use Rattle.cw_machine.specs.Runs.{GivesAsCode, RunsAsCode};
 
-use crate::alone::{Ended, end_of};
+use crate::alone::{Ended, end_of, int_given};
+use crate::values::Values;
 use cw_jobs::effect::Effect;
 use cw_runnable::verified::Verified;
 use cw_strand_laws::laws::the_root_answers_what_the_code_gives;
 use cw_text::Fault;
 use std::alloc::Global;
 
-/// What a run of this code answers whose job, that of the whole run, came to this effect: as `run_alone` answers, whoever
-/// ran the job, on however many workers.
+/// What a run of this code answers whose job, that of the whole run of which all was counted, came to this effect: as
+/// `run_alone` answers, whoever ran the job, on however many workers.
 ///
 /// The error is `OverLimit` or `Trap`, as the effect tells, and `Memory` where memory was wanting, in the run or here, or
 /// where the run was given up.
@@ -33,6 +36,42 @@ pub fn answer(alloc: Global, code: &Verified, effect: Effect) -> Result<Ended, F
             let ended = end_of(alloc, &code.code, value, shown)?;
             Ok(ended)
         }
+        Effect::Trapped {
+            trap,
+            line,
+            lines,
+            cost: _,
+            back: _,
+        } => Err(Fault::Trap {
+            code: trap,
+            line,
+            output: lines,
+        }),
+        Effect::OverLimit { back: _ } => Err(Fault::OverLimit),
+        Effect::Memory { back: _ } => Err(Fault::Memory),
+        Effect::GivenUp { back: _ } => Err(Fault::Memory),
+        Effect::Joined {
+            frame: _,
+            replaced: _,
+            shown: _,
+        } => unreachable!(),
+    }
+}
+
+/// What a run gives whose job, that of the whole run, came to this effect, however much was kept of it: as `values_alone`
+/// answers. The errors are those of `answer`.
+pub fn values_of(effect: Effect) -> Result<Values, Fault>
+    requires { ∥ IsOfRun effect ∥₁ }
+    ensures { (v : verified.Verified) (args : List ℤ) (n : ℕ) (burden : Burden) (d : details.Detail) (root : jobs.Job)
+        → IsRootOf v args n burden d root.parts.value → IsMeaningOf root effect → GivesAsCode (code_view v.code) args n burden result }
+{
+    the_root_answers_what_the_code_gives();
+    match effect {
+        Effect::Ended { value, shown } => Ok(Values {
+            value: int_given(value),
+            lines: shown.lines,
+            totals: shown.totals,
+        }),
         Effect::Trapped {
             trap,
             line,

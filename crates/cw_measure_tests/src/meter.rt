@@ -3,7 +3,7 @@
 use crate::burdens::burden_of;
 use Stage::{HandOut, InRest, On, TakeIn};
 use Told::{Begin, BeginRegion, Call, End, GiveBack, Spawn, SpawnHalf, Sync};
-use cw_meter::{Measures, Meter};
+use cw_meter::{Detail, Measures, Meter};
 use cw_model::burden::{Burden, Edges};
 use cw_regions::RegionRow;
 use cw_sites::table::SiteRow;
@@ -30,7 +30,7 @@ enum Told {
     Sync(u64),
 }
 
-/// A stage of a run, of which rests may run apart, by meters that know their site and the burden alone.
+/// A stage of a run, of which rests may run apart, by meters that know their site and how much is kept alone.
 #[derive(Clone, Copy)]
 enum Stage {
     /// The run's meter is told so.
@@ -70,8 +70,8 @@ fn tell_all(meter: &mut Meter, all: &[Told]) -> Result<(), AllocError> {
     Ok(())
 }
 
-fn hand_out(alloc: Global, meters: &mut Meters, burden: Burden) -> Result<(), AllocError> {
-    let rest = Meter::apart(alloc, meters.whole.site(), burden);
+fn hand_out(alloc: Global, meters: &mut Meters, detail: Detail) -> Result<(), AllocError> {
+    let rest = Meter::apart(alloc, meters.whole.site(), detail);
     meters.rests.push(rest)?;
     Ok(())
 }
@@ -93,12 +93,12 @@ fn take_in(meters: &mut Meters, count: u64, cost: u64) -> Result<(), AllocError>
 fn go_on(
     alloc: Global,
     meters: &mut Meters,
-    burden: Burden,
+    detail: Detail,
     stage: Stage,
 ) -> Result<(), AllocError> {
     match stage {
         On(told) => tell_all(&mut meters.whole, told),
-        HandOut => hand_out(alloc, meters, burden),
+        HandOut => hand_out(alloc, meters, detail),
         InRest(told) => tell_rest(meters, told),
         TakeIn(count, cost) => take_in(meters, count, cost),
     }
@@ -121,20 +121,20 @@ struct Run {
 fn go_through(
     alloc: Global,
     meters: &mut Meters,
-    burden: Burden,
+    detail: Detail,
     stages: &[Stage],
 ) -> Result<(), AllocError> {
     for stage in stages {
-        go_on(alloc, meters, burden, *stage)?;
+        go_on(alloc, meters, detail, *stage)?;
     }
     Ok(())
 }
 
-fn meter_of(alloc: Global, stages: &[Stage], burden: Burden) -> Result<Meter, AllocError> {
-    let whole = Meter::new(alloc, burden)?;
+fn meter_of(alloc: Global, stages: &[Stage], detail: Detail) -> Result<Meter, AllocError> {
+    let whole = Meter::new(alloc, detail)?;
     let rests = Vec::new(alloc);
     let mut meters = Meters { whole, rests };
-    go_through(alloc, &mut meters, burden, stages)?;
+    go_through(alloc, &mut meters, detail, stages)?;
     Ok(meters.whole)
 }
 
@@ -178,8 +178,8 @@ fn wrong_part(all: &Measures, run: &Run, burdened: u128) -> Option<&'static str>
     }
 }
 
-fn measures_of(alloc: Global, run: &Run, burden: Burden) -> Result<Measures, AllocError> {
-    let meter = meter_of(alloc, run.stages, burden)?;
+fn measures_of(alloc: Global, run: &Run, detail: Detail) -> Result<Measures, AllocError> {
+    let meter = meter_of(alloc, run.stages, detail)?;
     meter.finish(alloc, run.work, run.sites.len(), run.regions.len())
 }
 
@@ -190,7 +190,7 @@ fn wrong_with(
     burden: Burden,
     burdened: u128,
 ) -> Result<Option<&'static str>, AllocError> {
-    let all = measures_of(alloc, run, burden)?;
+    let all = measures_of(alloc, run, Detail::Measures(burden))?;
     Ok(wrong_part(&all, run, burdened))
 }
 
@@ -203,6 +203,17 @@ fn wrong_of(alloc: Global, run: &Run) -> Result<Option<&'static str>, AllocError
         }
     }
     Ok(None)
+}
+
+/// Whether a meter of values alone counts a call.
+fn counts_a_call(alloc: Global, run: &Run) -> Result<bool, AllocError> {
+    let all = measures_of(alloc, run, Detail::Values)?;
+    for row in &all.sites {
+        if row.calls > 0 {
+            return Ok(true);
+        }
+    }
+    Ok(false)
 }
 
 static WHOLE_RUNS: [Run; 3] = [
@@ -468,6 +479,17 @@ fn nests(rt: HostRuntime) -> Result<(), AllocError> {
 fn inside_itself(rt: HostRuntime) -> Result<(), AllocError> {
     for run in &INSIDE_ITSELF {
         assert_eq!(rt; wrong_of(rt.alloc(), run)?, None, "{}", run.name);
+    }
+    Ok(())
+}
+
+#[test]
+fn values_alone_count_no_call(rt: HostRuntime) -> Result<(), AllocError> {
+    for run in &WHOLE_RUNS {
+        assert_eq!(rt; counts_a_call(rt.alloc(), run)?, false, "{}", run.name);
+    }
+    for run in &NESTS {
+        assert_eq!(rt; counts_a_call(rt.alloc(), run)?, false, "{}", run.name);
     }
     Ok(())
 }

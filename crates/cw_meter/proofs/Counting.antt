@@ -92,7 +92,7 @@ active_at_most : (picks : Mark → Bool) (os : List Open) → active_in picks 0 
 active_at_most picks [] = omega arith
 active_at_most picks (o ∷ os) = let a = active_at_most picks os in let b = one_at_most (is_counted picks o.mark) in omega arith
 
-few_given : (from : Origin) → given_open from ≤ 1
+pub few_given : (from : Origin) → given_open from ≤ 1
 few_given Main = omega arith
 few_given (Rest site) = omega arith
 

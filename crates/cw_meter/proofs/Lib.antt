@@ -5,4 +5,5 @@ pub mod MeterLaws
 pub mod ReadingLaws
 pub mod TableLaws
 pub mod RestLaws
-pub mod InnermostLaws
+pub mod OutsideLaws
+pub mod DetailLaws

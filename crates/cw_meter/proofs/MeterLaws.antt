@@ -27,7 +27,7 @@ use Rattle.cw_meter.specs.declared.parts.PartKind.{PartKind}
 use Rattle.cw_meter.specs.declared.parts.PartKind.TheVariants as kind
 use Rattle.cw_meter.specs.declared.parts.Part.{Part}
 use Rattle.cw_meter.specs.Alike.{AreAlike, AreOpenAlike}
-use Rattle.cw_meter.specs.Meters.{Begins, BeginsRegion, Ends, Returns, Syncs, Starts, Meters, IsCounted, InstructionsNeedNoCall, TablesTell, nothing_open, ticked, synced}
+use Rattle.cw_meter.specs.Meters.{Measured, IsCounted, TablesTell, nothing_open, ticked, synced, begun}
 use Rattle.cw_meter.specs.Moves.{ClosesPart, JoinsBlock, Stacks, part_in}
 use Rattle.cw_meter.specs.Parts.{AreParts, IsOfKind, IsPart}
 use Rattle.cw_meter.specs.Tables.{Closes, Opens, OpensRegion, StartsTables, opened}
@@ -35,8 +35,27 @@ use Rattle.cw_meter.proofs.AlikeLaws.{append_twice, alike_itself, alike_more, al
 use Rattle.cw_meter.proofs.Counting.{counted_opened, one_at_most, small_run}
 use Rattle.cw_meter.proofs.TableLaws.{tables_ticked, tables_told, tags_opened}
 
-pub instructions_need_no_call : InstructionsNeedNoCall
-instructions_need_no_call m count burden tags from os es small light h = record {
+-- what is told of a run of which all is counted
+abbrev pub Counts : (old new : Meter) → (count : ℕ) → Burden → Tags → (from : Origin) → (os os' : List Open) → (es es' : List Event) → Type 0
+Counts old new count burden tags from os os' es es' = count < MOST_LIMIT → burden.charge ≤ MOST_BURDEN → Measured burden tags from count os es old → Measured burden tags from (count + 1) os' es' new
+
+abbrev pub CountsBegin : (old new : Meter) → (count : ℕ) → (spawned : Bool) → Option Mark → Type 0
+CountsBegin old new count spawned mark = (burden : Burden) (tags : Tags) (from : Origin) (os : List Open) (es : List Event) → Counts old new count burden tags from os (begun spawned mark es os) es []
+
+abbrev pub CountsRegion : (old new : Meter) → (count tag : ℕ) → Type 0
+CountsRegion old new count tag = (burden : Burden) (tags : Tags) (from : Origin) (os : List Open) (es : List Event) → tag < tags.count → Counts old new count burden tags from os (begun false (Some (Execution (tags.name tag))) es os) es []
+
+abbrev pub CountsEnd : (old new : Meter) → (count : ℕ) → Type 0
+CountsEnd old new count = (burden : Burden) (tags : Tags) (from : Origin) (o : Open) (os : List Open) (es : List Event) → o.spawned ≡ false → Counts old new count burden tags from (o ∷ os) os es (ticked (closed o es))
+
+abbrev pub CountsReturn : (old new : Meter) → (count : ℕ) → Type 0
+CountsReturn old new count = (burden : Burden) (tags : Tags) (from : Origin) (o : Open) (os : List Open) (es : List Event) → Counts old new count burden tags from (o ∷ os) os es (closed o (synced es))
+
+abbrev pub CountsSync : (old new : Meter) → (count : ℕ) → Type 0
+CountsSync old new count = (burden : Burden) (tags : Tags) (from : Origin) (os : List Open) (es : List Event) → Counts old new count burden tags from os os es (synced es)
+
+pub ticks : (m : Meter) (count : ℕ) (burden : Burden) (tags : Tags) (from : Origin) (os : List Open) (es : List Event) → Measured burden tags from count os es m → Measured burden tags from (count + 1) os (ticked es) m
+ticks m count burden tags from os es h = record {
   told_open = h.told_open;
   told = ticked h.told;
   open_alike = h.open_alike;
@@ -78,7 +97,7 @@ tables_start burden empty s p r told enters weighs starts = λ tags.
       spawned_is = refl;
     })
 
-pub meter_starts : (burden : Burden) (m : Meter) → StartsTables burden m.tables → m.parts.items ≡ record { kind = kind.Call; site = 0; spawned = false } ∷ [] → Starts burden m
+pub meter_starts : (burden : Burden) (m : Meter) → StartsTables burden m.tables → m.parts.items ≡ record { kind = kind.Call; site = 0; spawned = false } ∷ [] → (tags : Tags) → Measured burden tags Main 0 main_open [] m
 meter_starts burden m starts e = λ tags. record {
   told_open = main_open;
   told = [];
@@ -93,7 +112,7 @@ part_stacked : (burden : Burden) (tags : Tags) (from : Origin) (count : ℕ) (sp
 part_stacked burden tags from count spawned mark os es old mid k stacks is h parts =
     parts_pushed from tags (record { spawned = spawned; mark = mark; outer = ticked es }) os (part_in k old.tables) old.parts.items mid.parts.items stacks.pushed (record { kind = is; site = h.sites.here_is; spawned = h.spawned_is ∙ sym (has_spawned-work es 1) }) parts
 
-pub meter_begins : (old mid : Meter) (t : Tables) (count next : ℕ) (k : PartKind) (spawned : Bool) (mark : Option Mark) → Stacks old mid k → Opens mid.tables t next spawned mark → ((tags : Tags) (outer : List Event) → IsOfKind tags (record { spawned = spawned; mark = mark; outer = outer }) k) → (count < MOST_LIMIT → next ≡ count + 1) → Begins old (record { tables = t; parts = mid.parts }) count spawned mark
+pub meter_begins : (old mid : Meter) (t : Tables) (count next : ℕ) (k : PartKind) (spawned : Bool) (mark : Option Mark) → Stacks old mid k → Opens mid.tables t next spawned mark → ((tags : Tags) (outer : List Event) → IsOfKind tags (record { spawned = spawned; mark = mark; outer = outer }) k) → (count < MOST_LIMIT → next ≡ count + 1) → CountsBegin old (record mid { tables = t }) count spawned mark
 meter_begins old mid t count next k spawned mark stacks opens is sat = λ burden tags from os es small light h.
     let N : ℕ → Type 0 = λ x. Opens mid.tables t x spawned mark in
     let T : Tables → Type 0 = λ x. Opens x t (count + 1) spawned mark in
@@ -108,7 +127,7 @@ meter_begins old mid t count next k spawned mark stacks opens is sat = λ burden
       parts = part_stacked burden tags from count spawned mark h.told_open h.told old mid k stacks (is tags (ticked h.told)) h.tables h.parts;
     }
 
-pub meter_begins_region : (old mid : Meter) (t : Tables) (count next tag : ℕ) → Stacks old mid (kind.Region tag) → OpensRegion mid.tables t next tag → (count < MOST_LIMIT → next ≡ count + 1) → BeginsRegion old (record { tables = t; parts = mid.parts }) count tag
+pub meter_begins_region : (old mid : Meter) (t : Tables) (count next tag : ℕ) → Stacks old mid (kind.Region tag) → OpensRegion mid.tables t next tag → (count < MOST_LIMIT → next ≡ count + 1) → CountsRegion old (record mid { tables = t }) count tag
 meter_begins_region old mid t count next tag stacks opens sat = λ burden tags from os es known small light h.
     let N : ℕ → Type 0 = λ x. OpensRegion mid.tables t x tag in
     let T : Tables → Type 0 = λ x. OpensRegion x t (count + 1) tag in
@@ -132,7 +151,7 @@ synced_alike es fs h =
 same_parts : (from : Origin) (tags : Tags) (os : List Open) (old new : List Part) → new ≡ old → AreParts from tags os (reverse old) → AreParts from tags os (reverse new)
 same_parts from tags os old new e h = let P : List Part → Type 0 = λ x. AreParts from tags os (reverse x) in subst P (sym e) h
 
-pub meter_syncs : (old new : Meter) (count : ℕ) → JoinsBlock old new count → new.parts.items ≡ old.parts.items → Syncs old new count
+pub meter_syncs : (old new : Meter) (count : ℕ) → JoinsBlock old new count → new.parts.items ≡ old.parts.items → CountsSync old new count
 meter_syncs old new count joins e = λ burden tags from os es small light h.
     let within : count ≤ MOST_LIMIT = omega arith in
     record {
@@ -156,7 +175,7 @@ none_of (p ∷ parts) e = absurd (omega arith)
 pub nothing_closed : (old new : Meter) (count : ℕ) → length old.parts.items ≡ 0 → ClosesPart old new count
 nothing_closed old new count e = λ burden tags from o os es joined parts small light h. absurd (no_parts from tags o os old.parts.items (none_of old.parts.items e) parts)
 
-ended_in : (old mid new : Meter) (count : ℕ) → JoinsBlock old mid count → mid.tables.spawned ≡ false → mid.parts.items ≡ old.parts.items → ClosesPart mid new count → (burden : Burden) (tags : Tags) (from : Origin) (o : Open) (os : List Open) (es : List Event) (opens : List Open) (events : List Event) → count < MOST_LIMIT → burden.charge ≤ MOST_BURDEN → AreOpenAlike (o ∷ os) opens → AreAlike es events → TablesTell burden tags from count opens events old.tables → AreParts from tags opens (reverse old.parts.items) → Meters burden tags from (count + 1) os (ticked (closed o es)) new
+ended_in : (old mid new : Meter) (count : ℕ) → JoinsBlock old mid count → mid.tables.spawned ≡ false → mid.parts.items ≡ old.parts.items → ClosesPart mid new count → (burden : Burden) (tags : Tags) (from : Origin) (o : Open) (os : List Open) (es : List Event) (opens : List Open) (events : List Event) → count < MOST_LIMIT → burden.charge ≤ MOST_BURDEN → AreOpenAlike (o ∷ os) opens → AreAlike es events → TablesTell burden tags from count opens events old.tables → AreParts from tags opens (reverse old.parts.items) → Measured burden tags from (count + 1) os (ticked (closed o es)) new
 ended_in old mid new count joins joined e closes burden tags from o os es [] events small light alike_open alike h parts = absurd alike_open
 ended_in old mid new count joins joined e closes burden tags from o os es (p ∷ ps) events small light alike_open alike h parts =
     let within : count ≤ MOST_LIMIT = omega arith in
@@ -170,11 +189,11 @@ ended_in old mid new count joins joined e closes burden tags from o os es (p ∷
       parts = c.1;
     }
 
-pub meter_ends : (old mid new : Meter) (count : ℕ) → JoinsBlock old mid count → mid.tables.spawned ≡ false → mid.parts.items ≡ old.parts.items → ClosesPart mid new count → Ends old new count
+pub meter_ends : (old mid new : Meter) (count : ℕ) → JoinsBlock old mid count → mid.tables.spawned ≡ false → mid.parts.items ≡ old.parts.items → ClosesPart mid new count → CountsEnd old new count
 meter_ends old mid new count joins joined e closes = λ burden tags from o os es series small light h.
     ended_in old mid new count joins joined e closes burden tags from o os es h.told_open h.told small light h.open_alike h.alike h.tables h.parts
 
-returned_in : (old mid new : Meter) (count : ℕ) → JoinsBlock old mid count → mid.tables.spawned ≡ false → mid.parts.items ≡ old.parts.items → ClosesPart mid new (count + 1) → (burden : Burden) (tags : Tags) (from : Origin) (o : Open) (os : List Open) (es : List Event) (opens : List Open) (events : List Event) → count < MOST_LIMIT → burden.charge ≤ MOST_BURDEN → AreOpenAlike (o ∷ os) opens → AreAlike es events → TablesTell burden tags from count opens events old.tables → AreParts from tags opens (reverse old.parts.items) → Meters burden tags from (count + 1) os (closed o (synced es)) new
+returned_in : (old mid new : Meter) (count : ℕ) → JoinsBlock old mid count → mid.tables.spawned ≡ false → mid.parts.items ≡ old.parts.items → ClosesPart mid new (count + 1) → (burden : Burden) (tags : Tags) (from : Origin) (o : Open) (os : List Open) (es : List Event) (opens : List Open) (events : List Event) → count < MOST_LIMIT → burden.charge ≤ MOST_BURDEN → AreOpenAlike (o ∷ os) opens → AreAlike es events → TablesTell burden tags from count opens events old.tables → AreParts from tags opens (reverse old.parts.items) → Measured burden tags from (count + 1) os (closed o (synced es)) new
 returned_in old mid new count joins joined e closes burden tags from o os es [] events small light alike_open alike h parts = absurd alike_open
 returned_in old mid new count joins joined e closes burden tags from o os es (p ∷ ps) events small light alike_open alike h parts =
     let before : count ≤ MOST_LIMIT = omega arith in
@@ -190,7 +209,7 @@ returned_in old mid new count joins joined e closes burden tags from o os es (p 
       parts = c.1;
     }
 
-pub meter_returns : (old mid new : Meter) (count next : ℕ) → JoinsBlock old mid count → mid.tables.spawned ≡ false → mid.parts.items ≡ old.parts.items → ClosesPart mid new next → (count < MOST_LIMIT → next ≡ count + 1) → Returns old new count
+pub meter_returns : (old mid new : Meter) (count next : ℕ) → JoinsBlock old mid count → mid.tables.spawned ≡ false → mid.parts.items ≡ old.parts.items → ClosesPart mid new next → (count < MOST_LIMIT → next ≡ count + 1) → CountsReturn old new count
 meter_returns old mid new count next joins joined e closes sat = λ burden tags from o os es small light h.
     let N : ℕ → Type 0 = λ x. ClosesPart mid new x in
     returned_in old mid new count joins joined e (subst N (sat small) closes) burden tags from o os es h.told_open h.told small light h.open_alike h.alike h.tables h.parts

@@ -117,7 +117,7 @@ measures_told burden count most by_number names t whole es all small light named
 pub meter_reads : (m : Meter) (t : Tables) (count sites tags : ℕ) (all : Measures) → Settles m.tables t count → all.measure.work ≡ count → ReadsPath t.sites all.measure.span → ReadsWeight t.path all.measure.burdened → ListsSites t sites all.sites.items → ListsRegions t tags all.regions.items → Reads m count sites tags all
 meter_reads m t count sites tags all settles work path heavy rows regions_are = λ burden by_number names es small light named many h.
     let whole = Marked (Invocation 0) (tree_of es) in
-    let O : List Open → Type 0 = λ x. AreTold burden by_number Main count x h.told t in
+    let O : List Open → Type 0 = λ x. AreTold burden by_number Main count x h.1.told t in
     let L : ℕ → Type 0 = λ x. ListsRegions t x all.regions.items in
-    let a = subst O (nothing_alike h.told_open h.open_alike) (settles burden by_number Main h.told_open h.told small light h.tables) in
-    measures_told burden count sites by_number names t (normal whole) h.told all small light named a (sym h.alike.spawned) (same_readings (normal whole) (tree_of h.told) (whole_tree whole h.told h.alike)) work path heavy rows (subst L (sym many) regions_are)
+    let a = subst O (nothing_alike h.1.told_open h.1.open_alike) (settles burden by_number Main h.1.told_open h.1.told small light h.1.tables) in
+    measures_told burden count sites by_number names t (normal whole) h.1.told all small light named a (sym h.1.alike.spawned) (same_readings (normal whole) (tree_of h.1.told) (whole_tree whole h.1.told h.1.alike)) work path heavy rows (subst L (sym many) regions_are)

@@ -2,7 +2,8 @@
 use Rattle.std.specs.Prelude.{◌≡◌, ℕ, ◌+◌, ◌≤◌, Bool, true, false, not, ◌||◌, List, [], ◌∷◌, ◌++◌, reverse, refl}
 use Rattle.std.proofs.Common.{sym, ◌∙◌, ap, subst, arith}
 use Rattle.cw_model.specs.declared.burden.Burden.{Burden}
-use Rattle.cw_model.specs.declared.limits.TheConstants.{MOST_LIMIT}
+use Rattle.cw_model.specs.declared.limits.TheConstants.{MOST_LIMIT, MOST_BURDEN}
+use Rattle.cw_model.specs.Trees.{Event}
 use Rattle.cw_measure.specs.declared.burdened_path.BurdenedPath.{BurdenedPath}
 use Rattle.cw_measure.specs.OpenParts.{Open, has_spawned, no_joins}
 use Rattle.cw_measure.specs.BlockWeights.{weight_in}
@@ -14,13 +15,13 @@ use Rattle.cw_sites.specs.Tables.{JoinsPiece}
 use Rattle.cw_sites.specs.Tables as sites
 use Rattle.cw_sites.specs.lemmas.SiteRows.{path_meters}
 use Rattle.cw_regions.specs.declared.table.RegionTable.{RegionTable}
-use Rattle.cw_regions.specs.Regions.{Readings, JoinsRegions, StartsRegions}
+use Rattle.cw_regions.specs.Regions.{Readings, Tags, JoinsRegions, StartsRegions}
 use Rattle.cw_meter.specs.declared.meter.Meter.{Meter}
 use Rattle.cw_meter.specs.declared.tables.Tables.{Tables}
 use Rattle.cw_meter.specs.declared.parts.Part.{Part}
 use Rattle.cw_meter.specs.Alike.{AreOpenAlike}
-use Rattle.cw_meter.specs.Origins.{Rest, base_of}
-use Rattle.cw_meter.specs.Meters.{AreTold, IsHere, Rests, StartsRest, nothing_open}
+use Rattle.cw_meter.specs.Origins.{Origin, Rest, base_of}
+use Rattle.cw_meter.specs.Meters.{AreTold, Measured, nothing_open}
 use Rattle.cw_meter.specs.Parts.{AreParts}
 use Rattle.cw_meter.specs.Tables.{Settles, StartsTablesOfRest, TakesIn}
 use Rattle.cw_meter.proofs.AlikeLaws.{alike_itself, alike_both, here_alike, spawned_either}
@@ -41,7 +42,7 @@ rest_tables_start burden site s p r told weighs starts = λ tags.
       spawned_is = refl;
     })
 
-pub meter_rest_starts : (burden : Burden) (site : ℕ) (m : Meter) → StartsTablesOfRest burden site m.tables → m.parts.items ≡ [] → StartsRest burden site m
+pub meter_rest_starts : (burden : Burden) (site : ℕ) (m : Meter) → StartsTablesOfRest burden site m.tables → m.parts.items ≡ [] → (tags : Tags) → Measured burden tags (Rest site) 0 [] [] m
 meter_rest_starts burden site m starts e = λ tags. record {
   told_open = [];
   told = [];
@@ -52,8 +53,8 @@ meter_rest_starts burden site m starts e = λ tags. record {
 }
 
 -- where it is
-pub meter_here : (m : Meter) → IsHere m m.tables.sites.here
-meter_here m = λ burden tags from count os es h. h.tables.sites.here_is ∙ sym (here_alike (base_of from) os h.told_open h.open_alike)
+pub meter_here : (m : Meter) (burden : Burden) (tags : Tags) (from : Origin) (count : ℕ) (os : List Open) (es : List Event) → Measured burden tags from count os es m → m.tables.sites.here ≡ here_in (base_of from) os
+meter_here m burden tags from count os es h = h.tables.sites.here_is ∙ sym (here_alike (base_of from) os h.told_open h.open_alike)
 
 -- the tables of a rest are taken in
 not_twice : (b : Bool) → b ≡ not (not b)
@@ -96,7 +97,13 @@ nothing_alike : (ps : List Open) → AreOpenAlike [] ps → ps ≡ []
 nothing_alike [] h = refl
 nothing_alike (p ∷ ps) h = absurd h
 
-pub meter_rests : (old rest : Meter) (told settled new : Tables) (count cost : ℕ) → Settles rest.tables told cost → Settles old.tables settled count → TakesIn settled told new → Rests old rest (record { tables = new; parts = old.parts }) count cost
+-- what is told of a rest that is taken in, where all is counted
+abbrev pub CountsRest : (old rest new : Meter) → (count cost : ℕ) → Type 0
+CountsRest old rest new count cost =
+    (burden : Burden) (tags : Tags) (from : Origin) (os : List Open) (es fs : List Event) → count + cost ≤ MOST_LIMIT → burden.charge ≤ MOST_BURDEN → no_joins fs ≡ true
+    → Measured burden tags from count os es old → Measured burden tags (Rest (here_in (base_of from) os)) cost [] fs rest → Measured burden tags from (count + cost) os (es ++ fs) new
+
+pub meter_rests : (old rest : Meter) (told settled new : Tables) (count cost : ℕ) → Settles rest.tables told cost → Settles old.tables settled count → TakesIn settled told new → CountsRest old rest (record old { tables = new }) count cost
 meter_rests old rest told settled new count cost settles settles_ours takes = λ burden tags from os es fs small light n h g.
     let base = base_of from in
     let less : count ≤ MOST_LIMIT = omega arith in

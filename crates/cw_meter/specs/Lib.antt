@@ -1,4 +1,5 @@
 pub mod Alike
+pub mod Details
 pub mod Meters
 pub mod Moves
 pub mod Origins

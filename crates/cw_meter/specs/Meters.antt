@@ -1,8 +1,8 @@
 -- What a meter tells of a run so far, and what each call on it does.
-use Rattle.std.specs.Prelude.{◌≡◌, ℕ, ◌+◌, ◌*◌, ◌≤◌, ◌<◌, Bool, true, false, List, [], ◌∷◌, ◌++◌, length, reverse}
-use Rattle.std.specs.Prelude.{Option, Some, None}
+use Rattle.std.specs.Prelude.{◌≡◌, ℕ, ◌+◌, ◌*◌, ◌≤◌, ◌<◌, Bool, true, false, nat_eq, List, [], ◌∷◌, ◌++◌, length, reverse}
+use Rattle.std.specs.Prelude.{Option, Some}
 use Rattle.cw_model.specs.declared.burden.Burden.{Burden}
-use Rattle.cw_model.specs.declared.limits.TheConstants.{MOST_LIMIT, MOST_BURDEN}
+use Rattle.cw_model.specs.declared.limits.TheConstants.{MOST_LIMIT}
 use Rattle.cw_model.specs.Trees.{Mark, Execution, Event, Work, Join}
 use Rattle.cw_measure.specs.OpenParts.{Open, closed, has_spawned, no_joins, Since, work_in}
 use Rattle.cw_measure.specs.BlockWeights.{weight_in, burdened_work_in}
@@ -12,9 +12,12 @@ use Rattle.cw_sites.specs.SiteRows.{calls_in}
 use Rattle.cw_sites.specs.Tables as sites
 use Rattle.cw_regions.specs.Regions.{Readings, Tags, TellsRegions}
 use Rattle.cw_regions.specs.declared.table.RegionTable.{RegionTable}
+use Rattle.cw_meter.specs.declared.detail.Detail.{Detail}
+use Rattle.cw_meter.specs.declared.detail.Detail.TheVariants.{Values, Measures}
 use Rattle.cw_meter.specs.declared.meter.Meter.{Meter}
 use Rattle.cw_meter.specs.declared.tables.Tables.{Tables}
 use Rattle.cw_meter.specs.Alike.{AreAlike, AreOpenAlike}
+use Rattle.cw_meter.specs.Details.{IsLight, IsSite}
 use Rattle.cw_meter.specs.Origins.{Origin, Main, Rest, base_of, main_open, given_open}
 use Rattle.cw_meter.specs.Parts.{AreParts}
 
@@ -63,8 +66,8 @@ pub record TablesTell (burden : Burden) (tags : Tags) (from : Origin) (count : �
   pub burden_is : t.burden ≡ burden
   pub spawned_is : t.spawned ≡ has_spawned es
 
--- a meter tells of a run so far: its tables tell of one that is alike, and the parts that are open there are kept
-pub record Meters (burden : Burden) (tags : Tags) (from : Origin) (count : ℕ) (os : List Open) (es : List Event)
+-- a meter has counted all of a run so far: its tables tell of one that is alike, and the parts that are open there are kept
+pub record Measured (burden : Burden) (tags : Tags) (from : Origin) (count : ℕ) (os : List Open) (es : List Event)
     (m : Meter)
     : Type 0 where
   pub told_open : List Open
@@ -73,6 +76,20 @@ pub record Meters (burden : Burden) (tags : Tags) (from : Origin) (count : ℕ) 
   pub alike : AreAlike es told
   pub tables : TablesTell burden tags from count told_open told m.tables
   pub parts : AreParts from tags told_open (reverse m.parts.items)
+
+-- a meter of a run of which the values alone are kept knows how many parts are open, of which so many were as it began
+pub record KnowsOpen (given count : ℕ) (os : List Open) (m : Meter) : Type 0 where
+  pub many : m.open_parts ≡ length os
+  pub few : length os ≤ count + given
+
+-- what a meter tells of a run so far, where so much is kept
+abbrev pub TellsOf : Detail → Tags → Origin → (count : ℕ) → List Open → List Event → Meter → Type 0
+TellsOf Values tags from count os es m = KnowsOpen (given_open from) count os m
+TellsOf (Measures burden) tags from count os es m = Measured burden tags from count os es m
+
+-- A METER TELLS OF A RUN SO FAR, of which so much is kept
+abbrev pub Meters : Detail → Tags → Origin → (count : ℕ) → List Open → List Event → Meter → Type 0
+Meters d tags from count os es m = (m.detail ≡ d) × TellsOf d tags from count os es m
 
 -- one instruction more
 abbrev pub ticked : List Event → List Event
@@ -87,78 +104,76 @@ abbrev pub begun : (spawned : Bool) → Option Mark → List Event → List Open
 begun spawned mark es os = record { spawned = spawned; mark = mark; outer = ticked es } ∷ os
 
 -- what a meter tells goes from one run so far to another, where an instruction more is within the greatest limit
-abbrev pub Tells : (old new : Meter) → (count : ℕ) → Burden → Tags → (from : Origin) → (os os' : List Open)
+abbrev pub Tells : (old new : Meter) → (count : ℕ) → Detail → Tags → (from : Origin) → (os os' : List Open)
     → (es es' : List Event) → Type 0
-Tells old new count burden tags from os os' es es' =
-    count < MOST_LIMIT → burden.charge ≤ MOST_BURDEN → Meters burden tags from count os es old
-    → Meters burden tags from (count + 1) os' es' new
+Tells old new count d tags from os os' es es' =
+    count < MOST_LIMIT → IsLight d → Meters d tags from count os es old → Meters d tags from (count + 1) os' es' new
 
 -- the meter of a rest that begins in an invocation of this site, whatever else is open round it
-abbrev pub StartsRest : Burden → (site : ℕ) → Meter → Type 0
-StartsRest burden site m = (tags : Tags) → Meters burden tags (Rest site) 0 [] [] m
+abbrev pub StartsRest : Detail → (site : ℕ) → Meter → Type 0
+StartsRest d site m = (tags : Tags) → Meters d tags (Rest site) 0 [] [] m
 
 -- the meter of a run that begins
-abbrev pub Starts : Burden → Meter → Type 0
-Starts burden m = (tags : Tags) → Meters burden tags Main 0 main_open [] m
+abbrev pub Starts : Detail → Meter → Type 0
+Starts d m = (tags : Tags) → Meters d tags Main 0 main_open [] m
 
 -- a call, a scope, a cut, or half of a loop begins
 abbrev pub Begins : (old new : Meter) → (count : ℕ) → (spawned : Bool) → Option Mark → Type 0
 Begins old new count spawned mark =
-    (burden : Burden) (tags : Tags) (from : Origin) (os : List Open) (es : List Event)
-    → Tells old new count burden tags from os (begun spawned mark es os) es []
+    (d : Detail) (tags : Tags) (from : Origin) (os : List Open) (es : List Event)
+    → Tells old new count d tags from os (begun spawned mark es os) es []
 
 -- a region begins
 abbrev pub BeginsRegion : (old new : Meter) → (count tag : ℕ) → Type 0
 BeginsRegion old new count tag =
-    (burden : Burden) (tags : Tags) (from : Origin) (os : List Open) (es : List Event) → tag < tags.count
-    → Tells old new count burden tags from os (begun false (Some (Execution (tags.name tag))) es os) es []
+    (d : Detail) (tags : Tags) (from : Origin) (os : List Open) (es : List Event) → tag < tags.count
+    → Tells old new count d tags from os (begun false (Some (Execution (tags.name tag))) es os) es []
 
 -- a scope, a cut or a region joins and ends, and its end is an instruction of the block round it
 abbrev pub Ends : (old new : Meter) → (count : ℕ) → Type 0
 Ends old new count =
-    (burden : Burden) (tags : Tags) (from : Origin) (o : Open) (os : List Open) (es : List Event) → o.spawned ≡ false
-    → Tells old new count burden tags from (o ∷ os) os es (ticked (closed o es))
+    (d : Detail) (tags : Tags) (from : Origin) (o : Open) (os : List Open) (es : List Event) → o.spawned ≡ false
+    → Tells old new count d tags from (o ∷ os) os es (ticked (closed o es))
 
 -- a call joins and ends, by an instruction of its own
 abbrev pub Returns : (old new : Meter) → (count : ℕ) → Type 0
 Returns old new count =
-    (burden : Burden) (tags : Tags) (from : Origin) (o : Open) (os : List Open) (es : List Event)
-    → Tells old new count burden tags from (o ∷ os) os es (closed o (synced es))
+    (d : Detail) (tags : Tags) (from : Origin) (o : Open) (os : List Open) (es : List Event)
+    → Tells old new count d tags from (o ∷ os) os es (closed o (synced es))
 
 -- the block that runs joins
 abbrev pub Syncs : (old new : Meter) → (count : ℕ) → Type 0
 Syncs old new count =
-    (burden : Burden) (tags : Tags) (from : Origin) (os : List Open) (es : List Event)
-    → Tells old new count burden tags from os os es (synced es)
+    (d : Detail) (tags : Tags) (from : Origin) (os : List Open) (es : List Event)
+    → Tells old new count d tags from os os es (synced es)
 
 -- an instruction that begins, ends and joins nothing needs no call
 abbrev pub InstructionsNeedNoCall : Type 0
 InstructionsNeedNoCall =
-    (m : Meter) (count : ℕ) (burden : Burden) (tags : Tags) (from : Origin) (os : List Open) (es : List Event)
-    → Tells m m count burden tags from os os es (ticked es)
+    (m : Meter) (count : ℕ) (d : Detail) (tags : Tags) (from : Origin) (os : List Open) (es : List Event)
+    → Tells m m count d tags from os os es (ticked es)
 
 -- the rest of the block that runs was run apart, up to its join, by a strand with a meter of its own, as so many
 -- instructions: what is
 -- told goes on by the rest's events and instructions
 abbrev pub Rests : (old rest new : Meter) → (count cost : ℕ) → Type 0
 Rests old rest new count cost =
-    (burden : Burden) (tags : Tags) (from : Origin) (os : List Open) (es fs : List Event) → count + cost ≤ MOST_LIMIT
-    → burden.charge ≤ MOST_BURDEN → no_joins fs ≡ true
-    → Meters burden tags from count os es old → Meters burden tags (Rest (here_in (base_of from) os)) cost [] fs rest
-    → Meters burden tags from (count + cost) os (es ++ fs) new
+    (d : Detail) (tags : Tags) (from : Origin) (os : List Open) (es fs : List Event) → count + cost ≤ MOST_LIMIT
+    → IsLight d → no_joins fs ≡ true
+    → Meters d tags from count os es old → Meters d tags (Rest (here_in (base_of from) os)) cost [] fs rest
+    → Meters d tags from (count + cost) os (es ++ fs) new
 
--- the site of the innermost invocation, which a rest of the block that runs is told
+-- the site of the innermost invocation, which a rest of the block that runs is told where anything is counted
 abbrev pub IsHere : Meter → (site : ℕ) → Type 0
 IsHere m site =
-    (burden : Burden) (tags : Tags) (from : Origin) (count : ℕ) (os : List Open) (es : List Event)
-    → Meters burden tags from count os es m → site ≡ here_in (base_of from) os
+    (d : Detail) (tags : Tags) (from : Origin) (count : ℕ) (os : List Open) (es : List Event)
+    → Meters d tags from count os es m → IsSite d site (here_in (base_of from) os)
 
--- whether the innermost of the open parts was spawned; none where nothing is open
-abbrev pub innermost : List Open → Option Bool
-innermost [] = None
-innermost (o ∷ os) = Some o.spawned
+-- whether no part is open
+abbrev pub is_outside : List Open → Bool
+is_outside os = nat_eq (length os) 0
 
-abbrev pub IsInnermost : Meter → Option Bool → Type 0
-IsInnermost m spawned =
-    (burden : Burden) (tags : Tags) (from : Origin) (count : ℕ) (os : List Open) (es : List Event)
-    → Meters burden tags from count os es m → spawned ≡ innermost os
+abbrev pub IsOutside : Meter → Bool → Type 0
+IsOutside m outside =
+    (d : Detail) (tags : Tags) (from : Origin) (count : ℕ) (os : List Open) (es : List Event)
+    → Meters d tags from count os es m → outside ≡ is_outside os

@@ -1,5 +1,5 @@
 -- What the parts of a call on a meter do.
-use Rattle.std.specs.Prelude.{◌≡◌, ℕ, ◌≤◌, false, List, [], ◌∷◌, ◌++◌, length, reverse, Some, slice_get}
+use Rattle.std.specs.Prelude.{◌≡◌, ℕ, ◌+◌, ◌-◌, ◌^◌, ◌≤◌, ◌<◌, false, List, [], ◌∷◌, ◌++◌, length, reverse, Some, slice_get}
 use Rattle.cw_model.specs.declared.burden.Burden.{Burden}
 use Rattle.cw_model.specs.declared.limits.TheConstants.{MOST_LIMIT, MOST_BURDEN}
 use Rattle.cw_model.specs.Trees.{Event, Join}
@@ -25,6 +25,16 @@ part_in kind t = record { kind = kind; site = t.sites.here; spawned = t.spawned 
 pub record Stacks (old new : Meter) (kind : PartKind) : Type 0 where
   pub pushed : new.parts.items ≡ old.parts.items ++ part_in kind old.tables ∷ []
   pub tables : new.tables ≡ old.tables
+  pub detail : new.detail ≡ old.detail
+
+-- one part more is open, or one less, where they are only counted
+pub record IsOpened (old new : Meter) : Type 0 where
+  pub detail : new.detail ≡ old.detail
+  pub parts : old.open_parts + 1 < 2 ^ 64 → new.open_parts ≡ old.open_parts + 1
+
+pub record LeavesOne (old new : Meter) : Type 0 where
+  pub detail : new.detail ≡ old.detail
+  pub parts : new.open_parts ≡ old.open_parts - 1
 
 -- the block that runs joins
 abbrev pub JoinsBlock : (old new : Meter) → (count : ℕ) → Type 0

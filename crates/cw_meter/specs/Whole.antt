@@ -10,6 +10,7 @@ use Rattle.cw_sites.specs.Tables as sites
 use Rattle.cw_regions.specs.declared.table.RegionRow.{RegionRow}
 use Rattle.cw_regions.specs.Regions.{Tags}
 use Rattle.cw_regions.specs.Regions as regions
+use Rattle.cw_meter.specs.declared.detail.Detail.TheVariants as detail
 use Rattle.cw_meter.specs.declared.meter.Meter.{Meter}
 use Rattle.cw_meter.specs.declared.meter.Measures.{Measures}
 use Rattle.cw_meter.specs.declared.meter.Readings.{Readings}
@@ -44,11 +45,11 @@ pub record AreMeasures (burden : Burden) (count : ℕ) (names : List Name) (t : 
   pub sites : AreSiteRows count t all.sites.items
   pub regions : AreRegionRows burden names t all.regions.items
 
--- a meter, at the end of a run, says what is read off the tree of the run
+-- a meter that counts, at the end of a run, says what is read off the tree of the run
 abbrev pub Reads : Meter → (count sites tags : ℕ) → Measures → Type 0
 Reads m count sites tags all =
     (burden : Burden) (by_number : Tags) (names : List Name) (es : List Event) → count ≤ MOST_LIMIT
     → burden.charge ≤ MOST_BURDEN
     → HasNames by_number names → length names ≡ tags
-    → Meters burden by_number Main count [] (Series (Marked (Invocation 0) (tree_of es)) ∷ []) m
+    → Meters (detail.Measures burden) by_number Main count [] (Series (Marked (Invocation 0) (tree_of es)) ∷ []) m
     → AreMeasures burden sites names (normal (Marked (Invocation 0) (tree_of es))) all

@@ -5,6 +5,9 @@
 //!
 //! # How a run calls a `Meter`
 //!
+//! What is kept of a run its [`Detail`] says. Where that is its values alone, a meter knows how many
+//! parts are open and is told nothing else.
+//!
 //! Each call stands for one instruction of the run, and is told the count of instructions before it.
 //!
 //! | instruction | call |
@@ -23,9 +26,11 @@
 //! so all that is read off it is the same. After an error, which says that memory ran out, a meter tells of nothing.
 #![tactic(auto)]
 
+mod detail;
 pub mod laws;
 mod meter;
 mod parts;
 mod tables;
 
+pub use detail::Detail;
 pub use meter::{Measures, Meter, Readings};

@@ -3,14 +3,14 @@
 ghost use Rattle.std.specs.Prelude.{◌≡◌, ◌<◌, Some, None, true, false, IfOk, OnOk};
 ghost use Rattle.std.specs.Vec.{vec_len, vec_capacity};
 ghost use Rattle.cw_model.specs.Trees.{Invocation};
-ghost use Rattle.cw_meter.specs.Meters.{Starts, StartsRest, Begins, BeginsRegion, Ends, IsHere, IsInnermost, Rests, Returns, Syncs};
-ghost use Rattle.cw_meter.specs.Parts as kept;
-ghost use Rattle.cw_meter.specs.Moves.{ClosesPart, JoinsBlock, Stacks};
+ghost use Rattle.cw_meter.specs.Details as details;
+ghost use Rattle.cw_meter.specs.Meters.{Starts, StartsRest, Begins, BeginsRegion, Ends, IsHere, IsOutside, Rests, Returns, Syncs};
+ghost use Rattle.cw_meter.specs.Moves.{ClosesPart, IsOpened, JoinsBlock, LeavesOne, Stacks};
 ghost use Rattle.cw_meter.specs.Whole.{Reads};
 
+use crate::detail::Detail;
 use crate::parts::{Part, PartKind};
 use crate::tables::Tables;
-use cw_model::burden::Burden;
 use cw_regions::RegionRow;
 use cw_sites::table::SiteRow;
 use std::alloc::{AllocError, Global};
@@ -40,51 +40,50 @@ pub struct Measures {
 /// What is counted of a run so far.
 #[derive(Debug, Drop)]
 pub struct Meter {
+    /// How much is kept of the run.
+    pub(crate) detail: Detail,
+    /// How many parts are open, where the values alone are kept. The others are told nothing then.
+    pub(crate) open_parts: u64,
     pub(crate) tables: Tables,
     /// The open parts, the innermost last.
     pub(crate) parts: Vec<Part>,
 }
 
-// Whether a part of this kind was spawned.
-#[inline(always)]
-fn is_spawned(kind: PartKind) -> bool
-    ensures { result ≡ kept.is_spawned kind }
-{
-    match kind {
-        PartKind::SpawnedCall => true,
-        PartKind::Half => true,
-        _ => false,
-    }
-}
-
 impl Meter {
-    /// The meter of a run that begins, in the call of `main` by the run itself; `burden` is what is charged for a
-    /// spawn. An error where memory runs out.
-    pub fn new(alloc: Global, burden: Burden) -> Result<Meter, AllocError>
-        ensures { IfOk result (λ m. Starts burden m) }
+    /// The meter of a run that begins, in the call of `main` by the run itself, of which so much is kept. An error where
+    /// memory runs out.
+    pub fn new(alloc: Global, detail: Detail) -> Result<Meter, AllocError>
+        ensures { IfOk result (λ m. Starts detail m) }
     {
-        let tables = Tables::new(alloc, burden)?;
+        let tables = Tables::new(alloc, detail.burden())?;
         let mut parts = Vec::new(alloc);
         parts.push(Part {
             kind: PartKind::Call,
             site: 0,
             spawned: false,
         })?;
-        Ok(Meter { tables, parts })
+        Ok(Meter {
+            detail,
+            open_parts: 1,
+            tables,
+            parts,
+        })
     }
 
-    /// The meter of a rest that was handed out at a spawn, with the site that its spawner was in (`site`) and the run's
-    /// burden; of the parts that are open round it nothing else is known. Takes no memory.
-    pub fn apart(alloc: Global, site: u32, burden: Burden) -> Meter
-        ensures { StartsRest burden site result }
+    /// The meter of a rest that was handed out at a spawn, with the site that its spawner was in (`site`), of which as much
+    /// is kept as of its run; of the parts that are open round it nothing else is known. Takes no memory.
+    pub fn apart(alloc: Global, site: u32, detail: Detail) -> Meter
+        ensures { StartsRest detail site result }
     {
         Meter {
-            tables: Tables::apart(alloc, site, burden),
+            detail,
+            open_parts: 0,
+            tables: Tables::apart(alloc, site, detail.burden()),
             parts: Vec::new(alloc),
         }
     }
 
-    /// The site of the innermost invocation: all that a rest of its block must be told.
+    /// The site of the innermost invocation, where anything is counted: all that a rest of its block must be told.
     #[inline(always)]
     pub fn site(&self) -> u32
         ensures { IsHere self.now result }
@@ -92,16 +91,42 @@ impl Meter {
         self.tables.sites.here
     }
 
-    /// Whether the innermost open part was spawned; none where nothing is open, as in a rest outside of each call and
-    /// sync block that it has begun.
+    /// Whether no part is open, as in a rest outside of each call and sync block that it has begun.
     #[inline(always)]
-    pub fn innermost(&self) -> Option<bool>
-        ensures { IsInnermost self.now result }
+    pub fn is_outside(&self) -> bool
+        ensures { IsOutside self.now result }
     {
-        match self.parts.last() {
-            Some(part) => Some(is_spawned(part.kind)),
-            None => None,
+        if self.keeps_values() {
+            return self.open_parts == 0;
         }
+        self.parts.len() == 0
+    }
+
+    // Whether the values alone are kept.
+    #[inline(always)]
+    fn keeps_values(&self) -> bool
+        ensures { result ≡ details.keeps_values self.now.detail }
+    {
+        match self.detail {
+            Detail::Values => true,
+            Detail::Measures(_) => false,
+        }
+    }
+
+    // One part more is open.
+    #[inline(always)]
+    fn count_part(&mut self)
+        ensures { IsOpened self.old self.new }
+    {
+        self.open_parts = self.open_parts.wrapping_add(1);
+    }
+
+    // The innermost part ends.
+    #[inline(always)]
+    fn leave_part(&mut self)
+        ensures { LeavesOne self.old self.new }
+    {
+        self.open_parts = self.open_parts.saturating_sub(1);
     }
 
     /// Takes in, after `count` instructions, what the meter of the rest of the block that runs has counted in `cost`
@@ -109,6 +134,9 @@ impl Meter {
     pub fn rest(&mut self, count: u64, rest: Meter, cost: u64) -> Result<(), AllocError>
         ensures { OnOk result (Rests self.old rest self.new count cost) }
     {
+        if self.keeps_values() {
+            return Ok(());
+        }
         let mut tables = rest.tables;
         tables.settle(cost)?;
         self.tables.settle(count)?;
@@ -121,6 +149,10 @@ impl Meter {
     pub fn call(&mut self, count: u64, site: u32) -> Result<(), AllocError>
         ensures { OnOk result (Begins self.old self.new count false (Some (Invocation site))) }
     {
+        if self.keeps_values() {
+            self.count_part();
+            return Ok(());
+        }
         if self.has_room() {
             if self.tables.can_call(site) {
                 self.stack_within(PartKind::Call);
@@ -131,10 +163,12 @@ impl Meter {
         self.call_apart(count, site)
     }
 
-    // The same in any case. Apart, so that nothing is kept over the call of a function where there is room.
+    // The same in any case where all is counted. Apart, so that nothing is kept over the call of a function where there is
+    // room.
     #[cold]
     #[inline(never)]
     fn call_apart(&mut self, count: u64, site: u32) -> Result<(), AllocError>
+        requires { details.keeps_values self.old.detail ≡ false }
         ensures { OnOk result (Begins self.old self.new count false (Some (Invocation site))) }
     {
         self.stack(PartKind::Call)?;
@@ -143,8 +177,21 @@ impl Meter {
     }
 
     /// A spawned call begins by the instruction after `count` ones, at the site of this number, in this strand.
-    #[inline(never)]
+    #[inline(always)]
     pub fn spawn(&mut self, count: u64, site: u32) -> Result<(), AllocError>
+        ensures { OnOk result (Begins self.old self.new count true (Some (Invocation site))) }
+    {
+        if self.keeps_values() {
+            self.count_part();
+            return Ok(());
+        }
+        self.count_spawn(count, site)
+    }
+
+    // The same where all is counted.
+    #[inline(never)]
+    fn count_spawn(&mut self, count: u64, site: u32) -> Result<(), AllocError>
+        requires { details.keeps_values self.old.detail ≡ false }
         ensures { OnOk result (Begins self.old self.new count true (Some (Invocation site))) }
     {
         if self.has_room() {
@@ -160,6 +207,7 @@ impl Meter {
     // The same in any case.
     #[inline(never)]
     fn spawn_apart(&mut self, count: u64, site: u32) -> Result<(), AllocError>
+        requires { details.keeps_values self.old.detail ≡ false }
         ensures { OnOk result (Begins self.old self.new count true (Some (Invocation site))) }
     {
         self.stack(PartKind::SpawnedCall)?;
@@ -173,6 +221,10 @@ impl Meter {
     pub fn begin(&mut self, count: u64) -> Result<(), AllocError>
         ensures { OnOk result (Begins self.old self.new count false None) }
     {
+        if self.keeps_values() {
+            self.count_part();
+            return Ok(());
+        }
         self.stack(PartKind::Quiet)?;
         self.tables.begin(count.wrapping_add(1))?;
         Ok(())
@@ -183,6 +235,10 @@ impl Meter {
     pub fn spawn_half(&mut self, count: u64) -> Result<(), AllocError>
         ensures { OnOk result (Begins self.old self.new count true None) }
     {
+        if self.keeps_values() {
+            self.count_part();
+            return Ok(());
+        }
         self.stack(PartKind::Half)?;
         self.tables.spawn_half(count.wrapping_add(1))?;
         Ok(())
@@ -193,6 +249,10 @@ impl Meter {
     pub fn begin_region(&mut self, count: u64, tag: u32) -> Result<(), AllocError>
         ensures { OnOk result (BeginsRegion self.old self.new count tag) }
     {
+        if self.keeps_values() {
+            self.count_part();
+            return Ok(());
+        }
         self.stack(PartKind::Region(tag))?;
         self.tables.begin_region(count.wrapping_add(1), tag)?;
         Ok(())
@@ -203,6 +263,10 @@ impl Meter {
     pub fn end(&mut self, count: u64) -> Result<(), AllocError>
         ensures { OnOk result (Ends self.old self.new count) }
     {
+        if self.keeps_values() {
+            self.leave_part();
+            return Ok(());
+        }
         self.join(count)?;
         self.close_apart(count)?;
         Ok(())
@@ -213,6 +277,10 @@ impl Meter {
     pub fn give_back(&mut self, count: u64) -> Result<(), AllocError>
         ensures { OnOk result (Returns self.old self.new count) }
     {
+        if self.keeps_values() {
+            self.leave_part();
+            return Ok(());
+        }
         self.join(count)?;
         self.close(count.wrapping_add(1))?;
         Ok(())
@@ -223,6 +291,9 @@ impl Meter {
     pub fn sync(&mut self, count: u64) -> Result<(), AllocError>
         ensures { OnOk result (Syncs self.old self.new count) }
     {
+        if self.keeps_values() {
+            return Ok(());
+        }
         self.join(count)?;
         Ok(())
     }
@@ -267,6 +338,7 @@ impl Meter {
         ensures told { OnOk result (JoinsBlock self.old self.new count) }
         ensures joined { OnOk result (self.new.tables.spawned ≡ false) }
         ensures parts { OnOk result (self.new.parts.items ≡ self.old.parts.items) }
+        ensures detail { self.new.detail ≡ self.old.detail }
     {
         if self.tables.spawned {
             self.tables.join(count)?;
@@ -277,7 +349,8 @@ impl Meter {
     // The innermost part, whose block has joined, ends at this count.
     #[inline(always)]
     fn close(&mut self, count: u64) -> Result<(), AllocError>
-        ensures { OnOk result (ClosesPart self.old self.new count) }
+        ensures closes { OnOk result (ClosesPart self.old self.new count) }
+        ensures detail { self.new.detail ≡ self.old.detail }
     {
         match self.parts.pop() {
             Some(part) => self.tables.close(count, part),
@@ -288,13 +361,14 @@ impl Meter {
     // The same apart, for a scope, a cut or a region: the loop of a run has room for the ends of calls alone.
     #[inline(never)]
     fn close_apart(&mut self, count: u64) -> Result<(), AllocError>
-        ensures { OnOk result (ClosesPart self.old self.new count) }
+        ensures closes { OnOk result (ClosesPart self.old self.new count) }
+        ensures detail { self.new.detail ≡ self.old.detail }
     {
         self.close(count)?;
         Ok(())
     }
 
-    /// What was counted over a run that has ended after `count` instructions, of so many call sites, the run's own call
+    /// What was counted over a run, of which all is counted, that has ended after `count` instructions, of so many call sites, the run's own call
     /// of `main` among them, and of so many tags.
     pub fn finish(
         self,

@@ -12,7 +12,10 @@ use Rattle.cw_code.specs.declared.code.Func.{Func}
 use Rattle.cw_code.specs.Code.{Code}
 use Rattle.cw_code.specs.Run.{Slots, Around, State, Transition, On, Ends, Stops, Stuck, step, first_transition, first_state, reducers_of, code_serial}
 use Rattle.cw_measure.specs.OpenParts.{no_joins}
+use Rattle.cw_meter.specs.declared.detail.Detail.{Detail}
+use Rattle.cw_meter.specs.declared.detail.Detail.TheVariants as details
 use Rattle.cw_meter.specs.declared.meter.Meter.{Meter}
+use Rattle.cw_meter.specs.Details.{IsLight}
 use Rattle.cw_meter.specs.declared.meter.Measures.{Measures}
 use Rattle.cw_meter.specs.Origins.{Origin, Main, Rest, first_open}
 use Rattle.cw_meter.specs.Meters.{Meters, InstructionsNeedNoCall, Rests}
@@ -81,7 +84,7 @@ pub rests_have_no_joins : RestsHaveNoJoins
 rests_have_no_joins = λ code job frame t cost x m. no_joins_in code job frame t cost x m
 
 -- what is told of a strand
-goes_told : {code : Code} (g : Gauge code) (from : Origin) (t : Turn) (s s' : State) (limit before count : ℕ) (outs : List Job) (m : Meter) → Meters g.burden g.tags from count (opens_round from s'.around) s'.trace.events m → TellsStrand code g from (goes_on t s s' limit before count outs) m
+goes_told : {code : Code} (g : Gauge code) (from : Origin) (t : Turn) (s s' : State) (limit before count : ℕ) (outs : List Job) (m : Meter) → Meters g.detail g.tags from count (opens_round from s'.around) s'.trace.events m → TellsStrand code g from (goes_on t s s' limit before count outs) m
 goes_told g from Goes s s' limit before count outs m h = h
 goes_told g from (HandsOut target taken) s s' limit before count outs m h = h
 goes_told g from ComesBack s s' limit before count outs m h = h
@@ -121,44 +124,44 @@ module _ (quiet : InstructionsNeedNoCall) (code : Code) (keep : CallsKeep code) 
   out_here : (job out : Job) (s : State) (count : ℕ) (outs : List Job) → IsStrandOf code job (Waits s count (out ∷ outs)) → out.extent ≡ ToJoin
   out_here job out s count outs h = ap (λ (j : Job). j.extent) h.2.0.same
 
-  module _ (burden : Burden) where
-    pub starting : (from : Origin) (job : Job) (m : Meter) → StartsFrom from burden m → TellsAll code burden from (Going (job_start job) 0 []) m
-    starting from job m starts = λ g e. let P : Burden → Type 0 = λ x. Meters x g.tags from 0 (first_open from) [] m in subst P (sym e) (starts g.tags)
+  module _ (detail : Detail) where
+    pub starting : (from : Origin) (job : Job) (m : Meter) → StartsFrom from detail m → TellsAll code detail from (Going (job_start job) 0 []) m
+    starting from job m starts = λ g e. let P : Detail → Type 0 = λ x. Meters x g.tags from 0 (first_open from) [] m in subst P (sym e) (starts g.tags)
 
-    pub advancing : (from : Origin) (job : Job) (s s' : State) (count : ℕ) (outs : List Job) (m m' : Meter) → job.before + (count + 1) ≤ job.limit → job.limit ≤ MOST_LIMIT → step code s ≡ On s' → IsToldOf m m' count (slice_get code.instrs s.place) → TellsAll code burden from (Going s count outs) m → TellsAll code burden from (goes_on (turn code s) s s' job.limit job.before (count + 1) outs) m'
+    pub advancing : (from : Origin) (job : Job) (s s' : State) (count : ℕ) (outs : List Job) (m m' : Meter) → job.before + (count + 1) ≤ job.limit → job.limit ≤ MOST_LIMIT → step code s ≡ On s' → IsToldOf m m' count (slice_get code.instrs s.place) → TellsAll code detail from (Going s count outs) m → TellsAll code detail from (goes_on (turn code s) s s' job.limit job.before (count + 1) outs) m'
     advancing from job s s' count outs m m' le small e told h = λ g b.
         let less : count < MOST_LIMIT = omega (arith, le, small) in
         goes_told g from (turn code s) s s' job.limit job.before (count + 1) outs m'
         (subst (After (Telling quiet code g from count less m m') from) e (acts_told quiet code g from count less m m' s (slice_get code.instrs s.place) told (h g b)))
 
-    pub giving : (from : Origin) (job out : Job) (s : State) (count cost : ℕ) (outs : List Job) (frame : Standing) (t : Trace) (m r m' : Meter) → IsStrandOf code job (Waits s count (out ∷ outs)) → job.before + (count + cost) ≤ job.limit → job.limit ≤ MOST_LIMIT → MeansMeasured code out burden (site_at from s.around) (Joined frame t cost) r → Rests m r m' count cost → TellsAll code burden from (Waits s count (out ∷ outs)) m → TellsAll code burden from (Going (resumed s frame t) (count + cost) outs) m'
+    pub giving : (from : Origin) (job out : Job) (s : State) (count cost : ℕ) (outs : List Job) (frame : Standing) (t : Trace) (m r m' : Meter) → IsStrandOf code job (Waits s count (out ∷ outs)) → job.before + (count + cost) ≤ job.limit → job.limit ≤ MOST_LIMIT → MeansMeasured code out detail (site_at from s.around) (Joined frame t cost) r → Rests m r m' count cost → TellsAll code detail from (Waits s count (out ∷ outs)) m → TellsAll code detail from (Going (resumed s frame t) (count + cost) outs) m'
     giving from job out s count cost outs frame t m r m' is le small means rests h = λ g b.
-        rests g.burden g.tags from (opens_round from s.around) s.trace.events t.events (omega (arith, le, small)) g.light
+        rests g.detail g.tags from (opens_round from s.around) s.trace.events t.events (omega (arith, le, small)) g.light
         (no_joins_in code out frame t cost (out_here job out s count outs is) means.means) (h g b) (means.counts g b)
 
-    pub arriving : (job : Job) (site : ℕ) (t : State) (cost : ℕ) (m : Meter) → IsStrandOf code job (Going t cost []) → has_come job.extent code t ≡ true → TellsAll code burden (Rest site) (Going t cost []) m → MeansMeasured code job burden site (Joined (standing t) t.trace cost) m
+    pub arriving : (job : Job) (site : ℕ) (t : State) (cost : ℕ) (m : Meter) → IsStrandOf code job (Going t cost []) → has_come job.extent code t ≡ true → TellsAll code detail (Rest site) (Going t cost []) m → MeansMeasured code job detail site (Joined (standing t) t.trace cost) m
     arriving job site t cost m is come h = record {
       means = arrived job t cost is come;
-      counts = λ g b. let P : List Around → Type 0 = λ x. Meters g.burden g.tags (Rest site) cost (opens_round (Rest site) x) t.trace.events m in subst P (at_join job.extent come) (h g b);
+      counts = λ g b. let P : List Around → Type 0 = λ x. Meters g.detail g.tags (Rest site) cost (opens_round (Rest site) x) t.trace.events m in subst P (at_join job.extent come) (h g b);
     }
       where
         at_join : (x : Extent) → has_come x code t ≡ true → t.around ≡ []
         at_join WholeCall e = cc
         at_join ToJoin e = first_is t.around (joins (slice_get code.instrs t.place)) e
 
-    pub ending : (g : Gauge code) → g.burden ≡ burden → (s : State) (count limit : ℕ) (outs : List Job) (v : Option ℤ) (arrays : Slots (List ℤ)) (t : Trace) (m m' : Meter) → count + 1 ≤ limit → limit ≤ MOST_LIMIT → step code s ≡ Ends v arrays t → IsToldOf m m' count (slice_get code.instrs s.place) → TellsAll code burden Main (Going s count outs) m → Meters g.burden g.tags Main (count + 1) [] (whole t) m'
+    pub ending : (g : Gauge code) → g.detail ≡ detail → (s : State) (count limit : ℕ) (outs : List Job) (v : Option ℤ) (arrays : Slots (List ℤ)) (t : Trace) (m m' : Meter) → count + 1 ≤ limit → limit ≤ MOST_LIMIT → step code s ≡ Ends v arrays t → IsToldOf m m' count (slice_get code.instrs s.place) → TellsAll code detail Main (Going s count outs) m → Meters g.detail g.tags Main (count + 1) [] (whole t) m'
     ending g b s count limit outs v arrays t m m' le small e told h =
         let less : count < MOST_LIMIT = omega (arith, le, small) in
         subst (After (Telling quiet code g Main count less m m') Main) e (acts_told quiet code g Main count less m m' s (slice_get code.instrs s.place) told (h g b))
 
     -- the limit of a job is in its range
-    limited : (from : Origin) (job : Job) (strand : Strand) (m : Meter) → Metered code burden from job strand m → job.limit ≤ MOST_LIMIT
+    limited : (from : Origin) (job : Job) (strand : Strand) (m : Meter) → Metered code detail from job strand m → job.limit ≤ MOST_LIMIT
     limited from job strand m (Started _ _ _ is low small starts) = small
     limited from job strand m (Ran _ _ s s' count outs m0 _ h come e le told) = limited from job (Going s count outs) m0 h
     limited from job strand m (TakenBack _ _ out s count outs _ h) = limited from job (Waits s count (out ∷ outs)) m h
     limited from job strand m (Given _ _ out s t count cost outs m0 r _ h k come le rests) = limited from job (Waits s count (out ∷ outs)) m0 h
 
-    serial : (from : Origin) (job : Job) (strand : Strand) (m : Meter) → Metered code burden from job strand m → IsStrandOf code job strand
+    serial : (from : Origin) (job : Job) (strand : Strand) (m : Meter) → Metered code detail from job strand m → IsStrandOf code job strand
     serial from job strand m (Started _ _ _ is low small starts) = keep.starting job low
     serial from job strand m (Ran _ _ s s' count outs m0 _ h come e le told) = ran job s s' count outs come e le (serial from job (Going s count outs) m0 h)
     serial from job strand m (TakenBack _ _ out s count outs _ h) = keep.taking_back job (Waits s count (out ∷ outs)) (serial from job (Waits s count (out ∷ outs)) m h)
@@ -166,7 +169,7 @@ module _ (quiet : InstructionsNeedNoCall) (code : Code) (keep : CallsKeep code) 
         given job out s count outs (standing t) t.trace cost le (serial from job (Waits s count (out ∷ outs)) m0 h)
         (arrived out t cost (serial (Rest (site_at from s.around)) out (Going t cost []) r k) come)
 
-    tells : (from : Origin) (job : Job) (strand : Strand) (m : Meter) → Metered code burden from job strand m → TellsAll code burden from strand m
+    tells : (from : Origin) (job : Job) (strand : Strand) (m : Meter) → Metered code detail from job strand m → TellsAll code detail from strand m
     tells from job strand m (Started _ _ _ is low small starts) = starting from job m starts
     tells from job strand m (Ran _ _ s s' count outs m0 _ h come e le told) = advancing from job s s' count outs m0 m le (limited from job (Going s count outs) m0 h) e told (tells from job (Going s count outs) m0 h)
     tells from job strand m (TakenBack _ _ out s count outs _ h) = tells from job (Waits s count (out ∷ outs)) m h
@@ -175,10 +178,10 @@ module _ (quiet : InstructionsNeedNoCall) (code : Code) (keep : CallsKeep code) 
         giving from job out s count cost outs (standing t) t.trace m0 r m (serial from job (Waits s count (out ∷ outs)) m0 h) le (limited from job (Waits s count (out ∷ outs)) m0 h)
         (arriving out site t cost r (serial (Rest site) out (Going t cost []) r k) come (tells (Rest site) out (Going t cost []) r k)) rests (tells from job (Waits s count (out ∷ outs)) m0 h)
 
-    pub strands_tell : StrandsTell code burden
+    pub strands_tell : StrandsTell code detail
     strands_tell = record { serial = serial; told = tells }
 
-    pub meters_keep : MetersKeep code burden
+    pub meters_keep : MetersKeep code detail
     meters_keep = record {
       starting = starting;
       advancing = advancing;
@@ -199,20 +202,22 @@ module _ (quiet : InstructionsNeedNoCall) (code : Code) (keep : CallsKeep code) 
         | inr same ↦ sym same
       ]
 
-  pub root_measured : RootsAreSerial → (g : Gauge code) (f : Func) (args : List ℤ) (limit count sites : ℕ) (s : State) (v : Option ℤ) (arrays : Slots (List ℤ)) (t : Trace) (m m' : Meter) (all : Measures) → first_transition (slice_get code.funcs code.main) args ≡ On (first_state f args [] []) → Metered code g.burden Main (root_job f args limit) (Going s count []) m → step code s ≡ Ends v arrays t → count + 1 ≤ limit → IsToldOf m m' count (slice_get code.instrs s.place) → Reads m' (count + 1) sites (length code.tags) all → IsMeasured code g args limit sites v t all
-  root_measured roots g f args limit count sites s v arrays t m m' all first h e le told reads =
+  pub root_measured : RootsAreSerial → (g : Gauge code) (burden : Burden) (f : Func) (args : List ℤ) (limit count sites : ℕ) (s : State) (v : Option ℤ) (arrays : Slots (List ℤ)) (t : Trace) (m m' : Meter) (all : Measures) → g.detail ≡ details.Measures burden → first_transition (slice_get code.funcs code.main) args ≡ On (first_state f args [] []) → Metered code g.detail Main (root_job f args limit) (Going s count []) m → step code s ≡ Ends v arrays t → count + 1 ≤ limit → IsToldOf m m' count (slice_get code.instrs s.place) → Reads m' (count + 1) sites (length code.tags) all → IsMeasured code burden args limit sites v t all
+  root_measured roots g burden f args limit count sites s v arrays t m m' all counts first h e le told reads =
       let job = root_job f args limit in
-      let small = limited g.burden Main job (Going s count []) m h in
+      let small = limited g.detail Main job (Going s count []) m h in
+      let M : Detail → Type 0 = λ x. Meters x g.tags Main (count + 1) [] (whole t) m' in
+      let meters = ending g.detail g refl s count limit [] v arrays t m m' le small e told (tells g.detail Main job (Going s count []) m h) in
       record {
-        answer = answers roots f args limit count s v arrays t first (serial g.burden Main job (Going s count []) m h) e le;
-        measures = reads g.burden g.tags code.tags t.events (omega (arith, le, small)) g.light g.named refl (ending g.burden g refl s count limit [] v arrays t m m' le small e told (tells g.burden Main job (Going s count []) m h));
+        answer = answers roots f args limit count s v arrays t first (serial g.detail Main job (Going s count []) m h) e le;
+        measures = reads burden g.tags code.tags t.events (omega (arith, le, small)) (subst IsLight counts g.light) g.named refl (subst M counts meters);
       }
 
 pub calls_keep_meters : InstructionsNeedNoCall → ((code : Code) → CallsKeep code) → CallsKeepMeters
-calls_keep_meters quiet keep = λ code burden. meters_keep quiet code (keep code) burden
+calls_keep_meters quiet keep = λ code detail. meters_keep quiet code (keep code) detail
 
 pub meters_tell : InstructionsNeedNoCall → ((code : Code) → CallsKeep code) → MetersTellStrands
-meters_tell quiet keep = λ code burden. strands_tell quiet code (keep code) burden
+meters_tell quiet keep = λ code detail. strands_tell quiet code (keep code) detail
 
 pub roots_measured : InstructionsNeedNoCall → ((code : Code) → CallsKeep code) → RootsAreSerial → RootsAreMeasured
-roots_measured quiet keep roots = λ code g f args limit count sites s v arrays t m m' all. root_measured quiet code (keep code) roots g f args limit count sites s v arrays t m m' all
+roots_measured quiet keep roots = λ code g burden f args limit count sites s v arrays t m m' all. root_measured quiet code (keep code) roots g burden f args limit count sites s v arrays t m m' all

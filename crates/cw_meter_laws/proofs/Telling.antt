@@ -18,24 +18,24 @@ use Rattle.cw_meter_laws.proofs.Told.{After, BlockEnds, CallEnds, BlockBegins, T
 
 module _ (quiet : InstructionsNeedNoCall) (code : Code) (g : Gauge code) (from : Origin) (count : ℕ) (small : count < MOST_LIMIT) (m m' : Meter) where
   abbrev pub Telling : List Open → List Event → Type 0
-  Telling os es = Meters g.burden g.tags from (count + 1) os es m'
+  Telling os es = Meters g.detail g.tags from (count + 1) os es m'
 
-  module _ (os : List Open) (es : List Event) (h : Meters g.burden g.tags from count os es m) where
+  module _ (os : List Open) (es : List Event) (h : Meters g.detail g.tags from count os es m) where
     ticks : m' ≡ m → Telling os (ticked es)
-    ticks e = let P : Meter → Type 0 = λ x. Meters g.burden g.tags from (count + 1) os (ticked es) x in subst P (sym e) (quiet m count g.burden g.tags from os es small g.light h)
+    ticks e = let P : Meter → Type 0 = λ x. Meters g.detail g.tags from (count + 1) os (ticked es) x in subst P (sym e) (quiet m count g.detail g.tags from os es small g.light h)
 
     block_ends : Ends m m' count → BlockEnds Telling from os es
-    block_ends ends = λ o outer e series. ends g.burden g.tags from o outer es series small g.light (subst (λ x. Meters g.burden g.tags from count x es m) e h)
+    block_ends ends = λ o outer e series. ends g.detail g.tags from o outer es series small g.light (subst (λ x. Meters g.detail g.tags from count x es m) e h)
 
     call_ends : Returns m m' count → CallEnds Telling from os es
-    call_ends ends = λ o outer e. ends g.burden g.tags from o outer es small g.light (subst (λ x. Meters g.burden g.tags from count x es m) e h)
+    call_ends ends = λ o outer e. ends g.detail g.tags from o outer es small g.light (subst (λ x. Meters g.detail g.tags from count x es m) e h)
 
     block_begins : (kind : BlockKind) → BeginsBlock m m' count kind → BlockBegins Telling from code kind os es
-    block_begins Scope begins = begins g.burden g.tags from os es small g.light h
+    block_begins Scope begins = begins g.detail g.tags from os es small g.light h
     block_begins (Region k) begins = λ tag e.
         let lt = slice_get_within code.tags k tag e in
         let all = g.named.count in
-        subst (λ n. Telling (begun false (Some (Execution n)) es os) []) (g.named.are k tag e) (begins g.burden g.tags from os es (omega (arith, lt, all)) small g.light h)
+        subst (λ n. Telling (begun false (Some (Execution n)) es os) []) (g.named.are k tag e) (begins g.detail g.tags from os es (omega (arith, lt, all)) small g.light h)
 
     tells : (i : Instr) → IsTold m m' count i → Tells Telling from code i os es
     tells (instr.Push v) e = ticks e
@@ -46,18 +46,18 @@ module _ (quiet : InstructionsNeedNoCall) (code : Code) (g : Gauge code) (from :
     tells (instr.Skip n) e = ticks e
     tells (instr.SkipIfZero n) e = ticks e
     tells (instr.GoBack n) e = ticks e
-    tells (instr.Call kind c) e = e g.burden g.tags from os es small g.light h
-    tells (instr.Recur kind c) e = e g.burden g.tags from os es small g.light h
-    tells (instr.Start c line) e = e g.burden g.tags from os es small g.light h
+    tells (instr.Call kind c) e = e g.detail g.tags from os es small g.light h
+    tells (instr.Recur kind c) e = e g.detail g.tags from os es small g.light h
+    tells (instr.Start c line) e = e g.detail g.tags from os es small g.light h
     tells (instr.NewArray a line) e = ticks e
     tells (instr.Length a) e = ticks e
     tells (instr.Element a line) e = ticks e
     tells (instr.SetElement a line) e = ticks e
     tells (instr.ReadLength r) e = ticks e
     tells (instr.ReadElement r line) e = ticks e
-    tells (instr.Cut c line) e = e g.burden g.tags from os es small g.light h
+    tells (instr.Cut c line) e = e g.detail g.tags from os es small g.light h
     tells instr.EndCut e = block_ends e
-    tells instr.Sync e = e g.burden g.tags from os es small g.light h
+    tells instr.Sync e = e g.detail g.tags from os es small g.light h
     tells (instr.Open kind) e = block_begins kind e
     tells instr.Close e = block_ends e
     tells instr.Print e = ticks e
@@ -65,6 +65,6 @@ module _ (quiet : InstructionsNeedNoCall) (code : Code) (g : Gauge code) (from :
     tells instr.ReturnValue e = call_ends e
     tells instr.Return e = call_ends e
 
-  pub acts_told : (s : State) (o : Option Instr) → IsToldOf m m' count o → Meters g.burden g.tags from count (opens_round from s.around) s.trace.events m → After Telling from (act code s o)
+  pub acts_told : (s : State) (o : Option Instr) → IsToldOf m m' count o → Meters g.detail g.tags from count (opens_round from s.around) s.trace.events m → After Telling from (act code s o)
   acts_told s None e h = absurd e
   acts_told s (Some i) e h = told Telling from code s i (tells (opens_round from s.around) s.trace.events h i e)

@@ -13,6 +13,8 @@ use Rattle.cw_code.specs.Run.{code_serial}
 use Rattle.cw_measure.specs.OpenParts.{Open, no_joins}
 use Rattle.cw_sites.specs.OpenPaths.{here_in}
 use Rattle.cw_regions.specs.Regions.{Tags}
+use Rattle.cw_meter.specs.declared.detail.Detail.{Detail}
+use Rattle.cw_meter.specs.declared.detail.Detail.TheVariants as details
 use Rattle.cw_meter.specs.declared.meter.Meter.{Meter}
 use Rattle.cw_meter.specs.declared.meter.Measures.{Measures}
 use Rattle.cw_meter.specs.Origins.{Origin, Main, Rest, base_of, first_open}
@@ -33,8 +35,8 @@ IsFrom (Rest site) WholeCall = ⊥
 IsFrom (Rest site) ToJoin = Unit {0}
 
 -- a meter begins
-abbrev pub StartsFrom : Origin → Burden → Meter → Type 0
-StartsFrom from burden m = (tags : Tags) → Meters burden tags from 0 (first_open from) [] m
+abbrev pub StartsFrom : Origin → Detail → Meter → Type 0
+StartsFrom from detail m = (tags : Tags) → Meters detail tags from 0 (first_open from) [] m
 
 -- the site of the innermost invocation at a state
 abbrev pub site_at : Origin → List Around → ℕ
@@ -43,98 +45,98 @@ site_at from around = here_in (base_of from) (opens_round from around)
 -- the meter of a strand tells of the run that its state is one of; that of a strand that stopped tells of nothing
 abbrev pub TellsStrand : (code : Code) → Gauge code → Origin → Strand → Meter → Type 0
 TellsStrand code g from (Going s count outs) m =
-    Meters g.burden g.tags from count (opens_round from s.around) s.trace.events m
+    Meters g.detail g.tags from count (opens_round from s.around) s.trace.events m
 TellsStrand code g from (Waits s count outs) m =
-    Meters g.burden g.tags from count (opens_round from s.around) s.trace.events m
+    Meters g.detail g.tags from count (opens_round from s.around) s.trace.events m
 TellsStrand code g from (Halted e outs) m = Unit {0}
 
 -- by whichever numbers of the code's tags
-abbrev pub TellsAll : (code : Code) → Burden → Origin → Strand → Meter → Type 0
-TellsAll code burden from strand m = (g : Gauge code) → g.burden ≡ burden → TellsStrand code g from strand m
+abbrev pub TellsAll : (code : Code) → Detail → Origin → Strand → Meter → Type 0
+TellsAll code detail from strand m = (g : Gauge code) → g.detail ≡ detail → TellsStrand code g from strand m
 
 -- what the effect of a rest carries of its measures: a meter that tells of what the effect shows
-abbrev pub CountsEffect : (code : Code) → Burden → (site : ℕ) → Effect → Meter → Type 0
-CountsEffect code burden site (Joined frame t cost) m =
-    (g : Gauge code) → g.burden ≡ burden → Meters g.burden g.tags (Rest site) cost [] t.events m
-CountsEffect code burden site (Ended v arrays t cost) m = Unit {0}
-CountsEffect code burden site (TrapIn trap line lines cost) m = Unit {0}
-CountsEffect code burden site OverLimit m = Unit {0}
-CountsEffect code burden site Memory m = Unit {0}
+abbrev pub CountsEffect : (code : Code) → Detail → (site : ℕ) → Effect → Meter → Type 0
+CountsEffect code detail site (Joined frame t cost) m =
+    (g : Gauge code) → g.detail ≡ detail → Meters g.detail g.tags (Rest site) cost [] t.events m
+CountsEffect code detail site (Ended v arrays t cost) m = Unit {0}
+CountsEffect code detail site (TrapIn trap line lines cost) m = Unit {0}
+CountsEffect code detail site OverLimit m = Unit {0}
+CountsEffect code detail site Memory m = Unit {0}
 
--- an effect with a meter means a job that was handed out with a burden and a site. It is said of these values alone, so
+-- an effect with a meter means a job that was handed out at a site, with so much that is kept. It is said of these values alone, so
 -- that whatever carries
 -- them from one worker to another can keep it
-pub record MeansMeasured (code : Code) (job : Job) (burden : Burden) (site : ℕ) (e : Effect) (m : Meter) : Type 0 where
+pub record MeansMeasured (code : Code) (job : Job) (detail : Detail) (site : ℕ) (e : Effect) (m : Meter) : Type 0 where
   pub means : JobMeaning code job e
-  pub counts : CountsEffect code burden site e m
+  pub counts : CountsEffect code detail site e m
 
 -- the calls on a strand and on its meter keep what the meter tells
-pub record MetersKeep (code : Code) (burden : Burden) : Type 0 where
-  pub starting : (from : Origin) (job : Job) (m : Meter) → StartsFrom from burden m
-      → TellsAll code burden from (Going (job_start job) 0 []) m
+pub record MetersKeep (code : Code) (detail : Detail) : Type 0 where
+  pub starting : (from : Origin) (job : Job) (m : Meter) → StartsFrom from detail m
+      → TellsAll code detail from (Going (job_start job) 0 []) m
   -- an instruction, of which the meter is told
   pub advancing : (from : Origin) (job : Job) (s s' : State) (count : ℕ) (outs : List Job) (m m' : Meter)
       → job.before + (count + 1) ≤ job.limit → job.limit ≤ MOST_LIMIT → step code s ≡ On s'
       → IsToldOf m m' count (slice_get code.instrs s.place)
-      → TellsAll code burden from (Going s count outs) m
-      → TellsAll code burden from (goes_on (turn code s) s s' job.limit job.before (count + 1) outs) m'
+      → TellsAll code detail from (Going s count outs) m
+      → TellsAll code detail from (goes_on (turn code s) s s' job.limit job.before (count + 1) outs) m'
   -- the rest beside a call that has ended was got back unrun: nothing is done
   pub taking_back : (from : Origin) (out : Job) (s : State) (count : ℕ) (outs : List Job) (m : Meter)
-      → TellsAll code burden from (Waits s count (out ∷ outs)) m → TellsAll code burden from (Going s count outs) m
+      → TellsAll code detail from (Waits s count (out ∷ outs)) m → TellsAll code detail from (Going s count outs) m
   -- it was run apart, up to its join, by a strand whose meter knew the site and nothing else
   pub giving : (from : Origin) (job out : Job) (s : State) (count cost : ℕ) (outs : List Job) (frame : Standing)
       (t : Trace) (m r m' : Meter)
       → IsStrandOf code job (Waits s count (out ∷ outs)) → job.before + (count + cost) ≤ job.limit
       → job.limit ≤ MOST_LIMIT
-      → MeansMeasured code out burden (site_at from s.around) (Joined frame t cost) r → Rests m r m' count cost
-      → TellsAll code burden from (Waits s count (out ∷ outs)) m
-      → TellsAll code burden from (Going (resumed s frame t) (count + cost) outs) m'
+      → MeansMeasured code out detail (site_at from s.around) (Joined frame t cost) r → Rests m r m' count cost
+      → TellsAll code detail from (Waits s count (out ∷ outs)) m
+      → TellsAll code detail from (Going (resumed s frame t) (count + cost) outs) m'
   -- a rest has come to its join
   pub arriving : (job : Job) (site : ℕ) (t : State) (cost : ℕ) (m : Meter) → IsStrandOf code job (Going t cost [])
       → has_come job.extent code t ≡ true
-      → TellsAll code burden (Rest site) (Going t cost []) m
-      → MeansMeasured code job burden site (Joined (standing t) t.trace cost) m
+      → TellsAll code detail (Rest site) (Going t cost []) m
+      → MeansMeasured code job detail site (Joined (standing t) t.trace cost) m
   -- a whole run ends, by an instruction of which the meter is told
-  pub ending : (g : Gauge code) → g.burden ≡ burden
+  pub ending : (g : Gauge code) → g.detail ≡ detail
       → (s : State) (count limit : ℕ) (outs : List Job) (v : Option ℤ) (arrays : Slots (List ℤ)) (t : Trace)
       (m m' : Meter)
       → count + 1 ≤ limit → limit ≤ MOST_LIMIT → step code s ≡ Ends v arrays t
       → IsToldOf m m' count (slice_get code.instrs s.place)
-      → TellsAll code burden Main (Going s count outs) m → Meters g.burden g.tags Main (count + 1) [] (whole t) m'
+      → TellsAll code detail Main (Going s count outs) m → Meters g.detail g.tags Main (count + 1) [] (whole t) m'
 
 abbrev pub CallsKeepMeters : Type 0
-CallsKeepMeters = (code : Code) (burden : Burden) → MetersKeep code burden
+CallsKeepMeters = (code : Code) (detail : Detail) → MetersKeep code detail
 
 -- what a strand with a meter may come to: one rule for each step that it goes on by
-pub data Metered (code : Code) (burden : Burden) : (from : Origin) (job : Job) → Strand → Meter → Type 0 where
+pub data Metered (code : Code) (detail : Detail) : (from : Origin) (job : Job) → Strand → Meter → Type 0 where
   Started : (from : Origin) (job : Job) (m : Meter) → IsFrom from job.extent → job.before ≤ job.limit
-      → job.limit ≤ MOST_LIMIT → StartsFrom from burden m
-      → Metered code burden from job (Going (job_start job) 0 []) m
+      → job.limit ≤ MOST_LIMIT → StartsFrom from detail m
+      → Metered code detail from job (Going (job_start job) 0 []) m
   Ran : (from : Origin) (job : Job) (s s' : State) (count : ℕ) (outs : List Job) (m m' : Meter)
-      → Metered code burden from job (Going s count outs) m → has_come job.extent code s ≡ false → step code s ≡ On s'
+      → Metered code detail from job (Going s count outs) m → has_come job.extent code s ≡ false → step code s ≡ On s'
       → job.before + (count + 1) ≤ job.limit
       → IsToldOf m m' count (slice_get code.instrs s.place)
-      → Metered code burden from job (goes_on (turn code s) s s' job.limit job.before (count + 1) outs) m'
+      → Metered code detail from job (goes_on (turn code s) s s' job.limit job.before (count + 1) outs) m'
   TakenBack : (from : Origin) (job out : Job) (s : State) (count : ℕ) (outs : List Job) (m : Meter)
-      → Metered code burden from job (Waits s count (out ∷ outs)) m
-      → Metered code burden from job (Going s count outs) m
+      → Metered code detail from job (Waits s count (out ∷ outs)) m
+      → Metered code detail from job (Going s count outs) m
   Given : (from : Origin) (job out : Job) (s t : State) (count cost : ℕ) (outs : List Job) (m r m' : Meter)
-      → Metered code burden from job (Waits s count (out ∷ outs)) m
-      → Metered code burden (Rest (site_at from s.around)) out (Going t cost []) r
+      → Metered code detail from job (Waits s count (out ∷ outs)) m
+      → Metered code detail (Rest (site_at from s.around)) out (Going t cost []) r
       → has_come out.extent code t ≡ true → job.before + (count + cost) ≤ job.limit → Rests m r m' count cost
-      → Metered code burden from job (Going (resumed s (standing t) t.trace) (count + cost) outs) m'
+      → Metered code detail from job (Going (resumed s (standing t) t.trace) (count + cost) outs) m'
 
 -- whatever is handed out, got back, or run apart and given, in whatever order and however deep: the strand is one of
 -- the serial run, and its meter tells of
 -- that run
-pub record StrandsTell (code : Code) (burden : Burden) : Type 0 where
-  pub serial : (from : Origin) (job : Job) (strand : Strand) (m : Meter) → Metered code burden from job strand m
+pub record StrandsTell (code : Code) (detail : Detail) : Type 0 where
+  pub serial : (from : Origin) (job : Job) (strand : Strand) (m : Meter) → Metered code detail from job strand m
       → IsStrandOf code job strand
-  pub told : (from : Origin) (job : Job) (strand : Strand) (m : Meter) → Metered code burden from job strand m
-      → TellsAll code burden from strand m
+  pub told : (from : Origin) (job : Job) (strand : Strand) (m : Meter) → Metered code detail from job strand m
+      → TellsAll code detail from strand m
 
 abbrev pub MetersTellStrands : Type 0
-MetersTellStrands = (code : Code) (burden : Burden) → StrandsTell code burden
+MetersTellStrands = (code : Code) (detail : Detail) → StrandsTell code detail
 
 -- the sites of the rests that are out at open parts, the newest first: each is the site that its spawner is in
 abbrev pub site_if : (spawned : Bool) → ℕ → List ℕ → List ℕ
@@ -161,23 +163,23 @@ RestsAreOut =
     (code : Code) (from : Origin) (s s' : State) → step code s ≡ On s'
     → SitesAfter from (turn code s) s.around s'.around
 
--- where the strand of a whole run ends, with no rest out: the run answers what the code gives, and its meter, told of
--- the last instruction, reads the
--- measures of the run's tree
-pub record IsMeasured (code : Code) (g : Gauge code) (args : List ℤ) (limit sites : ℕ) (v : Option ℤ) (t : Trace)
+-- where the strand of a whole run ends of which all is counted, with no rest out: the run answers what the code gives,
+-- and its meter, told of the last instruction, reads the measures of the run's tree
+pub record IsMeasured (code : Code) (burden : Burden) (args : List ℤ) (limit sites : ℕ) (v : Option ℤ) (t : Trace)
     (all : Measures) : Type 0 where
   pub answer : code_serial code args limit ≡ Some (answer_of (reducers_of code) (Done (v, no_frame) 0 t))
-  pub measures : AreMeasures g.burden sites code.tags (normal (Marked (Invocation 0) (tree_of t.events))) all
+  pub measures : AreMeasures burden sites code.tags (normal (Marked (Invocation 0) (tree_of t.events))) all
 
 abbrev pub RootsAreMeasured : Type 0
 RootsAreMeasured =
-    (code : Code) (g : Gauge code) (f : Func) (args : List ℤ) (limit count sites : ℕ) (s : State) (v : Option ℤ)
-    (arrays : Slots (List ℤ)) (t : Trace) (m m' : Meter) (all : Measures)
+    (code : Code) (g : Gauge code) (burden : Burden) (f : Func) (args : List ℤ) (limit count sites : ℕ) (s : State)
+    (v : Option ℤ) (arrays : Slots (List ℤ)) (t : Trace) (m m' : Meter) (all : Measures)
+    → g.detail ≡ details.Measures burden
     → first_transition (slice_get code.funcs code.main) args ≡ On (first_state f args [] [])
-    → Metered code g.burden Main (root_job f args limit) (Going s count []) m
+    → Metered code g.detail Main (root_job f args limit) (Going s count []) m
     → step code s ≡ Ends v arrays t → count + 1 ≤ limit → IsToldOf m m' count (slice_get code.instrs s.place)
     → Reads m' (count + 1) sites (length code.tags) all
-    → IsMeasured code g args limit sites v t all
+    → IsMeasured code burden args limit sites v t all
 
 -- up to its join the block that a rest begins in has no join
 abbrev pub RestsHaveNoJoins : Type 0

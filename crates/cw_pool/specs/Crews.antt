@@ -1,6 +1,7 @@
 -- What a run by a crew answers.
 use Rattle.std.specs.Prelude.{◌≡◌, ◌≤◌, ◌<◌, ℕ, ℤ, true, List, Result, Err}
 use Rattle.cw_model.specs.declared.burden.Burden.{Burden}
+use Rattle.cw_meter.specs.declared.detail.Detail.{Detail}
 use Rattle.cw_text.specs.declared.fault.Fault.{Fault}
 use Rattle.cw_text.specs.declared.fault.Fault.TheVariants as fault
 use Rattle.cw_code.specs.Code.{Code}
@@ -10,25 +11,27 @@ use Rattle.cw_machine.specs.Runs.{GivesAsCode, IsFailure, RunsAsCode}
 use Rattle.cw_runnable.specs.declared.verified.Verified.{Verified}
 use Rattle.cw_jobs.specs.declared.effect.Effect.{Effect}
 use Rattle.cw_jobs.specs.declared.job.Job.{Job}
-use Rattle.cw_jobs.specs.Jobs.{IsRoot}
+use Rattle.cw_jobs.specs.Jobs.{IsRootOf}
 use Rattle.cw_jobs.specs.Means.{IsMeaningOf}
 use Rattle.cw_strand.specs.Losing.{TellsFailure}
 use Rattle.cw_pool.specs.declared.outcome.Outcome.{Outcome}
 use Rattle.cw_pool.specs.declared.run.TheConstants.{MOST_BODIES}
 
--- an effect means the job of the whole run of this code on these arguments
-pub record IsEffectOf (v : Verified) (args : List ℤ) (n : ℕ) (burden : Burden) (e : Effect) : Type 0 where
-  pub root : Job
-  pub is : IsRoot v args n burden root.parts.value
-  pub means : IsMeaningOf root e
+-- an effect means the job of the whole run of this code on these arguments, of which so much is kept
+pub record IsEffectOf (v : Verified) (args : List ℤ) (n : ℕ) (burden : Burden) (d : Detail) (e : Effect) : Type 0
+  where
+    pub root : Job
+    pub is : IsRootOf v args n burden d root.parts.value
+    pub means : IsMeaningOf root e
 
 -- the effect tells the answer: the run was not given up, or had come to its end before
 abbrev pub IsKnown : Outcome → Type 0
 IsKnown o = o.is_given_up ≡ true → TellsFailure o.effect → ⊥
 
 -- what a run came to, of a crew of so many bodies
-abbrev pub IsOutcome : (bodies : ℕ) → Verified → List ℤ → (n : ℕ) → Burden → Outcome → Type 0
-IsOutcome bodies v args n burden o = (bodies ≤ MOST_BODIES) × (o.code.value ≡ v) × IsEffectOf v args n burden o.effect
+abbrev pub IsOutcome : (bodies : ℕ) → Verified → List ℤ → (n : ℕ) → Burden → Detail → Outcome → Type 0
+IsOutcome bodies v args n burden d o =
+    (bodies ≤ MOST_BODIES) × (o.code.value ≡ v) × IsEffectOf v args n burden d o.effect
 
 -- or why there is nothing
 abbrev pub HasNoOutcome : (bodies : ℕ) → Code → List ℤ → (n : ℕ) → Burden → Fault → Type 0

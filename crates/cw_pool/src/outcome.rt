@@ -1,15 +1,15 @@
 //! What a run by a crew answers.
 
-ghost use Rattle.std.specs.Prelude.{◌≡◌, ℕ, ℤ, List, true, false};
-ghost use Rattle.cw_code.specs.Code.{Code, code_view};
-ghost use Rattle.cw_model.specs.declared.burden.Burden as burdens;
+ghost use Rattle.std.specs.Prelude.{◌≡◌, true, false};
+ghost use Rattle.cw_code.specs.Code.{code_view};
+ghost use Rattle.cw_meter.specs.declared.detail.Detail.TheVariants as details;
 ghost use Rattle.cw_machine.specs.Answering.{IsAnswerOf};
 ghost use Rattle.cw_machine.specs.Runs.{GivesAsCode, RunsAsCode};
 ghost use Rattle.cw_pool.specs.Crews.{IsEffectOf, IsKnown};
 
 use cw_jobs::effect::Effect;
 use cw_machine::alone::{Ended, run_alone};
-use cw_machine::answering::answer;
+use cw_machine::answering::{answer, values_of};
 use cw_machine::values::{Values, values_alone};
 use cw_model::burden::Burden;
 use cw_runnable::verified::Verified;
@@ -45,7 +45,7 @@ impl Outcome {
     }
 }
 
-/// What the effect of the root tells, where it tells the answer; else what one worker answers.
+/// What the effect of the root tells, where it tells the answer; else what one worker answers, with all that is counted.
 pub(crate) fn ended_by(
     alloc: Global,
     outcome: Outcome,
@@ -53,7 +53,7 @@ pub(crate) fn ended_by(
     n: u64,
     burden: Burden,
 ) -> Result<Ended, Fault>
-    requires { IsEffectOf outcome.code.value args.now n burden outcome.effect }
+    requires { IsEffectOf outcome.code.value args.now n burden (details.Measures burden) outcome.effect }
     ensures as_code { RunsAsCode (code_view outcome.code.value.code) args.now n burden result }
     ensures tells { IsKnown outcome → IsAnswerOf outcome.effect result }
 {
@@ -71,22 +71,7 @@ pub(crate) fn ended_by(
     Ok(ended)
 }
 
-// The values of a run of which all was counted.
-fn values_of(ended: Result<Ended, Fault>) -> Result<Values, Fault>
-    ensures { (code : Code) (args : List ℤ) (n : ℕ) (burden : burdens.Burden) → RunsAsCode code args n burden ended
-        → GivesAsCode code args n burden result }
-{
-    match ended {
-        Ok(ended) => Ok(Values {
-            value: ended.value,
-            lines: ended.lines,
-            totals: ended.totals,
-        }),
-        Err(fault) => Err(fault),
-    }
-}
-
-/// The same of the values alone.
+/// The same of a run of which the values alone are kept.
 pub(crate) fn values_by(
     alloc: Global,
     outcome: Outcome,
@@ -94,7 +79,7 @@ pub(crate) fn values_by(
     n: u64,
     burden: Burden,
 ) -> Result<Values, Fault>
-    requires { IsEffectOf outcome.code.value args.now n burden outcome.effect }
+    requires { IsEffectOf outcome.code.value args.now n burden details.Values outcome.effect }
     ensures { GivesAsCode (code_view outcome.code.value.code) args.now n burden result }
 {
     let is_known = outcome.is_known();
@@ -104,7 +89,7 @@ pub(crate) fn values_by(
         is_given_up: _,
     } = outcome;
     if is_known {
-        let values = values_of(answer(alloc, &code, effect))?;
+        let values = values_of(effect)?;
         return Ok(values);
     }
     let values = values_alone(alloc, code, args, n, burden)?;

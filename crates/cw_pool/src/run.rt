@@ -3,6 +3,8 @@
 ghost use Rattle.std.specs.Prelude.{◌≡◌, ◌≤◌, ◌+◌, length, vec_capacity, MatchResult};
 ghost use Rattle.std.specs.Arc.{arc_value};
 ghost use Rattle.cw_code.specs.Code.{code_view};
+ghost use Rattle.cw_meter.specs.Details.{IsLight};
+ghost use Rattle.cw_model.specs.declared.limits.TheConstants.{MOST_BURDEN};
 ghost use Rattle.cw_yard.specs.Seats.{IsSeatOf};
 ghost use Rattle.cw_pool.specs.Driven.{AreSeatsFor, IsDriven, IsNotDriven};
 ghost use Rattle.cw_pool.specs.Crews.{GivesByCrew, HasNoOutcome, IsOutcome, RunsByCrew};
@@ -16,6 +18,7 @@ use cw_jobs::effect::Effect;
 use cw_jobs::job::Job;
 use cw_machine::alone::Ended;
 use cw_machine::values::Values;
+use cw_meter::Detail;
 use cw_model::burden::Burden;
 use cw_runnable::verified::Verified;
 use cw_text::Fault;
@@ -142,7 +145,7 @@ pub(crate) fn drive<
     Ok(effect)
 }
 
-// What a run of code by a crew came to: the effect of its root, and whether it was given up.
+// What a run of code by a crew came to, of which so much is kept: the effect of its root, and whether it was given up.
 fn outcome_of<
     G: Gate + Drop + Send + Sync + 'static,
     B: Body<G> + Send + Drop + 'static,
@@ -154,16 +157,18 @@ fn outcome_of<
     args: &[i64],
     n: u64,
     burden: Burden,
+    detail: Detail,
     crew: Vec<B>,
     gate: Arc<G>,
 ) -> Result<Outcome, Fault>
-    ensures { MatchResult result (IsOutcome (length crew.items) code.value args.now n burden)
+    requires { burden.charge ≤ MOST_BURDEN → IsLight detail }
+    ensures { MatchResult result (IsOutcome (length crew.items) code.value args.now n burden detail)
         (HasNoOutcome (length crew.items) (code_view code.value.code) args.now n burden) }
 {
     if crew.len() > MOST_BODIES {
         return Err(Fault::Arguments);
     }
-    let root = Job::root(alloc, code, args, n, burden)?;
+    let root = Job::root_of(alloc, code, args, n, burden, detail)?;
     let share = Arc::try_clone(&root.parts.code)?;
     let sign = Sign::new(alloc, crew.len() + 1, n)?;
     let sign = Arc::new(alloc, sign)?;
@@ -204,12 +209,14 @@ pub fn run<
 ) -> Result<Ended, Fault>
     ensures { RunsByCrew (length crew.items) (code_view code.value.code) args.now n burden result }
 {
-    let outcome = outcome_of(rt, alloc, code, args, n, burden, crew, gate)?;
+    let detail = Detail::Measures(burden);
+    let outcome = outcome_of(rt, alloc, code, args, n, burden, detail, crew, gate)?;
     let ended = ended_by(alloc, outcome, args, n, burden)?;
     Ok(ended)
 }
 
-/// The same run, of which nothing but the values is told: what `values_alone` gives, with the errors of `run`.
+/// The same run, of which the values alone are kept and nothing is counted: what `values_alone` gives, with the errors of
+/// `run`.
 pub fn values<
     G: Gate + Drop + Send + Sync + 'static,
     B: Body<G> + Send + Drop + 'static,
@@ -226,7 +233,8 @@ pub fn values<
 ) -> Result<Values, Fault>
     ensures { GivesByCrew (length crew.items) (code_view code.value.code) args.now n burden result }
 {
-    let outcome = outcome_of(rt, alloc, code, args, n, burden, crew, gate)?;
+    let detail = Detail::Values;
+    let outcome = outcome_of(rt, alloc, code, args, n, burden, detail, crew, gate)?;
     let values = values_by(alloc, outcome, args, n, burden)?;
     Ok(values)
 }

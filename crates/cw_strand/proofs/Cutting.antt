@@ -2,8 +2,7 @@
 use Rattle.std.proofs.Common.{◌≡◌, ℕ, suc, ◌+◌, ◌≤◌, List, [], ◌∷◌, length, refl, sym, ap, ◌∙◌, subst, inl, inr, arith}
 use Rattle.std.specs.Prelude.{map, reverse}
 use Rattle.std.proofs.Math.Logic.{∥∥₁_elim, ∥∥₁_map}
-use Rattle.cw_model.specs.declared.burden.Burden.{Burden}
-use Rattle.cw_model.specs.declared.limits.TheConstants.{MOST_BURDEN}
+use Rattle.cw_meter.specs.Details.{IsLight}
 use Rattle.cw_code.specs.declared.code.Loan.{Loan}
 use Rattle.cw_code.specs.Code.{Code, code_view}
 use Rattle.cw_code.specs.Fits.{slots_lent}
@@ -176,7 +175,7 @@ module _ (keep : (code : Code) → CallsKeep code) (self : Strand) (limit : ℕ)
             is = at.1;
             within = omega (arith, before, top, within);
             range = omega (arith, top, range);
-            light = subst (λ (b : Burden). b.charge ≤ MOST_BURDEN) (sym cut.burden) c.ground.light;
+            light = subst IsLight (sym cut.detail) c.ground.light;
           }
 
 -- for whichever of the definitions its job is

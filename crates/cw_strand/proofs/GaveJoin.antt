@@ -11,7 +11,12 @@ use Rattle.cw_code.specs.Run.{State}
 use Rattle.cw_code.specs.Good.{FitSettles}
 use Rattle.cw_code.specs.Staying.{SeatsLie}
 use Rattle.cw_meter_laws.specs.Strands.{CallsKeepMeters, CountsEffect, TellsAll, site_at, MeansMeasured}
-use Rattle.cw_meter.specs.Meters.{Rests}
+use Rattle.cw_meter.specs.declared.detail.Detail.{Detail}
+use Rattle.cw_meter.specs.declared.detail.Detail.TheVariants.{Values, Measures}
+use Rattle.cw_meter.specs.declared.meter.Meter.{Meter}
+use Rattle.cw_meter.specs.Details.{IsSite}
+use Rattle.cw_meter.specs.Origins as origins
+use Rattle.cw_meter.specs.Meters.{Meters, Rests}
 use Rattle.cw_strand_laws.specs.Jobs as jobs
 use Rattle.cw_strand_laws.specs.Jobs.{ToJoin, Standing, JobMeaning}
 use Rattle.cw_strand_laws.specs.Over.{under}
@@ -48,6 +53,14 @@ use Rattle.cw_strand.proofs.Effects.{gave_within}
 use Rattle.cw_strand.proofs.Taken.{shows_joined}
 use Rattle.cw_strand.proofs.Gave.{keeps_within, meant_in}
 
+-- where the values alone are kept a meter knows no site of a rest, and is asked for none
+at_site : (code : Code) (d : Detail) (a b : ℕ) (frame : Standing) (t : Trace) (cost : ℕ) (m : Meter) → IsSite d a b → CountsEffect code d a (jobs.Joined frame t cost) m → CountsEffect code d b (jobs.Joined frame t cost) m
+at_site code Values a b frame t cost m e h = λ g q.
+    let A : Detail → Type 0 = λ x. Meters x g.tags (origins.Rest a) cost [] t.events m in
+    let B : Detail → Type 0 = λ x. Meters x g.tags (origins.Rest b) cost [] t.events m in
+    subst B (sym q) (subst A q (h g q))
+at_site code (Measures burden) a b frame t cost m e h = subst (λ z. CountsEffect code (Measures burden) z (jobs.Joined frame t cost) m) e h
+
 -- an effect is the frame and what was shown at a join
 abbrev pub IsJoin : Effect → Rest → List (Option Placed) → Shown → Type 0
 IsJoin (effect.Joined f r s) frame replaced shown = (f ≡ frame) × (r.items ≡ replaced) × (s ≡ shown)
@@ -62,7 +75,7 @@ record Came (v : Verified) (is : IsFit v) (q : Parts) (j : jobs.Job) (back : Res
   pub holds : HoldsFrame back frame
   pub empty : KeepsEmpty j q.rest back replaced
   pub shown_is : HasShown (code_view v.code) shown trace cost
-  pub counts : CountsEffect (code_view v.code) q.burden q.site (jobs.Joined frame trace cost) shown.meter
+  pub counts : CountsEffect (code_view v.code) q.detail q.site (jobs.Joined frame trace cost) shown.meter
   pub homes : KeepsHomes q.rest.slices.items back.slices.items replaced
   pub fixed : KeepsFixed v is j.place replaced
 
@@ -75,7 +88,7 @@ came_of v is q j (effect.GivenUp b) back replaced shown i m = absurd i
 came_of v is q j (effect.Joined f r x) back replaced shown i m =
     subst (λ z. Came v is q j back replaced z) i.2 (subst (λ z. Came v is q j back z x) i.1 (subst (λ z. Came v is q j z r.items x) i.0 (at m.effect m.means m.tells m.counts)))
   where
-    at : (d : jobs.Effect) → JobMeaning (code_view v.code) j d → Tells (code_view v.code) j q.rest (effect.Joined f r x) d → Counts (code_view v.code) q.burden q.site (effect.Joined f r x) d → Came v is q j f r.items x
+    at : (d : jobs.Effect) → JobMeaning (code_view v.code) j d → Tells (code_view v.code) j q.rest (effect.Joined f r x) d → Counts (code_view v.code) q.detail q.site (effect.Joined f r x) d → Came v is q j f r.items x
     at (jobs.Ended y arrays u k) means tells counts = absurd tells
     at (jobs.TrapIn trap line lines k) means tells counts = absurd tells
     at jobs.OverLimit means tells counts = absurd tells
@@ -153,19 +166,20 @@ module _ (self : Strand) (job : Job) (others : List Job) (newest : Newest self j
           let taken = subst (λ l. HasTaken joined.given l shown.totals.items r.machine) came.shown_is.lines joined.takes in
           shows_joined v (ok_with g sp.others) joined.given r.machine shown.totals.items g.base h.state came.frame came.trace taken given came.shown_is.totals
 
-      measured : MeansMeasured code jo p.burden (site_at (origin_of p) h.state.around) (jobs.Joined came.frame came.trace came.cost) shown.meter
+      measured : MeansMeasured code jo p.detail (site_at (origin_of p) h.state.around) (jobs.Joined came.frame came.trace came.cost) shown.meter
       measured = record {
         means = came.means;
-        counts = subst (λ b. CountsEffect code b (site_at (origin_of p) h.state.around) (jobs.Joined came.frame came.trace came.cost) shown.meter) sp.is_lent.burden
-            (subst (λ z. CountsEffect code q.burden z (jobs.Joined came.frame came.trace came.cost) shown.meter) (sp.is_lent.site ∙ ap (site_at (origin_of p)) (sym h.waited.back.around)) came.counts);
+        counts = at_site code p.detail q.site (site_at (origin_of p) h.state.around) came.frame came.trace came.cost shown.meter
+            (subst (λ y. IsSite p.detail q.site (site_at (origin_of p) y)) (sym h.waited.back.around) sp.is_lent.site)
+            (subst (λ b. CountsEffect code b q.site (jobs.Joined came.frame came.trace came.cost) shown.meter) sp.is_lent.detail came.counts);
       }
 
-      tells_now : TellsAll code p.burden (origin_of p) (Going now (h.count + came.cost) rs) r.meter
+      tells_now : TellsAll code p.detail (origin_of p) (Going now (h.count + came.cost) rs) r.meter
       tells_now =
           let n = h.waited.runs.counts in
-          let was : TellsAll code p.burden (origin_of p) (Waits h.state h.count (jo ∷ rs)) self.run.meter = subst (λ k. TellsAll code p.burden (origin_of p) (Going h.state k []) self.run.meter) (sym n) h.waited.runs.shows.tells in
+          let was : TellsAll code p.detail (origin_of p) (Waits h.state h.count (jo ∷ rs)) self.run.meter = subst (λ k. TellsAll code p.detail (origin_of p) (Going h.state k []) self.run.meter) (sym n) h.waited.runs.shows.tells in
           let small : j.limit ≤ MOST_LIMIT = subst (λ l. l ≤ MOST_LIMIT) (sym g.job.limit) running.keeps.range in
-          (meters code p.burden).giving (origin_of p) j jo h.state h.count came.cost rs came.frame came.trace self.run.meter shown.meter r.meter (waits self job others newest is j g h) le_def small measured
+          (meters code p.detail).giving (origin_of p) j jo h.state h.count came.cost rs came.frame came.trace self.run.meter shown.meter r.meter (waits self job others newest is j g h) le_def small measured
           (subst (λ c. Rests self.run.meter shown.meter r.meter h.count c) (sym costs) (subst (λ k. Rests self.run.meter shown.meter r.meter k shown.cost) (sym n) joined.rests)) was
 
       pub goes_joined : Holds (record self { run = new.run; lent = new.lent; count = new.count; spares = new.spares; mode = new.mode }) is j
@@ -182,7 +196,7 @@ module _ (self : Strand) (job : Job) (others : List Job) (newest : Newest self j
             lends = subst (Lends v is p g.base h.waited.others sp.others) (sym left) sp.rest;
             shows = record {
               shows = subst (λ (x : Run). Shows v (ok_with g sp.others) x.machine (under g.base now)) (sym run_is) shows_now;
-              tells = subst (λ (x : Run). TellsAll code p.burden (origin_of p) (Going now new.count []) x.meter) (sym run_is) (subst (λ k. TellsAll code p.burden (origin_of p) (Going now k []) r.meter) total tells_now);
+              tells = subst (λ (x : Run). TellsAll code p.detail (origin_of p) (Going now new.count []) x.meter) (sym run_is) (subst (λ k. TellsAll code p.detail (origin_of p) (Going now k []) r.meter) total tells_now);
             };
             frozen = frozen self job others newest is j g h stay seats settles came.frame came.trace came.cost came.means;
           };

@@ -5,7 +5,8 @@ use Rattle.std.proofs.Math.Logic.{∥∥₁_map}
 use Rattle.cw_code.specs.Code.{Code, code_view}
 use Rattle.cw_code.specs.Fits.{slots_lent}
 use Rattle.cw_code.specs.Run.{Whole, passed_by}
-use Rattle.cw_meter_laws.specs.Strands.{TellsAll}
+use Rattle.cw_meter.specs.Details.{IsSite}
+use Rattle.cw_meter_laws.specs.Strands.{TellsAll, site_at}
 use Rattle.cw_strand_laws.specs.Jobs as jobs
 use Rattle.cw_strand_laws.specs.Jobs.{has_come}
 use Rattle.cw_strand_laws.specs.Over.{beneath, under}
@@ -77,8 +78,8 @@ module _ (keep : (code : Code) → CallsKeep code) (apart : OutsLieApart) (old m
           job = rest_job keep old limit spawn is j c apart mid (lent_parts x) x.home.lender cut;
           code = cut.code;
           joins = cut.joins;
-          burden = cut.burden;
-          site = cut.site ∙ c.at.1.site;
+          detail = cut.detail;
+          site = subst (λ z. IsSite p.detail z (site_at (origin_of p) c.state.around)) (sym cut.site) c.at.1.site;
           target = target ∙ sym s.target_is;
           floor = waits ∙ calls_here;
           comes = (
@@ -133,7 +134,7 @@ module _ (keep : (code : Code) → CallsKeep code) (apart : OutsLieApart) (old m
               lends = subst (Lends v is p c.ground.base (level ∷ c.levels) (o ∷ c.outs)) (sym same) lent_lends;
               shows = record {
                 shows = h.shows;
-                tells = subst (TellsAll (code_view v.code) p.burden (origin_of p) (Going next old.count [])) (sym cut.meter) c.at.1.shows.tells;
+                tells = subst (TellsAll (code_view v.code) p.detail (origin_of p) (Going next old.count [])) (sym cut.meter) c.at.1.shows.tells;
               };
               frozen = c.at.1.may.frozen;
             };
@@ -155,7 +156,7 @@ module _ (keep : (code : Code) → CallsKeep code) (apart : OutsLieApart) (old m
         code = h.keeps.code;
         extent = h.keeps.extent;
         site = h.keeps.site;
-        burden = h.keeps.burden;
+        detail = h.keeps.detail;
         limit = h.keeps.limit;
         before = h.keeps.before;
         rest = h.keeps.rest;

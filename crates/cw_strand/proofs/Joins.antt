@@ -106,8 +106,8 @@ module _ (keep : (code : Code) → CallsKeep code) (self : Strand) (limit : ℕ)
           means = ended code (keep code) j c.state c.later x at.arrays at.trace (subst (λ y. has_come y code c.state ≡ false) (sym c.ground.job.extent) at.before) at.steps (omega (arith, e0, w, jl, jb)) is_of;
           tells = (c.ground.job.extent ∙ at.is_whole, t.0, shown_as code self.run self.count (c.later + 1) shown at.trace t.1 c.at.0 at.lines at.totals);
           counts = λ g b.
-              subst (λ m. Meters g.burden g.tags Main (c.later + 1) [] (whole at.trace) m) (sym t.1.meter)
-              (subst (λ n. Meters g.burden g.tags Main n [] (whole at.trace) self.run.meter) c.at.0 (at.tells g b));
+              subst (λ m. Meters g.detail g.tags Main (c.later + 1) [] (whole at.trace) m) (sym t.1.meter)
+              (subst (λ n. Meters g.detail g.tags Main n [] (whole at.trace) self.run.meter) c.at.0 (at.tells g b));
           homes = tt;
         }
 
@@ -223,15 +223,15 @@ module _ (keep : (code : Code) → CallsKeep code) (self : Strand) (limit : ℕ)
           let at = c.at.1 in
           let ends = t.0 v is j p.rest c.state (has_come_to stay seats is j c) refl in
           let e0 = c.at.0 in
-          let tells0 : TellsAll code p.burden (Rest p.site) (Going c.state c.later []) self.run.meter =
-          subst (λ n. TellsAll code p.burden (Rest p.site) (Going c.state n []) self.run.meter) e0
-          (subst (λ y. TellsAll code p.burden (begins_at y p.site) (Going c.state self.count []) self.run.meter) (joins stay seats is j c) at.shows.tells) in
-          let measured = (meters code p.burden).arriving j p.site c.state c.later self.run.meter (is_of stay seats is j c) (j_come stay seats is j c) tells0 in
+          let tells0 : TellsAll code p.detail (Rest p.site) (Going c.state c.later []) self.run.meter =
+          subst (λ n. TellsAll code p.detail (Rest p.site) (Going c.state n []) self.run.meter) e0
+          (subst (λ y. TellsAll code p.detail (begins_at y p.site) (Going c.state self.count []) self.run.meter) (joins stay seats is j c) at.shows.tells) in
+          let measured = (meters code p.detail).arriving j p.site c.state c.later self.run.meter (is_of stay seats is j c) (j_come stay seats is j c) tells0 in
           record {
             effect = jobs.Joined (standing c.state) c.state.trace c.later;
             means = meaning stay seats is j c;
             tells = (ends.holds, ends.empty, shown_as code r self.count c.later shown c.state.trace t.1 c.at.0 (l ∙ at.lines) (subst (λ z. HoldsTotals code z c.state.trace.updates) (sym u) at.totals));
-            counts = λ g b. subst (λ z. Meters g.burden g.tags (Rest p.site) c.later [] c.state.trace.events z) (sym (t.1.meter ∙ m)) (measured.counts g b);
+            counts = λ g b. subst (λ z. Meters g.detail g.tags (Rest p.site) c.later [] c.state.trace.events z) (sym (t.1.meter ∙ m)) (measured.counts g b);
             homes = (ends.homes, ends.fixed);
           }
 

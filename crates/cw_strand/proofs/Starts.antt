@@ -3,7 +3,9 @@ use Rattle.std.proofs.Common.{◌≡◌, ℕ, ◌≤◌, [], length, refl, sym, 
 use Rattle.std.specs.Prelude.{map, reverse, Some, slice_get}
 use Rattle.std.specs.Coded.{le_prop}
 use Rattle.std.proofs.Math.Logic.{∥∥₁_elim}
-use Rattle.cw_model.specs.declared.limits.TheConstants.{MOST_BURDEN}
+use Rattle.cw_meter.specs.declared.detail.Detail.{Detail}
+use Rattle.cw_meter.specs.declared.detail.Detail.TheVariants.{Values, Measures}
+use Rattle.cw_meter.specs.Details.{IsLight}
 use Rattle.cw_code.specs.Code.{Code, code_view}
 use Rattle.cw_strand_laws.specs.Jobs as jobs
 use Rattle.cw_strand_laws.specs.Jobs.{WholeCall, ToJoin, job_start}
@@ -38,7 +40,11 @@ pub record Grounded (v : Verified) (is : IsFit v) (p : Parts) (j : jobs.Job) (m 
   pub shows : Shows v (ok_with ground []) m (under ground.base (job_start j))
   pub frozen : SharesFrozen v (ok_with ground []) (under ground.base (job_start j))
 
-pub grounded : (v : Verified) (is : IsFit v) (p : Parts) (j : jobs.Job) (m : Machine) → IsJob v is p j → p.burden.charge ≤ MOST_BURDEN → (h : HoldsOf v is j p.rest m (job_start j)) → OnlyReads v is j p.rest m (job_start j) h → Grounded v is p j m
+light_prop : (d : Detail) → IsProp (IsLight d)
+light_prop Values = hlevel le_prop
+light_prop (Measures burden) = le_prop
+
+pub grounded : (v : Verified) (is : IsFit v) (p : Parts) (j : jobs.Job) (m : Machine) → IsJob v is p j → IsLight p.detail → (h : HoldsOf v is j p.rest m (job_start j)) → OnlyReads v is j p.rest m (job_start j) h → Grounded v is p j m
 grounded v is p j m job light h reads = at p.extent refl
   where
     at : (x : Extent) → p.extent ≡ x → Grounded v is p j m
@@ -83,7 +89,7 @@ module _ (self : Strand) (keep : (code : Code) → CallsKeep code) (meters : Cal
   abbrev p : Parts
   p = its_parts self
 
-  pub starts : p.burden.charge ≤ MOST_BURDEN → p.before ≤ p.limit → (h : HoldsOf v is j p.rest self.run.machine (job_start j)) → OnlyReads v is j p.rest self.run.machine (job_start j) h → StartsFrom (origin_of p) p.burden self.run.meter
+  pub starts : IsLight p.detail → p.before ≤ p.limit → (h : HoldsOf v is j p.rest self.run.machine (job_start j)) → OnlyReads v is j p.rest self.run.machine (job_start j) h → StartsFrom (origin_of p) p.detail self.run.meter
       → self.lent.items ≡ [] → self.count ≡ 0 → self.mode ≡ mode.Going → Holds self is j
   starts light low h reads meter none zero going =
       let g = grounded v is p j self.run.machine job light h reads in
@@ -100,7 +106,7 @@ module _ (self : Strand) (keep : (code : Code) → CallsKeep code) (meters : Cal
             lends = subst (λ l. Lends v is p g.ground.base [] [] l) (sym (ap reverse none)) tt;
             shows = record {
               shows = g.shows;
-              tells = subst (λ n. TellsAll (code_view v.code) p.burden (origin_of p) (Going (job_start j) n []) self.run.meter) (sym zero) ((meters (code_view v.code) p.burden).starting (origin_of p) j self.run.meter meter);
+              tells = subst (λ n. TellsAll (code_view v.code) p.detail (origin_of p) (Going (job_start j) n []) self.run.meter) (sym zero) ((meters (code_view v.code) p.detail).starting (origin_of p) j self.run.meter meter);
             };
             frozen = g.frozen;
           };
@@ -134,7 +140,7 @@ begins keep meters job p' self of parts none bare zero going b = record {
         code = ap (λ q. code_of q) parts ∙ begun.code;
         extent = ap (λ (q : Parts). q.extent) parts ∙ begun.extent;
         site = ap (λ (q : Parts). q.site) parts ∙ begun.site;
-        burden = ap (λ (q : Parts). q.burden) parts ∙ begun.burden;
+        detail = ap (λ (q : Parts). q.detail) parts ∙ begun.detail;
         limit = ap (λ (q : Parts). q.limit) parts ∙ begun.limit;
         before = ap (λ (q : Parts). q.before) parts ∙ begun.before;
         rest = subst (λ (q : Parts). IsEmptied (its_parts self).rest q.rest) (sym parts) begun.rest;
@@ -144,7 +150,7 @@ begins keep meters job p' self of parts none bare zero going b = record {
       spares = λ k q e. absurd (none_there k q (subst (λ l. slice_get l k ≡ Some q) bare e));
       rests = λ k q e. absurd (none_there k q (subst (λ l. slice_get (reverse l) k ≡ Some q) none e));
       holds = λ is j isj.
-          let light : (its_parts self).burden.charge ≤ MOST_BURDEN = ∥∥₁_elim sound le_prop (λ s. s.light) in
+          let light : IsLight (its_parts self).detail = ∥∥₁_elim sound (light_prop (its_parts self).detail) (λ s. s.light) in
           let low : (its_parts self).before ≤ (its_parts self).limit = ∥∥₁_elim sound le_prop (λ s. s.within) in
           let b = begun.machine is (its_parts self) j refl isj in
           ∣ starts self keep meters is j isj light low b.0 b.1 begun.meter none zero going ∣₁;

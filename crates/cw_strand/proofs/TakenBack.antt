@@ -124,7 +124,7 @@ module _ (self : Strand) (job : Job) (others : List Job) (newest : Newest self j
         code = running.keeps.code;
         extent = running.keeps.extent;
         site = running.keeps.site;
-        burden = running.keeps.burden;
+        detail = running.keeps.detail;
         limit = running.keeps.limit;
         before = running.keeps.before;
         rest = running.keeps.rest;

@@ -1,7 +1,8 @@
 -- How a strand in memory holds a strand of the definitions.
 use Rattle.std.specs.Prelude.{◌≡◌, ◌≢◌, ◌⊎◌, ℕ, suc, ◌+◌, ◌-◌, ◌≤◌, Bool, true, false, List, [], ◌∷◌, length, map, reverse}
 use Rattle.std.specs.Prelude.{slice_get, Some}
-use Rattle.cw_model.specs.declared.limits.TheConstants.{MOST_LIMIT, MOST_BURDEN}
+use Rattle.cw_model.specs.declared.limits.TheConstants.{MOST_LIMIT}
+use Rattle.cw_meter.specs.Details.{IsLight, IsSite}
 use Rattle.cw_code.specs.Code.{code_view}
 use Rattle.cw_code.specs.Run.{State}
 use Rattle.cw_strand_laws.specs.Jobs as jobs
@@ -72,7 +73,7 @@ begins_as extent.ToJoin site = tt
 -- join of a rest its arrays go back to where they lay
 pub record Ground (v : Verified) (is : IsFit v) (p : Parts) (j : jobs.Job) : Type 0 where
   pub job : IsJob v is p j
-  pub light : p.burden.charge ≤ MOST_BURDEN
+  pub light : IsLight p.detail
   pub base : State
   pub round : StandsRound (extent_of p.extent) base
   pub params : ℕ
@@ -86,7 +87,7 @@ setting_of {v} {is} {p} {j} g = record {
   round = g.round;
   from = origin_of p;
   begins = begins_as p.extent p.site;
-  burden = p.burden;
+  detail = p.detail;
   light = g.light;
 }
 
@@ -107,8 +108,8 @@ pub record IsLent (v : Verified) (is : IsFit v) (p : Parts) (base : State) (l : 
     pub job : IsJob v is (lent_parts h) (rest_of l.waiting p.limit (lent_parts h).before)
     pub code : code_of (lent_parts h) ≡ v
     pub joins : (lent_parts h).extent ≡ extent.ToJoin
-    pub burden : (lent_parts h).burden ≡ p.burden
-    pub site : (lent_parts h).site ≡ site_at (origin_of p) l.around
+    pub detail : (lent_parts h).detail ≡ p.detail
+    pub site : IsSite p.detail (lent_parts h).site (site_at (origin_of p) l.around)
     pub target : h.home.target ≡ l.waiting.target
     pub floor : h.home.floor ≡ suc (calls_in (beneath base l.around))
     pub comes : Comes (lent_parts h).rest.cells.items 0 (length l.waiting.slots)
@@ -205,7 +206,7 @@ pub record KeepsJob (self : Strand) : Type 0 where
   pub code : code_of self.parts.value ≡ its_code self
   pub extent : self.parts.value.extent ≡ (its_parts self).extent
   pub site : self.parts.value.site ≡ (its_parts self).site
-  pub burden : self.parts.value.burden ≡ (its_parts self).burden
+  pub detail : self.parts.value.detail ≡ (its_parts self).detail
   pub limit : self.parts.value.limit ≡ (its_parts self).limit
   pub before : self.parts.value.before ≡ (its_parts self).before
   pub rest : IsEmptied (its_parts self).rest self.parts.value.rest

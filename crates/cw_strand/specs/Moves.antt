@@ -50,12 +50,12 @@ use Rattle.cw_strand.specs.Holds.{KeepsJob, AreSpare, AreRests, IsRunning, IsGoi
 
 -- a run begins a job, whose arrays moved into it
 pub record BeginsRun (p p' : Parts) (r : Run) : Type 0 where
-  pub meter : StartsFrom (origin_of p) p.burden r.meter
+  pub meter : StartsFrom (origin_of p) p.detail r.meter
   pub machine : BeginsJob (code_of p) p.rest r.machine
   pub code : code_of p' ≡ code_of p
   pub extent : p'.extent ≡ p.extent
   pub site : p'.site ≡ p.site
-  pub burden : p'.burden ≡ p.burden
+  pub detail : p'.detail ≡ p.detail
   pub limit : p'.limit ≡ p.limit
   pub before : p'.before ≡ p.before
   pub rest : IsEmptied p.rest p'.rest
@@ -232,7 +232,7 @@ IsAddressed p of site count p' = p' ≡ record {
   extent = extent.ToJoin;
   rest = p.rest;
   site = site;
-  burden = of.burden;
+  detail = of.detail;
   limit = of.limit;
   before = of.before + count;
 }
@@ -254,7 +254,7 @@ pub record HasCut (old new : Strand) (spawn : Spawn) (p : Parts) (l : Lender) : 
   pub code : code_of p ≡ its_code old
   pub joins : p.extent ≡ extent.ToJoin
   pub site : p.site ≡ spawn.site
-  pub burden : p.burden ≡ (its_parts old).burden
+  pub detail : p.detail ≡ (its_parts old).detail
   pub limit : p.limit ≡ (its_parts old).limit
   pub before : p.before ≡ (its_parts old).before + old.count
 

@@ -16,17 +16,11 @@ use cw_jobs::effect::{Effect, Shown};
 use cw_machine::laws::machines_that_stop_remain;
 use cw_machine::machine::Machine;
 use cw_machine::run::Run;
-use cw_meter::Meter;
+use cw_meter::{Detail, Meter};
 use cw_meter_laws::laws::calls_keep_what_meters_tell;
-use cw_model::burden::{Burden, Edges};
 use cw_slices::Slice;
 use cw_strand_laws::laws::{calls_on_a_strand_keep_its_job, rests_stay_in_their_functions};
 use std::mem;
-
-const NO_BURDEN: Burden = Burden {
-    charge: 0,
-    edges: Edges::Spawn,
-};
 
 // What a run has shown and counted in so many instructions.
 fn shown(run: &mut Run, cost: u64) -> Shown
@@ -36,7 +30,7 @@ fn shown(run: &mut Run, cost: u64) -> Shown
     Shown {
         lines: mem::replace(&mut run.machine.lines, Vec::new(alloc)),
         totals: mem::replace(&mut run.machine.totals, Vec::new(alloc)),
-        meter: mem::replace(&mut run.meter, Meter::apart(alloc, 0, NO_BURDEN)),
+        meter: mem::replace(&mut run.meter, Meter::apart(alloc, 0, Detail::Values)),
         cost,
     }
 }

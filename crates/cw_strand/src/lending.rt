@@ -51,7 +51,7 @@ fn address(parts: &mut Parts, of: &Parts, site: u32, count: u64)
 {
     parts.extent = Extent::ToJoin;
     parts.site = site;
-    parts.burden = of.burden;
+    parts.detail = of.detail;
     parts.limit = of.limit;
     parts.before = of.before + count;
 }
@@ -85,7 +85,7 @@ impl Strand {
             extent: Extent::ToJoin,
             rest: empty_rest(alloc),
             site: 0,
-            burden: self.parts.burden,
+            detail: self.parts.detail,
             limit: 0,
             before: 0,
         };

@@ -10,28 +10,27 @@ use cw_jobs::call::{Extent, Parts};
 use cw_jobs::job::Job;
 use cw_machine::machine::Machine;
 use cw_machine::run::Run;
-use cw_meter::Meter;
+use cw_meter::{Detail, Meter};
 use cw_meter_laws::laws::calls_keep_what_meters_tell;
-use cw_model::burden::Burden;
 use cw_strand_laws::laws::calls_on_a_strand_keep_its_job;
 use std::alloc::{AllocError, Global};
 use std::snapshot::Snapshot;
 
-// The meter of a job that goes so far, in the call of a site.
+// The meter of a job that goes so far, in the call of a site, and of which so much is kept.
 fn begin_meter(
     alloc: Global,
     extent: Extent,
     site: u32,
-    burden: Burden,
+    detail: Detail,
 ) -> Result<Meter, AllocError>
-    ensures { IfOk result (λ m. StartsFrom (begins_at extent site) burden m) }
+    ensures { IfOk result (λ m. StartsFrom (begins_at extent site) detail m) }
 {
     match extent {
         Extent::WholeCall => {
-            let meter = Meter::new(alloc, burden)?;
+            let meter = Meter::new(alloc, detail)?;
             Ok(meter)
         }
-        Extent::ToJoin => Ok(Meter::apart(alloc, site, burden)),
+        Extent::ToJoin => Ok(Meter::apart(alloc, site, detail)),
     }
 }
 
@@ -41,7 +40,7 @@ fn begin_run(alloc: Global, parts: &mut Parts) -> Result<Run, AllocError>
     ensures begins { IfOk result (λ r. BeginsRun parts.old parts.new r) }
     ensures same { IfErr result (λ _. parts.new ≡ parts.old) }
 {
-    let meter = begin_meter(alloc, parts.extent, parts.site, parts.burden)?;
+    let meter = begin_meter(alloc, parts.extent, parts.site, parts.detail)?;
     let machine = Machine::begin_job(alloc, &parts.code, &mut parts.rest)?;
     Ok(Run { machine, meter })
 }

@@ -5,6 +5,7 @@ use Rattle.cw_runnable.specs.declared.verified.Verified.{Verified}
 use Rattle.cw_jobs.specs.declared.effect.Effect.{Effect}
 use Rattle.cw_jobs.specs.declared.job.Job.{Job}
 use Rattle.cw_jobs.specs.Means.{IsMeaningOf}
+use Rattle.cw_meter.specs.declared.detail.Detail.TheVariants.{Measures}
 use Rattle.cw_machine.specs.Answering.{IsOfWhole}
 use Rattle.cw_strand.specs.Holds.{its_job, outs}
 use Rattle.cw_world.specs.core.Board.{newest}
@@ -98,6 +99,7 @@ whole v jobs n job e r h means z =
       args = r.args;
       limit = r.limit;
       burden = r.burden;
+      detail = Measures r.burden;
       root = r.root;
       is = r.is;
       means = subst (λ j. IsMeaningOf j e) (same_job jobs n 0 job r.root z h r.named) means;

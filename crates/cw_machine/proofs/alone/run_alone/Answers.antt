@@ -1,8 +1,9 @@
-use Rattle.std.proofs.Common.{arith, ◌≡◌, ℕ, ℤ, List, ◌≤◌, [], ◌∙◌, length, true, sym, subst}
+use Rattle.std.proofs.Common.{arith, ◌≡◌, ℕ, ℤ, List, ◌≤◌, [], ◌∙◌, length, true, refl, sym, subst}
 use Rattle.std.specs.Coded.{le_prop}
 use Rattle.std.proofs.Math.Bool.{Bool-set}
 use Rattle.std.proofs.Math.Logic.{∥∥₁_elim, ∥∥₁_map}
-use Rattle.cw_model.specs.declared.burden.Burden.{Burden}
+use Rattle.cw_meter.specs.declared.detail.Detail.{Detail}
+use Rattle.cw_meter.specs.declared.detail.Detail.TheVariants.{Measures}
 use Rattle.cw_code.specs.declared.code.Reducer.{Reducer}
 use Rattle.cw_code.specs.declared.code.Func.{Func}
 use Rattle.cw_code.specs.Code.{code_view}
@@ -18,8 +19,8 @@ use Rattle.cw_machine.proofs.FromMain.{IsEnded-prop, shown_by, told, is_over, wa
 use Rattle.cw_machine.proofs.alone.run_alone.Goals as goal
 
 -- a new run has main's room and a total for each reducer
-is_new : {f : Func} {args : List ℤ} {room room' : ℕ} {reducers reducers' : List Reducer} {burden : Burden} {r : Run} → room ≡ room' → reducers ≡ reducers' → IsNewRun f args room reducers burden r → IsNewRun f args room' reducers' burden r
-is_new {f} {args} {room} {room'} {reducers} {reducers'} {burden} {r} e e' new = subst (λ k. IsNewRun f args k reducers' burden r) e (subst (λ k. IsNewRun f args room k burden r) e' new)
+is_new : {f : Func} {args : List ℤ} {room room' : ℕ} {reducers reducers' : List Reducer} {detail : Detail} {r : Run} → room ≡ room' → reducers ≡ reducers' → IsNewRun f args room reducers detail r → IsNewRun f args room' reducers' detail r
+is_new {f} {args} {room} {room'} {reducers} {reducers'} {detail} {r} e e' new = subst (λ k. IsNewRun f args k reducers' detail r) e (subst (λ k. IsNewRun f args room k detail r) e' new)
 
 pub func-f-requires : goal.func-f-requires
 func-f-requires c = let v = c.deref-verified.result.now in ∥∥₁_elim v.ok le_prop (λ ok. main_there v ok)
@@ -46,8 +47,8 @@ go-stop-requires-clause-running c =
     let asked : is_asked f.params (length args) n burden ≡ true = sym c.is_asked.ensures ∙ c.if-not-is_asked.false in
     let count = asked_count f args n burden asked in
     let light = asked_burden f args n burden asked in
-    let made : IsNewRun f args (room_of v.rooms.items v.code.main) v.code.reducers.items burden c.in_ok-run.run' = is_new c.room.ensures c.as_slice.ensures.value c.in_ok-run.ensures in
-    ∥∥₁_map v.ok (λ ok. record { verified = ok; burden = burden; light = light; state = first_state f args [] []; shows = first_run v ok (gauge_of v ok burden light) f args c.in_ok-run.run' c.func-f.ensures count made })
+    let made : IsNewRun f args (room_of v.rooms.items v.code.main) v.code.reducers.items (Measures burden) c.in_ok-run.run' = is_new c.room.ensures c.as_slice.ensures.value c.in_ok-run.ensures in
+    ∥∥₁_map v.ok (λ ok. record { verified = ok; detail = Measures burden; light = light; state = first_state f args [] []; shows = first_run v ok (gauge_of v ok (Measures burden) light) f args c.in_ok-run.run' c.func-f.ensures count made })
 
 pub go-stop-requires-clause-small : goal.go-stop-requires-clause-small
 go-stop-requires-clause-small c =
@@ -72,13 +73,13 @@ returns-in-Gave c =
     let asked : is_asked f.params (length args) n burden ≡ true = sym c.is_asked.ensures ∙ c.if-not-is_asked.false in
     let many = asked_count f args n burden asked in
     let light = asked_burden f args n burden asked in
-    let made : IsNewRun f args (room_of v.rooms.items v.code.main) v.code.reducers.items burden c.in_ok-run.run' = is_new c.room.ensures c.as_slice.ensures.value c.in_ok-run.ensures in
+    let made : IsNewRun f args (room_of v.rooms.items v.code.main) v.code.reducers.items (Measures burden) c.in_ok-run.run' = is_new c.room.ensures c.as_slice.ensures.value c.in_ok-run.ensures in
     let serial = code_serial code args n in
     let e = c.in_ok-ended-in-Gave.ended in
     let end = c.in_ok-ended-in-Gave.ensures in
     let is = ∥∥₁_elim v.ok (IsEnded-prop code burden e end.all serial) (λ ok.
-    let g = gauge_of v ok burden light in
-    ended v f args n burden count r c.func-f.ensures asked ok g c.in-Gave.value e c.go-stop.ensures.within end (subst (λ to. Reaches v ok g count to r n (first_state f args [] [])) c.in-Gave.is (c.go-stop.ensures.reaches ok g (first_state f args [] []) (first_run v ok g f args c.in_ok-run.run' c.func-f.ensures many made)))) in
+    let g = gauge_of v ok (Measures burden) light in
+    ended v f args n burden count r c.func-f.ensures asked ok g refl c.in-Gave.value e c.go-stop.ensures.within end (subst (λ to. Reaches v ok g count to r n (first_state f args [] [])) c.in-Gave.is (c.go-stop.ensures.reaches ok g (first_state f args [] []) (first_run v ok g f args c.in_ok-run.run' c.func-f.ensures many made)))) in
     subst (λ (w : Verified). Runs (code_view w.code) args n burden e) c.deref-verified.ensures
     (told v args n burden c.in-Gave.value (shown_by r count) e (requested code f args n burden c.func-f.ensures asked) c.go-stop.ensures.within end is)
 
@@ -95,10 +96,10 @@ returns-in-On c =
     let asked : is_asked f.params (length args) n burden ≡ true = sym c.is_asked.ensures ∙ c.if-not-is_asked.false in
     let many = asked_count f args n burden asked in
     let light = asked_burden f args n burden asked in
-    let made : IsNewRun f args (room_of v.rooms.items v.code.main) v.code.reducers.items burden c.in_ok-run.run' = is_new c.room.ensures c.as_slice.ensures.value c.in_ok-run.ensures in
+    let made : IsNewRun f args (room_of v.rooms.items v.code.main) v.code.reducers.items (Measures burden) c.in_ok-run.run' = is_new c.room.ensures c.as_slice.ensures.value c.in_ok-run.ensures in
     let serial = code_serial code args n in
     let e : is_over serial ≡ true = ∥∥₁_elim v.ok (hlevel Bool-set) (λ ok.
-    let g = gauge_of v ok burden light in
+    let g = gauge_of v ok (Measures burden) light in
     over v f args n burden count r c.func-f.ensures asked ok g (subst (λ to. Reaches v ok g count to r n (first_state f args [] [])) c.in-On.is (c.go-stop.ensures.reaches ok g (first_state f args [] []) (first_run v ok g f args c.in_ok-run.run' c.func-f.ensures many made)))) in
     subst (λ (w : Verified). IsFailure (code_view w.code) args n burden fault.OverLimit) c.deref-verified.ensures
     (requested code f args n burden c.func-f.ensures asked, was_over serial e)
@@ -116,13 +117,13 @@ returns-in-Trapped c =
     let asked : is_asked f.params (length args) n burden ≡ true = sym c.is_asked.ensures ∙ c.if-not-is_asked.false in
     let many = asked_count f args n burden asked in
     let light = asked_burden f args n burden asked in
-    let made : IsNewRun f args (room_of v.rooms.items v.code.main) v.code.reducers.items burden c.in_ok-run.run' = is_new c.room.ensures c.as_slice.ensures.value c.in_ok-run.ensures in
+    let made : IsNewRun f args (room_of v.rooms.items v.code.main) v.code.reducers.items (Measures burden) c.in_ok-run.run' = is_new c.room.ensures c.as_slice.ensures.value c.in_ok-run.ensures in
     let serial = code_serial code args n in
     let trap = c.in-Trapped.trap in
     let line = c.in-Trapped.line in
     let lines = r.machine.lines.items in
     let e = was_trapped trap line lines serial (∥∥₁_elim v.ok (IsTrapped-prop trap line lines serial) (λ ok.
-    let g = gauge_of v ok burden light in
+    let g = gauge_of v ok (Measures burden) light in
     trapped v f args n burden count r c.func-f.ensures asked ok g trap line (subst (λ to. Reaches v ok g count to r n (first_state f args [] [])) c.in-Trapped.is (c.go-stop.ensures.reaches ok g (first_state f args [] []) (first_run v ok g f args c.in_ok-run.run' c.func-f.ensures many made))))) in
     subst (λ (w : Verified). IsFailure (code_view w.code) args n burden (fault.Trap trap line r.machine.lines)) c.deref-verified.ensures
     (requested code f args n burden c.func-f.ensures asked, e)

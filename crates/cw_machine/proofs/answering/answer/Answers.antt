@@ -18,18 +18,18 @@ returns-in-Ended-clause-as_code c = λ args n burden root r means.
 pub returns-in-Trapped-clause-as_code : goal.returns-in-Trapped-clause-as_code
 returns-in-Trapped-clause-as_code c = λ args n burden root r means. (
   r.asked,
-  trapped_as_code c.the_root_answers_what_the_code_gives.ensures c.args.code.now args n burden root r c.in-Trapped.trap c.in-Trapped.line c.in-Trapped.lines c.in-Trapped.cost c.in-Trapped.back
+  trapped_as_code c.the_root_answers_what_the_code_gives.ensures c.args.code.now args n burden _ root r c.in-Trapped.trap c.in-Trapped.line c.in-Trapped.lines c.in-Trapped.cost c.in-Trapped.back
       (subst (λ (e : Effect). IsMeaningOf root e) c.in-Trapped.is means),
 )
 
 pub returns-in-OverLimit-clause-as_code : goal.returns-in-OverLimit-clause-as_code
 returns-in-OverLimit-clause-as_code c = λ args n burden root r means. (
   r.asked,
-  over_as_code c.the_root_answers_what_the_code_gives.ensures c.args.code.now args n burden root r c.in-OverLimit.back
+  over_as_code c.the_root_answers_what_the_code_gives.ensures c.args.code.now args n burden _ root r c.in-OverLimit.back
       (subst (λ (e : Effect). IsMeaningOf root e) c.in-OverLimit.is means),
 )
 
 pub unreachable-requires : goal.unreachable-requires
 unreachable-requires c = ∥∥₁_elim c.requires.whole (hlevel le_prop) (λ whole.
-    comes_to_no_join c.the_root_answers_what_the_code_gives.ensures c.args.code.now whole.args whole.limit whole.burden whole.root whole.is c.in-Joined.frame c.in-Joined.replaced c.in-Joined.shown
+    comes_to_no_join c.the_root_answers_what_the_code_gives.ensures c.args.code.now whole.args whole.limit whole.burden whole.detail whole.root whole.is c.in-Joined.frame c.in-Joined.replaced c.in-Joined.shown
     (subst (λ (e : Effect). IsMeaningOf whole.root e) c.in-Joined.is whole.means))

@@ -1,5 +1,12 @@
-use Rattle.cw_meter.proofs.RestLaws.{meter_rest_starts}
+use Rattle.std.proofs.Common.{refl, subst}
+use Rattle.cw_model.specs.declared.burden.Burden.{Burden}
+use Rattle.cw_meter.specs.declared.meter.Meter.{Meter}
+use Rattle.cw_meter.specs.Tables.{StartsTablesOfRest}
+use Rattle.cw_meter.proofs.DetailLaws.{rest_starts_as}
 use Rattle.cw_meter.proofs.meter.Meter.apart.Goals as goal
 
 pub returns : goal.returns
-returns c = meter_rest_starts c.args.burden c.args.site (record { tables = c.apart.result; parts = c.new.result }) c.apart.ensures c.new.ensures.items
+returns c =
+    let m : Meter = record { detail = c.args.detail; open_parts = 0; tables = c.apart.result; parts = c.new.result } in
+    let P : Burden → Type 0 = λ b. StartsTablesOfRest b c.args.site c.apart.result in
+    rest_starts_as c.args.detail c.args.site m refl refl (subst P c.burden.ensures c.apart.ensures) c.new.ensures.items

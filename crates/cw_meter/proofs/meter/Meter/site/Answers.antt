@@ -1,5 +1,5 @@
-use Rattle.cw_meter.proofs.RestLaws.{meter_here}
+use Rattle.cw_meter.proofs.DetailLaws.{here_as}
 use Rattle.cw_meter.proofs.meter.Meter.site.Goals as goal
 
 pub returns : goal.returns
-returns c = meter_here c.args.self.now
+returns c = here_as c.args.self.now

@@ -1,16 +1,7 @@
-use Rattle.std.proofs.Common.{true, Some, refl, sym, subst, arith}
+use Rattle.std.proofs.Common.{◌∙◌, true, Some, sym}
 use Rattle.cw_model.specs.Trees.{Invocation}
-use Rattle.cw_meter.specs.declared.parts.PartKind.TheVariants as kind
-use Rattle.std.proofs.Math.Nat.{mod-eq_of_lt}
-use Rattle.cw_meter.specs.declared.tables.Tables.{Tables}
-use Rattle.cw_meter.specs.Tables.{CanSpawn}
-use Rattle.cw_meter.proofs.MeterLaws.{meter_begins}
+use Rattle.cw_meter.proofs.DetailLaws.{begins_values}
 use Rattle.cw_meter.proofs.meter.Meter.spawn.Goals as goal
 
-pub spawn_ready-requires : goal.spawn_ready-requires
-spawn_ready-requires c =
-    let P : Tables → Type 0 = λ t. CanSpawn t c.args.site in
-    subst P (sym c.stack_within.ensures.tables) (c.can_spawn.ensures c.if-can_spawn.true)
-
-pub returns-then-can_spawn : goal.returns-then-can_spawn
-returns-then-can_spawn c = meter_begins c.args.self.now c.stack_within.new.self c.spawn_ready.new.self c.args.count _ kind.SpawnedCall true (Some (Invocation c.args.site)) c.stack_within.ensures c.spawn_ready.ensures (λ tags outer. (refl, (c.args.site, refl))) (λ small. mod-eq_of_lt (omega arith))
+pub returns-then-keeps_values : goal.returns-then-keeps_values
+returns-then-keeps_values c = begins_values c.args.self.now c.count_part.new.self c.args.count true (Some (Invocation c.args.site)) (sym c.keeps_values.ensures ∙ c.if-keeps_values.true) c.count_part.ensures

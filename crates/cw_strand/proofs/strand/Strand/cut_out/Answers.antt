@@ -71,7 +71,7 @@ returns-clause-cut c =
       code = ap (λ q. code_of q) told ∙ ap (λ q. code_of q) c.deref_mut-2.ensures.value ∙ ap (λ q. code_of q) c.deref_mut.ensures.value ∙ c.in_ok-parts.ensures.code;
       joins = ap (λ (q : Parts). q.extent) told;
       site = ap (λ (q : Parts). q.site) told;
-      burden = ap (λ (q : Parts). q.burden) told ∙ ap (λ (q : Parts). q.burden) same ∙ keeps.burden;
+      detail = ap (λ (q : Parts). q.detail) told ∙ ap (λ (q : Parts). q.detail) same ∙ keeps.detail;
       limit = ap (λ (q : Parts). q.limit) told ∙ ap (λ (q : Parts). q.limit) same ∙ keeps.limit;
       before = ap (λ (q : Parts). q.before) told ∙ ap₂ (λ (x y : ℕ). x + y) (ap (λ (q : Parts). q.before) same ∙ keeps.before) stays.count;
     }
