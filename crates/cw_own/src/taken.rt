@@ -8,7 +8,7 @@ ghost use Rattle.cw_own.specs.Reasons.{int_holder, array_taker, array_reader, ar
 
 use crate::bits::Bits;
 use crate::held::Held;
-use crate::reason::Holder;
+use crate::reason::{Holder, Start};
 use crate::row::Row;
 use crate::told::Watch;
 
@@ -24,6 +24,13 @@ pub struct Taken {
     pub cuts: Bits,
     /// Since which line the local that is watched is cut.
     pub cut_since: Option<u32>,
+}
+
+// Since which line something is held, by spawns of sync blocks around the innermost one, or else by what is in that.
+fn since(outer: Option<u32>, here: Option<u32>) -> Option<Start> {
+    let line = outer.or(here)?;
+    let is_around = outer.is_some();
+    Some(Start { line, is_around })
 }
 
 impl Taken {
@@ -80,11 +87,13 @@ impl Taken {
     }
 
     /// Since which line this holds the local that is watched.
-    pub fn since(&self, holder: Holder) -> Option<u32> {
+    pub fn since(&self, holder: Holder) -> Option<Start> {
         match holder {
-            Holder::Result | Holder::Argument => self.outer.since.taken.or(self.here.since.taken),
-            Holder::Reader => self.outer.since.frozen.or(self.here.since.frozen),
-            Holder::Cut => self.cut_since,
+            Holder::Result | Holder::Argument => {
+                since(self.outer.since.taken, self.here.since.taken)
+            }
+            Holder::Reader => since(self.outer.since.frozen, self.here.since.frozen),
+            Holder::Cut => since(None, self.cut_since),
         }
     }
 

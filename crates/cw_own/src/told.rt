@@ -5,7 +5,7 @@ ghost use Rattle.cw_reasons.specs.Told.{no_place};
 ghost use Rattle.cw_own.specs.Reasons.{reasons_at};
 ghost use Rattle.cw_own.specs.Views.{Noted, places_told, reason_of, told_of};
 
-use crate::reason::{Disowned, Holder};
+use crate::reason::{Disowned, Holder, Start};
 use crate::row::Row;
 use cw_reasons::Reasons;
 
@@ -46,7 +46,7 @@ impl Watch {
     }
 
     // Since which line the local of a slot is held, where it is watched.
-    fn since(&self, slot: u32, holder: Holder, since: Option<u32>) -> Option<u32> {
+    fn since(&self, slot: u32, holder: Holder, since: Option<Start>) -> Option<Start> {
         let is_watched = match holder {
             Holder::Result => self.is_int(slot),
             Holder::Argument | Holder::Reader | Holder::Cut => self.is_array(slot),

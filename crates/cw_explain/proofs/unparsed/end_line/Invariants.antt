@@ -1,6 +1,6 @@
 use Rattle.std.proofs.Common.{◌≡◌, ◌+◌, ◌≤◌}
 use Rattle.cw_model.specs.Text.{line_at}
-use Rattle.cw_told.proofs.unparsed.end_line.Given as goal
+use Rattle.cw_explain.proofs.unparsed.end_line.Given as goal
 
 abbrev pub invariant-loop-byte : goal.invariant-loop-byte
 invariant-loop-byte l = record {

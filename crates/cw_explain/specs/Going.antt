@@ -5,7 +5,7 @@ use Rattle.cw_model.specs.Grammar.{Derives, HasSyntaxFault}
 use Rattle.cw_model.specs.Syntax.{Program}
 use Rattle.cw_model.specs.Text.{end_line}
 use Rattle.cw_model.specs.Tokens.{IsTokenCut}
-use Rattle.cw_told.specs.declared.grammar.Choice.{Choice}
+use Rattle.cw_explain.specs.declared.grammar.Choice.{Choice}
 
 -- the tokens of the text are a source, or refused no sooner than at the line of the text's end
 pub record GoesOn (text : List ℕ) : Type 0 where

@@ -45,7 +45,7 @@ pub static MIDDLES: &[&str] = &[
 
 /// What is said where a statement begins by the first words, the words right before the token that cannot stand are the
 /// second, and those from it on the third: `x` stands for a name, `1` for a number, `operator`, `type` and `storage` for a word of
-/// these tables, `first` for the first token of the statement, and an empty one for any token. In the text `@^` stands for the first word of the statement, `@&` for the one behind it, `@+` for that
+/// these tables, and an empty one for any token. In the text `@^` stands for the first word of the statement, `@&` for the one behind it, `@+` for that
 /// behind the token, `@0` for it, `@1` for that before it, and so on; `@{` for the line of the innermost open bracket. Of several rows
 /// that fit the first one counts.
 pub type Row = (

@@ -2,8 +2,8 @@
 
 use crate::around::{Opened, word_of};
 use crate::near::{declared_behind, is_declared, is_near, nearest};
+use crate::word::Word;
 use crate::words::LIBRARY;
-use cw_explain::Word;
 use cw_model::token::{Kind, Token};
 use std::alloc::{AllocError, Global};
 use std::fmt;

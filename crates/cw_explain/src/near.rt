@@ -1,7 +1,7 @@
 //! Names that are one edit away from what was meant.
 
 use crate::around::word_of;
-use cw_explain::Word;
+use crate::word::Word;
 use cw_model::token::{Kind, Token};
 
 /// The least bytes of names that are compared.
@@ -83,4 +83,34 @@ pub fn is_declared(text: &[u8], tokens: &[Token], name: Word<'_>) -> bool {
         declared = declared_behind(declared, token.kind);
     }
     false
+}
+
+/// Whether the function that a line stands in has a const parameter of this name.
+pub fn is_const(text: &[u8], tokens: &[Token], name: Word<'_>, line: u32) -> bool {
+    let mut braces: usize = 0;
+    let mut found = false;
+    for place in 0..tokens.len() {
+        let token = tokens[place];
+        if token.line > line {
+            return found;
+        }
+        match token.kind {
+            Kind::LeftBrace => braces = braces.saturating_add(1),
+            Kind::RightBrace => {
+                braces = braces.saturating_sub(1);
+                found = found && (braces > 0 || token.line == line);
+            }
+            Kind::Const => found = found || is_named(text, tokens, place, name),
+            _ => {}
+        }
+    }
+    found
+}
+
+// Whether the parameter that begins at a place with `const int` has this name.
+fn is_named(text: &[u8], tokens: &[Token], place: usize, name: Word<'_>) -> bool {
+    match tokens.get(place.saturating_add(2)) {
+        Some(token) => word_of(text, *token).is(name.text),
+        None => false,
+    }
 }

@@ -1,7 +1,7 @@
 //! The token that no source goes on with, and those that one does.
 
 ghost use Rattle.std.specs.Prelude.{◌≡◌, ◌≤◌, IfOk, length, true};
-ghost use Rattle.cw_told.specs.Going.{AllCanFollow, GoesOn, followed};
+ghost use Rattle.cw_explain.specs.Going.{AllCanFollow, GoesOn, followed};
 ghost use Rattle.cw_model.specs.Text.{end_line};
 ghost use Rattle.cw_model.specs.Tokens.{IsTokenCut};
 ghost use Rattle.cw_model.specs.declared.limits.TheConstants.{MOST_SOURCE_BYTES};
@@ -10,8 +10,8 @@ use crate::around::Around;
 use crate::grammar::{ALL, Choice, spelled};
 use crate::near::{is_near, nearest};
 use crate::shortened::Shortened;
+use crate::word::Word;
 use crate::words::{INSIDE, ITEMS, MIDDLES, OUTSIDE, Row, STARTS, WORDS};
-use cw_explain::Word;
 use cw_lex::lex;
 use cw_model::token::{Kind, Token};
 use cw_parse::{first_refused, parse};

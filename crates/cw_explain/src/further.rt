@@ -2,16 +2,14 @@
 //! types and ownership what their stages tell.
 
 use crate::around::{Around, Opened};
+use crate::lexical::{Unreadable, no_token, not_ascii};
 use crate::others::Named;
-use crate::owning::Unowned;
+use crate::refusals::Refusals;
 use crate::unparsed::BARE;
 use crate::words::{OUTSIDE, WORDS};
-use cw_explain::{Unreadable, Untyped, no_token, not_ascii};
 use cw_model::token::Token;
-use cw_own::Disowned;
-use cw_reasons::Reasons;
+use cw_reasons::MOST_TOLD;
 use cw_text::Fault;
-use cw_types::IllTyped;
 use std::alloc::Global;
 use std::fmt;
 
@@ -110,38 +108,14 @@ pub fn add_text(out: &mut String, file: Named<'_>, text: &[u8], line: u32) -> Re
     Ok(())
 }
 
-/// Adds what is told of names and types behind the first line, each line with its source in front.
-pub fn add_types(
-    out: &mut String,
-    file: Named<'_>,
-    told: &Reasons<IllTyped<'_>>,
-) -> Result<(), Fault> {
-    let places = &told.places[..];
-    for place in 1..places.len() {
-        if let Some(at) = places[place] {
-            if out.len() < MOST_BYTES {
-                let line = at.line;
-                let reason = Untyped { reason: at.reason };
-                write!(out, "{file}:{line}: {reason}\n")?;
-            }
-        }
-    }
-    Ok(())
-}
-
-/// Adds what is told of ownership behind the first line, each line with its source in front.
-pub fn add_unowned(
-    out: &mut String,
-    file: Named<'_>,
-    told: &Reasons<Disowned<'_>>,
-) -> Result<(), Fault> {
-    let places = &told.places[..];
-    for place in 1..places.len() {
-        if let Some(at) = places[place] {
-            if out.len() < MOST_BYTES {
-                let line = at.line;
-                let reason = Unowned { at };
-                write!(out, "{file}:{line}: {reason}\n")?;
+/// Adds what is told of names and types, or of ownership, behind the first line, each line with its source in front.
+pub fn add_refusals<R: Refusals>(out: &mut String, file: Named<'_>, told: &R) -> Result<(), Fault> {
+    for place in 1..MOST_TOLD {
+        if out.len() < MOST_BYTES {
+            if let Some(refusal) = told.at(place) {
+                let line = refusal.line;
+                let phrase = refusal.phrase;
+                write!(out, "{file}:{line}: {phrase}\n")?;
             }
         }
     }

@@ -3,25 +3,28 @@
 ghost use Rattle.std.specs.Prelude.{IfOk};
 ghost use Rattle.cw_model.specs.Tokens.{IsTokenCut};
 
-use crate::further::{add_text, add_tokens, add_types, add_unowned};
+use crate::excerpt::{add_lines, line_of};
+use crate::further::{add_refusals, add_text, add_tokens};
 use crate::hinting::{closed_return, hint_in};
+use crate::lexical::{Unreadable, no_token, not_ascii};
+use crate::limits::{nested, passed_by_code};
 use crate::others::{Named, of_run, parameters_of_main};
-use crate::owning::Unowned;
-use crate::unparsed::first_unparsed;
+use crate::owning::Text;
+use crate::refusals::{OfOwnership, OfTypes, Refusals};
+use crate::traps::trapped;
+use crate::unparsed::{Unparsed, first_unparsed};
 use crate::words::BYTES;
-use cw_explain::{
-    Passed, Trapped, Unreadable, Untyped, add_lines, line_of, no_token, not_ascii, passed_by_code,
-    passed_by_tokens,
-};
+use crate::{limits, parts};
 use cw_lex::lex;
 use cw_model::limits::MOST_SOURCE_BYTES;
 use cw_model::token::Token;
+use cw_model::trap::Trap;
 use cw_own::disowned;
-use cw_parse::parse;
+use cw_parse::{parse, passed_by_tokens};
 use cw_text::{Fault, Source};
 use cw_tree::syntax::Ast;
 use cw_types::{check, ill_typed, too_large};
-use std::alloc::Global;
+use std::alloc::{AllocError, Global};
 
 /// What is refused: a source, with the words that it was run with.
 #[derive(Clone, Copy)]
@@ -46,41 +49,57 @@ pub struct Refused<'a> {
 /// Nothing is told of want of memory, nor of code that the verifier refuses. `Memory` where memory runs out.
 pub fn explain(alloc: Global, refused: &Refused<'_>, fault: &Fault) -> Result<String, Fault> {
     let mut out = String::new(alloc);
+    add_reason(alloc, &mut out, refused, fault)?;
+    Ok(out)
+}
+
+// Adds why a source is refused with this fault, or its run.
+fn add_reason(
+    alloc: Global,
+    out: &mut String,
+    refused: &Refused<'_>,
+    fault: &Fault,
+) -> Result<(), Fault> {
+    let file = refused.file;
     let bytes = refused.bytes;
     match fault {
         Fault::Lexical(place) => {
-            add_place(&mut out, refused.file, place.line)?;
-            of_text(&mut out, bytes, place.line)?;
-            let path = refused.file;
-            add_text(&mut out, Named { path }, bytes, place.line)?;
+            add_place(out, file, place.line)?;
+            of_text(out, bytes, place.line)?;
+            add_text(out, Named { path: file }, bytes, place.line)
         }
         Fault::Syntax(place) => {
-            add_place(&mut out, refused.file, place.line)?;
-            of_grammar(alloc, &mut out, refused, place.line)?;
+            add_place(out, file, place.line)?;
+            of_grammar(alloc, out, refused, place.line)
         }
         Fault::Types(place) => {
-            add_place(&mut out, refused.file, place.line)?;
-            of_types(alloc, &mut out, refused, place.line)?;
+            add_place(out, file, place.line)?;
+            of_types(alloc, out, refused, place.line)
         }
         Fault::Ownership(place) => {
-            add_place(&mut out, refused.file, place.line)?;
-            of_ownership(alloc, &mut out, refused, place.line)?;
+            add_place(out, file, place.line)?;
+            of_ownership(alloc, out, refused, place.line)
         }
         Fault::Size(place) => {
-            add_place(&mut out, refused.file, place.line)?;
-            of_size(alloc, &mut out, bytes, place.line)?;
+            add_place(out, file, place.line)?;
+            of_size(alloc, out, bytes, place.line)
         }
-        Fault::Trap { code, line, .. } => {
-            let code = *code;
-            let trapped = Trapped { code };
-            add_place(&mut out, refused.file, *line)?;
-            write!(out, "{trapped}\n")?;
-            add_lines(&mut out, bytes, *line, None)?;
+        Fault::Trap { code, line, .. } => of_trap(out, refused, *code, *line),
+        Fault::Arguments => of_arguments(alloc, out, refused),
+        _ => {
+            of_run(out, refused, fault)?;
+            Ok(())
         }
-        Fault::Arguments => of_arguments(alloc, &mut out, refused)?,
-        _ => of_run(&mut out, refused, fault)?,
     }
-    Ok(out)
+}
+
+// Of a trap.
+fn of_trap(out: &mut String, refused: &Refused<'_>, code: Trap, line: u32) -> Result<(), Fault> {
+    let rule = trapped(code);
+    add_place(out, refused.file, line)?;
+    write!(out, "{rule}\n")?;
+    add_lines(out, refused.bytes, line, None)?;
+    Ok(())
 }
 
 // Of the arguments of main.
@@ -152,20 +171,26 @@ fn of_grammar(
     refused: &Refused<'_>,
     line: u32,
 ) -> Result<(), Fault> {
+    let (source, tokens) = tokens_of(alloc, refused.bytes)?;
     let bytes = refused.bytes;
-    let (source, tokens) = tokens_of(alloc, bytes)?;
-    match first_unparsed(alloc, &source, bytes, tokens.as_slice())? {
-        Some(reason) => {
-            write!(out, "{reason}\n")?;
-            add_lines(out, bytes, line, reason.other_line())?;
-        }
-        None => {
-            out.push_str("a token cannot stand here\n")?;
-            add_lines(out, bytes, line, None)?;
-        }
+    let tokens = tokens.as_slice();
+    match first_unparsed(alloc, &source, bytes, tokens)? {
+        Some(reason) => add_unparsed(out, bytes, line, &reason)?,
+        None => out.push_str("a token cannot stand here\n")?,
     }
     let path = refused.file;
-    add_tokens(alloc, out, Named { path }, bytes, tokens.as_slice(), line)
+    add_tokens(alloc, out, Named { path }, bytes, tokens, line)
+}
+
+// Adds why a token cannot stand, and the lines that matter.
+fn add_unparsed(
+    out: &mut String,
+    bytes: &[u8],
+    line: u32,
+    reason: &Unparsed<'_>,
+) -> Result<(), AllocError> {
+    write!(out, "{reason}\n")?;
+    add_lines(out, bytes, line, reason.other_line())
 }
 
 // What the tokens say besides, where names or types are refused.
@@ -176,11 +201,34 @@ fn add_hints(
     line: u32,
 ) -> Result<(), Fault> {
     let (_source, tokens) = tokens_of(alloc, refused.bytes)?;
-    if let Some(hint) = hint_in(alloc, refused.bytes, tokens.as_slice(), line)? {
+    add_hint(alloc, out, refused, tokens.as_slice(), line)?;
+    add_closed(alloc, out, refused, tokens.as_slice(), line)
+}
+
+// What they say of a name in the line.
+fn add_hint(
+    alloc: Global,
+    out: &mut String,
+    refused: &Refused<'_>,
+    tokens: &[Token],
+    line: u32,
+) -> Result<(), Fault> {
+    if let Some(hint) = hint_in(alloc, refused.bytes, tokens, line)? {
         add_place(out, refused.file, line)?;
         write!(out, "{hint}\n")?;
     }
-    if let Some(token) = closed_return(alloc, tokens.as_slice(), line)? {
+    Ok(())
+}
+
+// What they say of a return in the function whose head is in the line.
+fn add_closed(
+    alloc: Global,
+    out: &mut String,
+    refused: &Refused<'_>,
+    tokens: &[Token],
+    line: u32,
+) -> Result<(), Fault> {
+    if let Some(token) = closed_return(alloc, tokens, line)? {
         add_place(out, refused.file, token.line)?;
         out.push_str(
             "this return stands in a block that is left at its end only: assign to a name from outside, and return behind the block\n",
@@ -197,23 +245,13 @@ fn of_types(
     refused: &Refused<'_>,
     line: u32,
 ) -> Result<(), Fault> {
-    let bytes = refused.bytes;
-    let ast = tree_of(alloc, bytes)?;
-    let told = ill_typed(alloc, &ast)?;
-    match told.first() {
-        Some(at) => {
-            let reason = Untyped { reason: at.reason };
-            write!(out, "{reason}\n")?;
-            add_lines(out, bytes, line, reason.other_line())?;
-        }
-        None => {
-            out.push_str("a rule of names and types is broken\n")?;
-            add_lines(out, bytes, line, None)?;
-        }
-    }
+    let ast = tree_of(alloc, refused.bytes)?;
+    let told = OfTypes {
+        told: ill_typed(alloc, &ast)?,
+    };
+    add_first(out, refused.bytes, line, &told)?;
     add_hints(alloc, out, refused, line)?;
-    let path = refused.file;
-    add_types(out, Named { path }, &told)
+    add_refusals(out, Named { path: refused.file }, &told)
 }
 
 // Of ownership.
@@ -224,22 +262,40 @@ fn of_ownership(
     line: u32,
 ) -> Result<(), Fault> {
     let bytes = refused.bytes;
-    let ast = tree_of(alloc, bytes)?;
+    let (source, tokens) = tokens_of(alloc, bytes)?;
+    let ast = parse(alloc, &source, tokens.as_slice())?;
     let typed = check(alloc, ast)?;
-    let told = disowned(alloc, &typed)?;
-    match told.first() {
-        Some(at) => {
-            let reason = Unowned { at };
-            write!(out, "{reason}\n")?;
-            add_lines(out, bytes, line, reason.other_line())?;
+    let text = Text {
+        bytes,
+        tokens: tokens.as_slice(),
+    };
+    let told = OfOwnership {
+        told: disowned(alloc, &typed)?,
+        text,
+    };
+    add_first(out, bytes, line, &told)?;
+    add_refusals(out, Named { path: refused.file }, &told)
+}
+
+// Adds the rule that the first line breaks, and the lines that matter.
+fn add_first<R: Refusals>(
+    out: &mut String,
+    bytes: &[u8],
+    line: u32,
+    told: &R,
+) -> Result<(), Fault> {
+    match told.at(0) {
+        Some(first) => {
+            let rule = first.phrase;
+            write!(out, "{rule}\n")?;
+            add_lines(out, bytes, line, first.other_line)?;
         }
         None => {
-            out.push_str("a rule of ownership is broken\n")?;
+            out.push_str("a rule is broken here\n")?;
             add_lines(out, bytes, line, None)?;
         }
     }
-    let path = refused.file;
-    add_unowned(out, Named { path }, &told)
+    Ok(())
 }
 
 // Of limits: of the bytes, a name, the tokens, the program's parts, and its code, in this order.
@@ -249,7 +305,7 @@ fn of_size(alloc: Global, out: &mut String, bytes: &[u8], line: u32) -> Result<(
         write!(out, "{reason}\n")?;
         return Ok(());
     }
-    match of_read(alloc, out, bytes, line) {
+    match of_read(alloc, out, bytes) {
         Ok(()) => {}
         Err(Fault::Size(_place)) => of_name(out, bytes, line)?,
         Err(fault) => return Err(fault),
@@ -259,9 +315,9 @@ fn of_size(alloc: Global, out: &mut String, bytes: &[u8], line: u32) -> Result<(
 }
 
 // Of what the bytes are cut into; `Size` where a name among them is too long.
-fn of_read(alloc: Global, out: &mut String, bytes: &[u8], line: u32) -> Result<(), Fault> {
+fn of_read(alloc: Global, out: &mut String, bytes: &[u8]) -> Result<(), Fault> {
     let (source, tokens) = tokens_of(alloc, bytes)?;
-    of_tokens(alloc, out, &source, tokens.as_slice(), line)
+    of_tokens(alloc, out, &source, tokens.as_slice())
 }
 
 // Of a name.
@@ -279,13 +335,13 @@ fn of_tokens(
     out: &mut String,
     source: &Source,
     tokens: &[Token],
-    line: u32,
 ) -> Result<(), Fault>
     requires { IsTokenCut source.now tokens.now }
 {
-    match passed_by_tokens(tokens, line) {
-        Some(reason) => {
-            write!(out, "{reason}\n")?;
+    match passed_by_tokens(tokens) {
+        Some(at) => {
+            let limit = nested(at.reason);
+            write!(out, "{limit}\n")?;
             Ok(())
         }
         None => {
@@ -299,12 +355,12 @@ fn of_tokens(
 fn of_parts(alloc: Global, out: &mut String, ast: &Ast) -> Result<(), Fault> {
     match too_large(alloc, ast)? {
         Some(at) => {
-            let limit = Passed { limit: at.reason };
+            let limit = parts::phrase_of(&at.reason);
             write!(out, "{limit}\n")?;
         }
         None => {
-            let reason = passed_by_code(alloc, ast)?;
-            write!(out, "{reason}\n")?;
+            let limit = limits::phrase_of(passed_by_code(alloc, ast)?);
+            write!(out, "{limit}\n")?;
         }
     }
     Ok(())

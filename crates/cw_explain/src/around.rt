@@ -1,8 +1,8 @@
 //! Where a source is refused: the tokens round that place, and what is open there.
 
 use crate::near::is_declared;
+use crate::word::Word;
 use crate::words::{OPERATORS, STORAGE, TYPES};
-use cw_explain::Word;
 use cw_model::token::{Kind, Token};
 use std::alloc::{AllocError, Global};
 use std::fmt;

@@ -13,7 +13,7 @@ pub struct Choice {
 
 /// All of them: names, numbers, the words of the language, and its symbols, where `*` stands for the operators between
 /// two operands; a `-` stands where a `!` or one of them does.
-pub const ALL: &[Choice] = &[
+pub static ALL: &[Choice] = &[
     Choice {
         word: "x",
         shown: "a name",
