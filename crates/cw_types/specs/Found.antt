@@ -1,5 +1,5 @@
 -- What the code answers where it has looked names up.
-use Rattle.std.specs.Prelude.{◌≡◌, ◌≤◌, ◌+◌, ◌++◌, ℕ, List, length, map, Option, option_map}
+use Rattle.std.specs.Prelude.{◌≡◌, ◌≤◌, ◌+◌, ◌++◌, ℕ, List, length, map, Option, option_map, Result, IfOk}
 use Rattle.std.specs.Global.{Vec}
 use Rattle.cw_model.specs.declared.limits.TheConstants.{MOST_DECLARED}
 use Rattle.cw_model.specs.Syntax.{Name}
@@ -100,6 +100,16 @@ IsCutOver lists locals c b found =
 abbrev pub IsBlock : Lists → Locals → List Line → List made_line.Line → Type 0
 IsBlock lists locals b found =
     block_of found ≡ spec.resolved_block (lists_view lists) (locals_view locals) (parsed.block_of b)
+
+-- this was found, and the locals that are known are those of before
+pub record IsFound (Found : Type 0) (before after : Locals) : Type 0 where
+  pub tree : Found
+  pub ints : after.ints ≡ before.ints
+  pub arrays : after.arrays ≡ before.arrays
+
+-- where memory did not run out, such a thing was found, and the locals that are known are those of before
+abbrev pub Finds : {A E : Type 0} → (A → Type 0) → (before after : Locals) → Result A E → Type 0
+Finds Such before after r = IfOk r (λ found. IsFound (Such found) before after)
 
 -- a function declares no more names than it may, its parameters included
 abbrev pub DeclaresFew : Function → Type 0

@@ -1,9 +1,9 @@
 //! Names looked up in statements and blocks.
 
-ghost use Rattle.std.specs.Prelude.{◌≡◌, ◌<◌, ◌+◌, ◌^◌, true, IfOk, OnOk};
+ghost use Rattle.std.specs.Prelude.{◌≡◌, ◌<◌, ◌+◌, ◌^◌, true, IfOk};
 ghost use Rattle.cw_tree.specs.SyntaxView as parsed;
 ghost use Rattle.cw_tree.specs.Declares.{declares_in, declares_in_block, is_plain};
-ghost use Rattle.cw_types.specs.Found.{IsBlock, IsCutOver, IsLoop, IsStmt, cut_over, loop_over};
+ghost use Rattle.cw_types.specs.Found.{Finds, IsBlock, IsCutOver, IsLoop, IsStmt, cut_over, loop_over};
 ghost use Rattle.cw_types.specs.Locals.{locals_count};
 
 use crate::lists::Lists;
@@ -22,9 +22,8 @@ pub fn block<'a>(
     lines: &'a [Line],
 ) -> Result<Vec<tree::Line>, AllocError>
     requires { locals_count locals.old + declares_in_block (parsed.block_of lines.now) < 2 ^ 32 }
-    ensures tree { IfOk result (λ found. IsBlock lists.now locals.old lines.now found.items) }
-    ensures ints { OnOk result (locals.new.ints ≡ locals.old.ints) }
-    ensures arrays { OnOk result (locals.new.arrays ≡ locals.old.arrays) }
+    ensures { Finds (λ found. IsBlock lists.now locals.old lines.now found.items)
+        locals.old locals.new result }
 {
     let ints = locals.ints.len();
     let arrays = locals.arrays.len();
@@ -51,9 +50,7 @@ fn statement<'a>(
     stmt: &'a Stmt,
 ) -> Result<tree::Stmt, AllocError>
     requires { locals_count locals.old + declares_in (parsed.stmt_of stmt.now) < 2 ^ 32 }
-    ensures tree { IfOk result (IsStmt lists.now locals.old stmt.now) }
-    ensures ints { OnOk result (locals.new.ints ≡ locals.old.ints) }
-    ensures arrays { OnOk result (locals.new.arrays ≡ locals.old.arrays) }
+    ensures { Finds (IsStmt lists.now locals.old stmt.now) locals.old locals.new result }
 {
     match stmt {
         Stmt::If(e, b) => {
@@ -108,9 +105,7 @@ fn turns<'a>(
     b: &'a [Line],
 ) -> Result<tree::Stmt, AllocError>
     requires { locals_count locals.old + declares_in (loop_over h.now b.now) < 2 ^ 32 }
-    ensures tree { IfOk result (IsLoop lists.now locals.old h.now b.now) }
-    ensures ints { OnOk result (locals.new.ints ≡ locals.old.ints) }
-    ensures arrays { OnOk result (locals.new.arrays ≡ locals.old.arrays) }
+    ensures { Finds (IsLoop lists.now locals.old h.now b.now) locals.old locals.new result }
 {
     locals.ints.add(h.variable.as_bytes())?;
     let body = block(alloc, lists, locals, b)?;
@@ -129,9 +124,7 @@ fn with_parts<'a>(
     b: &'a [Line],
 ) -> Result<tree::Stmt, AllocError>
     requires { locals_count locals.old + declares_in (cut_over c.now b.now) < 2 ^ 32 }
-    ensures tree { IfOk result (IsCutOver lists.now locals.old c.now b.now) }
-    ensures ints { OnOk result (locals.new.ints ≡ locals.old.ints) }
-    ensures arrays { OnOk result (locals.new.arrays ≡ locals.old.arrays) }
+    ensures { Finds (IsCutOver lists.now locals.old c.now b.now) locals.old locals.new result }
 {
     let parts = cut(alloc, locals, c)?;
     locals.arrays.add(c.left.as_bytes())?;
