@@ -205,15 +205,14 @@ fn wrong_of(alloc: Global, run: &Run) -> Result<Option<&'static str>, AllocError
     Ok(None)
 }
 
-/// Whether a meter of values alone counts a call.
+/// Whether a meter of values alone counts a call beside the run's own of `main`, with which it begins.
 fn counts_a_call(alloc: Global, run: &Run) -> Result<bool, AllocError> {
     let all = measures_of(alloc, run, Detail::Values)?;
+    let mut calls = 0u64;
     for row in &all.sites {
-        if row.calls > 0 {
-            return Ok(true);
-        }
+        calls = calls.wrapping_add(row.calls);
     }
-    Ok(false)
+    Ok(calls > 1)
 }
 
 static WHOLE_RUNS: [Run; 3] = [
