@@ -1,16 +1,9 @@
 -- Arguments that are read one by one are words of 64 bits.
-use Rattle.std.proofs.Common.{◌≡◌, ℕ, zero, suc, ◌<◌, ◌≤◌, ℤ, pos, List, [], ◌∷◌, length, Bool, true, false, ◌&&◌, slice_index_or, refl, ap, ◌∙◌, arith}
+use Rattle.std.proofs.Common.{◌≡◌, ℕ, zero, suc, ◌<◌, ◌≤◌, ℤ, pos, List, [], ◌∷◌, length, true, ◌&&◌, slice_index_or, refl, ap, ◌∙◌, arith}
 use Rattle.std.specs.Prelude.{take}
 use Rattle.std.specs.List.{list_all}
+use Rattle.cw_facts.specs.Tests.{first_true, second_true}
 use Rattle.cw_model.specs.Ints.{fits}
-
-first_true : (a b : Bool) → (a && b) ≡ true → a ≡ true
-first_true true b h = refl
-first_true false b h = cc
-
-second_true : (a b : Bool) → (a && b) ≡ true → b ≡ true
-second_true true b h = h
-second_true false b h = cc
 
 -- one word more
 pub words_more : (xs : List ℤ) (n : ℕ) → n < length xs → list_all fits (take n xs) ≡ true → fits (slice_index_or xs n (pos 0)) ≡ true → list_all fits (take (suc n) xs) ≡ true

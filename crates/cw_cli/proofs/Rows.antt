@@ -1,11 +1,12 @@
 -- The rows that a run tells of are those of its tree.
-use Rattle.std.proofs.Common.{◌≡◌, ◌∙◌, ◌+◌, ℕ, ℤ, suc, Bool, true, false, ◌&&◌, List, [], ◌∷◌, ◌++◌, length, Some, Ok, flat_map, map, refl, sym, ap, ap₂, subst, arith}
+use Rattle.std.proofs.Common.{◌≡◌, ◌∙◌, ◌+◌, ℕ, ℤ, suc, true, List, [], ◌∷◌, ◌++◌, length, Some, Ok, flat_map, map, refl, sym, ap, ap₂, subst, arith}
 use Rattle.std.specs.Prelude.{nat_eq, slice_get, decimal}
-use Rattle.std.proofs.lemmas.Bool.Decides.{nat_tests}
 use Rattle.std.proofs.lemmas.List.{length-map}
 use Rattle.std.specs.Global.{Vec}
 use Rattle.std.specs.Map.{keys_of, values_of}
+use Rattle.std.proofs.lemmas.Bool.{and_parts}
 use Rattle.indexmap.specs.IndexMap.{values}
+use Rattle.cw_facts.specs.Tests.{eq_of}
 use Rattle.cw_model.specs.declared.burden.Burden.{Burden}
 use Rattle.cw_model.specs.Syntax.{Program, Name}
 use Rattle.cw_model.specs.declared.total.Total.{Total}
@@ -17,6 +18,7 @@ use Rattle.cw_model.specs.Freed.{FunctionRow, worth_telling}
 use Rattle.cw_model.specs.Report.{csv_line, scale_header, scale_line, scale_text, sites_header, sites_text, site_kind_text, site_line, region_line, tags_of, gain_header, gain_line, gain_text, free_line, whole_row}
 use Rattle.cw_sites.specs.declared.table.SiteRow.{SiteRow}
 use Rattle.cw_sites.specs.Tables as sites
+use Rattle.cw_sites.specs.lemmas.Tables.{AreRowsFrom}
 use Rattle.cw_regions.specs.declared.table.RegionRow.{RegionRow}
 use Rattle.cw_meter.specs.Whole.{AreReadings, AreSiteRows, AreRegionRows}
 use Rattle.cw_code.specs.Code.{Code, told_sites}
@@ -57,17 +59,6 @@ scale_is program code burden e t tags keys whole rows =
 
 -- ---- sites
 
-both : (a b : Bool) → (a && b) ≡ true → (a ≡ true) × (b ≡ true)
-both true b h = (refl, h)
-both false b h = cc
-
-is_same : (a b : ℕ) → nat_eq a b ≡ true → a ≡ b
-is_same a b h = grind (arith, nat_tests)
-
--- the rows from this number on are those of a tree
-abbrev AreRowsFrom : ℕ → Tree → List SiteRow → Type 0
-AreRowsFrom n t rows = (k site : ℕ) (row : SiteRow) → site ≡ n + k → slice_get rows k ≡ Some row → sites.IsRow row (site_row site t)
-
 counts_are : (t : Tree) (number : ℕ) (row : SiteRow) → sites.IsRow row (site_row number t)
     → counts_of row ≡ decimal (site_row number t).calls ∷ decimal (site_row number t).own_work ∷ decimal (site_row number t).own_span ∷ decimal (site_row number t).work ∷ decimal (site_row number t).span ∷ []
 counts_are t number row is =
@@ -84,8 +75,8 @@ rows_are : (n : ℕ) (all : List CallSite) (rows : List SiteRow) (t : Tree) → 
 rows_are n [] rows t count numbered h = refl
 rows_are n (s ∷ all) [] t count numbered h = absurd (omega (arith, count))
 rows_are n (s ∷ all) (row ∷ rows) t count numbered h =
-    let split = both (nat_eq s.number (suc n)) (are_numbered (suc n) all) numbered in
-    let number : s.number ≡ suc n = is_same s.number (suc n) split.0 in
+    let split = and_parts (nat_eq s.number (suc n)) (are_numbered (suc n) all) numbered in
+    let number : s.number ≡ suc n = eq_of s.number (suc n) split.0 in
     ap₂ (λ a b. a ++ b) (row_is t s row (h 0 s.number row (omega (arith, number)) refl))
     (rows_are (suc n) all rows t (omega (arith, count)) split.1 (λ k site r at there. h (suc k) site r (omega (arith, at)) there))
 

@@ -1,10 +1,12 @@
 -- From what a run of code answers to what its program means.
-use Rattle.std.proofs.Common.{◌≡◌, ◌≢◌, ℕ, ℤ, Bool, true, false, ◌&&◌, ◌<◌, ◌≤◌, List, [], ◌∷◌, ◌++◌, length, Some, Result, Ok, Err, IsErrAnd, flat_map, map, refl, sym, ap, ◌∙◌, subst, arith}
+use Rattle.std.proofs.Common.{◌≡◌, ◌≢◌, ℕ, ℤ, true, false, ◌&&◌, ◌<◌, ◌≤◌, List, [], ◌∷◌, ◌++◌, length, Some, Result, Ok, Err, IsErrAnd, flat_map, map, refl, sym, ap, ◌∙◌, subst, arith}
 use Rattle.std.specs.Prelude.{nat_eq, nat_le, codes, decimal, MatchResult}
 use Rattle.std.specs.Global.{Vec}
 use Rattle.std.specs.List.{list_all}
+use Rattle.std.proofs.lemmas.Bool.{and_parts}
+use Rattle.std.proofs.lemmas.Option.{same_Some}
+use Rattle.cw_facts.specs.Tests.{eq_of, le_of, equal, at_most, both_true}
 use Rattle.cw_model.specs.Ints.{fits}
-use Rattle.std.proofs.lemmas.Bool.Decides.{nat_tests}
 use Rattle.cw_model.specs.declared.burden.Burden.{Burden}
 use Rattle.cw_model.specs.declared.total.Total.{Total}
 use Rattle.cw_model.specs.Burdens.{no_burden}
@@ -51,27 +53,6 @@ use Rattle.cw_gains.specs.declared.gains.Gains as declared
 use Rattle.cw_model.specs.SiteLaw.{SitesAreNumbered}
 use Rattle.cw_model.specs.Sites.{call_sites, are_numbered, heads_of}
 
-both : (a b : Bool) → (a && b) ≡ true → (a ≡ true) × (b ≡ true)
-both true b h = (refl, h)
-both false b h = cc
-
-is_same : (a b : ℕ) → nat_eq a b ≡ true → a ≡ b
-is_same a b h = grind (arith, nat_tests)
-
-is_most : (a b : ℕ) → nat_le a b ≡ true → a ≤ b
-is_most a b h = grind (arith, nat_tests)
-
-same_is : (a b : ℕ) → a ≡ b → nat_eq a b ≡ true
-same_is a b h = grind (arith, nat_tests)
-
-most_is : (a b : ℕ) → a ≤ b → nat_le a b ≡ true
-most_is a b h = grind (arith, nat_tests)
-
-true_both : (a b : Bool) → a ≡ true → b ≡ true → (a && b) ≡ true
-true_both true true p q = refl
-true_both true false p q = q
-true_both false b p q = p
-
 -- reducers as code keeps them, which has no line of theirs, have the same lines
 coded_lines : (reducers : List Reducer) (totals : List Total) → totals_text (coded_reducers reducers) totals ≡ total_lines reducers totals
 coded_lines [] totals = refl
@@ -82,9 +63,6 @@ coded_lines (r ∷ rs) (v ∷ vs) = ap (λ lines. reduction_word r.how ++ (r.nam
 abbrev result_of : {V : Type 0} → Result V Fault → Result (Unit {0}) Fault
 result_of (Ok e) = Ok tt
 result_of (Err f) = Err f
-
-some_is : {A : Type 0} (a b : A) → Some a ≡ Some b → a ≡ b
-some_is a b e = cc
 
 false_true : false ≡ true → ⊥
 false_true e = cc
@@ -192,35 +170,35 @@ module _ (bytes : List ℕ) (args : List ℤ) (words : list_all fits args ≡ tr
   -- a run asks for what is in range
   may : (burden : Burden) → IsModeInRange options.mode → options.burden.charge ≤ MOST_BURDEN → is_request code args options.limit burden ≡ true → May
   may burden of_mode low h =
-      let n = both (nat_eq (length args) (main_params code)) (nat_le 1 options.limit && (nat_le options.limit MOST_LIMIT && nat_le burden.charge MOST_BURDEN)) h in
-      let l = both (nat_le 1 options.limit) (nat_le options.limit MOST_LIMIT && nat_le burden.charge MOST_BURDEN) n.1 in
-      let b = both (nat_le options.limit MOST_LIMIT) (nat_le burden.charge MOST_BURDEN) l.1 in
+      let n = and_parts (nat_eq (length args) (main_params code)) (nat_le 1 options.limit && (nat_le options.limit MOST_LIMIT && nat_le burden.charge MOST_BURDEN)) h in
+      let l = and_parts (nat_le 1 options.limit) (nat_le options.limit MOST_LIMIT && nat_le burden.charge MOST_BURDEN) n.1 in
+      let b = and_parts (nat_le options.limit MOST_LIMIT) (nat_le burden.charge MOST_BURDEN) l.1 in
       record {
-        count = is_same (length args) (main_params code) n.0 ∙ compiled.generates.params;
-        in_range = record { mode = of_mode; some_limit = is_most 1 options.limit l.0; limit = is_most options.limit MOST_LIMIT b.0; burden = low };
+        count = eq_of (length args) (main_params code) n.0 ∙ compiled.generates.params;
+        in_range = record { mode = of_mode; some_limit = le_of 1 options.limit l.0; limit = le_of options.limit MOST_LIMIT b.0; burden = low };
       }
 
   -- with the burden of the options
   burden_of : is_request code args options.limit options.burden ≡ true → options.burden.charge ≤ MOST_BURDEN
   burden_of h =
-      let n = both (nat_eq (length args) (main_params code)) (nat_le 1 options.limit && (nat_le options.limit MOST_LIMIT && nat_le options.burden.charge MOST_BURDEN)) h in
-      let l = both (nat_le 1 options.limit) (nat_le options.limit MOST_LIMIT && nat_le options.burden.charge MOST_BURDEN) n.1 in
-      is_most options.burden.charge MOST_BURDEN (both (nat_le options.limit MOST_LIMIT) (nat_le options.burden.charge MOST_BURDEN) l.1).1
+      let n = and_parts (nat_eq (length args) (main_params code)) (nat_le 1 options.limit && (nat_le options.limit MOST_LIMIT && nat_le options.burden.charge MOST_BURDEN)) h in
+      let l = and_parts (nat_le 1 options.limit) (nat_le options.limit MOST_LIMIT && nat_le options.burden.charge MOST_BURDEN) n.1 in
+      le_of options.burden.charge MOST_BURDEN (and_parts (nat_le options.limit MOST_LIMIT) (nat_le options.burden.charge MOST_BURDEN) l.1).1
 
   may_run_so : IsModeInRange options.mode → is_request code args options.limit options.burden ≡ true → May
   may_run_so of_mode h = may options.burden of_mode (burden_of h) h
 
   must : (burden : Burden) → burden.charge ≤ MOST_BURDEN → May → is_request code args options.limit burden ≡ true
   must burden low m =
-      true_both (nat_eq (length args) (main_params code)) _ (same_is (length args) (main_params code) (m.count ∙ sym compiled.generates.params))
-      (true_both (nat_le 1 options.limit) _ (most_is 1 options.limit m.in_range.some_limit)
-      (true_both (nat_le options.limit MOST_LIMIT) _ (most_is options.limit MOST_LIMIT m.in_range.limit) (most_is burden.charge MOST_BURDEN low)))
+      both_true (nat_eq (length args) (main_params code)) _ (equal (length args) (main_params code) (m.count ∙ sym compiled.generates.params))
+      (both_true (nat_le 1 options.limit) _ (at_most 1 options.limit m.in_range.some_limit)
+      (both_true (nat_le options.limit MOST_LIMIT) _ (at_most options.limit MOST_LIMIT m.in_range.limit) (at_most burden.charge MOST_BURDEN low)))
 
   run_of : May → analyses.IsRunOf bytes args options compiled.program
   run_of m = record { compiles = compiled.compiles; may = m }
 
   answer_is : May → (a : Answer) → code_serial code args options.limit ≡ Some a → answer ≡ a
-  answer_is m a e = some_is _ _ (sym (compiled.generates.serial args words m.count options.limit) ∙ e)
+  answer_is m a e = same_Some _ _ (sym (compiled.generates.serial args words m.count options.limit) ∙ e)
 
   -- the report of an answer, in the mode that is asked for
   abbrev pub report_of : Answer → List ℕ
@@ -348,15 +326,15 @@ module _ (bytes : List ℕ) (args : List ℤ) (words : list_all fits args ≡ tr
   module _ (p : ℕ) (is : options.mode ≡ mode.Greedy p) (low : options.burden.charge ≤ MOST_BURDEN) where
     asked_may : is_asked code args options.limit p ≡ true → May
     asked_may h =
-        let counted = both (is_counted p) (is_request code args options.limit no_burden) h in
-        let range = both (nat_le 1 p) (nat_le p MOST_PROCESSORS) counted.0 in
-        let of_mode : IsModeInRange options.mode = subst IsModeInRange (sym is) (is_most 1 p range.0, is_most p MOST_PROCESSORS range.1) in
+        let counted = and_parts (is_counted p) (is_request code args options.limit no_burden) h in
+        let range = and_parts (nat_le 1 p) (nat_le p MOST_PROCESSORS) counted.0 in
+        let of_mode : IsModeInRange options.mode = subst IsModeInRange (sym is) (le_of 1 p range.0, le_of p MOST_PROCESSORS range.1) in
         may no_burden of_mode low counted.1
 
     must_ask : May → is_asked code args options.limit p ≡ true
     must_ask m =
         let range : IsModeInRange (mode.Greedy p) = subst IsModeInRange is m.in_range.mode in
-        true_both (is_counted p) _ (true_both (nat_le 1 p) _ (most_is 1 p range.0) (most_is p MOST_PROCESSORS range.1)) (must no_burden (omega arith) m)
+        both_true (is_counted p) _ (both_true (nat_le 1 p) _ (at_most 1 p range.0) (at_most p MOST_PROCESSORS range.1)) (must no_burden (omega arith) m)
 
     unscheduled : (f : Fault) → IsNotScheduled code args options.limit p f → IsUnrun f
     unscheduled fault.OverLimit h = let m = asked_may h.0 in (m, answer_is m OverLimit h.1)

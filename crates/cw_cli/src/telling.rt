@@ -18,12 +18,12 @@ ghost use Rattle.cw_cli.specs.Tools.{
 use crate::analysis::analyse;
 use crate::misuse::misused;
 use cw_compile::compile;
+use cw_explain::{Named, Refused, explain, explain_unread};
 use cw_model::limits::{MOST_SOURCE_BYTES, MOST_STRANDS};
 use cw_pool::crew::Body;
 use cw_pool::gate::Gate;
 use cw_report::{Input, Sink, write_fault, write_text};
 use cw_text::Fault;
-use cw_told::{Named, Refused, explain, explain_unread};
 use cw_trapped::{Trapping, add_trap};
 use cw_words::{Request, Said};
 use std::alloc::Global;
@@ -39,7 +39,7 @@ const MOST_READ: u64 = MOST_SOURCE_BYTES as u64 + 1;
 /// and one for each body of the crew are the workers of the run; nothing that is written depends on them.
 ///
 /// The status is 0 where the report was written, else that of the fault, whose line is written to
-/// `err`, and behind it, where the request explains, why the source has the fault (`cw_told`). No
+/// `err`, and behind it, where the request explains, why the source has the fault (`cw_explain`). No
 /// more than one byte past the greatest size of a source is read. Whether the write to `err` fails
 /// changes nothing. Fewer than 2^64 - 1 writes to each sink failed before.
 ///

@@ -1,8 +1,11 @@
 -- What is frozen in the outermost call stays as it is.
-use Rattle.std.proofs.Common.{◌≡◌, ◌≢◌, ◌⊎◌, inl, inr, ⊎_elim, ℕ, zero, suc, ◌+◌, ◌-◌, ◌<◌, ◌≤◌, ℤ, ◌+ℤ◌, Bool, true, false, if◌then◌else◌, nat_lt, Option, Some, None, List, [], ◌∷◌, ◌++◌, length, refl, sym, ap, ◌∙◌, subst, arith}
+use Rattle.std.proofs.Common.{◌≡◌, ◌⊎◌, inl, inr, ⊎_elim, ℕ, suc, ◌+◌, ◌-◌, ◌<◌, ℤ, ◌+ℤ◌, Bool, true, false, if◌then◌else◌, nat_lt, Option, Some, None, List, [], ◌∷◌, ◌++◌, length, refl, sym, ap, ◌∙◌, subst, arith}
 use Rattle.std.specs.Coded.{Coded, Coded-set, code_by, coded×, coded_option, coded_ℕ, coded_bool}
-use Rattle.std.specs.Prelude.{take, drop, map, slice_get, slice_set, is_none, ◌&&◌}
-use Rattle.std.proofs.lemmas.List.{length-map}
+use Rattle.std.specs.Prelude.{take, drop, map, slice_get, slice_set, is_none}
+use Rattle.std.proofs.lemmas.Option.{same_Some}
+use Rattle.cw_facts.specs.Lists.{set_other}
+use Rattle.cw_facts.specs.Tests.{first_true, second_true}
+use Rattle.cw_code.specs.lemmas.Slots.{not_in_first, whole_slots, covers_true, set_frozen}
 use Rattle.cw_model.specs.declared.trap.Trap.TheVariants as trap
 use Rattle.cw_model.specs.declared.limits.TheConstants.{MOST_DEPTH}
 use Rattle.cw_model.specs.declared.syntax.CallKind.{CallKind}
@@ -22,29 +25,13 @@ use Rattle.cw_code.specs.declared.code.Instr.{Instr}
 use Rattle.cw_code.specs.declared.code.Loan.{Loan}
 use Rattle.cw_code.specs.declared.code.Instr.TheVariants as instr
 use Rattle.cw_code.specs.Code.{Code, reducer_names}
-use Rattle.cw_code.specs.Run.{Slots, Results, Waiting, Around, Caller, Block, Opened, Taken, Whole, State, Transition, On, Ends, Stops, Stuck, on_top, on_two, on_slot, is_full, stored, settled, operated, set_array, apply_unary, adds, prints, put_in, slot_taken, Entering, arguments_of, may_begin, waiting_at, begun, begins, call_of, arrays_in, moved_out, reader, lent_in, on_arrays, enter, recur, parts_of, looped, on_range, start, given, and_result, restored, given_back, awaited, result_of, going_on, returns_to, back, opened, opened_region, opens, may_cut, cuts, resumes, closed, resumes_uncut, cut_ends, passed_by, lent_by, jumped, onto, act, step}
-use Rattle.cw_code.specs.Fits.{Row, Outer, Shape, frozen_rows, is_full_in, full_in_all, none_frozen, slots_cut, slots_uncut, changes_back, is_thawed, with_gone, with_passed, slots_lent, with_lent, none_empty, closed_shape, uncut_shape, leaves, nexts, Covers, CoversEach, Table, FlowsInto, FlowsIntoEach, Fits}
+use Rattle.cw_code.specs.Run.{Slots, Results, Waiting, Around, Caller, Block, Taken, Whole, State, Transition, On, Ends, Stops, Stuck, on_top, on_two, on_slot, is_full, settled, operated, set_array, apply_unary, adds, put_in, slot_taken, Entering, arguments_of, may_begin, begun, begins, call_of, arrays_in, moved_out, reader, lent_in, on_arrays, enter, recur, parts_of, looped, on_range, start, given, and_result, restored, given_back, awaited, result_of, going_on, returns_to, back, opened_region, opens, may_cut, cuts, resumes, closed, resumes_uncut, cut_ends, passed_by, lent_by, jumped, act, step}
+use Rattle.cw_code.specs.Fits.{Row, Outer, Shape, frozen_rows, is_full_in, full_in_all, none_frozen, slots_cut, slots_uncut, changes_back, is_thawed, with_gone, slots_lent, with_lent, closed_shape, uncut_shape, leaves, nexts, CoversEach, Table, FlowsInto, FlowsIntoEach, Fits}
 use Rattle.cw_code.specs.Good.{IsNotAmong, slots_in, arrays_round, all_of, CutsAgree, Seat, AllResume, GoodState, Facts}
 use Rattle.cw_code.specs.Staying.{outermost}
 use Rattle.cw_code.specs.Frozen.{is_join, all_frozen, IsFrozenIn, IsFrozenAt, outermost_arrays, AreBlocks, JoinsInside, changed_by, FrozenStay, FrozenSpared}
-use Rattle.cw_code.specs.lemmas.Slots.{set_other}
-use Rattle.cw_code.proofs.Tests.{first_true, second_true}
-use Rattle.cw_code.proofs.Slots.{not_in_first}
-use Rattle.cw_code.proofs.Taken.{whole_slots}
 use Rattle.cw_code.proofs.Staying.{seats_lie}
 use Rattle.cw_code.proofs.Unstuck.{facts}
-
--- a row that covers another has frozen what that has
-covers_true : (xs bs : Row) (a : ℕ) → Covers xs bs → is_full_in (slice_get bs a) ≡ false → is_full_in (slice_get xs a) ≡ false
-covers_true [] [] a c h = h
-covers_true [] (b ∷ bs) a c h = absurd c
-covers_true (x ∷ xs) [] a c h = absurd c
-covers_true (true ∷ xs) (b ∷ bs) zero c h = refl
-covers_true (false ∷ xs) (b ∷ bs) zero c h = absurd (never (sym h ∙ ap (λ x. is_full_in (Some x)) (c.0 refl)))
-  where
-    never : false ≡ true → ⊥
-    never e = cc
-covers_true (x ∷ xs) (b ∷ bs) (suc a) c h = covers_true xs bs a c.1 h
 
 as_many_rows : (there out : List Outer) → CoversEach there out → length (frozen_rows there) ≡ length (frozen_rows out)
 as_many_rows [] [] c = refl
@@ -89,14 +76,6 @@ spared depth rows a (b ∷ slots) h k = (
   λ e. not_thawed depth rows a h (subst (λ x. full_in_all rows x ≡ true) (sym e) (first_true (full_in_all rows b) (none_frozen rows slots) k)),
   spared depth rows a slots h (second_true (full_in_all rows b) (none_frozen rows slots) k),
 )
-
--- a spawned call freezes more, and thaws nothing
-set_frozen : (xs : Row) (a b : ℕ) → is_full_in (slice_get xs a) ≡ false → is_full_in (slice_get (slice_set xs b true) a) ≡ false
-set_frozen [] a b h = h
-set_frozen (x ∷ xs) zero zero h = refl
-set_frozen (x ∷ xs) zero (suc b) h = h
-set_frozen (x ∷ xs) (suc a) zero h = h
-set_frozen (x ∷ xs) (suc a) (suc b) h = set_frozen xs a b h
 
 gone_frozen : (slots : List ℕ) (row : Row) (a : ℕ) → is_full_in (slice_get row a) ≡ false → is_full_in (slice_get (with_gone slots row) a) ≡ false
 gone_frozen [] row a h = h
@@ -144,9 +123,6 @@ func_code = code_by (ℕ × (ℕ × (Bool × (ℕ × (ℕ × (ℕ × (ℕ × ℕ
     (λ t. record { start = t.0; end = t.1.0; gives_int = t.1.1.0; params = t.1.1.1.0; slots = t.1.1.1.1.0; array_params = t.1.1.1.1.1.0; arrays = t.1.1.1.1.1.1.0; readers = t.1.1.1.1.1.1.1 })
     (λ _. refl)
 
-some_func : (x y : Func) → Some x ≡ Some y → x ≡ y
-some_func x y e = cc
-
 some_shape : (x y : Shape) → Some x ≡ Some y → x ≡ y
 some_shape x y e = cc
 
@@ -170,7 +146,7 @@ module _ (code : Code) (fits : Fits code) where
       shapes : (i k : ℕ) (f g : Func) → i ≡ k → (fi : slice_get code.funcs i ≡ Some f) (gk : slice_get code.funcs k ≡ Some g) (x y : Shape) → (fits.each i f fi).table place ≡ Some x → (fits.each k g gk).table place ≡ Some y → x ≡ y
       shapes i k f g e fi gk x y tx ty =
           let table = λ (i : ℕ) (f : Func) (p : slice_get code.funcs i ≡ Some f). (fits.each i f p).table place in
-          let same : f ≡ g = some_func f g (sym fi ∙ ap (slice_get code.funcs) e ∙ gk) in
+          let same : f ≡ g = same_Some f g (sym fi ∙ ap (slice_get code.funcs) e ∙ gk) in
           let tables : table i f fi ≡ table k g gk =
           subst (λ l. (q : slice_get code.funcs l ≡ Some g) → table i f fi ≡ table l g q) e
           (subst (λ h. (q : slice_get code.funcs i ≡ Some h) → table i f fi ≡ table i h q) same

@@ -2,12 +2,13 @@
 use Rattle.std.proofs.Common.{◌≡◌, ℕ, ◌<◌, Bool, true, false, Some, None, List, [], ◌∷◌, ◌++◌, length, refl, sym, ap, ◌∙◌, subst, arith, append_assoc}
 use Rattle.std.specs.Prelude.{slice_get, slice_set, not, nat_eq}
 use Rattle.std.proofs.lemmas.List.{length-set, length-map, append-nil}
+use Rattle.cw_facts.specs.Lists.{set_other}
+use Rattle.cw_facts.specs.Tests.{first_true, second_true, ne_of}
+use Rattle.cw_code.specs.lemmas.Slots.{not_in_first, not_in_both, row_there}
 use Rattle.cw_code.specs.Run.{Slots, Results, is_full, settled, full, moved_out}
 use Rattle.cw_code.specs.Fits.{Row, is_full_in, full_in_all, none_empty, is_none_of, with_gone}
 use Rattle.cw_code.specs.Good.{IsNotAmong, IsOnce, slots_in, all_of, RowHolds, RowsHold, Holds}
-use Rattle.cw_code.specs.lemmas.Slots.{set_other}
-use Rattle.cw_code.proofs.Tests.{first_true, second_true, ne_of}
-use Rattle.cw_code.proofs.Slots.{set_full, was_full, full_apart, row_apart, row_there, not_in_both, not_in_first, AllFull, AllApart, settled_full, settled_apart, count_settled, full_is_full, none_waits, empty_row, fewer_wait, filled_row, once_in_second}
+use Rattle.cw_code.proofs.Slots.{set_full, was_full, full_apart, row_apart, AllFull, AllApart, settled_full, settled_apart, count_settled, full_is_full, none_waits, empty_row, fewer_wait, filled_row, once_in_second}
 
 -- a slot is none of those that the test says
 pub none_of : (a : ℕ) (bs : List ℕ) → is_none_of a bs ≡ true → IsNotAmong a bs

@@ -1,6 +1,7 @@
 -- A run stays in the function that it began in.
-use Rattle.std.proofs.Common.{◌≡◌, ℕ, zero, suc, ◌+◌, ◌-◌, ◌<◌, ◌≤◌, ℤ, ◌+ℤ◌, Bool, true, false, if◌then◌else◌, nat_lt, Option, Some, None, List, [], ◌∷◌, ◌++◌, length, refl, sym, ap, ◌∙◌, subst, arith}
-use Rattle.std.specs.Prelude.{take, drop, map, replicate, slice_get, slice_set, is_none, pos, reverse}
+use Rattle.std.proofs.Common.{◌≡◌, ℕ, ◌+◌, ℤ, ◌+ℤ◌, Bool, true, false, if◌then◌else◌, nat_lt, Option, Some, None, List, [], ◌∷◌, length, refl, sym, ap, ◌∙◌, subst}
+use Rattle.std.specs.Prelude.{take, drop, map, slice_get, slice_set, is_none}
+use Rattle.std.proofs.lemmas.Option.{same_Some}
 use Rattle.cw_model.specs.declared.trap.Trap.TheVariants as trap
 use Rattle.cw_model.specs.declared.limits.TheConstants.{MOST_DEPTH}
 use Rattle.cw_model.specs.declared.syntax.CallKind.{CallKind}
@@ -20,32 +21,12 @@ use Rattle.cw_code.specs.declared.code.Instr.{Instr}
 use Rattle.cw_code.specs.declared.code.Loan.{Loan}
 use Rattle.cw_code.specs.declared.code.Instr.TheVariants as instr
 use Rattle.cw_code.specs.Code.{Code, reducer_names}
-use Rattle.cw_code.specs.Run.{Slots, Results, Waiting, Around, Caller, Block, Opened, Whole, State, Transition, On, Ends, Stops, Stuck, on_top, on_two, on_slot, is_full, stored, operated, set_array, apply_unary, adds, prints, put_in, Entering, arguments_of, may_begin, waiting_at, begun, begins, call_of, arrays_in, moved_out, reader, lent_in, on_arrays, enter, recur, parts_of, looped, on_range, start, given, given_back, awaited, result_of, going_on, returns_to, back, opened, opened_region, opens, may_cut, cuts, resumes, closed, resumes_uncut, cut_ends, passed_by, lent_by, jumped, onto, act, step}
-use Rattle.cw_code.specs.Fits.{leaves, nexts, Shape, Table, FlowsInto, FlowsIntoEach, Fits, LieFrom}
+use Rattle.cw_code.specs.Run.{Slots, Results, Waiting, Around, Caller, Block, Opened, Whole, State, Transition, On, Ends, Stops, Stuck, on_top, on_two, on_slot, is_full, operated, set_array, apply_unary, adds, put_in, Entering, arguments_of, may_begin, begun, begins, call_of, arrays_in, moved_out, reader, lent_in, on_arrays, enter, recur, parts_of, looped, on_range, start, given, given_back, awaited, result_of, returns_to, back, opened_region, opens, may_cut, cuts, resumes, closed, resumes_uncut, cut_ends, passed_by, lent_by, jumped, act, step}
+use Rattle.cw_code.specs.Fits.{leaves, nexts, Shape, FlowsInto, FlowsIntoEach, Fits}
 use Rattle.cw_code.specs.Good.{Seat, GoodState}
 use Rattle.cw_code.specs.Staying.{IsInside, outermost, FitStays, SeatsLie}
 use Rattle.cw_code.proofs.Unstuck.{facts}
-
--- functions lie one after another
-lie_from : (from : ℕ) (fs : List Func) (to k : ℕ) (f : Func) → LieFrom from fs to → slice_get fs k ≡ Some f → from ≤ f.start
-lie_from from [] to k f h e = cc
-lie_from from (g ∷ fs) to zero f h e = let same : g ≡ f = cc in omega (arith, h.0, ap (λ (x : Func). x.start) same)
-lie_from from (g ∷ fs) to (suc k) f h e = omega (arith, lie_from g.end fs to k f h.2 e, h.1)
-
--- a place has one function
-one_function : (from : ℕ) (fs : List Func) (to j k p : ℕ) (f g : Func) → LieFrom from fs to → slice_get fs j ≡ Some f → slice_get fs k ≡ Some g → IsInside f p → IsInside g p → j ≡ k
-one_function from [] to j k p f g h e e' a b = cc
-one_function from (x ∷ fs) to zero zero p f g h e e' a b = refl
-one_function from (x ∷ fs) to zero (suc k) p f g h e e' a b =
-    let same : x ≡ f = cc in
-    absurd (omega (arith, a.1, b.0, ap (λ (y : Func). y.end) same, lie_from x.end fs to k g h.2 e'))
-one_function from (x ∷ fs) to (suc j) zero p f g h e e' a b =
-    let same : x ≡ g = cc in
-    absurd (omega (arith, a.0, b.1, ap (λ (y : Func). y.end) same, lie_from x.end fs to j f h.2 e))
-one_function from (x ∷ fs) to (suc j) (suc k) p f g h e e' a b = ap suc (one_function x.end fs to j k p f g h.2 e e' a b)
-
-some_same : {A : Type 0} (x y : A) → Some x ≡ Some y → x ≡ y
-some_same x y e = cc
+use Rattle.cw_code.specs.lemmas.Lying.{one_function}
 
 module _ (code : Code) (fits : Fits code) where
   within : (place : ℕ) (seat : Seat code fits place) → IsInside seat.func place
@@ -120,7 +101,7 @@ module _ (code : Code) (fits : Fits code) where
       -- a place of the call's own function, under the same blocks and calls
       moves : (around : List Around) (p : ℕ) → IsInside good.seat.func p → IsInside f (outermost s.place around) → IsInside f (outermost p around)
       moves [] p i h =
-          let same : good.seat.func ≡ f = some_same good.seat.func f (sym good.seat.is_func ∙ ap (slice_get code.funcs) (alone s.place k f good.seat is h) ∙ is) in
+          let same : good.seat.func ≡ f = same_Some good.seat.func f (sym good.seat.is_func ∙ ap (slice_get code.funcs) (alone s.place k f good.seat is h) ∙ is) in
           subst (λ (g : Func). IsInside g p) same i
       moves (Caller w ∷ around) p i h = h
       moves (Block o ∷ around) p i h = moves around p i h

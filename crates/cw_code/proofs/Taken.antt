@@ -1,12 +1,12 @@
 -- What is taken out of slots, and goes back into them.
 use Rattle.std.proofs.Common.{◌≡◌, ℕ, zero, suc, ◌<◌, ◌≤◌, ℤ, true, false, Option, Some, None, List, [], ◌∷◌, length, refl, ap, ◌∙◌, subst, arith}
 use Rattle.std.specs.Prelude.{map, slice_get}
+use Rattle.cw_facts.specs.Tests.{taken}
 use Rattle.cw_code.specs.declared.code.Func.{Func}
 use Rattle.cw_code.specs.declared.code.Loan.{Loan}
-use Rattle.cw_code.specs.Run.{Slots, Results, Readers, Taken, Whole, State, is_full, put_in, slot_taken, moved_out, and_array, arrays_in, reader, loaned, lent_in, parts_of, restored, and_result, given_back, given}
+use Rattle.cw_code.specs.Run.{Slots, Results, Readers, Taken, State, is_full, put_in, slot_taken, moved_out, and_array, arrays_in, reader, loaned, lent_in, parts_of, restored, and_result, given_back, given}
 use Rattle.cw_code.specs.Fits.{Shape, empty_rows, gone_rows, cleared, CoversEach, LieFrom}
 use Rattle.cw_code.specs.Good.{slots_in, ints_round, arrays_round, Holds, Good, FitSettles}
-use Rattle.cw_code.proofs.Tests.{taken}
 use Rattle.cw_code.proofs.Slots.{covered_row, covered_empty, covered_gone, covered_cuts, slots_in_both}
 use Rattle.cw_code.proofs.Keeps.{AllThere, still_full, with_rows, with_settled, with_joined}
 
@@ -19,19 +19,6 @@ lie_within from (g ∷ fs) to zero f h e = let same : g ≡ f = cc in omega (ari
     lie_up from [] to h = omega (arith, h)
     lie_up from (g ∷ fs) to h = omega (arith, h.1, lie_up g.end fs to h.2)
 lie_within from (g ∷ fs) to (suc k) f h e = lie_within g.end fs to k f h.2 e
-
-pub missing : {A : Type 0} (xs : List A) (k : ℕ) → k < length xs → slice_get xs k ≡ None → ⊥
-missing [] k lt e = omega (arith, lt)
-missing (x ∷ xs) zero lt e = cc
-missing (x ∷ xs) (suc k) lt e = missing xs k (omega (arith, lt)) e
-
--- what is there in a list
-pub there : {A : Type 0} (xs : List A) (k : ℕ) → k < length xs → (a : A) × (slice_get xs k ≡ Some a)
-there {A = A} xs k lt = cases (slice_get xs k) refl
-  where
-    cases : (o : Option A) → slice_get xs k ≡ o → (a : A) × (slice_get xs k ≡ Some a)
-    cases None e = absurd (missing xs k lt e)
-    cases (Some a) e = (a, e)
 
 -- what a call gives back of the arrays that were taken, where its array slots are full
 pub gives_back : (taken : List Taken) (arrays : Slots (List ℤ)) → length taken ≤ length arrays → ((a : ℕ) → a < length arrays → is_full (slice_get arrays a) ≡ true)
@@ -84,10 +71,6 @@ there_lent (loan ∷ loans) arrays readers h =
     cases lent e n (Some None) f k = cc
     cases lent e n (Some (Some xs)) f k =
         (xs ∷ lent, ap (λ o. and_array o (lent_in loans arrays readers)) f ∙ ap (and_array (Some (Some xs))) e, ap suc n)
-
-pub whole_slots : (passed : List ℕ) → map slot_taken (map (λ a. Whole a) passed) ≡ passed
-whole_slots [] = refl
-whole_slots (a ∷ passed) = ap (λ ks. a ∷ ks) (whole_slots passed)
 
 pub part_slots : (from : ℕ) (passed : List ℕ) (given : List (List ℤ)) → length given ≡ length passed → map slot_taken (parts_of from passed given) ≡ passed
 part_slots from [] [] e = refl

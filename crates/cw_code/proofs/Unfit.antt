@@ -1,12 +1,13 @@
 -- The unruly codes do not fit.
 use Rattle.std.proofs.Common.{◌≡◌, ◌&&◌, pos, true, false, None, ◌∷◌, refl, arith}
 use Rattle.std.specs.Prelude.{nat_eq, slice_get}
+use Rattle.cw_facts.specs.Tests.{first_true, eq_of}
 use Rattle.cw_model.specs.declared.syntax.CallKind.TheVariants.{Plain, Spawned}
 use Rattle.cw_code.specs.declared.code.Instr.TheVariants.{Push, Call, SetElement, Sync}
 use Rattle.cw_code.specs.Fits.{has_target, frozen_rows, full_in_all, is_full_in, Fits}
 use Rattle.cw_code.specs.Unruly.{nameless, call_it, falling, crowded, littered, mistaken, overwritten, overlent}
-use Rattle.cw_code.proofs.Tests.{first_true, eq_of}
-use Rattle.cw_code.proofs.Slots.{covers_full, row_apart}
+use Rattle.cw_code.proofs.Slots.{row_apart}
+use Rattle.cw_code.specs.lemmas.Slots.{covers_full}
 
 pub falling_unfit : Fits falling → ⊥
 falling_unfit fits =

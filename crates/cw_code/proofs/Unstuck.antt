@@ -2,6 +2,9 @@
 use Rattle.std.proofs.Common.{◌≡◌, ◌≢◌, ℕ, zero, suc, ◌+◌, ◌-◌, ◌<◌, ◌≤◌, ℤ, pos, ◌+ℤ◌, Bool, true, false, not, ◌&&◌, nat_lt, if◌then◌else◌, Option, Some, None, List, [], ◌∷◌, ◌++◌, length, refl, sym, ap, ◌∙◌, subst, arith, length-append}
 use Rattle.std.specs.Prelude.{take, drop, map, replicate, slice_get, slice_set, is_none, option_map, nat_eq, nat_le}
 use Rattle.std.proofs.lemmas.List.{length-drop, length-reverse, length-take, length-map, length-replicate}
+use Rattle.cw_facts.specs.Tests.{taken, both_true, first_true, second_true, at_most, equal, le_of, lt_of, eq_of}
+use Rattle.cw_facts.specs.Lists.{missing, there_at, set_other}
+use Rattle.cw_code.specs.lemmas.Slots.{not_in_first, whole_slots, row_there}
 use Rattle.cw_model.specs.declared.trap.Trap.TheVariants as trap
 use Rattle.cw_model.specs.declared.limits.TheConstants.{MOST_DEPTH}
 use Rattle.cw_model.specs.Syntax.{Name}
@@ -26,11 +29,9 @@ use Rattle.cw_code.specs.Code.{Code, reducer_names}
 use Rattle.cw_code.specs.Run.{Slots, Results, Readers, reader, loaned, lent_in, has_readers, lent_by, Whole, Waiting, Around, Caller, Block, State, Transition, On, Ends, Stops, Stuck, RunOutcome, ticked, synced, inside, on_top, on_two, on_slot, is_full, operated, set_array, apply_unary, adds, settled, put_in, slots_of, arrays_of, may_take, slot_taken, moved_out, Entering, arguments_of, has_room, may_keep, may_begin, waiting_at, begun, begins, call_of, on_arrays, enter, recur, parts_of, looped, on_range, start, given, going_on, returns_to, back, opened_at, opened, opened_region, cut_arrays, may_cut, cuts, resumes, closed, resumes_uncut, cut_ends, passed_by, jumped, act, step, go_on, steps, first_state, first_transition, reducers_of, code_serial}
 use Rattle.cw_code.specs.Fits.{params_of, array_params_of, readers_of, gives_value, NeverStuck, is_site, names_target, names_callee, is_none_of, names_arrays, names_passed, names_loan, names_loans, names_lent, names_inner, names_well, Row, Outer, Shape, empty_rows, gone_rows, full_in_all, is_full_in, has_slot, has_array, has_arrays, has_loan, has_loans, has_target, has_arguments, none_open, can_close, has_parts, can_uncut, is_no_part, are_no_parts, is_ready, with_target, with_gone, with_passed, with_lent, none_empty, cleared, first_shape, closed_shape, with_uncut, uncut_shape, opened_shape, outer_of, cut_outer, popped, leaves, nexts, Table, FlowsInto, FlowsIntoEach, Fits}
 use Rattle.cw_code.specs.Good.{IsNotAmong, slots_in, slot_cut, ints_round, arrays_round, all_of, Holds, CutsAgree, Seat, Good, IsGiven, Resumed, Resumes, AllResume, GoodState, GoodTransition, Facts, FitBegins, FitFacts, FitSteps, NeverStuckFrom}
-use Rattle.cw_code.specs.lemmas.Slots.{set_other}
-use Rattle.cw_code.proofs.Tests.{taken, both_true, first_true, second_true, at_most, equal, le_of, lt_of, eq_of}
-use Rattle.cw_code.proofs.Slots.{set_full, full_there, row_there, not_in_first, slots_in_both, none_waits}
+use Rattle.cw_code.proofs.Slots.{set_full, full_there, slots_in_both, none_waits}
 use Rattle.cw_code.proofs.Keeps.{none_of, AllThere, still_full, finds, with_rows, with_slot, with_taken, with_all_taken, with_block, with_outer, with_settled, with_filled, begins_full}
-use Rattle.cw_code.proofs.Taken.{lie_within, missing, there, gives_back, there_arrays, reader_full, AllLoaned, there_lent, whole_slots, part_slots, covered, joined}
+use Rattle.cw_code.proofs.Taken.{lie_within, gives_back, there_arrays, reader_full, AllLoaned, there_lent, part_slots, covered, joined}
 
 module _ (code : Code) (fits : Fits code) where
   goes_back : (callee : Func) (around : List Around) (v : Option ℤ) (arrays : Slots (List ℤ)) (t : Trace) → IsGiven callee.gives_int v → CutsAgree [] around → callee.arrays ≡ length arrays → ((a : ℕ) → a < length arrays → is_full (slice_get arrays a) ≡ true)
@@ -258,7 +259,7 @@ module _ (code : Code) (fits : Fits code) where
 
     named : (function : ℕ) (passed : List ℕ) → names_passed code seat.func function passed ≡ true → Named function passed
     named function passed n =
-        let f = there code.funcs function (lt_of function (length code.funcs) (first_true _ _ n)) in
+        let f = there_at code.funcs function (lt_of function (length code.funcs) (first_true _ _ n)) in
         let rest = second_true (nat_lt function (length code.funcs)) (nat_eq (length passed) (array_params_of (slice_get code.funcs function)) && names_arrays seat.func.arrays passed) n in
         record {
           func = f.0;
@@ -682,10 +683,10 @@ module _ (code : Code) (fits : Fits code) where
     acts_well instr.EndCut n r l = uncuts_well shape.outer s.around (second_true (nat_eq 0 shape.operands) (can_uncut shape.outer) r) joined_here good.others l.0
     acts_well instr.Sync n r l = arrives s.place seat after_join (record (put_in s) { place = s.place + 1; trace = synced s.trace }) l.0 (record { as_many = joined_here.as_many; ints = joined_here.ints; arrays = joined_here.arrays; readers = joined_here.readers; cuts = joined_here.cuts }) good.others
     acts_well (instr.Open Scope) n r l = opens_well None l.0
-    acts_well (instr.Open (Region k)) n r l = region_well (slice_get code.tags k) (there code.tags k (lt_of k (length code.tags) n)) l.0
+    acts_well (instr.Open (Region k)) n r l = region_well (slice_get code.tags k) (there_at code.tags k (lt_of k (length code.tags) n)) l.0
     acts_well instr.Close n r l = closes_well shape.outer s.around (second_true (nat_eq 0 shape.operands) (can_close shape.outer) r) joined_here good.others l.0
     acts_well instr.Print n r l = top_well _ r (λ v rest e. more (shape.operands - 1) _ refl (omega (arith, e)) l.0)
-    acts_well (instr.Reduce k) n r l = top_well _ r (λ v rest e. adds_well (slice_get (reducer_names code.reducers) k) v rest (there (reducer_names code.reducers) k (subst (λ n. k < n) (sym (length-map code.reducers (λ r. r.name))) (lt_of k (length code.reducers) n))) e l.0)
+    acts_well (instr.Reduce k) n r l = top_well _ r (λ v rest e. adds_well (slice_get (reducer_names code.reducers) k) v rest (there_at (reducer_names code.reducers) k (subst (λ n. k < n) (sym (length-map code.reducers (λ r. r.name))) (lt_of k (length code.reducers) n))) e l.0)
     acts_well instr.ReturnValue n r l = top_well _ (first_true (nat_le 1 shape.operands) (none_open shape.outer) r) (λ v rest e.
         ends_well (Some v) (subst (λ b. IsGiven b (Some v)) (sym n) tt) (second_true (nat_le 1 shape.operands) (none_open shape.outer) r))
     acts_well instr.Return n r l = ends_well None (nothing seat.func.gives_int n) r

@@ -1,2 +1,4 @@
--- Lemmas on lists, which the proofs of crates above cite.
+-- Lemmas, which the proofs of crates above cite.
 pub mod Slots
+pub mod Lying
+pub mod Runs

@@ -1,5 +1,5 @@
 -- A stage that refuses its input refuses the bytes.
-use Rattle.std.proofs.Common.{◌≡◌, ℕ, true, List, [], ◌∷◌, map, refl, Result, Ok, Err, MatchResult, IsErrAnd, subst, sym, ap, ◌∙◌}
+use Rattle.std.proofs.Common.{◌≡◌, ℕ, true, List, [], ◌∷◌, map, refl, subst, sym, ap, ◌∙◌}
 use Rattle.cw_model.specs.declared.token.Token.{Token}
 use Rattle.cw_model.specs.Syntax.{Program}
 use Rattle.cw_model.specs.Text.{IsSourceText}
@@ -25,7 +25,6 @@ use Rattle.cw_loops.specs.SourceLike.{is_source_like}
 use Rattle.cw_loops.specs.LoweringLaws.{DerivedIsSourceLike}
 use Rattle.cw_compile.specs.Sources
 use Rattle.cw_compile.specs.Compiled.{IsMade, head_of}
-use Rattle.cw_compile.specs.lemmas.HandedOn.{handed_on}
 use Rattle.std.specs.Global.{Vec}
 use Rattle.cw_tree.specs.Resolved.{Function, plain_function}
 use Rattle.cw_runnable.specs.declared.verified.Verified.{Verified}

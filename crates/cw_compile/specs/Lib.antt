@@ -1,4 +1,3 @@
 pub mod Sources
 pub mod Compiled
 pub mod Laws
-pub mod lemmas

@@ -1,2 +1,1 @@
-mod Nesting
 mod Pieces

@@ -1,3 +1,3 @@
-pub mod Limits
 pub mod Lines
 pub mod Unread
+pub mod Going

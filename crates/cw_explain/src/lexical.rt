@@ -12,7 +12,7 @@ use std::fmt;
 const MOST_DIGITS: usize = 24;
 
 /// What is wrong with the text of a line.
-#[derive(Clone, Copy, Debug)]
+#[derive(Clone, Copy)]
 pub enum Unreadable<'a> {
     /// The source has so many bytes.
     TooLong(usize),

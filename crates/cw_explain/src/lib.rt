@@ -1,18 +1,27 @@
-//! Reasons in plain words: of names, types and limits, as they were found, and of text, tokens, code and traps.
+//! What is told of a source that is refused, or of its run that trapped, in plain words.
 #![tactic(auto)]
 
+mod around;
 mod excerpt;
+mod explaining;
+mod further;
+mod grammar;
+mod hinting;
 mod lexical;
 mod limits;
+mod near;
+mod others;
+mod owning;
 mod parts;
+mod phrase;
+mod refusals;
+mod shortened;
 mod traps;
 mod typing;
+mod unparsed;
 mod word;
+mod words;
 
-pub use excerpt::{add_lines, line_of};
-pub use lexical::{Unreadable, no_token, not_ascii};
-pub use limits::{TooLarge, passed_by_code, passed_by_tokens};
-pub use parts::Passed;
-pub use traps::Trapped;
-pub use typing::Untyped;
+pub use explaining::{Refused, explain};
+pub use others::{Named, explain_unread};
 pub use word::Word;

@@ -1,46 +1,44 @@
 //! The limits on the parts of a program that a line can pass, in words.
 
+use crate::phrase::{NO_NAME, Phrase};
 use crate::word::Word;
 use cw_model::limits::{
     MOST_DECLARED, MOST_FUNCTIONS, MOST_PARAMETERS, MOST_REDUCERS, MOST_TAG_BYTES, MOST_TAGS,
 };
 use cw_types::TooLarge;
-use std::fmt;
 
-/// A limit on the parts of a program that a line passes, to be told.
-#[derive(Clone, Copy)]
-pub struct Passed<'a> {
-    pub limit: TooLarge<'a>,
-}
-
-impl fmt::Display for Passed<'_> {
-    fn fmt<W: fmt::Write>(&self, f: &mut fmt::Formatter<W>) -> fmt::Result {
-        match &self.limit {
-            TooLarge::Functions => write!(f, "there are more than {MOST_FUNCTIONS} functions"),
-            TooLarge::Reducers => write!(f, "there are more than {MOST_REDUCERS} reducers"),
-            TooLarge::Parameters(name, count) => {
-                let name = Word::of(name);
-                write!(
-                    f,
-                    "{name} has {count} parameters: at most {MOST_PARAMETERS}"
-                )
-            }
-            TooLarge::Declared(name) => {
-                let name = Word::of(name);
-                write!(
-                    f,
-                    "{name} declares more than {MOST_DECLARED} names, its parameters among them: move a part into a function of its own"
-                )
-            }
-            TooLarge::TagBytes(tag) => {
-                let shown = Word { text: tag };
-                let bytes = tag.len();
-                write!(
-                    f,
-                    "the tag {shown} has {bytes} bytes: at most {MOST_TAG_BYTES}"
-                )
-            }
-            TooLarge::Tags => write!(f, "there are more than {MOST_TAGS} different tags"),
-        }
+/// The limit in words.
+pub fn phrase_of<'a>(limit: &'a TooLarge<'_>) -> Phrase<'a> {
+    match limit {
+        TooLarge::Functions => Phrase::named(
+            "there are more than @1 functions",
+            NO_NAME,
+            MOST_FUNCTIONS as u64,
+        ),
+        TooLarge::Reducers => Phrase::named(
+            "there are more than @1 reducers",
+            NO_NAME,
+            MOST_REDUCERS as u64,
+        ),
+        TooLarge::Parameters(name, count) => Phrase::of(
+            "@a has @1 parameters: at most @2",
+            [Word::of(name), NO_NAME],
+            [*count as u64, MOST_PARAMETERS as u64, 0],
+        ),
+        TooLarge::Declared(name) => Phrase::named(
+            "@a declares more than @1 names, its parameters among them: move a part into a function of its own",
+            Word::of(name),
+            MOST_DECLARED as u64,
+        ),
+        TooLarge::TagBytes(tag) => Phrase::of(
+            "the tag @a has @1 bytes: at most @2",
+            [Word { text: tag }, NO_NAME],
+            [tag.len() as u64, MOST_TAG_BYTES as u64, 0],
+        ),
+        TooLarge::Tags => Phrase::named(
+            "there are more than @1 different tags",
+            NO_NAME,
+            MOST_TAGS as u64,
+        ),
     }
 }

@@ -1,277 +1,258 @@
 //! The rules of names and types that a line can break, in words.
 
+use crate::phrase::{NO_NAME, Phrase};
 use crate::word::Word;
 use cw_model::limits::MOST_GRAIN;
 use cw_model::syntax::Reduction;
+use cw_tree::syntax::Name;
 use cw_types::{IllTyped, Other};
-use std::fmt;
 
-/// A rule of names and types that a line breaks, to be told.
-#[derive(Clone, Copy)]
-pub struct Untyped<'a> {
-    pub reason: IllTyped<'a>,
-}
-
-impl Untyped<'_> {
-    /// The other line that matters, if one does.
-    pub fn other_line(&self) -> Option<u32> {
-        match self.reason {
-            IllTyped::Repeated(_, line)
-            | IllTyped::NotInteger(_, _, line)
-            | IllTyped::NotArray(_, _, line)
-            | IllTyped::OnlyRead(_, line)
-            | IllTyped::Known(_, line)
-            | IllTyped::Global(_, _, line)
-            | IllTyped::Count(_, _, _, line)
-            | IllTyped::ArgumentNotArray(_, _, _, line)
-            | IllTyped::GivesNothing(_, line)
-            | IllTyped::ReducesOtherwise(_, _, line)
-            | IllTyped::NeverReached(line) => Some(line),
-            _ => None,
-        }
+/// The other line that matters, if one does.
+pub fn other_line(reason: &IllTyped<'_>) -> Option<u32> {
+    match reason {
+        IllTyped::Repeated(_, line)
+        | IllTyped::NotInteger(_, _, line)
+        | IllTyped::NotArray(_, _, line)
+        | IllTyped::OnlyRead(_, line)
+        | IllTyped::Known(_, line)
+        | IllTyped::Global(_, _, line)
+        | IllTyped::Count(_, _, _, line)
+        | IllTyped::ArgumentNotArray(_, _, _, line)
+        | IllTyped::GivesNothing(_, line)
+        | IllTyped::ReducesOtherwise(_, _, line)
+        | IllTyped::NeverReached(line) => Some(*line),
+        _ => None,
     }
 }
 
-impl fmt::Display for Untyped<'_> {
-    fn fmt<W: fmt::Write>(&self, f: &mut fmt::Formatter<W>) -> fmt::Result {
-        let reason = &self.reason;
-        match reason {
-            IllTyped::Unknown(_)
-            | IllTyped::NotInteger(_, _, _)
-            | IllTyped::NotArray(_, _, _)
-            | IllTyped::OnlyRead(_, _)
-            | IllTyped::Known(_, _)
-            | IllTyped::Global(_, _, _)
-            | IllTyped::NotReducer(_, _)
-            | IllTyped::ReducesOtherwise(_, _, _) => fmt_name(reason, f),
-            IllTyped::NoFunction(_)
-            | IllTyped::CallsMain
-            | IllTyped::Count(_, _, _, _)
-            | IllTyped::ArgumentNotArray(_, _, _, _)
-            | IllTyped::GivesNothing(_, _) => fmt_call(reason, f),
-            IllTyped::ReturnInside
-            | IllTyped::ReturnsNothing
-            | IllTyped::ReturnsValue
-            | IllTyped::NeverReached(_)
-            | IllTyped::HeadNames(_, _)
-            | IllTyped::Grain(_)
-            | IllTyped::PartsAlike(_) => fmt_statement(reason, f),
-            _ => fmt_head(reason, f),
-        }
+/// The rule that a line breaks, in words. Where a function may end without a return, one of it may stand in this line inside
+/// of a block that is left at its end only.
+pub fn phrase_of<'a>(reason: &'a IllTyped<'_>, inside: Option<u32>) -> Phrase<'a> {
+    match reason {
+        IllTyped::MayNotReturn(name) => may_not_return(name, inside),
+        IllTyped::Unknown(_)
+        | IllTyped::NotInteger(_, _, _)
+        | IllTyped::NotArray(_, _, _)
+        | IllTyped::OnlyRead(_, _)
+        | IllTyped::Known(_, _)
+        | IllTyped::Global(_, _, _)
+        | IllTyped::NotReducer(_, _)
+        | IllTyped::ReducesOtherwise(_, _, _) => of_name(reason),
+        IllTyped::NoFunction(_)
+        | IllTyped::CallsMain
+        | IllTyped::Count(_, _, _, _)
+        | IllTyped::ArgumentNotArray(_, _, _, _)
+        | IllTyped::GivesNothing(_, _) => of_call(reason),
+        IllTyped::ReturnInside
+        | IllTyped::ReturnsNothing
+        | IllTyped::ReturnsValue
+        | IllTyped::NeverReached(_)
+        | IllTyped::HeadNames(_, _)
+        | IllTyped::Grain(_)
+        | IllTyped::PartsAlike(_) => of_statement(reason),
+        _ => of_head(reason),
     }
 }
 
 // What else a name is.
-fn words_of(other: Other) -> &'static str {
-    match other {
-        Other::Integer => "an integer",
-        Other::Array => "an array",
-        Other::Const => "an array that is only read",
-        Other::Function => "a function",
-        Other::Reducer => "a reducer",
-    }
+fn words_of(other: Other) -> Word<'static> {
+    let text: &[u8] = match other {
+        Other::Integer => b"an integer",
+        Other::Array => b"an array",
+        Other::Const => b"an array that is only read",
+        Other::Function => b"a function",
+        Other::Reducer => b"a reducer",
+    };
+    Word { text }
+}
+
+// A text with neither name nor number.
+fn plain<'a>(_reason: &'a IllTyped<'_>, says: &'static str) -> Phrase<'a> {
+    Phrase::plain(says)
+}
+
+// A text with numbers alone.
+fn numbered<'a>(
+    _reason: &'a IllTyped<'_>,
+    says: &'static str,
+    first: u64,
+    second: u64,
+) -> Phrase<'a> {
+    Phrase::of(says, [NO_NAME; 2], [first, second, 0])
+}
+
+// A text with a name alone.
+fn named<'a>(says: &'static str, name: &'a Name) -> Phrase<'a> {
+    Phrase::named(says, Word::of(name), 0)
+}
+
+// A text with a name and a line.
+fn named_at<'a>(says: &'static str, name: &'a Name, line: u32) -> Phrase<'a> {
+    Phrase::named(says, Word::of(name), u64::from(line))
+}
+
+// A text with a name, what else it is, and a line.
+fn other_at<'a>(says: &'static str, name: &'a Name, other: Other, line: u32) -> Phrase<'a> {
+    Phrase::of(
+        says,
+        [Word::of(name), words_of(other)],
+        [u64::from(line), 0, 0],
+    )
 }
 
 // Of functions and reducers.
-fn fmt_head<W: fmt::Write>(reason: &IllTyped<'_>, f: &mut fmt::Formatter<W>) -> fmt::Result {
+fn of_head<'a>(reason: &'a IllTyped<'_>) -> Phrase<'a> {
     match reason {
-        IllTyped::NoMain => write!(
-            f,
-            "there is no function main: a run begins with int main(..)"
-        ),
-        IllTyped::MainGivesNothing => write!(f, "main is void: it is int, and returns a value"),
+        IllTyped::NoMain => {
+            plain(
+                reason,
+                "there is no function main: a run begins with int main(..)",
+            )
+        }
+        IllTyped::MainGivesNothing => plain(reason, "main is void: it is int, and returns a value"),
         IllTyped::MainTakesArray(a) => {
-            let a = Word::of(a);
-            write!(f, "main takes the array {a}: its parameters are integers")
+            named("main takes the array @a: its parameters are integers", a)
         }
-        IllTyped::Repeated(name, line) => {
-            let name = Word::of(name);
-            write!(
-                f,
-                "{name} is the name of a function or reducer in line {line} already: their names differ"
-            )
-        }
-        IllTyped::ParameterTwice(name) => {
-            let name = Word::of(name);
-            write!(f, "two parameters are called {name}")
-        }
-        IllTyped::MayNotReturn(name) => {
-            let name = Word::of(name);
-            write!(
-                f,
-                "{name} is int, and its body may end without a return: its last statement is a return, or an if with else of which both blocks end so"
-            )
-        }
-        _ => Ok(()),
+        IllTyped::Repeated(name, line) => named_at(
+            "@a is the name of a function or reducer in line @1 already: their names differ",
+            name,
+            *line,
+        ),
+        IllTyped::ParameterTwice(name) => named("two parameters are called @a", name),
+        _ => plain(reason, ""),
+    }
+}
+
+// Of a function that may end without a return.
+fn may_not_return(name: &Name, inside: Option<u32>) -> Phrase<'_> {
+    match inside {
+        Some(line) => named_at(
+            "@a is int, and its return in line @1 stands in a block that is left at its end only: assign to a name from outside, and return behind the block",
+            name,
+            line,
+        ),
+        None => named(
+            "@a is int, and its body may end without a return: its last statement is a return, or an if with else of which both blocks end so",
+            name,
+        ),
     }
 }
 
 // Of names in statements.
-fn fmt_name<W: fmt::Write>(reason: &IllTyped<'_>, f: &mut fmt::Formatter<W>) -> fmt::Result {
+fn of_name<'a>(reason: &'a IllTyped<'_>) -> Phrase<'a> {
     match reason {
-        IllTyped::Unknown(name) => {
-            let name = Word::of(name);
-            write!(
-                f,
-                "{name} is not known here: a name is known from its declaration to the end of its block"
-            )
-        }
-        IllTyped::NotInteger(name, other, line) => {
-            let name = Word::of(name);
-            let other = words_of(*other);
-            write!(
-                f,
-                "an integer must stand here, and {name} is {other} (line {line})"
-            )
-        }
-        IllTyped::NotArray(name, other, line) => {
-            let name = Word::of(name);
-            let other = words_of(*other);
-            write!(
-                f,
-                "an array must stand here, and {name} is {other} (line {line})"
-            )
-        }
-        IllTyped::OnlyRead(name, line) => {
-            let name = Word::of(name);
-            write!(
-                f,
-                "{name} in line {line} is const: it is read by {name}[..] and len({name}), and passed to a const parameter"
-            )
-        }
-        IllTyped::Known(name, line) => {
-            let name = Word::of(name);
-            write!(
-                f,
-                "{name} is declared where the {name} of line {line} is still known: take another name, or leave out 'int' to assign"
-            )
-        }
-        IllTyped::Global(name, other, line) => {
-            let name = Word::of(name);
-            let other = words_of(*other);
-            write!(
-                f,
-                "{name} is the name of {other} (line {line}): no local name is spelled like it"
-            )
-        }
-        IllTyped::NotReducer(name, how) => fmt_no_reducer(Word::of(name), *how, f),
-        IllTyped::ReducesOtherwise(name, how, line) => fmt_other_reducer(
-            Word::of(name),
-            *how,
-            *line,
-            f,
+        IllTyped::Unknown(name) => named(
+            "@a is not known here: a name is known from its declaration to the end of its block",
+            name,
         ),
-        _ => Ok(()),
+        IllTyped::NotInteger(name, other, line) => other_at(
+            "an integer must stand here, and @a is @b (line @1)",
+            name,
+            *other,
+            *line,
+        ),
+        IllTyped::NotArray(name, other, line) => other_at(
+            "an array must stand here, and @a is @b (line @1)",
+            name,
+            *other,
+            *line,
+        ),
+        IllTyped::OnlyRead(name, line) => named_at(
+            "@a in line @1 is const: it is read by @a[..] and len(@a), and passed to a const parameter; in place of a part pass the whole and a range",
+            name,
+            *line,
+        ),
+        IllTyped::Known(name, line) => named_at(
+            "@a is declared where the @a of line @1 is still known: take another name, or, to assign in a statement, leave out 'int'",
+            name,
+            *line,
+        ),
+        IllTyped::Global(name, other, line) => other_at(
+            "@a is the name of @b (line @1): no local name is spelled like it",
+            name,
+            *other,
+            *line,
+        ),
+        IllTyped::NotReducer(name, how) => named(no_reducer(*how), name),
+        IllTyped::ReducesOtherwise(name, how, line) => named_at(other_reducer(*how), name, *line),
+        _ => plain(reason, ""),
     }
 }
 
 // Of a name that is no reducer's.
-fn fmt_no_reducer<W: fmt::Write>(
-    name: Word<'_>,
-    how: Reduction,
-    f: &mut fmt::Formatter<W>,
-) -> fmt::Result {
+fn no_reducer(how: Reduction) -> &'static str {
     match how {
-        Reduction::Sum => write!(
-            f,
-            "+= adds to a reducer, and {name} is none: declare 'reducer sum {name};' outside of functions, or write {name} = {name} + .."
-        ),
-        Reduction::Max => write!(
-            f,
-            "max= tells a reducer a value, and {name} is none: declare 'reducer max {name};' outside of functions"
-        ),
+        Reduction::Sum =>
+            "+= adds to a reducer, and @a is none: declare 'reducer sum @a;' outside of functions, or write @a = @a + ..",
+        Reduction::Max =>
+            "max= tells a reducer a value, and @a is none: declare 'reducer max @a;' outside of functions",
     }
 }
 
 // Of a reducer that reduces otherwise.
-fn fmt_other_reducer<W: fmt::Write>(
-    name: Word<'_>,
-    how: Reduction,
-    line: u32,
-    f: &mut fmt::Formatter<W>,
-) -> fmt::Result {
+fn other_reducer(how: Reduction) -> &'static str {
     match how {
-        Reduction::Sum => write!(
-            f,
-            "+= adds to a reducer of sums, and {name} keeps the greatest value that it is told (line {line}): write {name} max= .."
-        ),
-        Reduction::Max => write!(
-            f,
-            "max= tells a value to a reducer that keeps the greatest, and {name} adds up (line {line}): write {name} += .."
-        ),
+        Reduction::Sum =>
+            "+= adds to a reducer of sums, and @a keeps the greatest value that it is told (line @1): write @a max= ..",
+        Reduction::Max =>
+            "max= tells a value to a reducer that keeps the greatest, and @a adds up (line @1): write @a += ..",
     }
 }
 
 // Of calls.
-fn fmt_call<W: fmt::Write>(reason: &IllTyped<'_>, f: &mut fmt::Formatter<W>) -> fmt::Result {
+fn of_call<'a>(reason: &'a IllTyped<'_>) -> Phrase<'a> {
     match reason {
-        IllTyped::NoFunction(name) => {
-            let name = Word::of(name);
-            write!(f, "there is no function {name}")
-        }
-        IllTyped::CallsMain => write!(f, "no statement calls main"),
-        IllTyped::Count(name, given, wanted, line) => {
-            let name = Word::of(name);
-            write!(
-                f,
-                "{name} in line {line} has {wanted} parameters, and the arguments are {given}"
-            )
-        }
-        IllTyped::ArgumentNotArray(place, name, param, line) => {
-            let name = Word::of(name);
-            let param = Word::of(param);
-            write!(
-                f,
-                "argument {place} of {name} is the name of an array alone: {param} in line {line} is one"
-            )
-        }
-        IllTyped::GivesNothing(name, line) => {
-            let name = Word::of(name);
-            write!(
-                f,
-                "{name} in line {line} is void: it gives nothing to assign"
-            )
-        }
-        _ => Ok(()),
+        IllTyped::NoFunction(name) => named("there is no function @a", name),
+        IllTyped::CallsMain => plain(reason, "no statement calls main"),
+        IllTyped::Count(name, given, wanted, line) => Phrase::of(
+            "@a in line @1 has @2 parameters, and the arguments are @3",
+            [Word::of(name), NO_NAME],
+            [u64::from(*line), *wanted as u64, *given as u64],
+        ),
+        IllTyped::ArgumentNotArray(place, name, param, line) => Phrase::of(
+            "argument @2 of @a is the name of an array alone: @b in line @1 is one",
+            [Word::of(name), Word::of(param)],
+            [u64::from(*line), *place as u64, 0],
+        ),
+        IllTyped::GivesNothing(name, line) => named_at(
+            "@a in line @1 is void: it gives nothing to assign",
+            name,
+            *line,
+        ),
+        _ => plain(reason, ""),
     }
 }
 
 // Of other statements.
-fn fmt_statement<W: fmt::Write>(reason: &IllTyped<'_>, f: &mut fmt::Formatter<W>) -> fmt::Result {
+fn of_statement<'a>(reason: &'a IllTyped<'_>) -> Phrase<'a> {
     match reason {
-        IllTyped::ReturnInside => write!(
-            f,
-            "no return stands inside of cilk_scope, cut, region or cilk_for: assign to a name from outside, and return behind the block"
+        IllTyped::ReturnInside => plain(
+            reason,
+            "no return stands inside of cilk_scope, cut, region or cilk_for: assign to a name from outside, and return behind the block",
         ),
-        IllTyped::ReturnsNothing => write!(f, "this function is int: its return has a value"),
-        IllTyped::ReturnsValue => write!(f, "this function is void: its return has no value"),
-        IllTyped::NeverReached(line) => {
-            write!(
-                f,
-                "what follows from line {line} on is never reached: this statement returns"
-            )
-        }
-        IllTyped::HeadNames(variable, other) => {
-            let variable = Word::of(variable);
-            let other = Word::of(other);
-            write!(
-                f,
-                "the head of a cilk_for has one name three times: here {variable}, and {other} in place of it"
-            )
-        }
-        IllTyped::Grain(grain) => {
-            write!(
-                f,
-                "the grain is {grain}: it is a number from 1 to {MOST_GRAIN}"
-            )
-        }
-        IllTyped::PartsAlike(name) => {
-            let name = Word::of(name);
-            write!(
-                f,
-                "both parts of the cut are called {name}: their names differ"
-            )
-        }
-        _ => Ok(()),
+        IllTyped::ReturnsNothing => plain(reason, "this function is int: its return has a value"),
+        IllTyped::ReturnsValue => plain(reason, "this function is void: its return has no value"),
+        IllTyped::NeverReached(line) => numbered(
+            reason,
+            "what follows from line @1 on is never reached: this statement returns",
+            u64::from(*line),
+            0,
+        ),
+        IllTyped::HeadNames(variable, other) => Phrase::of(
+            "the head of a cilk_for has one name three times: here @a, and @b in place of it",
+            [Word::of(variable), Word::of(other)],
+            [0; 3],
+        ),
+        IllTyped::Grain(grain) => numbered(
+            reason,
+            "the grain is @1: it is a number from 1 to @2",
+            *grain,
+            MOST_GRAIN,
+        ),
+        IllTyped::PartsAlike(name) => named(
+            "both parts of the cut are called @a: their names differ",
+            name,
+        ),
+        _ => plain(reason, ""),
     }
 }

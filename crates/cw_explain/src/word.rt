@@ -7,7 +7,7 @@ use cw_tree::syntax::Name;
 use std::fmt;
 
 /// A name or another word of a source, by its bytes.
-#[derive(Clone, Copy, Debug)]
+#[derive(Clone, Copy)]
 pub struct Word<'a> {
     pub text: &'a [u8],
 }
@@ -42,7 +42,7 @@ impl fmt::Display for Word<'_> {
 }
 
 /// Bytes of a source, as far as they take no more than so many columns; `..` stands for the rest.
-#[derive(Clone, Copy, Debug)]
+#[derive(Clone, Copy)]
 pub struct Shown<'a> {
     pub text: &'a [u8],
     pub columns: usize,

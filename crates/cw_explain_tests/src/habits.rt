@@ -493,8 +493,34 @@ static SOURCES: &[(&str, &str, &str)] = &[
     ),
     (
         "int f(int a[]) {\n  cut a at 1 as l, r {\n    return l[0];\n  }\n}\nint main() {\n  return 0;\n}",
-        "t:3: this return stands in a block that is left at its end only: assign to a name from outside, and return behind the block\n  3 |     return l[0];\n",
-        "t:2",
+        "t:1: f is int, and its return in line 3 stands in a block that is left at its end only: assign to a name from outside, and return behind the block\n  1 | int f(int a[]) {\n  3 |     return l[0];\n",
+        "t:3:",
+    ),
+    // that return once, and one of another function
+    (
+        "int f(int n) {\n  cilk_scope {\n    return n;\n  }\n}\nint main() {\n  region t {\n    return 1;\n  }\n  return 0;\n}",
+        "t:8: no return stands inside of cilk_scope",
+        "t:3:",
+    ),
+    (
+        "int mian(int man) {\n  return 0;\n}",
+        "t:1: did you mean main in place of mian?",
+        "in place of man?",
+    ),
+    (
+        "int Main(int n) {\n  return n;\n}\nint helper(int n) {\n  return n;\n}",
+        "did you mean main in place of Main?",
+        "in place of helper?",
+    ),
+    (
+        "int f(int a[]) {\n  int n = 0;\n  n = lne(a);\n  return n;\n}\nint main() {\n  return 0;\n}",
+        "t:3: did you mean len in place of lne?",
+        "print",
+    ),
+    (
+        "int main(int n) {\n  retrun(n);\n  return n;\n}",
+        "t:2: did you mean return in place of retrun?",
+        "print",
     ),
     (
         "int f(int n) {\n  if (n) {\n    return 1;\n  }\n}\nint main() {\n  region t {\n    n = 1;\n  }\n  return 0;\n}",
@@ -505,6 +531,17 @@ static SOURCES: &[(&str, &str, &str)] = &[
         "int get(const int a[]) {\n  return a[0];\n}\nint main() {\n  int a[4];\n  cilk_for (int i = 0; i < 4; i++) {\n    get(a);\n  }\n  return 0;\n}",
         "halve the range by spawned calls that take a as const",
         "cilk_sync",
+    ),
+    // a table that is only read, beside an array of which two calls write parts
+    (
+        "void fill(int b[], int t[], int i, int end) {\n  cilk_for (int k = i; k < end; k++) over (b) {\n    b[k] = t[k % 2];\n  }\n}\nint main() {\n  int b[8];\n  int t[2];\n  cilk_spawn fill(b, t, 0, 4);\n  cilk_spawn fill(b, t, 4, 8);\n  return b[0];\n}",
+        "t:3: t is from outside of the cilk_for in line 2: its body touches such an array only where over(t) names it, and then only the element of its own turn; where turns read all of it, halve the range by spawned calls that take t as const",
+        "t:3: b",
+    ),
+    (
+        "void fill(int b[], const int t[], int i, int end) {\n  while (i < end) {\n    b[i] = t[i % 2];\n    i = i + 1;\n  }\n}\nint main() {\n  int b[8];\n  int t[2];\n  cilk_spawn fill(b, t, 0, 4);\n  cilk_spawn fill(b, t, 4, 8);\n  return b[0];\n}",
+        "t:11: b is passed in line 11, and the call spawned in line 10 has it until the next cilk_sync; calls that run side by side share no array: cut b and pass its parts",
+        "t is",
     ),
     (
         "int main() {\n  int a[4];\n  int b[4];\n  cilk_for (int i = 0; i < 4; i++) over (b) {\n    b[i] = a[i];\n  }\n  return 0;\n}",

@@ -1,9 +1,9 @@
 //! A row for each limit, and one for each trap.
 
 use crate::told::{is_told, refused};
+use cw_explain::explain;
 use cw_model::trap::Trap;
 use cw_text::Fault;
-use cw_told::explain;
 use std::alloc::{AllocError, Global};
 use std::process::Abort;
 use std::test::Fail;

@@ -1,8 +1,8 @@
 //! Faults that are told without a line of the source, and sources that cannot be read.
 
 use crate::told::refused;
+use cw_explain::{explain, explain_unread};
 use cw_text::Fault;
-use cw_told::{explain, explain_unread};
 use std::alloc::Global;
 use std::io::ErrorKind;
 

@@ -7,27 +7,27 @@ static TAKEN: &[(&str, &str)] = &[
     // the sample
     (
         "int fib(int n) {\n  if (n < 2) {\n    return n;\n  }\n  int x = 0;\n  int y = 0;\n  y = fib(n - 2);\n\n\n  x = cilk_spawn fib(n - 1);\n\n  print(x);\n  cilk_sync;\n  return x + y;\n}\nint main() { return 0; }",
-        "refused 4 line 12\nt:12: x is read in line 12, and the call spawned in line 10 gives its result at the next cilk_sync\n  10 |   x = cilk_spawn fib(n - 1);\n  12 |   print(x);\n",
+        "refused 4 line 12\nt:12: x is read in line 12, and the call spawned in line 10 gives its result at the next cilk_sync; put one right before this statement\n  10 |   x = cilk_spawn fib(n - 1);\n  12 |   print(x);\n",
     ),
     (
         "int f() { return 1; }\nint main() {\n  int x = 0;\n  x = cilk_spawn f();\n  x = 2;\n  cilk_sync;\n  return x;\n}",
-        "refused 4 line 5\nt:5: x is written in line 5, and the call spawned in line 4 gives its result at the next cilk_sync\n  4 |   x = cilk_spawn f();\n  5 |   x = 2;\n",
+        "refused 4 line 5\nt:5: x is written in line 5, and the call spawned in line 4 gives its result at the next cilk_sync; put one right before this statement\n  4 |   x = cilk_spawn f();\n  5 |   x = 2;\n",
     ),
     (
         "void f(int a[]) { }\nint main() {\n  int a[4];\n  cilk_spawn f(a);\n  print(len(a));\n  cilk_sync;\n  return 0;\n}",
-        "refused 4 line 5\nt:5: a is read in line 5, and the call spawned in line 4 has it until the next cilk_sync\n  4 |   cilk_spawn f(a);\n  5 |   print(len(a));\n",
+        "refused 4 line 5\nt:5: a is read in line 5, and the call spawned in line 4 has it until the next cilk_sync; put one right before this statement\n  4 |   cilk_spawn f(a);\n  5 |   print(len(a));\n",
     ),
     (
         "void f(int a[]) { }\nint main() {\n  int a[4];\n  cilk_spawn f(a);\n  f(a);\n  cilk_sync;\n  return 0;\n}",
-        "refused 4 line 5\nt:5: a is passed in line 5, and the call spawned in line 4 has it until the next cilk_sync; calls that run side by side share no array: cut a and pass its parts, or let one wait for the other\n  4 |   cilk_spawn f(a);\n  5 |   f(a);\n",
+        "refused 4 line 5\nt:5: a is passed in line 5, and the call spawned in line 4 has it until the next cilk_sync; calls that run side by side share no array: cut a and pass its parts, pass it to const parameters where they only read it, or give one of them an array of its own and add the two up behind the cilk_sync\n  4 |   cilk_spawn f(a);\n  5 |   f(a);\n",
     ),
     (
         "void f(int a[]) { }\nint main() {\n  int a[4];\n  cilk_spawn f(a);\n  cut a at 2 as l, r { }\n  cilk_sync;\n  return 0;\n}",
-        "refused 4 line 5\nt:5: a is cut in line 5, and the call spawned in line 4 has it until the next cilk_sync\n  4 |   cilk_spawn f(a);\n  5 |   cut a at 2 as l, r { }\n",
+        "refused 4 line 5\nt:5: a is cut in line 5, and the call spawned in line 4 has it until the next cilk_sync; put one right before this statement\n  4 |   cilk_spawn f(a);\n  5 |   cut a at 2 as l, r { }\n",
     ),
     (
         "void f(int a[]) { }\nint main() {\n  int a[4];\n  cilk_spawn f(a);\n  cilk_for (int i = 0; i < 4; i++) over (a) { }\n  cilk_sync;\n  return 0;\n}",
-        "refused 4 line 5\nt:5: a is named in over in line 5, and the call spawned in line 4 has it until the next cilk_sync\n  4 |   cilk_spawn f(a);\n  5 |   cilk_for (int i = 0; i < 4; i++) over (a) { }\n",
+        "refused 4 line 5\nt:5: a is named in over in line 5, and the call spawned in line 4 has it until the next cilk_sync; put one right before this statement\n  4 |   cilk_spawn f(a);\n  5 |   cilk_for (int i = 0; i < 4; i++) over (a) { }\n",
     ),
     (
         "int main() {\n  int a[4];\n  cut a at 2 as l, r {\n    a[0] = 1;\n  }\n  return 0;\n}",
@@ -35,16 +35,16 @@ static TAKEN: &[(&str, &str)] = &[
     ),
     (
         "int f() { return 1; }\nint main(int n) {\n  int x = 0;\n  while (n > 0) {\n    print(x);\n    x = cilk_spawn f();\n    n = n - 1;\n  }\n  cilk_sync;\n  return x;\n}",
-        "refused 4 line 5\nt:5: x is read in line 5, and the call spawned in line 6 gives its result at the next cilk_sync; a turn of the while before spawned it\n  5 |     print(x);\n  6 |     x = cilk_spawn f();\nt:6: x is written in line 6, and the call spawned in line 6 gives its result at the next cilk_sync\n",
+        "refused 4 line 5\nt:5: x is read in line 5, and the call spawned in line 6 gives its result at the next cilk_sync; a turn of the while before spawned it; put one at the end of the turn\n  5 |     print(x);\n  6 |     x = cilk_spawn f();\nt:6: x is written in line 6, and the call spawned in line 6 gives its result at the next cilk_sync; put one between the two\n",
     ),
     (
         "int f() { return 1; }\nint main(int n) {\n  if (n) {\n    int x = 0;\n    x = cilk_spawn f();\n  }\n  return 0;\n}",
-        "refused 4 line 4\nt:4: the block of x, declared in line 4, ends, and the call spawned in line 5 gives its result at the next cilk_sync; put a cilk_sync before the end of the block; turns that run side by side are those of a cilk_for\n  4 |     int x = 0;\n  5 |     x = cilk_spawn f();\n",
+        "refused 4 line 4\nt:4: the block of x, declared in line 4, ends, and the call spawned in line 5 gives its result at the next cilk_sync; in a loop halve the range by spawned calls, or take a cilk_for; else put a cilk_sync before the end of the block\n  4 |     int x = 0;\n  5 |     x = cilk_spawn f();\n",
     ),
     // arrays that are only read
     (
         "int get(const int a[]) { return a[0]; }\nint main() {\n  int a[2];\n  int x = 0;\n  x = cilk_spawn get(a);\n  a[0] = 1;\n  cilk_sync;\n  return x;\n}",
-        "refused 4 line 6\nt:6: a is written in line 6, and the call spawned in line 5 reads it until the next cilk_sync\n  5 |   x = cilk_spawn get(a);\n  6 |   a[0] = 1;\n",
+        "refused 4 line 6\nt:6: a is written in line 6, and the call spawned in line 5 reads it until the next cilk_sync; put one right before this statement\n  5 |   x = cilk_spawn get(a);\n  6 |   a[0] = 1;\n",
     ),
     (
         "void f(int a[]) { }\nint get(const int a[]) { return a[0]; }\nint main() {\n  int a[2];\n  int x = 0;\n  x = cilk_spawn get(a);\n  f(a);\n  cilk_sync;\n  return x;\n}",
@@ -52,16 +52,26 @@ static TAKEN: &[(&str, &str)] = &[
     ),
     (
         "void f(int a[]) { }\nint get(const int a[]) { return a[0]; }\nint main() {\n  int a[2];\n  int x = 0;\n  cilk_spawn f(a);\n  x = get(a);\n  cilk_sync;\n  return x;\n}",
-        "refused 4 line 7\nt:7: a is read in line 7, and the call spawned in line 6 has it until the next cilk_sync\n  6 |   cilk_spawn f(a);\n  7 |   x = get(a);\n",
+        "refused 4 line 7\nt:7: a is read in line 7, and the call spawned in line 6 has it until the next cilk_sync; put one right before this statement\n  6 |   cilk_spawn f(a);\n  7 |   x = get(a);\n",
     ),
     (
         "int get(const int a[]) { return a[0]; }\nint main(int n) {\n  if (n) {\n    int a[2];\n    cilk_spawn get(a);\n  }\n  return 0;\n}",
-        "refused 4 line 4\nt:4: the block of a, declared in line 4, ends, and the call spawned in line 5 reads it until the next cilk_sync; put a cilk_sync before the end of the block; turns that run side by side are those of a cilk_for\n  4 |     int a[2];\n  5 |     cilk_spawn get(a);\n",
+        "refused 4 line 4\nt:4: the block of a, declared in line 4, ends, and the call spawned in line 5 reads it until the next cilk_sync; in a loop halve the range by spawned calls, or take a cilk_for; else put a cilk_sync before the end of the block\n  4 |     int a[2];\n  5 |     cilk_spawn get(a);\n",
     ),
     // in one line nothing is said of turns
     (
         "int f() { return 1; }\nint main() {\n  int x = 0;\n  x = cilk_spawn f(); print(x);\n  cilk_sync;\n  return x;\n}",
-        "refused 4 line 4\nt:4: x is read in line 4, and the call spawned in line 4 gives its result at the next cilk_sync\n  4 |   x = cilk_spawn f(); print(x);\n",
+        "refused 4 line 4\nt:4: x is read in line 4, and the call spawned in line 4 gives its result at the next cilk_sync; put one between the two\n  4 |   x = cilk_spawn f(); print(x);\n",
+    ),
+    // the test of a while, which a turn before spawned
+    (
+        "int f() { return 1; }\nint main(int n) {\n  int x = 1;\n  while (x > 0) {\n    x = cilk_spawn f();\n  }\n  return x;\n}",
+        "refused 4 line 4\nt:4: x is read in line 4, and the call spawned in line 5 gives its result at the next cilk_sync; a turn of the while before spawned it; put one at the end of the turn\n  4 |   while (x > 0) {\n  5 |     x = cilk_spawn f();\nt:5: x is written in line 5, and the call spawned in line 5 gives its result at the next cilk_sync; put one between the two\nt:7: x is read in line 7, and the call spawned in line 5 gives its result at the next cilk_sync; put one right before this statement\n",
+    ),
+    // what a turn before passed
+    (
+        "void f(int a[]) { }\nint main(int n) {\n  int a[4];\n  while (n > 0) {\n    f(a);\n    cilk_spawn f(a);\n    n = n - 1;\n  }\n  return 0;\n}",
+        "refused 4 line 5\nt:5: a is passed in line 5, and the call spawned in line 6 has it until the next cilk_sync; a turn of the while before spawned it; calls that run side by side share no array: cut a and pass its parts, pass it to const parameters where they only read it, or give one of them an array of its own and add the two up behind the cilk_sync\n  5 |     f(a);\n  6 |     cilk_spawn f(a);\nt:6: a is passed in line 6, and the call spawned in line 6 has it until the next cilk_sync; calls that run side by side share no array: cut a and pass its parts, pass it to const parameters where they only read it, or give one of them an array of its own and add the two up behind the cilk_sync\n",
     ),
 ];
 
@@ -70,26 +80,26 @@ static TAKERS: &[(&str, &str)] = &[
     // one branch joins its own, so the other's is told
     (
         "int f() { return 1; }\nint main(int n) {\n  int x = 0;\n  if (n) {\n    x = cilk_spawn f();\n  } else {\n    x = cilk_spawn f();\n    cilk_sync;\n  }\n  print(x);\n  cilk_sync;\n  return x;\n}",
-        "refused 4 line 10\nt:10: x is read in line 10, and the call spawned in line 5 gives its result at the next cilk_sync\n   5 |     x = cilk_spawn f();\n  10 |   print(x);\n",
+        "refused 4 line 10\nt:10: x is read in line 10, and the call spawned in line 5 gives its result at the next cilk_sync; put one right before this statement\n   5 |     x = cilk_spawn f();\n  10 |   print(x);\n",
     ),
     (
         "int f() { return 1; }\nint main(int n) {\n  int x = 0;\n  if (n) {\n    x = cilk_spawn f();\n    cilk_sync;\n  } else {\n    x = cilk_spawn f();\n  }\n  print(x);\n  cilk_sync;\n  return x;\n}",
-        "refused 4 line 10\nt:10: x is read in line 10, and the call spawned in line 8 gives its result at the next cilk_sync\n   8 |     x = cilk_spawn f();\n  10 |   print(x);\n",
+        "refused 4 line 10\nt:10: x is read in line 10, and the call spawned in line 8 gives its result at the next cilk_sync; put one right before this statement\n   8 |     x = cilk_spawn f();\n  10 |   print(x);\n",
     ),
     // one that was joined is not told, nor one behind the while
     (
         "int f() { return 1; }\nint main(int n) {\n  int x = 0;\n  x = cilk_spawn f();\n  cilk_sync;\n  while (n > 0) {\n    print(x);\n    x = cilk_spawn f();\n    n = n - 1;\n  }\n  cilk_sync;\n  x = cilk_spawn f();\n  cilk_sync;\n  return x;\n}",
-        "refused 4 line 7\nt:7: x is read in line 7, and the call spawned in line 8 gives its result at the next cilk_sync; a turn of the while before spawned it\n  7 |     print(x);\n  8 |     x = cilk_spawn f();\nt:8: x is written in line 8, and the call spawned in line 8 gives its result at the next cilk_sync\n",
+        "refused 4 line 7\nt:7: x is read in line 7, and the call spawned in line 8 gives its result at the next cilk_sync; a turn of the while before spawned it; put one at the end of the turn\n  7 |     print(x);\n  8 |     x = cilk_spawn f();\nt:8: x is written in line 8, and the call spawned in line 8 gives its result at the next cilk_sync; put one between the two\n",
     ),
     // names of two blocks, one behind the other
     (
         "int f() { return 1; }\nint main(int n) {\n  if (n) {\n    int x = 0;\n    x = cilk_spawn f();\n    cilk_sync;\n  }\n  if (n) {\n    int y = 0;\n    y = cilk_spawn f();\n    y = 1;\n    cilk_sync;\n  }\n  return 0;\n}",
-        "refused 4 line 11\nt:11: y is written in line 11, and the call spawned in line 10 gives its result at the next cilk_sync\n  10 |     y = cilk_spawn f();\n  11 |     y = 1;\n",
+        "refused 4 line 11\nt:11: y is written in line 11, and the call spawned in line 10 gives its result at the next cilk_sync; put one right before this statement\n  10 |     y = cilk_spawn f();\n  11 |     y = 1;\n",
     ),
     // a spawn outside of the block, in which another sync joins nothing of it
     (
         "int f() { return 1; }\nint main() {\n  int x = 0;\n  int y = 0;\n  x = cilk_spawn f();\n  cilk_scope {\n    y = cilk_spawn f();\n    cilk_sync;\n    print(y);\n    print(x);\n  }\n  cilk_sync;\n  return x;\n}",
-        "refused 4 line 10\nt:10: x is read in line 10, and the call spawned in line 5 gives its result at the next cilk_sync\n   5 |   x = cilk_spawn f();\n  10 |     print(x);\n",
+        "refused 4 line 10\nt:10: x is read in line 10, and the call spawned in line 5 gives its result at the next cilk_sync outside of this block; put one right before the block\n   5 |   x = cilk_spawn f();\n  10 |     print(x);\n",
     ),
     // a cut inside of another, and an array that a spawn of the inner one has
     (
@@ -99,7 +109,17 @@ static TAKERS: &[(&str, &str)] = &[
     // what reads an array in one branch and has it in the other
     (
         "void f(int a[]) { }\nint get(const int a[]) { return a[0]; }\nint main(int n) {\n  int a[2];\n  if (n) {\n    cilk_spawn get(a);\n  } else {\n    cilk_spawn f(a);\n  }\n  print(a[0]);\n  cilk_sync;\n  return 0;\n}",
-        "refused 4 line 10\nt:10: a is read in line 10, and the call spawned in line 8 has it until the next cilk_sync\n   8 |     cilk_spawn f(a);\n  10 |   print(a[0]);\n",
+        "refused 4 line 10\nt:10: a is read in line 10, and the call spawned in line 8 has it until the next cilk_sync; put one right before this statement\n   8 |     cilk_spawn f(a);\n  10 |   print(a[0]);\n",
+    ),
+    // in the head of a loop, before which a sync joins it
+    (
+        "int get(const int a[]) { return a[0]; }\nint main() {\n  int a[4];\n  int x = 0;\n  x = cilk_spawn get(a);\n  cilk_for (int i = 0; i < 4; i++) over (a) {\n    a[i] = i;\n  }\n  cilk_sync;\n  return x;\n}",
+        "refused 4 line 6\nt:6: a is named in over in line 6, and the call spawned in line 5 reads it until the next cilk_sync; put one right before this statement\n  5 |   x = cilk_spawn get(a);\n  6 |   cilk_for (int i = 0; i < 4; i++) over (a) {\nt:7: a is written in line 7, and the call spawned in line 5 reads it until the next cilk_sync outside of this block; put one right before the block\n",
+    ),
+    // in the body of a loop, in which a sync joins none of it
+    (
+        "int f() { return 1; }\nint main() {\n  int x = 0;\n  int y = 0;\n  x = cilk_spawn f();\n  cilk_for (int i = 0; i < x; i++) { }\n  cilk_for (int i = 0; i < 4; i++) {\n    print(x);\n  }\n  cilk_sync;\n  return x;\n}",
+        "refused 4 line 6\nt:6: x is read in line 6, and the call spawned in line 5 gives its result at the next cilk_sync; put one right before this statement\n  5 |   x = cilk_spawn f();\n  6 |   cilk_for (int i = 0; i < x; i++) { }\nt:8: x is read in line 8, and the call spawned in line 5 gives its result at the next cilk_sync outside of this block; put one right before the block\n",
     ),
 ];
 
@@ -122,11 +142,11 @@ static TWICE: &[(&str, &str)] = &[
 static LOOPS: &[(&str, &str)] = &[
     (
         "int main() {\n  int x = 0;\n  cilk_for (int i = 0; i < 4; i++) {\n    x = x + i;\n  }\n  return x;\n}",
-        "refused 4 line 4\nt:4: x is written in line 4, and the body of the cilk_for in line 3 may only read it: its turns run side by side; add to a reducer, or write to an element of an array in over(..)\n  3 |   cilk_for (int i = 0; i < 4; i++) {\n  4 |     x = x + i;\n",
+        "refused 4 line 4\nt:4: x is written in line 4, and the body of the cilk_for in line 3 may only read it: its turns run side by side; add to a reducer, or write to an element of an array in over(..); where each turn needs the value of the turn before, take a while\n  3 |   cilk_for (int i = 0; i < 4; i++) {\n  4 |     x = x + i;\n",
     ),
     (
         "int main() {\n  int a[4];\n  cilk_for (int i = 0; i < 4; i++) {\n    a[i] = i;\n  }\n  return 0;\n}",
-        "refused 4 line 4\nt:4: a is from outside of the cilk_for in line 3: its body touches such an array only where over(a) names it, and then only the element of its own turn; where turns read all of it, halve the range by spawned calls that take a as const, in place of the loop\n  3 |   cilk_for (int i = 0; i < 4; i++) {\n  4 |     a[i] = i;\n",
+        "refused 4 line 4\nt:4: a is from outside of the cilk_for in line 3: its body touches such an array only where over(a) names it, and then only the element of its own turn; where a turn writes more of it, halve the range by a function that cuts a and spawns itself on the parts, in place of the loop, or let turns add to a reducer\n  3 |   cilk_for (int i = 0; i < 4; i++) {\n  4 |     a[i] = i;\n",
     ),
     (
         "int get(const int a[]) { return a[0]; }\nint main() {\n  int a[4];\n  cilk_for (int i = 0; i < 4; i++) {\n    get(a);\n  }\n  return 0;\n}",
@@ -134,11 +154,57 @@ static LOOPS: &[(&str, &str)] = &[
     ),
     (
         "int main() {\n  int a[4];\n  cilk_for (int i = 0; i < 4; i++) over (a) {\n    a[0] = i;\n  }\n  return 0;\n}",
-        "refused 4 line 4\nt:4: a is an array of the cilk_for in line 3: its body names it only as a[i], the element of its own turn, and not in a further cilk_for; copy what other turns need before the loop\n  3 |   cilk_for (int i = 0; i < 4; i++) over (a) {\n  4 |     a[0] = i;\n",
+        "refused 4 line 4\nt:4: a is an array of the cilk_for in line 3: its body names it only as a[i], the element of its own turn, and not in a further cilk_for; where a turn writes more of it, halve the range by a function that cuts a and spawns itself on the parts, in place of the loop, or let turns add to a reducer\n  3 |   cilk_for (int i = 0; i < 4; i++) over (a) {\n  4 |     a[0] = i;\n",
     ),
     (
         "int main() {\n  int a[4];\n  cilk_for (int i = 0; i < 4; i++) over (a) {\n    cilk_for (int j = 0; j < a[i]; j++) { }\n  }\n  return 0;\n}",
         "refused 4 line 4\nt:4: a is an array of the cilk_for in line 3: its body names it only as a[i], the element of its own turn, and not in a further cilk_for; copy what other turns need before the loop\n  3 |   cilk_for (int i = 0; i < 4; i++) over (a) {\n  4 |     cilk_for (int j = 0; j < a[i]; j++) { }\n",
+    ),
+    // of two arrays the one that is written
+    (
+        "int main() {\n  int a[4];\n  int b[4];\n  cilk_for (int i = 0; i < 4; i++) {\n    b[i] = a[i];\n  }\n  return 0;\n}",
+        "refused 4 line 5\nt:5: b is from outside of the cilk_for in line 4: its body touches such an array only where over(b) names it, and then only the element of its own turn; where a turn writes more of it, halve the range by a function that cuts b and spawns itself on the parts, in place of the loop, or let turns add to a reducer\n  4 |   cilk_for (int i = 0; i < 4; i++) {\n  5 |     b[i] = a[i];\n",
+    ),
+    // and else the one that is read
+    (
+        "int main() {\n  int a[4];\n  int b[4];\n  cilk_for (int i = 0; i < 4; i++) over (b) {\n    b[i] = a[i];\n  }\n  return 0;\n}",
+        "refused 4 line 5\nt:5: a is from outside of the cilk_for in line 4: its body touches such an array only where over(a) names it, and then only the element of its own turn; where turns read all of it, halve the range by spawned calls that take a as const, in place of the loop\n  4 |   cilk_for (int i = 0; i < 4; i++) over (b) {\n  5 |     b[i] = a[i];\n",
+    ),
+    // an element that is written, and one that is read
+    (
+        "int main() {\n  int a[4];\n  cilk_for (int i = 0; i < 4; i++) over (a) {\n    a[0] = a[i];\n  }\n  return 0;\n}",
+        "refused 4 line 4\nt:4: a is an array of the cilk_for in line 3: its body names it only as a[i], the element of its own turn, and not in a further cilk_for; where a turn writes more of it, halve the range by a function that cuts a and spawns itself on the parts, in place of the loop, or let turns add to a reducer\n  3 |   cilk_for (int i = 0; i < 4; i++) over (a) {\n  4 |     a[0] = a[i];\n",
+    ),
+    (
+        "int main() {\n  int a[4];\n  cilk_for (int i = 0; i < 4; i++) over (a) {\n    a[i] = a[0];\n  }\n  return 0;\n}",
+        "refused 4 line 4\nt:4: a is an array of the cilk_for in line 3: its body names it only as a[i], the element of its own turn, and not in a further cilk_for; copy what other turns need before the loop\n  3 |   cilk_for (int i = 0; i < 4; i++) over (a) {\n  4 |     a[i] = a[0];\n",
+    ),
+    // passed as a whole, cut, and named in a further loop
+    (
+        "void f(int a[]) { }\nint main() {\n  int a[4];\n  cilk_for (int i = 0; i < 4; i++) {\n    f(a);\n  }\n  return 0;\n}",
+        "refused 4 line 5\nt:5: a is from outside of the cilk_for in line 4: its body touches such an array only where over(a) names it, and then only the element of its own turn; where a turn writes more of it, halve the range by a function that cuts a and spawns itself on the parts, in place of the loop, or let turns add to a reducer\n  4 |   cilk_for (int i = 0; i < 4; i++) {\n  5 |     f(a);\n",
+    ),
+    (
+        "int main() {\n  int a[4];\n  cilk_for (int i = 0; i < 4; i++) over (a) {\n    cut a at 2 as l, r { }\n  }\n  return 0;\n}",
+        "refused 4 line 4\nt:4: a is an array of the cilk_for in line 3: its body names it only as a[i], the element of its own turn, and not in a further cilk_for; where a turn writes more of it, halve the range by a function that cuts a and spawns itself on the parts, in place of the loop, or let turns add to a reducer\n  3 |   cilk_for (int i = 0; i < 4; i++) over (a) {\n  4 |     cut a at 2 as l, r { }\n",
+    ),
+    (
+        "int main() {\n  int a[4];\n  cilk_for (int i = 0; i < 4; i++) over (a) {\n    cilk_for (int j = 0; j < 4; j++) over (a) { }\n  }\n  return 0;\n}",
+        "refused 4 line 4\nt:4: a is an array of the cilk_for in line 3: its body names it only as a[i], the element of its own turn, and not in a further cilk_for; where a turn writes more of it, halve the range by a function that cuts a and spawns itself on the parts, in place of the loop, or let turns add to a reducer\n  3 |   cilk_for (int i = 0; i < 4; i++) over (a) {\n  4 |     cilk_for (int j = 0; j < 4; j++) over (a) { }\n",
+    ),
+    // an array that is const stands in no over
+    (
+        "reducer sum s;\nvoid f(const int a[]) {\n  cilk_for (int i = 0; i < 4; i++) {\n    s += a[i];\n  }\n}\nint main() { return 0; }",
+        "refused 4 line 4\nt:4: a is from outside of the cilk_for in line 3: its body touches no const array; where turns read all of it, halve the range by spawned calls that take a as const, in place of the loop\n  3 |   cilk_for (int i = 0; i < 4; i++) {\n  4 |     s += a[i];\n",
+    ),
+    // one of the same name that is const in another function, or a const one beside it
+    (
+        "reducer sum s;\nvoid f(const int a[]) { s += a[0]; }\nvoid g(int a[], const int b[]) {\n  cilk_for (int i = 0; i < 4; i++) {\n    s += a[i];\n  }\n}\nint main() { return 0; }",
+        "refused 4 line 5\nt:5: a is from outside of the cilk_for in line 4: its body touches such an array only where over(a) names it, and then only the element of its own turn; where turns read all of it, halve the range by spawned calls that take a as const, in place of the loop\n  4 |   cilk_for (int i = 0; i < 4; i++) {\n  5 |     s += a[i];\n",
+    ),
+    (
+        "reducer sum s;\nvoid f(int a[], const int b[]) {  cilk_for (int i = 0; i < 4; i++) { s += b[i]; } }\nvoid g(const int a[]) { s += a[0]; }\nint main() { return 0; }",
+        "refused 4 line 2\nt:2: b is from outside of the cilk_for in line 2: its body touches no const array; where turns read all of it, halve the range by spawned calls that take b as const, in place of the loop\n  2 | void f(int a[], const int b[]) {  cilk_for (int i = 0; i < 4; i++) { s += b[i]; } }\n",
     ),
 ];
 
@@ -147,17 +213,22 @@ static SEVERAL: &[(&str, &str)] = &[
     // since which line is said of the first line's name
     (
         "int f() { return 1; }\nint main() {\n  int x = 0;\n  int y = 0;\n  x = cilk_spawn f();\n  y = cilk_spawn f();\n  print(x);\n  print(y);\n  x = 2;\n  cilk_sync;\n  return x + y;\n}",
-        "refused 4 line 7\nt:7: x is read in line 7, and the call spawned in line 5 gives its result at the next cilk_sync\n  5 |   x = cilk_spawn f();\n  7 |   print(x);\nt:8: y is read in line 8, and the call spawned gives its result at the next cilk_sync\nt:9: x is written in line 9, and the call spawned in line 5 gives its result at the next cilk_sync\n",
+        "refused 4 line 7\nt:7: x is read in line 7, and the call spawned in line 5 gives its result at the next cilk_sync; put one right before this statement\n  5 |   x = cilk_spawn f();\n  7 |   print(x);\nt:8: y is read in line 8, and a spawned call gives its result at the next cilk_sync\nt:9: x is written in line 9, and the call spawned in line 5 gives its result at the next cilk_sync; put one right before this statement\n",
     ),
     // a call that breaks a rule takes its arrays
     (
         "void f(int a[]) { }\nvoid g(int a[], int b[]) { }\nint main() {\n  int a[4];\n  int b[4];\n  cilk_spawn f(a);\n  cilk_spawn g(a, b);\n  b[0] = 1;\n  cilk_sync;\n  b[0] = 2;\n  return 0;\n}",
-        "refused 4 line 7\nt:7: a is passed in line 7, and the call spawned in line 6 has it until the next cilk_sync; calls that run side by side share no array: cut a and pass its parts, or let one wait for the other\n  6 |   cilk_spawn f(a);\n  7 |   cilk_spawn g(a, b);\nt:8: b is written in line 8, and the call spawned has it until the next cilk_sync\n",
+        "refused 4 line 7\nt:7: a is passed in line 7, and the call spawned in line 6 has it until the next cilk_sync; calls that run side by side share no array: cut a and pass its parts, pass it to const parameters where they only read it, or give one of them an array of its own and add the two up behind the cilk_sync\n  6 |   cilk_spawn f(a);\n  7 |   cilk_spawn g(a, b);\nt:8: b is written in line 8, and a spawned call has it until the next cilk_sync\n",
     ),
     // the line of a declaration, which is found at the end of its block
     (
         "int f() { return 1; }\nint main(int n) {\n  if (n) {\n    int x = 0;\n    x = cilk_spawn f();\n    print(x);\n  }\n  return 0;\n}",
-        "refused 4 line 4\nt:4: the block of x, declared in line 4, ends, and the call spawned in line 5 gives its result at the next cilk_sync; put a cilk_sync before the end of the block; turns that run side by side are those of a cilk_for\n  4 |     int x = 0;\n  5 |     x = cilk_spawn f();\nt:6: x is read in line 6, and the call spawned in line 5 gives its result at the next cilk_sync\n",
+        "refused 4 line 4\nt:4: the block of x, declared in line 4, ends, and the call spawned in line 5 gives its result at the next cilk_sync; in a loop halve the range by spawned calls, or take a cilk_for; else put a cilk_sync before the end of the block\n  4 |     int x = 0;\n  5 |     x = cilk_spawn f();\nt:6: x is read in line 6, and the call spawned in line 5 gives its result at the next cilk_sync; put one right before this statement\n",
+    ),
+    // of two arrays the one that is written, in each line
+    (
+        "int f() { return 1; }\nvoid h(int a[]) { }\nint main() {\n  int a[4];\n  int b[4];\n  cilk_spawn h(b);\n  cilk_spawn h(a);\n  a[0] = b[0];\n  b[0] = a[0];\n  cilk_sync;\n  return 0;\n}",
+        "refused 4 line 8\nt:8: a is written in line 8, and the call spawned in line 7 has it until the next cilk_sync; put one right before this statement\n  7 |   cilk_spawn h(a);\n  8 |   a[0] = b[0];\nt:9: b is written in line 9, and a spawned call has it until the next cilk_sync\n",
     ),
 ];
 

@@ -136,15 +136,15 @@ static PROGRAMS: &[(&str, &str)] = &[
     ),
     (
         QUARTERS,
-        "refused 4 line 7\nt:7: b is passed in line 7, and the call spawned in line 6 has it until the next cilk_sync; calls that run side by side share no array: cut b and pass its parts, or let one wait for the other\n  6 |   cilk_spawn multiply(a0, b, c0);\n  7 |   cilk_spawn multiply(a1, b, c1);\n",
+        "refused 4 line 7\nt:7: b is passed in line 7, and the call spawned in line 6 has it until the next cilk_sync; calls that run side by side share no array: cut b and pass its parts, pass it to const parameters where they only read it, or give one of them an array of its own and add the two up behind the cilk_sync\n  6 |   cilk_spawn multiply(a0, b, c0);\n  7 |   cilk_spawn multiply(a1, b, c1);\n",
     ),
     (
         HISTOGRAM,
-        "refused 4 line 9\nt:9: the block of part, declared in line 9, ends, and the call spawned in line 10 gives its result at the next cilk_sync; put a cilk_sync before the end of the block; turns that run side by side are those of a cilk_for\n   9 |     int part = 0;\n  10 |     part = cilk_spawn count(i, i + 10);\n",
+        "refused 4 line 9\nt:9: the block of part, declared in line 9, ends, and the call spawned in line 10 gives its result at the next cilk_sync; in a loop halve the range by spawned calls, or take a cilk_for; else put a cilk_sync before the end of the block\n   9 |     int part = 0;\n  10 |     part = cilk_spawn count(i, i + 10);\n",
     ),
     (
         PIPELINE,
-        "refused 4 line 9\nt:9: first is read in line 9, and the call spawned in line 8 gives its result at the next cilk_sync\n  8 |   first = cilk_spawn stage(n);\n  9 |   second = stage(first);\n",
+        "refused 4 line 9\nt:9: first is read in line 9, and the call spawned in line 8 gives its result at the next cilk_sync; put one right before this statement\n  8 |   first = cilk_spawn stage(n);\n  9 |   second = stage(first);\n",
     ),
     (
         SUM,

@@ -1,11 +1,11 @@
 //! What the tables of tests stand on: a source from its text to what is told of its refusal.
 
+use cw_explain::{Refused, explain};
 use cw_lex::lex;
 use cw_loops::lower;
 use cw_own::own;
 use cw_parse::parse;
 use cw_text::{Fault, Source};
-use cw_told::{Refused, explain};
 use cw_types::check;
 use std::alloc::Global;
 use std::process::Abort;

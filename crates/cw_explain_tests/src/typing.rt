@@ -60,7 +60,7 @@ static NAMES: &[(&str, &str)] = &[
     ),
     (
         "int get(const int a[], int i) {\n  a[i] = 0;\n  return a[i];\n}\nint main() { return 0; }",
-        "refused 3 line 2\nt:2: a in line 1 is const: it is read by a[..] and len(a), and passed to a const parameter\n  1 | int get(const int a[], int i) {\n  2 |   a[i] = 0;\n",
+        "refused 3 line 2\nt:2: a in line 1 is const: it is read by a[..] and len(a), and passed to a const parameter; in place of a part pass the whole and a range\n  1 | int get(const int a[], int i) {\n  2 |   a[i] = 0;\n",
     ),
     (
         "void f() { }\nint main() {\n  return f;\n}",
@@ -76,7 +76,7 @@ static NAMES: &[(&str, &str)] = &[
     ),
     (
         "int main() {\n  int x = 1;\n  int x = 2;\n  return x;\n}",
-        "refused 3 line 3\nt:3: x is declared where the x of line 2 is still known: take another name, or leave out 'int' to assign\n  2 |   int x = 1;\n  3 |   int x = 2;\n",
+        "refused 3 line 3\nt:3: x is declared where the x of line 2 is still known: take another name, or, to assign in a statement, leave out 'int'\n  2 |   int x = 1;\n  3 |   int x = 2;\n",
     ),
     (
         "reducer sum s;\nint main() {\n  int s = 2;\n  return s;\n}",

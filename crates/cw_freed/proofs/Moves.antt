@@ -2,7 +2,7 @@
 use Rattle.std.specs.Prelude.{ℕ, ◌+◌, ◌-◌, ◌≡◌, ◌≤◌, ◌<◌, ◌^◌, min, Bool, true, false, not, Option, Some, List, [], ◌∷◌, ◌++◌, reverse, refl}
 use Rattle.std.proofs.Common.{arith, ap, sym, ◌∙◌, subst}
 use Rattle.std.specs.Global.{Vec}
-use Rattle.std.proofs.lemmas.List.{reverse-append}
+use Rattle.cw_facts.specs.Lists.{reverse_pushed}
 use Rattle.cw_model.specs.declared.burden.Burden.{Burden}
 use Rattle.cw_model.specs.declared.limits.TheConstants.{MOST_LIMIT}
 use Rattle.cw_model.specs.Burdens.{no_burden}
@@ -11,7 +11,7 @@ use Rattle.cw_model.specs.lemmas.Regrouping.{normal_is_regrouped, same_readings}
 use Rattle.cw_model.specs.Freed.{freed}
 use Rattle.cw_measure.specs.OpenParts.{Open, in_series, has_spawned, spawned_after, marked, part_of, event_of, closed}
 use Rattle.cw_measure.specs.StrandWeights.{LatePathsWait}
-use Rattle.cw_measure.specs.lemmas.OpenParts.{append_one, spawned_append, has_spawned-work}
+use Rattle.cw_measure.specs.lemmas.OpenParts.{append_one, spawned_append, has_spawned-work, spawned_joined}
 use Rattle.cw_measure.specs.lemmas.StrandWeights.{span_within}
 use Rattle.cw_sites.specs.OpenPaths.{inside, here_in}
 use Rattle.cw_meter.specs.Meters.{ticked, synced, begun}
@@ -45,18 +45,11 @@ behind_is false out t = refl
 spawned_closed : (o : Open) (es : List Event) → has_spawned (closed o es) ≡ spawned_behind o.spawned (has_spawned o.outer)
 spawned_closed o es = spawned_append false o.outer (event_of o es ∷ []) ∙ behind_is o.spawned (has_spawned o.outer) (marked o.mark (tree_of es))
 
-spawned_joined : (es : List Event) → has_spawned (es ++ Join ∷ []) ≡ false
-spawned_joined es = spawned_append false es (Join ∷ [])
-
--- the parts kept, the innermost last
-reverse_push : (parts : List Part) (p : Part) → reverse (parts ++ p ∷ []) ≡ p ∷ reverse parts
-reverse_push parts p = reverse-append parts (p ∷ [])
-
 kept_pushed : (frees : ℕ → Bool) (o : Open) (os : List Open) (p : Part) (old new : List Part) → new ≡ old ++ p ∷ [] → IsKept frees o os p → AreKept frees os (reverse old) → AreKept frees (o ∷ os) (reverse new)
-kept_pushed frees o os p old new e k h = subst (λ (x : List Part). AreKept frees (o ∷ os) x) (sym (ap (λ (x : List Part). reverse x) e ∙ reverse_push old p)) (k, h)
+kept_pushed frees o os p old new e k h = subst (λ (x : List Part). AreKept frees (o ∷ os) x) (sym (ap (λ (x : List Part). reverse x) e ∙ reverse_pushed old p)) (k, h)
 
 kept_popped : (frees : ℕ → Bool) (o : Open) (os : List Open) (p : Part) (old left : List Part) → old ≡ left ++ p ∷ [] → AreKept frees (o ∷ os) (reverse old) → IsKept frees o os p × AreKept frees os (reverse left)
-kept_popped frees o os p old left e h = subst (λ (x : List Part). AreKept frees (o ∷ os) x) (ap (λ (x : List Part). reverse x) e ∙ reverse_push left p) h
+kept_popped frees o os p old left e h = subst (λ (x : List Part). AreKept frees (o ∷ os) x) (ap (λ (x : List Part). reverse x) e ∙ reverse_pushed left p) h
 
 kept_as : (frees : ℕ → Bool) (os : List Open) (old new : List Part) → new ≡ old → AreKept frees os (reverse old) → AreKept frees os (reverse new)
 kept_as frees os old new e h = subst (λ (x : List Part). AreKept frees os (reverse x)) (sym e) h

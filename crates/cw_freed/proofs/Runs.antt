@@ -1,8 +1,8 @@
 -- Both paths of a run are told late of what it has come to.
-use Rattle.std.specs.Prelude.{ℕ, ◌≡◌, ◌+◌, ◌*◌, ◌≤◌, ◌<◌, Bool, true, false, not, List, [], ◌∷◌, ◌++◌, Option, refl}
-use Rattle.std.proofs.Common.{add-one, sym, ap, ◌∙◌, subst, arith}
+use Rattle.std.specs.Prelude.{ℕ, ◌≡◌, ◌+◌, ◌≤◌, ◌<◌, Bool, true, false, not, List, [], ◌∷◌, ◌++◌, Option, refl}
+use Rattle.std.proofs.Common.{sym, ap, ◌∙◌, subst, arith}
 use Rattle.std.proofs.lemmas.Nat.{mul-le}
-use Rattle.std.proofs.Math.Nat.{suc-mul}
+use Rattle.cw_facts.specs.Integers.{one_more_time}
 use Rattle.cw_model.specs.declared.burden.Burden.{Burden}
 use Rattle.cw_model.specs.declared.limits.TheConstants.{MOST_LIMIT, MOST_BURDEN}
 use Rattle.cw_model.specs.Burdens.{no_burden}
@@ -16,9 +16,6 @@ use Rattle.cw_measure.specs.lemmas.StrandWeights.{after_all-append, block_more, 
 use Rattle.cw_measure.specs.declared.burdened_path.BurdenedPath.{BurdenedPath}
 use Rattle.cw_freed.specs.declared.paths.Paths.{Paths}
 use Rattle.cw_freed.specs.Paths.{FitBoth, SpawnsBoth, EndsBoth, JoinsBoth, IsWithin, TellsRun}
-
-one_more_time : (count times : ℕ) → (count + 1) * times ≡ count * times + times
-one_more_time count times = ap (λ (x : ℕ). x * times) (add-one count) ∙ suc-mul count times
 
 -- the weights fit
 fits : (burden : Burden) (count : ℕ) (os : List Open) (es : List Event) → count ≤ MOST_LIMIT → burden.charge ≤ MOST_BURDEN → IsWithin burden count os es → FitsRun burden os es

@@ -15,6 +15,7 @@ use Rattle.cw_model.specs.Sites.{CallSite, are_numbered}
 use Rattle.cw_model.specs.Freed.{function_row}
 use Rattle.cw_sites.specs.declared.table.SiteRow.{SiteRow}
 use Rattle.cw_sites.specs.Tables as tables
+use Rattle.cw_sites.specs.lemmas.Tables.{AreRowsFrom}
 use Rattle.cw_meter.specs.Whole.{AreSiteRows}
 use Rattle.cw_code.specs.Code.{CodeSite}
 use Rattle.cw_code.specs.Heads.{head_view}
@@ -28,11 +29,6 @@ record AreOver (t : Tree) (named : List CallSite) (from to : Sums) : Type 0 wher
   calls : to.calls ≡ from.calls + sum_by (λ s. (site_row s.number t).calls) named
   own_work : to.own_work ≡ from.own_work + sum_by (λ s. (site_row s.number t).own_work) named
   own_span : to.own_span ≡ from.own_span + sum_by (λ s. (site_row s.number t).own_span) named
-
--- rows by their numbers, from a number on
-abbrev AreRowsFrom : ℕ → Tree → List SiteRow → Type 0
-AreRowsFrom n t rows =
-    (k site : ℕ) (row : SiteRow) → site ≡ n + k → slice_get rows k ≡ Some row → tables.IsRow row (site_row site t)
 
 -- so are the sites of this name among some
 abbrev named_in : Name → List CallSite → List CallSite

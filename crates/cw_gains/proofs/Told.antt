@@ -1,6 +1,7 @@
 -- What is told of a run that ended, whoever did the runs behind it.
 use Rattle.std.proofs.Common.{◌≡◌, ℕ, ℤ, true, List, length, take, ◌+◌, sym, subst}
-use Rattle.std.specs.Prelude.{IsErrAnd, MatchResult, Result, Ok, Err}
+use Rattle.std.specs.Prelude.{IsErrAnd, MatchResult, Result}
+use Rattle.cw_facts.specs.Options.{handed_on}
 use Rattle.cw_model.specs.declared.burden.Burden.{Burden}
 use Rattle.cw_model.specs.Sites.{are_numbered}
 use Rattle.cw_text.specs.declared.fault.Fault.{Fault}
@@ -17,11 +18,6 @@ use Rattle.cw_gains.specs.declared.counts.Counted.{Counted}
 use Rattle.cw_code.specs.declared.head.Head.{Head}
 use Rattle.cw_gains.specs.declared.gains.Gains as declared
 use Rattle.cw_gains.proofs.Ranks.{told_is}
-
--- a fault that is handed on
-handed_on : {A : Type 0} (Q : A → Type 0) (P : Fault → Type 0) (e : Fault) (r : Result A Fault) → P e → IsErrAnd r (λ x. x ≡ e) → MatchResult r Q P
-handed_on Q P e (Ok x) p h = absurd h
-handed_on Q P e (Err x) p h = subst P (sym h) p
 
 module _ (v : Verified) (heads : List Head) (args : List ℤ) (n : ℕ) (burden : Burden) (top : ℕ) (ended : Ended)
     (runs : Runs (code_view v.code) args n burden ended) where

@@ -12,7 +12,7 @@ use Rattle.cw_model.specs.Trees.{Series}
 use Rattle.cw_model.specs.Frames.{Frame, no_frame, int_of, array_of}
 use Rattle.cw_model.specs.Expressions.{Gives, evaluate, and_then, done_at}
 use Rattle.cw_model.specs.Outcome.{Outcome, Trace, then_do, joined_up, pay, pay_for}
-use Rattle.cw_model.specs.Meaning.{Returned, Completion, Normal, ByReturn, Calls, Deeper, going, onward, scoped, turns, Entry, SameDepth, depth_of, call_event, start_event, given_array, function_named, arguments, new_length, cut_place, uncut, loop_frame, slices_back, returned_arrays, end_of_call, run_all, call}
+use Rattle.cw_model.specs.Meaning.{Completion, Calls, going, turns, SameDepth, function_named, loop_frame, slices_back}
 use Rattle.cw_model.specs.Meaning as meaning
 use Rattle.cw_model.specs.Ownership.{Taken}
 use Rattle.cw_tree.specs.Resolved.{Lists, Locals, slot_of}
@@ -20,11 +20,12 @@ use Rattle.cw_code.specs.declared.code.Func.{Func}
 use Rattle.cw_code.specs.declared.code.Instr.TheVariants as instr
 use Rattle.cw_code.specs.Code.{Code}
 use Rattle.cw_code.specs.Run.{Readers, Around, State, Transition, On, RunOutcome, ticked, on_slot, onto, begins, on_arrays, arguments_of, parts_of, looped, on_range, start, passed_by, act, go_on, steps}
+use Rattle.cw_code.specs.lemmas.Runs.{joined_quiet}
 use Rattle.cw_gen.specs.Emit.{whole_list, emitted_loads, whole_of}
 use Rattle.cw_gen.specs.Marks.{Marks}
 use Rattle.cw_gen.proofs.Marked.{owned, lent, numbers_at, in_owned, parts_told}
 use Rattle.cw_gen.proofs.Fine.{AllUsable, AllWritable, TakesRange, ExprFine, Room, marks_for}
-use Rattle.cw_gen.proofs.Traces.{resume, joined_quiet, resume_then, resume_one}
+use Rattle.cw_gen.proofs.Traces.{resume, resume_then, resume_one}
 use Rattle.cw_gen.proofs.Places.{HasAt, has_front, has_back}
 use Rattle.cw_gen.proofs.Costs.{pay_none, pay_more}
 use Rattle.cw_gen.proofs.Stores.{Store, Outside, array_waits, Agrees, Fills, loads, takes}

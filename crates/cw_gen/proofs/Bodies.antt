@@ -1,13 +1,14 @@
 -- The code of statements with blocks in them, where that of the blocks does what they do.
 use Rattle.std.proofs.Common.{◌≡◌, ℕ, zero, suc, ◌+◌, ◌-◌, ◌<◌, ◌≤◌, List, [], ◌∷◌, ◌++◌, length, true, false, if◌then◌else◌, Option, Some, None, sym, ap, ◌∙◌, subst, arith, append_assoc, length-append, ℤ}
 use Rattle.std.specs.Prelude.{slice_get, take, drop}
+use Rattle.cw_facts.specs.Tests.{taken}
 use Rattle.cw_model.specs.Ints.{Result, is_zero, natural}
 use Rattle.cw_model.specs.Syntax.{Name, Expr, While, Cut, Block, Function}
 use Rattle.cw_model.specs.Trees.{Series}
 use Rattle.cw_model.specs.Frames.{Frame, array_of, new_array, leave}
 use Rattle.cw_model.specs.Expressions.{evaluate, and_then, done_at}
 use Rattle.cw_model.specs.Outcome.{Outcome, Trace, then_do, joined_up, pay, pay_for}
-use Rattle.cw_model.specs.Meaning.{Returned, Completion, Normal, ByReturn, Calls, Deeper, going, onward, scoped, turns, Entry, SameDepth, depth_of, call_event, start_event, given_array, function_named, arguments, new_length, cut_place, uncut, returned_arrays, end_of_call, run_all, call}
+use Rattle.cw_model.specs.Meaning.{Completion, Normal, ByReturn, Calls, going, onward, scoped, turns, cut_place, uncut, run_all}
 use Rattle.cw_model.specs.Meaning as meaning
 use Rattle.cw_model.specs.Typing.{Returns, Nowhere, block_returns}
 use Rattle.cw_model.specs.Ownership.{CutOf, Taken, cut_ended, is_held, freed, without, own_names, where_it_goes_on, Joins, Leaves}
@@ -17,15 +18,15 @@ use Rattle.cw_code.specs.declared.code.Instr.{Instr}
 use Rattle.cw_code.specs.declared.code.Instr.TheVariants as instr
 use Rattle.cw_code.specs.Code.{Code}
 use Rattle.cw_code.specs.Run as run
-use Rattle.cw_code.specs.Run.{Slots, Results, Waiting, Around, Caller, State, Transition, On, Stops, Stuck, RunOutcome, ticked, synced, inside, is_full, on_slot, onto, operated, set_array, settled, put_in, full, arrays_in, moved_out, Whole, slot_taken, may_take, may_keep, may_begin, kept_by, taken_from, has_room, Entering, begins, begun, call_of, on_arrays, arguments_of, enter, recur, slots_named, passed_by, given_back, returns_to, event_of, rejoined, result_of, back, block_event, opened, opened_at, opened_region, cut_arrays, may_cut, cuts, uncut_arrays, adds, printed, added, act, go_on, steps}
+use Rattle.cw_code.specs.Run.{Around, State, Stuck, RunOutcome, ticked, inside, on_slot, settled, put_in, rejoined, back, block_event, opened, opened_at, cut_arrays, may_cut, cuts, uncut_arrays, act, go_on, steps}
+use Rattle.cw_code.specs.lemmas.Runs.{joined_quiet}
 use Rattle.cw_gen.specs.Emit.{most_jump, distance, first_list, halves_at, returns}
 use Rattle.cw_gen.proofs.Held.{held_after, held_after_all, held_turn, has_no_half_in}
-use Rattle.cw_gen.proofs.Decided.{taken}
 use Rattle.cw_gen.specs.Marks.{Marks}
 use Rattle.cw_gen.proofs.Marked.{owned, read_in, told_at, IsOwn, AllOwn, settle_owned, settle_read, get_owned, own_behind}
 use Rattle.cw_gen.proofs.MarkedCuts.{OwnHalves, cut_numbers, may_cut_owned, cut_owned, cut_read, uncut_owned, uncut_read}
 use Rattle.cw_gen.proofs.Fine.{IsWritable, ExprFine, Room, PartsFine, FreeAtEnd, EndsFree}
-use Rattle.cw_gen.proofs.Traces.{resume, joined_quiet, resume_then, resume_one}
+use Rattle.cw_gen.proofs.Traces.{resume, resume_then, resume_one}
 use Rattle.cw_gen.proofs.Places.{HasAt, has_front, has_back, length_within}
 use Rattle.cw_gen.proofs.Costs.{value_and_then}
 use Rattle.cw_gen.proofs.Takens.{loose_free, holds, held_by_turns, freed_without}

@@ -2,6 +2,7 @@
 use Rattle.std.proofs.Common.{◌≡◌, ℕ, suc, ◌+◌, ◌<◌, ◌≤◌, ◌-◌, List, [], ◌∷◌, ◌++◌, length, Bool, true, false, ◌&&◌, if◌then◌else◌, nat_lt, Option, Some, None, refl, sym, ap, ◌∙◌, subst, arith, ℤ, true≢false}
 use Rattle.std.specs.Prelude.{slice_get, slice_set, replicate, take, drop, map, nat_le, nat_eq, option_map}
 use Rattle.std.proofs.lemmas.Slice.Eq.{bytes_eq-Decides}
+use Rattle.cw_facts.specs.Tests.{taken, both_true, at_most, equal}
 use Rattle.cw_model.specs.Names.{same_name, is_among, differ}
 use Rattle.std.proofs.lemmas.List.{length-set, length-map}
 use Rattle.cw_model.specs.declared.trap.Trap.TheVariants as trap
@@ -17,13 +18,13 @@ use Rattle.cw_tree.specs.Resolved.{Lists, Locals, slot_of, locals_of}
 use Rattle.cw_code.specs.declared.code.Func.{Func}
 use Rattle.cw_code.specs.Code.{Code}
 use Rattle.cw_code.specs.Run as run
-use Rattle.cw_code.specs.Run.{Slots, Results, Waiting, Around, Caller, State, Transition, On, Stops, Stuck, RunOutcome, ticked, synced, inside, is_full, on_slot, onto, operated, set_array, settled, put_in, full, arrays_in, moved_out, Whole, slot_taken, may_take, may_keep, may_begin, kept_by, taken_from, has_room, has_readers, Readers, Entering, begins, begun, call_of, on_arrays, enter, slots_named, passed_by, given_back, returns_to, event_of, rejoined, result_of, back, block_event, opened, opened_at, opened_region, cut_arrays, may_cut, cuts, uncut_arrays, adds, printed, added, act, go_on, steps}
-use Rattle.cw_gen.proofs.Decided.{taken, both_true, at_most, equal}
+use Rattle.cw_code.specs.Run.{Slots, Results, Waiting, Around, Caller, State, On, Stuck, RunOutcome, ticked, inside, is_full, settled, moved_out, slot_taken, may_take, may_keep, may_begin, kept_by, taken_from, has_room, has_readers, Readers, Entering, begins, begun, given_back, returns_to, event_of, rejoined, result_of, back, cuts, go_on, steps}
+use Rattle.cw_code.specs.lemmas.Runs.{joined_quiet}
 use Rattle.cw_gen.specs.Marks.{Marks}
 use Rattle.cw_gen.proofs.Marked.{owned, lent, read_in, told_at, told_all, told_more, taken_at, numbers_at, OwnSlots, AllOwn, both_own, settle_owned, settle_read, slots_told, given_told, move_owned, move_read, owned_full, read_full, length_owned, length_lent}
 use Rattle.cw_gen.proofs.MarkedParams.{marks_short}
 use Rattle.cw_gen.proofs.Fine.{AllUsable, AllWritable, TargetFine, Room, marks_for}
-use Rattle.cw_gen.proofs.Traces.{resume, joined_quiet}
+use Rattle.cw_gen.proofs.Traces.{resume}
 use Rattle.cw_gen.proofs.Takens.{holds, holds_behind, held_by_spawn}
 use Rattle.cw_gen.proofs.Names.{Entries, AgreesOf, can_write}
 use Rattle.cw_gen.proofs.Names as holding

@@ -2,6 +2,7 @@
 use Rattle.std.proofs.Common.{◌≡◌, ℕ, suc, ◌≤◌, Bool, not, cond, filter, List, [], ◌∷◌, ◌++◌, length, true, false, if◌then◌else◌, Option, Some, None, refl, sym, ap, ◌∙◌, arith, append_assoc, ℤ}
 use Rattle.std.specs.Prelude.{reverse, take, drop, map, min, is_none}
 use Rattle.std.proofs.lemmas.List.{append-nil, length-reverse, reverse-reverse}
+use Rattle.cw_facts.specs.Tests.{first_true, second_true}
 use Rattle.cw_model.specs.Syntax.{Name, Expr, Variable, Stmt, Block, End, Then, Param, Function, wants_array}
 use Rattle.std.specs.List.{list_all}
 use Rattle.cw_model.specs.Frames.{Frame, new_int, new_array, set_result}
@@ -18,7 +19,6 @@ use Rattle.cw_code.specs.declared.code.Func.{Func}
 use Rattle.cw_code.specs.Run.{Slots, Around, State, Transition, is_full, on_slot, settled, full, slots_of, arrays_of, arguments_of}
 use Rattle.cw_gen.specs.Emit.{most_jump, distance, emitted_arg}
 use Rattle.cw_gen.proofs.Texts.{expr_code}
-use Rattle.cw_gen.proofs.Decided.{first_true, second_true}
 use Rattle.cw_gen.specs.Marks.{Marks}
 use Rattle.cw_gen.proofs.Marked.{owned, read_in, told_at, AllOwn, settle_owned}
 use Rattle.cw_gen.proofs.Fine.{NoArray, ArrayAlone, Room, Begins}

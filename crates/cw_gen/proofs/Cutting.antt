@@ -3,6 +3,7 @@ use Rattle.std.proofs.Common.{◌≡◌, ℕ, suc, ◌+◌, ◌≤◌, List, [],
 use Rattle.std.specs.Prelude.{slice_get, slice_set, take, drop}
 use Rattle.std.proofs.lemmas.List.{append-nil, length-set}
 use Rattle.std.proofs.lemmas.Slice.Eq.{bytes_eq-Decides}
+use Rattle.cw_facts.specs.Tests.{both_true}
 use Rattle.cw_model.specs.Syntax.{Name}
 use Rattle.cw_model.specs.Names.{same_name, is_among, find, put}
 use Rattle.cw_model.specs.Frames.{Frame, array_of, new_array, leave}
@@ -10,15 +11,16 @@ use Rattle.cw_model.specs.Meaning.{uncut}
 use Rattle.cw_model.specs.Ownership.{SpawnIn, ReaderIn, CutOf, Taken, is_taken, cut_ended, freed, without}
 use Rattle.cw_code.specs.declared.code.Halves.{Halves}
 use Rattle.cw_code.specs.Run.{is_full, settled, cut_arrays, may_cut, uncut_arrays}
+use Rattle.cw_code.specs.lemmas.Slots.{settled_count}
 use Rattle.cw_tree.specs.Resolved.{Locals, slot_of, with_array}
 use Rattle.cw_tree.specs.lemmas.NamedSlots.{slot_stays, slot_in}
-use Rattle.cw_loops.specs.lemmas.Naming.{later_among, among_left}
-use Rattle.cw_gen.proofs.Decided.{both_true}
+use Rattle.cw_tree.specs.lemmas.Names.{later_among}
+use Rattle.cw_loops.specs.lemmas.Naming.{among_left}
 use Rattle.cw_gen.specs.Marks.{Marks}
 use Rattle.cw_gen.proofs.Marked.{AllOwn}
 use Rattle.cw_gen.proofs.Fine.{IsUsable, Room}
 use Rattle.cw_gen.proofs.Takens.{holds, holds_behind, freed_without, spawn_past_cut}
-use Rattle.cw_gen.proofs.Names.{Entries, names_in, names_more, get-other, length-settled, AgreesOf, is_free}
+use Rattle.cw_gen.proofs.Names.{Entries, names_in, names_more, get-other, AgreesOf, is_free}
 use Rattle.cw_gen.proofs.Names as names
 use Rattle.cw_gen.proofs.Scopes.{extended, same_locals}
 use Rattle.cw_gen.proofs.Stores.{Store, Waits, Outside, int_waits, array_waits, joined_with, Agrees, Fills, finds, new_array_is_there, exits, leaves_block}
@@ -58,8 +60,8 @@ uncut_fills marks locals x y left right inner store room own m =
     let a = slice_set s h.left (Some none) in
     let b = slice_set a h.right (Some none) in
     record {
-      ints = length-settled inner.results inner.slots ∙ m.ints;
-      arrays = length-set b h.array (Some (left ++ right)) ∙ length-set a h.right (Some none) ∙ length-set s h.left (Some none) ∙ length-settled inner.arrived inner.arrays ∙ m.arrays;
+      ints = settled_count inner.results inner.slots ∙ m.ints;
+      arrays = length-set b h.array (Some (left ++ right)) ∙ length-set a h.right (Some none) ∙ length-set s h.left (Some none) ∙ settled_count inner.arrived inner.arrays ∙ m.arrays;
       own = own;
     }
 

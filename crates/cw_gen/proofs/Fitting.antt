@@ -1,6 +1,7 @@
 -- Generated code fits: each place finds what its instruction needs, and leads on to places that take what it leaves.
 use Rattle.std.proofs.Common.{◌≡◌, ℕ, ◌+◌, ◌-◌, ◌≤◌, [], ◌∷◌, ◌++◌, length, true, false, ◌&&◌, not, nat_lt, Some, None, refl, sym, ap, ◌∙◌, subst, arith, append_assoc, length-append}
 use Rattle.std.specs.Prelude.{nat_le, option_map}
+use Rattle.cw_facts.specs.Tests.{both_true, first_false, second_false, at_most, below}
 use Rattle.cw_model.specs.Syntax.{Stmt, Declare, DeclareArray, Assign, AssignElement, Reduce, Call, Start, Begin, Sync, If, IfElse, While, Scope, Cut, Region, Print, Return, Block, End, Then}
 use Rattle.cw_model.specs.Meaning.{function_named}
 use Rattle.cw_model.specs.Typing.{Returns, Nowhere, surely_returns, block_returns}
@@ -15,9 +16,8 @@ use Rattle.cw_gen.proofs.Marked.{own_behind}
 use Rattle.cw_gen.proofs.MarkedCuts.{cut_numbers}
 use Rattle.cw_gen.proofs.Frozen.{frozen_of, frozen_both, frozen_freed, frozen_by_turns}
 use Rattle.cw_gen.specs.Emit as emit
-use Rattle.cw_gen.specs.Emit.{Tables, first_list, most_jump, distance, emitted_arg, emitted_loads, callee_of, half_of, whole_of, half_list, whole_list, past}
+use Rattle.cw_gen.specs.Emit.{most_jump, distance, callee_of, half_of, past}
 use Rattle.cw_gen.proofs.Held.{held_after, held_after_all, held_turn}
-use Rattle.cw_gen.proofs.Decided.{both_true, at_most, below, first_false, second_false}
 use Rattle.cw_gen.proofs.Fine.{ExprFine, StmtFine, BlockFine, EndsFree}
 use Rattle.cw_gen.proofs.Takens.{holds, holds_behind, holds_before, held_past, held_by_turns}
 use Rattle.cw_gen.proofs.Scopes.{returns_same}

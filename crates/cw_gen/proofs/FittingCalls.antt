@@ -1,13 +1,14 @@
 -- The instructions of calls fit.
-use Rattle.std.proofs.Common.{◌≡◌, ◌≢◌, ℕ, suc, ◌+◌, ◌-◌, ◌≤◌, List, [], ◌∷◌, ◌++◌, length, Bool, true, false, ◌&&◌, not, if◌then◌else◌, nat_lt, Option, Some, None, refl, sym, ap, ◌∙◌, subst, arith, cond, filter}
+use Rattle.std.proofs.Common.{◌≡◌, ℕ, suc, ◌+◌, ◌-◌, ◌≤◌, List, [], ◌∷◌, ◌++◌, length, Bool, true, false, ◌&&◌, not, if◌then◌else◌, nat_lt, Option, Some, None, refl, sym, ap, ◌∙◌, subst, arith, cond, filter}
 use Rattle.std.specs.Prelude.{slice_get, map, nat_eq, option_map}
 use Rattle.std.proofs.lemmas.Option.{slice_get_within}
+use Rattle.cw_facts.specs.Tests.{both_true, first_true, second_true, at_most, below, equal, not_equal, not_true}
 use Rattle.cw_model.specs.declared.syntax.CallKind.{CallKind}
 use Rattle.cw_model.specs.declared.syntax.CallKind.TheVariants.{Plain, Spawned}
 use Rattle.cw_model.specs.declared.syntax.NameKind.{NameKind}
 use Rattle.cw_model.specs.declared.syntax.NameKind.TheVariants.{Integer, Array, Const}
 use Rattle.cw_model.specs.Syntax.{Name, Expr, Variable, Call, Param, wants_array, is_const_kind}
-use Rattle.cw_model.specs.Names.{same_name, is_among, differ}
+use Rattle.cw_model.specs.Names.{is_among, differ}
 use Rattle.std.proofs.lemmas.List.{length-map}
 use Rattle.cw_model.specs.Meaning.{function_named}
 use Rattle.cw_model.specs.Sites.{Of}
@@ -17,7 +18,7 @@ use Rattle.std.specs.Prelude.{◌||◌}
 use Rattle.cw_model.specs.Ownership.{SpawnIn, ReaderIn, Taken, taken_by, frozen_by, target_names, names_in, arrays_lent}
 use Rattle.cw_model.specs.Ownership as ownership
 use Rattle.cw_tree.specs.Resolved.{Locals, slot_of, locals_of}
-use Rattle.std.proofs.lemmas.Slice.Eq.{bytes_eq-Decides}
+use Rattle.cw_tree.specs.lemmas.Names.{front_among, later_among}
 use Rattle.cw_code.specs.declared.code.Callee.{Callee}
 use Rattle.cw_code.specs.declared.code.Instr.TheVariants as instr
 use Rattle.cw_code.specs.declared.code.Loan.{Loan}
@@ -25,7 +26,6 @@ use Rattle.cw_code.specs.Run.{slots_named, loans_named, passed_by, lent_by}
 use Rattle.cw_code.specs.Fits.{params_of, array_params_of, readers_of, gives_value, is_kind, is_site, names_target, is_none_of, names_arrays, names_passed, names_loan, names_loans, names_lent, names_callee, has_array, has_arrays, has_loan, has_loans, has_target, has_arguments, full_in_all, none_frozen, frozen_rows, with_target, with_gone, with_passed, with_lent, slots_lent, leaves, Covers, CoversEach, FlowsInto}
 use Rattle.cw_gen.specs.Emit.{callee_of}
 use Rattle.cw_gen.proofs.Held.{held_after}
-use Rattle.cw_gen.proofs.Decided.{both_true, first_true, second_true, at_most, below, equal}
 use Rattle.cw_gen.specs.Marks.{Marks, place_of, array_at, count_readers, readers_in}
 use Rattle.cw_gen.proofs.Marked.{IsOwn, is_read, OwnSlots, numbers_at, place_own, place_read, at_apart, read_below}
 use Rattle.cw_gen.proofs.MarkedParams.{counted_readers}
@@ -34,8 +34,8 @@ use Rattle.cw_gen.proofs.Texts.{taken_params}
 use Rattle.cw_gen.proofs.Fine.{marks_for, Room, IsUsable, AllUsable, AllWritable, NotBoth, HasSite, ArgFine, ArgsFine, TargetFine, is_function, StmtFine}
 use Rattle.cw_gen.proofs.Takens.{holds, holds_behind, held_by_spawn}
 use Rattle.cw_gen.proofs.Names.{slots_apart}
-use Rattle.cw_gen.proofs.Rows.{row, array_row, array_covers, row_more, covers_itself, covers_name, covers_array, outers, outers_more, each_covers_itself, CutsOpen, slot_is_full, array_is_full, array_is_thawed, is_equal}
-use Rattle.cw_gen.proofs.Passing.{slots_for, all_usable, own_slots, writable_args, usable_lent, passed_slots, lent_slots, as_many_arrays, not_same, negated}
+use Rattle.cw_gen.proofs.Rows.{row, array_row, array_covers, row_more, covers_itself, covers_name, covers_array, outers, outers_more, each_covers_itself, CutsOpen, slot_is_full, array_is_full, array_is_thawed}
+use Rattle.cw_gen.proofs.Passing.{slots_for, all_usable, own_slots, writable_args, usable_lent, passed_slots, lent_slots, as_many_arrays, not_same}
 use Rattle.cw_gen.proofs.Shapes.{Opened, depth_in, after_arg, args_after}
 use Rattle.cw_gen.proofs.Settings.{Setting, takes_less, tables, table, size, HasRoom, FitsAt, made}
 use Rattle.cw_gen.proofs.FittingExprs.{slot_is_there, array_is_there}
@@ -67,28 +67,18 @@ as_many_lent marks locals taken (p ∷ ps) (e ∷ es) fine = one p.kind e fine.0
     one Const (Variable a) h more = ap suc more
     one Const _ h more = absurd h
 
-further : (x y : Name) (ns : List Name) → is_among x ns ≡ true → is_among x (y ∷ ns) ≡ true
-further x y ns h = test (same_name x y)
-  where
-    test : (b : Bool) → (if b then true else is_among x ns) ≡ true
-    test true = refl
-    test false = h
-
-at_front : (x : Name) (ns : List Name) → is_among x (x ∷ ns) ≡ true
-at_front x ns = ap (λ b. if b then true else is_among x ns) ((bytes_eq-Decides x x).1 refl)
-
 -- arrays that a spawn takes
 pub gone_covered : (size : Room) (depth : ℕ) (names given : List Name) (taken taken' : Taken) → length names ≤ size.arrays → AllUsable names taken given → OwnSlots size.marks (slots_for names given) → ((y : Name) → holds false depth y taken ≡ true → holds false depth y taken' ≡ true) →
     ((y : Name) → is_among y given ≡ true → holds false depth y taken' ≡ true) → Covers (array_row size depth names taken') (with_gone (numbers_at size.marks (slots_for names given)) (array_row size depth names taken))
 gone_covered size depth names [] taken taken' le us own more is = array_covers size depth depth names names taken' taken (row_more size.arrays depth names taken taken' more)
 gone_covered size depth names (a ∷ given) taken taken' le us own more is =
-    covers_array size depth names a (with_gone (numbers_at size.marks (slots_for names given)) (array_row size depth names taken)) taken' le own.0 (gone_covered size depth names given taken taken' le us.1 own.1 more (λ y h. is y (further y a given h))) (is a (at_front a given)) us.0.declared
+    covers_array size depth names a (with_gone (numbers_at size.marks (slots_for names given)) (array_row size depth names taken)) taken' le own.0 (gone_covered size depth names given taken taken' le us.1 own.1 more (λ y h. is y (later_among y a given h))) (is a (front_among a given)) us.0.declared
 
 -- arrays that it only reads: those of slots are frozen
 pub lent_covered : (size : Room) (depth : ℕ) (names reads : List Name) (taken : Taken) (cold cold' : Taken) → length names ≤ size.arrays → AllUsable names taken reads → ((y : Name) → holds false depth y cold ≡ true → holds false depth y cold' ≡ true) →
     ((y : Name) → is_among y reads ≡ true → holds false depth y cold' ≡ true) → Covers (array_row size depth names cold') (with_gone (slots_lent (map (place_of size.marks) (slots_for names reads))) (array_row size depth names cold))
 lent_covered size depth names [] taken cold cold' le us more is = array_covers size depth depth names names cold' cold (row_more size.arrays depth names cold cold' more)
-lent_covered size depth names (a ∷ reads) taken cold cold' le us more is = test (is_read size.marks s) refl (lent_covered size depth names reads taken cold cold' le us.1 more (λ y h. is y (further y a reads h)))
+lent_covered size depth names (a ∷ reads) taken cold cold' le us more is = test (is_read size.marks s) refl (lent_covered size depth names reads taken cold cold' le us.1 more (λ y h. is y (later_among y a reads h)))
   where
     s : ℕ
     s = slot_of a names
@@ -101,7 +91,7 @@ lent_covered size depth names (a ∷ reads) taken cold cold' le us more is = tes
     test true r rest = subst (λ l. Covers (array_row size depth names cold') (with_gone (slots_lent (l ∷ loans)) (array_row size depth names cold))) (sym (place_read size.marks s r)) rest
     test false own rest =
         subst (λ l. Covers (array_row size depth names cold') (with_gone (slots_lent (l ∷ loans)) (array_row size depth names cold))) (sym (place_own size.marks s own))
-        (covers_array size depth names a (with_gone (slots_lent loans) (array_row size depth names cold)) cold' le own rest (is a (at_front a reads)) us.0.declared)
+        (covers_array size depth names a (with_gone (slots_lent loans) (array_row size depth names cold)) cold' le own rest (is a (front_among a reads)) us.0.declared)
 
 -- a call finds as many operands as it takes
 pub arguments_there : (kind : CallKind) (n m : ℕ) → n ≡ m → has_arguments kind n m ≡ true
@@ -130,14 +120,6 @@ spawn_freezes depth names reads taken d y q = ap (holds false d y) (frozen_is de
 pub spawn_reads : (depth : ℕ) (names reads : List Name) (taken : Taken) (y : Name) → is_among y reads ≡ true → holds false depth y (frozen_of (spawned depth names reads taken)) ≡ true
 spawn_reads depth names reads taken y h = ap (holds false depth y) (frozen_is depth names reads taken) ∙ held_by_spawn false depth y reads (frozen_of taken) h
 
--- numbers that differ
-not_equal : (c d : ℕ) → c ≢ d → nat_eq c d ≡ false
-not_equal c d h = cases (nat_eq c d) refl
-  where
-    cases : (b : Bool) → nat_eq c d ≡ b → b ≡ false
-    cases true e = absurd (h (is_equal c d e))
-    cases false e = refl
-
 module _ (setting : Setting) where
   -- an array that none of these names is
   none_of_them : (locals : Locals) (taken : Taken) (a : Name) → is_among a locals.arrays ≡ true → IsOwn setting.marks (slot_of a locals.arrays) → (bs : List Name) → AllWritable setting.marks locals.arrays taken bs → is_among a bs ≡ false →
@@ -160,7 +142,7 @@ module _ (setting : Setting) where
         let more = numbers_at setting.marks (slots_for locals.arrays given) in
         both_true (nat_lt i setting.f.arrays) (is_none_of i more && names_arrays setting.f.arrays more) (array_is_there setting opened locals taken room cuts a us.0.usable us.0.own)
         (both_true (is_none_of i more) (names_arrays setting.f.arrays more)
-        (none_of_them locals taken a us.0.usable.declared us.0.own given us.1 (negated (is_among a given) (first_true (not (is_among a given)) (differ given) apart))) (slots_named_well given us.1 (second_true (not (is_among a given)) (differ given) apart)))
+        (none_of_them locals taken a us.0.usable.declared us.0.own given us.1 (not_true (is_among a given) (first_true (not (is_among a given)) (differ given) apart))) (slots_named_well given us.1 (second_true (not (is_among a given)) (differ given) apart)))
 
     -- arrays that may be written are full
     pub slots_full : (given : List Name) (n : ℕ) → AllWritable setting.marks locals.arrays taken given → has_arrays (made setting opened locals taken n) (numbers_at setting.marks (slots_for locals.arrays given)) ≡ true
@@ -354,7 +336,7 @@ module _ (setting : Setting) where
       covered Spawned (Some x) h =
           let taken' = spawned (depth_in opened) (x ∷ ownership.given setting.fs name es) reads taken in
           covers_name (size setting).ints (depth_in opened) locals.ints x (row (size setting).ints (depth_in opened) locals.ints taken) taken' room.0 (row_more (size setting).ints (depth_in opened) locals.ints taken taken' (more (Some x) (depth_in opened)))
-          (spawn_holds (depth_in opened) (x ∷ ownership.given setting.fs name es) reads taken x (at_front x (ownership.given setting.fs name es))) h.0.declared
+          (spawn_holds (depth_in opened) (x ∷ ownership.given setting.fs name es) reads taken x (front_among x (ownership.given setting.fs name es))) h.0.declared
 
       arrays_covered : (kind : CallKind) (target : Option Name) → AllWritable setting.marks locals.arrays taken (ownership.given setting.fs name es) →
           Covers (array_row (size setting) (depth_in opened) locals.arrays (held_after setting.fs (depth_in opened) (Call kind site target name es) taken)) (with_passed kind (numbers_at setting.marks (slots_for locals.arrays (ownership.given setting.fs name es))) (array_row (size setting) (depth_in opened) locals.arrays taken))
@@ -364,7 +346,7 @@ module _ (setting : Setting) where
         where
           among_behind : (y : Name) (before xs : List Name) → is_among y xs ≡ true → is_among y (before ++ xs) ≡ true
           among_behind y [] xs h = h
-          among_behind y (z ∷ before) xs h = further y z (before ++ xs) (among_behind y before xs h)
+          among_behind y (z ∷ before) xs h = later_among y z (before ++ xs) (among_behind y before xs h)
 
       frozen_covered : (kind : CallKind) (target : Option Name) → AllUsable locals.arrays taken reads →
           Covers (array_row (size setting) (depth_in opened) locals.arrays (frozen_of (held_after setting.fs (depth_in opened) (Call kind site target name es) taken))) (with_lent kind (map (place_of setting.marks) (slots_for locals.arrays reads)) (array_row (size setting) (depth_in opened) locals.arrays (frozen_of taken)))

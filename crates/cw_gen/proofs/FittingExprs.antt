@@ -1,6 +1,7 @@
 -- Expressions and arguments fit.
 use Rattle.std.proofs.Common.{◌≡◌, ℕ, ◌+◌, ◌-◌, ◌<◌, ◌≤◌, List, [], ◌∷◌, ◌++◌, length, Bool, true, false, nat_lt, Some, refl, sym, ap, subst, arith, append_assoc, length-append}
 use Rattle.std.specs.Prelude.{nat_le}
+use Rattle.cw_facts.specs.Tests.{both_true, at_most, below}
 use Rattle.cw_model.specs.Syntax.{wants_array, Name, Expr, Number, Variable, Element, Length, Negative, Not, Binary, Param}
 use Rattle.std.proofs.lemmas.List.{append-nil, length-replicate}
 use Rattle.cw_model.specs.Ownership.{Taken}
@@ -14,7 +15,6 @@ use Rattle.cw_code.specs.Fits.{Shape, has_array, none_empty, FlowsInto}
 use Rattle.cw_gen.specs.Emit.{element_at, length_at, emitted_arg}
 use Rattle.cw_gen.specs.Marks.{place_of, array_at}
 use Rattle.cw_gen.proofs.Marked.{IsOwn, is_read, place_own, place_read, read_below, at_within, length_owned}
-use Rattle.cw_gen.proofs.Decided.{both_true, at_most, below}
 use Rattle.cw_gen.proofs.Fine.{IsUsable, ExprFine, ArgKept, arg_kept, ArgsFine}
 use Rattle.cw_gen.proofs.Texts.{expr_code, args_code}
 use Rattle.cw_gen.proofs.Codes.{arg_code, array_code}

@@ -1,6 +1,7 @@
 -- The call of a loop's function on one half of its range fits.
 use Rattle.std.proofs.Common.{◌≡◌, ℕ, ◌+◌, ◌-◌, List, [], ◌∷◌, length, true, ◌&&◌, Some, sym, ap, ◌∙◌, subst, arith}
 use Rattle.std.specs.Prelude.{slice_get}
+use Rattle.cw_facts.specs.Tests.{both_true}
 use Rattle.cw_model.specs.declared.syntax.CallKind.{CallKind}
 use Rattle.cw_model.specs.declared.syntax.CallKind.TheVariants.{Plain, Spawned}
 use Rattle.cw_model.specs.Syntax.{Name, Expr, Start}
@@ -14,7 +15,6 @@ use Rattle.cw_code.specs.Run.{slots_named, passed_by}
 use Rattle.cw_code.specs.Fits.{params_of, names_passed, names_lent, has_arrays, has_arguments, frozen_rows, none_frozen, with_passed, leaves, Covers, CoversEach, FlowsInto}
 use Rattle.cw_gen.specs.Emit.{half_of}
 use Rattle.cw_gen.proofs.Held.{held_after}
-use Rattle.cw_gen.proofs.Decided.{both_true}
 use Rattle.cw_gen.proofs.Marked.{numbers_at}
 use Rattle.cw_gen.proofs.Frozen.{frozen_of}
 use Rattle.cw_gen.proofs.Fine.{AllWritable, StmtFine}

@@ -3,6 +3,7 @@ use Rattle.std.proofs.Common.{◌≡◌, ℕ, suc, ◌+◌, ◌-◌, List, [], �
 use Rattle.std.specs.Prelude.{nat_le}
 use Rattle.std.proofs.lemmas.List.{length-map}
 use Rattle.std.proofs.lemmas.Option.{slice_get_within}
+use Rattle.cw_facts.specs.Tests.{both_true, below}
 use Rattle.cw_model.specs.Syntax.{Name, Expr, Block}
 use Rattle.cw_model.specs.Typing.{Returns, Nowhere, WithInt, Alone, block_returns}
 use Rattle.cw_model.specs.Ownership.{Taken, freed, without, own_names, Joins}
@@ -15,7 +16,6 @@ use Rattle.cw_code.specs.Code.{reducer_names}
 use Rattle.cw_code.specs.Fits.{names_tag, Shape, has_slot, none_open, leaves, FlowsInto}
 use Rattle.cw_gen.specs.Emit.{distance, past}
 use Rattle.cw_gen.proofs.Held.{held_after_all}
-use Rattle.cw_gen.proofs.Decided.{both_true, below}
 use Rattle.cw_gen.proofs.Fine.{ExprFine, ReturnFine, IsListed, BlockFine, EndsFree}
 use Rattle.cw_gen.proofs.Texts.{expr_code, block_code}
 use Rattle.cw_gen.proofs.Frozen.{frozen_of}

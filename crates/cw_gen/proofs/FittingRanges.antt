@@ -1,6 +1,7 @@
 -- The first call of a loop's function fits: the ends of its range, the integers that it takes along, and its instruction.
 use Rattle.std.proofs.Common.{◌≡◌, ℕ, ◌+◌, ◌-◌, List, [], ◌∷◌, ◌++◌, length, true, ◌&&◌, Some, refl, sym, ap, ◌∙◌, subst, arith, length-append}
 use Rattle.std.specs.Prelude.{slice_get, map, nat_le}
+use Rattle.cw_facts.specs.Tests.{both_true, at_most}
 use Rattle.cw_model.specs.Syntax.{Name, Expr, Begin}
 use Rattle.std.proofs.lemmas.List.{append-nil}
 use Rattle.cw_model.specs.Meaning.{function_named}
@@ -12,7 +13,6 @@ use Rattle.cw_code.specs.declared.code.Instr.TheVariants as instr
 use Rattle.cw_code.specs.Run.{slots_named, passed_by}
 use Rattle.cw_code.specs.Fits.{params_of, names_passed, names_lent, Shape, has_arrays, frozen_rows, none_frozen, leaves, FlowsInto}
 use Rattle.cw_gen.specs.Emit.{emitted_loads, whole_of}
-use Rattle.cw_gen.proofs.Decided.{both_true, at_most}
 use Rattle.cw_gen.proofs.Fine.{AllUsable, StmtFine}
 use Rattle.cw_gen.proofs.Marked.{owned, numbers_at}
 use Rattle.cw_gen.proofs.MarkedParams.{params_owned}

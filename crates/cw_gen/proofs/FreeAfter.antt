@@ -3,6 +3,7 @@ use Rattle.cw_model.specs.declared.syntax.NameKind.TheVariants as name_kind
 use Rattle.std.proofs.Common.{◌≡◌, ℕ, ◌+◌, List, [], ◌∷◌, ◌++◌, true, sym, ap, ◌∙◌, subst, arith}
 use Rattle.std.specs.Prelude.{not, ◌&&◌, ◌||◌, Option}
 use Rattle.std.specs.List.{list_all}
+use Rattle.std.proofs.lemmas.Bool.{and_parts}
 use Rattle.cw_model.specs.declared.syntax.CallKind.TheVariants.{Plain, Spawned}
 use Rattle.cw_model.specs.Lines.{unless}
 use Rattle.cw_model.specs.Syntax.{Name, Expr, Stmt, Declare, DeclareArray, Assign, AssignElement, Reduce, Call, Start, Begin, Sync, If, IfElse, While, For, Scope, Cut, Region, Print, Return, Block, End, Then, Function, Program}
@@ -12,10 +13,10 @@ use Rattle.cw_model.specs.Typing.{Known, Returns, Nowhere, is_fine, is_int, is_a
 use Rattle.cw_model.specs.Ownership.{CutOf, Taken, freed, taken_by, frozen_by, without, own_names, where_it_goes_on, target_names, arrays_given, arrays_lent, given, lent, may_read, may_write, Around, Closing, Joins, Leaves, Declared, declared_by, known_after, taken_after, taken_after_all, owner_faults, owner_faults_in}
 use Rattle.cw_model.specs.WhileLaw.{WhilesAreLeast}
 use Rattle.cw_model.specs.lemmas.Kept.{left_none, right_none, kept}
+use Rattle.cw_tree.specs.lemmas.Names.{later_among}
 use Rattle.cw_loops.specs.Lowered.{is_plain, lower_exprs, lower_stmt, lower_block, loop_count, loop_count_in}
 use Rattle.cw_loops.specs.SourceLike.{is_source_expr, is_source_target, is_source_stmt, is_source_block}
-use Rattle.cw_loops.specs.lemmas.Tests.{both_true, either_right}
-use Rattle.cw_loops.specs.lemmas.Naming.{later_among}
+use Rattle.cw_loops.specs.lemmas.Tests.{either_right}
 use Rattle.cw_loops.specs.lemmas.Knowing.{known_array_more}
 use Rattle.cw_loops.specs.lemmas.Declaring.{CutKept, cut_kept}
 use Rattle.cw_loops.specs.lemmas.Seeing.{SameKnown, after_known, CallKept, call_kept}
@@ -82,7 +83,7 @@ module _ (program : Program) (least : WhilesAreLeast) (gs : List Function) (same
       let turn = where_it_goes_on (block_returns b) (without (own_names b) (taken_after_all program.functions source b all')) in
       let turn' = where_it_goes_on (block_returns (lower_block over k b)) (without (own_names (lower_block over k b)) (held_after_all gs depth (lower_block over k b) held)) in
       let more_taken : AllCarried shift depth owners held all' = λ u i. carried_in shift depth owners taken all' u (all u i) (in_left (u.0, deeper shift u.1) taken (where_it_goes_on (block_returns b) (without (own_names b) (taken_after_all program.functions source b taken)))) in
-      let s = both_true (is_source_expr test) (is_source_block b) src in
+      let s = and_parts (is_source_expr test) (is_source_block b) src in
       let turned : AllCarried shift depth owners turn' turn = branch_carries b more over k known owners around same returns depth source shift e held all' s.1 (right_none (unless (is_fine known test) line) _ types) (right_none (unless (may_read around all' test) line) _ owns) more_taken in
       either_way (in_append t held turn' h) (λ i. more_taken t i)
       (λ i. carried_in shift depth owners turn all' t (turned t i) (λ q. contains_in (t.0, deeper shift t.1) all' ((least program.functions source test b taken).closed (t.0, deeper shift t.1) (in_contains (t.0, deeper shift t.1) turn q))))
@@ -103,10 +104,10 @@ module _ (program : Program) (least : WhilesAreLeast) (gs : List Function) (same
       c = cut_kept program known a at l r (kept (is_cut program known a at l r) line (left_none _ (faults_in_block program Nowhere ((r, name_kind.Array) ∷ (l, name_kind.Array) ∷ known) b) types))
 
       s1 : (is_plain a ≡ true) × ((is_source_expr at && (is_plain l && (is_plain r && is_source_block b))) ≡ true)
-      s1 = both_true (is_plain a) (is_source_expr at && (is_plain l && (is_plain r && is_source_block b))) src
+      s1 = and_parts (is_plain a) (is_source_expr at && (is_plain l && (is_plain r && is_source_block b))) src
 
       s2 : is_source_block b ≡ true
-      s2 = (both_true (is_plain r) (is_source_block b) (both_true (is_plain l) (is_plain r && is_source_block b) (both_true (is_source_expr at) (is_plain l && (is_plain r && is_source_block b)) s1.1).1).1).1
+      s2 = (and_parts (is_plain r) (is_source_block b) (and_parts (is_plain l) (is_plain r && is_source_block b) (and_parts (is_source_expr at) (is_plain l && (is_plain r && is_source_block b)) s1.1).1).1).1
 
       same' : SameKnown ((r, name_kind.Array) ∷ (l, name_kind.Array) ∷ known) (r ∷ l ∷ owners)
       same' w = known_array_more w r (l ∷ owners) (is_int ((l, name_kind.Array) ∷ known) w) (is_array ((l, name_kind.Array) ∷ known) w) (known_array_more w l owners (is_int known w) (is_array known w) (same w))
@@ -127,8 +128,8 @@ module _ (program : Program) (least : WhilesAreLeast) (gs : List Function) (same
 
   call_carries : (site : ℕ) (target : Option Name) (f : Name) (es : List Expr) → StmtCarries (Call Spawned site target f es)
   call_carries site target f es over k known owners around same returns line depth source shift e held taken src types owns all =
-      let s = both_true (is_source_target target) (is_plain f && list_all is_source_expr es) src in
-      let t = both_true (is_plain f) (list_all is_source_expr es) s.1 in
+      let s = and_parts (is_source_target target) (is_plain f && list_all is_source_expr es) src in
+      let t = and_parts (is_plain f) (list_all is_source_expr es) s.1 in
       let c = call_kept program.functions known target f es (kept (is_call known target (called f program.functions) es) line types) in
       let after = taken_after program.functions source (Call Spawned site target f es) taken in
       let takes = target_names target ++ given program.functions f es in
@@ -153,13 +154,13 @@ module _ (program : Program) (least : WhilesAreLeast) (gs : List Function) (same
     stmt_carries (Begin f from to captured on) over k known owners around same returns line depth source shift e held taken src types owns all = absurd cc
     stmt_carries Sync over k known owners around same returns line depth source shift e held taken src types owns all = freed_carried shift depth source owners held taken e all
     stmt_carries (If e' b) over k known owners around same returns line depth source shift e held taken src types owns all =
-        let s = both_true (is_source_expr e') (is_source_block b) src in
+        let s = and_parts (is_source_expr e') (is_source_block b) src in
         both_carried shift depth owners (where_it_goes_on (block_returns (lower_block over k b)) (without (own_names (lower_block over k b)) (held_after_all gs depth (lower_block over k b) held))) held
         (where_it_goes_on (block_returns b) (without (own_names b) (taken_after_all program.functions source b taken))) taken
         (branch_carries b (block_carries b) over k known owners around same returns depth source shift e held taken s.1 (right_none (unless (is_fine known e') line) _ types) (right_none (unless (may_read around taken e') line) _ owns) all) all
     stmt_carries (IfElse e' b c) over k known owners around same returns line depth source shift e held taken src types owns all =
-        let s = both_true (is_source_expr e') (is_source_block b && is_source_block c) src in
-        let s' = both_true (is_source_block b) (is_source_block c) s.1 in
+        let s = and_parts (is_source_expr e') (is_source_block b && is_source_block c) src in
+        let s' = and_parts (is_source_block b) (is_source_block c) s.1 in
         let types' = right_none (unless (is_fine known e') line) (faults_in_block program returns known b ++ faults_in_block program returns known c) types in
         let owns' = right_none (unless (may_read around taken e') line) (owner_faults_in program.functions around owners source Leaves taken [] b ++ owner_faults_in program.functions around owners source Leaves taken [] c) owns in
         let k' = k + loop_count_in b in
@@ -183,7 +184,7 @@ module _ (program : Program) (least : WhilesAreLeast) (gs : List Function) (same
     pub block_carries : (b : Block) → BlockCarries b
     block_carries End over k known owners around same returns depth source shift e closing held taken declared src types owns all = all
     block_carries (Then line s b) over k known owners around same returns depth source shift e closing held taken declared src types owns all =
-        let q = both_true (is_source_stmt s) (is_source_block b) src in
+        let q = and_parts (is_source_stmt s) (is_source_block b) src in
         let here = stmt_carries s over k known owners around same returns line depth source shift e held taken q.0 (left_none _ _ types) (left_none _ _ owns) all in
         more_carried shift depth (own_names b ++ known_after owners s) (own_names (Then line s b) ++ owners) (held_after_all gs depth (lower_block over k (Then line s b)) held) (taken_after_all program.functions source (Then line s b) taken) (then_names s line b owners)
         (block_carries b over (k + loop_count s) (declares s known) (known_after owners s) around (after_known s known owners same) returns depth source shift e closing (held_after gs depth (lower_stmt over k s) held) (taken_after program.functions source s taken) (declared_by line s declared) q.1

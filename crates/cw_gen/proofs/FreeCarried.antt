@@ -2,7 +2,8 @@
 use Rattle.std.proofs.Common.{◌≡◌, ℕ, ◌+◌, ◌≤◌, ◌==◌, List, [], ◌∷◌, ◌++◌, Bool, true, false, refl, sym, ap, ◌∙◌, inl, inr, subst, true≢false, arith}
 use Rattle.std.specs.Prelude.{map, not, if◌then◌else◌, Option, Some, None}
 use Rattle.std.specs.List.{list_all}
-use Rattle.std.proofs.lemmas.Bool.{eq-eqb, eqb-true}
+use Rattle.std.proofs.lemmas.Bool.{eq-eqb, eqb-true, and_parts}
+use Rattle.cw_facts.specs.Tests.{not_true}
 use Rattle.cw_model.specs.Syntax.{is_written_kind, is_const_kind, Name, Expr, Variable, Stmt, Declare, DeclareArray, Block, Then, Param, Function}
 use Rattle.cw_model.specs.Names.{is_among}
 use Rattle.cw_model.specs.Meaning.{function_named}
@@ -11,10 +12,11 @@ use Rattle.cw_model.specs.Ownership.{Holder, SpawnIn, ReaderIn, CutOf, Taken, is
 use Rattle.cw_model.specs.declared.syntax.NameKind.{NameKind}
 use Rattle.cw_model.specs.declared.syntax.NameKind.TheVariants.{Integer, Array, Const}
 use Rattle.cw_model.specs.lemmas.Fits.{writable_array}
+use Rattle.cw_tree.specs.lemmas.Names.{front_among, later_among}
 use Rattle.cw_loops.specs.Lowered.{is_plain}
 use Rattle.cw_loops.specs.SourceLike.{is_source_expr, is_source_target}
-use Rattle.cw_loops.specs.lemmas.Tests.{both_true, not_true, told, yes_is, no_is, Told, never, refuted, either_left, either_right}
-use Rattle.cw_loops.specs.lemmas.Naming.{Placed, at_front, after_it, placed, Side, in_first, in_second, side, front_among, later_among, among_left, among_right}
+use Rattle.cw_loops.specs.lemmas.Tests.{told, yes_is, no_is, Told, never, refuted, either_left, either_right}
+use Rattle.cw_loops.specs.lemmas.Naming.{Placed, at_front, after_it, placed, Side, in_first, in_second, side, among_left, among_right}
 use Rattle.cw_loops.specs.lemmas.Seeing.{SameKnown, CallKept}
 use Rattle.cw_gen.proofs.FreeMembers.{In, in_append, in_left, in_right, in_filter, in_kept, in_taken, not_in, in_held, not_held, by_holder, holder_has, Outer, either_way}
 
@@ -243,16 +245,16 @@ arrays_plain : (known : Known) (ps : List Param) (es : List Expr) → are_argume
 arrays_plain known [] es h s x o = absurd cc
 arrays_plain known (p ∷ ps) [] h s x o = absurd cc
 arrays_plain known (p ∷ ps) (e ∷ es) h s x o =
-    let f = both_true (is_argument known p.kind e) (are_arguments known ps es) h in
-    let q = both_true (is_source_expr e) (list_all is_source_expr es) s in
+    let f = and_parts (is_argument known p.kind e) (are_arguments known ps es) h in
+    let q = and_parts (is_source_expr e) (list_all is_source_expr es) s in
     of_either x (if is_written_kind p.kind then names_in e else []) (arrays_given ps es) o (array_plain is_written_kind refl known p.kind e f.0 q.0 x) (arrays_plain known ps es f.1 q.1 x)
 
 lent_plain : (known : Known) (ps : List Param) (es : List Expr) → are_arguments known ps es ≡ true → list_all is_source_expr es ≡ true → (x : Name) → is_among x (arrays_lent ps es) ≡ true → (is_plain x ≡ true) × (is_array known x ≡ true)
 lent_plain known [] es h s x o = absurd cc
 lent_plain known (p ∷ ps) [] h s x o = absurd cc
 lent_plain known (p ∷ ps) (e ∷ es) h s x o =
-    let f = both_true (is_argument known p.kind e) (are_arguments known ps es) h in
-    let q = both_true (is_source_expr e) (list_all is_source_expr es) s in
+    let f = and_parts (is_argument known p.kind e) (are_arguments known ps es) h in
+    let q = and_parts (is_source_expr e) (list_all is_source_expr es) s in
     of_either x (if is_const_kind p.kind then names_in e else []) (arrays_lent ps es) o (array_plain is_const_kind refl known p.kind e f.0 q.0 x) (lent_plain known ps es f.1 q.1 x)
 
 target_plain : (known : Known) (f : Function) (target : Option Name) → is_target known f target ≡ true → is_source_target target ≡ true → (x : Name) → is_among x (target_names target) ≡ true → (is_plain x ≡ true) × (is_int known x ≡ true)
@@ -260,7 +262,7 @@ target_plain known f None h s x o = absurd cc
 target_plain known f (Some y) h s x o = go (placed x y [] o)
   where
     go : Placed x y [] → (is_plain x ≡ true) × (is_int known x ≡ true)
-    go (at_front same) = (ap is_plain same ∙ s, ap (is_int known) same ∙ (both_true (is_int known y) f.gives_int h).0)
+    go (at_front same) = (ap is_plain same ∙ s, ap (is_int known) same ∙ (and_parts (is_int known y) f.gives_int h).0)
     go (after_it other p) = absurd cc
 
 -- the names of a call

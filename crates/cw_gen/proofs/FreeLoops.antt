@@ -1,16 +1,18 @@
 -- In the function of a loop nothing that is taken is used, where that holds of its body.
 use Rattle.std.proofs.Common.{◌≡◌, ℕ, ◌+◌, List, [], ◌∷◌, ◌++◌, true, false, refl, sym, ap, ◌∙◌, subst, inl, inr, true≢false}
 use Rattle.std.specs.Prelude.{map, not, if◌then◌else◌}
+use Rattle.std.proofs.lemmas.Bool.{and_parts}
+use Rattle.cw_facts.specs.Tests.{not_true, both_true}
 use Rattle.cw_model.specs.declared.syntax.Operator.TheVariants.{Less}
 use Rattle.cw_model.specs.Syntax.{Name, Expr, Variable, Binary, While, Scope, Block, Function}
 use Rattle.cw_model.specs.Names.{same_name, is_among, differ}
 use Rattle.cw_model.specs.Meaning.{function_named}
 use Rattle.cw_model.specs.Ownership.{Holder, SpawnIn, CutOf, Taken, is_taken, is_held, own_names, given, arrays_given, taken_by, are_loose, Joins, Leaves}
+use Rattle.cw_tree.specs.lemmas.Names.{front_among, later_among}
 use Rattle.cw_gen.proofs.Takens.{loose_free}
 use Rattle.cw_loops.specs.Lowered.{is_plain, low, high, middle, left_part, right_part, int_params, array_params, variables, leaf_turn, leaf_block, left_arguments, right_arguments, both_halves, in_cuts, node_block, loop_function}
-use Rattle.cw_loops.specs.lemmas.Tests.{both_true, not_true, all_of}
 use Rattle.cw_loops.specs.lemmas.Apart.{plain_apart, not_later}
-use Rattle.cw_loops.specs.lemmas.Naming.{Placed, at_front, after_it, placed, front_among, later_among}
+use Rattle.cw_loops.specs.lemmas.Naming.{Placed, at_front, after_it, placed}
 use Rattle.cw_gen.proofs.Held.{held_after, held_after_all}
 use Rattle.cw_gen.proofs.Fine.{EndsFree}
 use Rattle.cw_gen.proofs.Kept.{ExprsFree, BlockFree}
@@ -65,8 +67,8 @@ part_among part same a (b ∷ over) = ap (λ q. if q then true else is_among (pa
 parts_differ : (part : Name → Name) → ((a b : Name) → same_name (part a) (part b) ≡ same_name a b) → (over : List Name) → differ over ≡ true → differ (map part over) ≡ true
 parts_differ part same [] h = refl
 parts_differ part same (a ∷ over) h =
-    let p = both_true (not (is_among a over)) (differ over) h in
-    all_of (not (is_among (part a) (map part over))) (differ (map part over)) (ap not (part_among part same a over) ∙ p.0) (parts_differ part same over p.1)
+    let p = and_parts (not (is_among a over)) (differ over) h in
+    both_true (not (is_among (part a) (map part over))) (differ (map part over)) (ap not (part_among part same a over) ∙ p.0) (parts_differ part same over p.1)
 
 -- none of the parts
 no_part : (part : Name → Name) (x : Name) → ((a : Name) → same_name x (part a) ≡ false) → (over : List Name) → is_among x (map part over) ≡ false
@@ -223,7 +225,7 @@ module _ (gs : List Function) (name : Name) (line : ℕ) (x : Name) (grain : ℕ
   )
     where
       q : (not (is_among a todo) ≡ true) × (differ todo ≡ true)
-      q = both_true (not (is_among a todo)) (differ todo) d
+      q = and_parts (not (is_among a todo)) (differ todo) d
 
       inner : Taken
       inner = (a, CutOf) ∷ held

@@ -1,15 +1,15 @@
 -- What is one of the taken names, and where a lowered block has it from.
-use Rattle.std.proofs.Common.{◌≡◌, ℕ, ◌+◌, ◌<◌, ◌==◌, List, [], ◌∷◌, ◌++◌, Bool, true, false, not, if◌then◌else◌, cond, refl, sym, ap, ◌∙◌, filter, ◌⊎◌, inl, inr, ⊎_elim, true≢false, arith, zero, suc, zero-lt-suc, get_or, Contains}
+use Rattle.std.proofs.Common.{◌≡◌, ℕ, ◌+◌, ◌<◌, List, [], ◌∷◌, ◌++◌, Bool, true, false, not, if◌then◌else◌, cond, refl, sym, ap, ◌∙◌, filter, ◌⊎◌, inl, inr, ⊎_elim, true≢false, arith, zero, suc, zero-lt-suc, get_or, Contains}
 use Rattle.std.specs.Prelude.{map}
-use Rattle.std.proofs.lemmas.Bool.{eq-eqb, eqb-true}
+use Rattle.std.proofs.lemmas.Bool.{eq-eqb}
 use Rattle.std.proofs.lemmas.List.Elements.{Contains-append_right, Contains-append_cases}
 use Rattle.std.proofs.lemmas.Slice.Eq.{bytes_eq-Decides}
+use Rattle.cw_facts.specs.Tests.{less_differs, not_true}
 use Rattle.cw_model.specs.declared.syntax.CallKind.TheVariants.{Plain, Spawned}
 use Rattle.cw_model.specs.Syntax.{Name, Stmt, Call, Start, Sync, If, IfElse, While, Scope, Cut, Region, Return, Block, End, Then, Function}
 use Rattle.cw_model.specs.Names.{same_name, is_among}
 use Rattle.cw_model.specs.Typing.{block_returns}
 use Rattle.cw_model.specs.Ownership.{Holder, SpawnIn, ReaderIn, CutOf, Taken, is_reader, is_taken, is_held, is_spawn_in, is_cut_of, freed, without, taken_by, own_names, where_it_goes_on, target_names, given, lent}
-use Rattle.cw_loops.specs.lemmas.Tests.{not_true}
 use Rattle.cw_gen.proofs.Held.{held_after, held_after_all}
 
 -- it is one of them
@@ -162,17 +162,10 @@ outer_more depth (SpawnIn d) h = omega (arith, h)
 outer_more depth (ReaderIn d) h = omega (arith, h)
 outer_more depth CutOf h = tt
 
-less_not : (d depth : ℕ) → d < depth → (d == depth) ≡ false
-less_not d depth h = cases (d == depth) refl
-  where
-    cases : (b : Bool) → (d == depth) ≡ b → b ≡ false
-    cases true e = absurd (omega (arith, h, eqb-true d depth e))
-    cases false e = refl
-
 -- no spawn of the block itself
 pub outer_not : (depth : ℕ) (k : Holder) → Outer depth k → is_spawn_in depth k ≡ false
-outer_not depth (SpawnIn d) h = less_not d depth h
-outer_not depth (ReaderIn d) h = less_not d depth h
+outer_not depth (SpawnIn d) h = less_differs d depth h
+outer_not depth (ReaderIn d) h = less_differs d depth h
 outer_not depth CutOf h = refl
 
 -- it was taken before, or a spawn of the sync block at this depth has it

@@ -4,6 +4,7 @@ use Rattle.std.proofs.Common.{◌≡◌, ℕ, ◌+◌, List, [], ◌∷◌, ◌+
 use Rattle.std.specs.Prelude.{map, not, ◌&&◌, ◌||◌, if◌then◌else◌, Some, None}
 use Rattle.std.specs.List.{list_all}
 use Rattle.std.proofs.lemmas.Slice.Eq.{bytes_eq-Decides}
+use Rattle.std.proofs.lemmas.Bool.{and_parts}
 use Rattle.cw_model.specs.declared.syntax.CallKind.TheVariants.{Plain, Spawned}
 use Rattle.cw_model.specs.Lines.{unless}
 use Rattle.cw_model.specs.Syntax.{Name, Expr, Stmt, Declare, DeclareArray, Assign, AssignElement, Reduce, Call, Start, Begin, Sync, If, IfElse, While, For, Scope, Cut, Region, Print, Return, Block, End, Then, Program}
@@ -12,8 +13,9 @@ use Rattle.cw_model.specs.Captured.{read_by, read_by_all, read_in, read_in_block
 use Rattle.cw_model.specs.Typing.{Known, Returns, Nowhere, is_fine, is_int, is_array, is_cut, is_new, is_head_of_loop, surely_returns, block_returns, declares, ends_block, faults_in, faults_in_block}
 use Rattle.cw_model.specs.Ownership.{Holder, SpawnIn, ReaderIn, CutOf, Taken, is_reader, is_taken, is_held, is_spawn_in, is_cut_of, freed, taken_by, without, own_names, where_it_goes_on, target_names, given, lent, names_in, are_free, are_loose, may_read, may_write, may_lend, may_index, keeps_loop, are_inner, for_head, Around, InLoop, Closing, Joins, Leaves, Declared, declared_by, known_after, taken_after, taken_after_all, owner_faults, owner_faults_in}
 use Rattle.cw_model.specs.lemmas.Kept.{left_none, right_none, kept}
-use Rattle.cw_loops.specs.lemmas.Tests.{both_true, never, refuted}
-use Rattle.cw_loops.specs.lemmas.Naming.{front_among, later_among, none_among}
+use Rattle.cw_tree.specs.lemmas.Names.{front_among, later_among}
+use Rattle.cw_loops.specs.lemmas.Tests.{never, refuted}
+use Rattle.cw_loops.specs.lemmas.Naming.{none_among}
 use Rattle.cw_loops.specs.lemmas.Knowing.{Unknown, new_unknown, known_more, known_array_more}
 use Rattle.cw_loops.specs.lemmas.Declaring.{CutKept, cut_kept, head_kept, block_new}
 use Rattle.cw_loops.specs.lemmas.Seeing.{SameKnown, after_known}
@@ -27,12 +29,12 @@ pub record Stays (t : Name × Holder) (after : Taken) (reads : List Name) : Type
 
 unread_expr : (around : Around) (taken : Taken) (e : Expr) (t : Name × Holder) → may_read around taken e ≡ true → In t taken → is_reader t.1 ≡ false → is_among t.0 (read_by e) ≡ false
 unread_expr around taken e t h i loud =
-    refuted (is_among t.0 (read_by e)) (λ o. never (is_taken taken t.0) (in_taken t taken i loud) (free_each taken (names_in e) (both_true (are_free taken (names_in e)) (keeps_loop around e) h).0 t.0 (read_is_in e t.0 o)))
+    refuted (is_among t.0 (read_by e)) (λ o. never (is_taken taken t.0) (in_taken t taken i loud) (free_each taken (names_in e) (and_parts (are_free taken (names_in e)) (keeps_loop around e) h).0 t.0 (read_is_in e t.0 o)))
 
 unread_all : (around : Around) (taken : Taken) (es : List Expr) (t : Name × Holder) → list_all (λ e. may_read around taken e) es ≡ true → In t taken → is_reader t.1 ≡ false → is_among t.0 (read_by_all es) ≡ false
 unread_all around taken [] t h i loud = refl
 unread_all around taken (e ∷ es) t h i loud =
-    let p = both_true (may_read around taken e) (list_all (λ e. may_read around taken e) es) h in
+    let p = and_parts (may_read around taken e) (list_all (λ e. may_read around taken e) es) h in
     none_among t.0 (read_by e) (read_by_all es) (unread_expr around taken e t p.0 i loud) (unread_all around taken es t p.1 i loud)
 
 -- a name that is not known is not the owners'
@@ -142,7 +144,7 @@ module _ (program : Program) where
       owns' = right_none (unless rule line) _ owns
 
       reads : (may_read (for_head around) taken from ≡ true) × (may_read (for_head around) taken to ≡ true)
-      reads = both_true (may_read (for_head around) taken from) (may_read (for_head around) taken to) (both_true _ (may_write around taken over) (both_true _ (differ over) rules).0).0
+      reads = and_parts (may_read (for_head around) taken from) (may_read (for_head around) taken to) (and_parts _ (may_write around taken over) (and_parts _ (differ over) rules).0).0
 
       same' : SameKnown ((x, name_kind.Integer) ∷ known) (x ∷ owners)
       same' w = known_more w x owners (is_int known w) (is_array known w) (same w)
@@ -176,13 +178,13 @@ module _ (program : Program) where
       types' = right_none (unless (is_cut program known a e l r) line) _ types
 
       rules : (may_read around taken e ≡ true) × (may_write around taken (a ∷ []) ≡ true)
-      rules = both_true (may_read around taken e) (may_write around taken (a ∷ [])) (kept _ line (left_none _ _ owns))
+      rules = and_parts (may_read around taken e) (may_write around taken (a ∷ [])) (kept _ line (left_none _ _ owns))
 
       owns' : owner_faults_in program.functions around (r ∷ l ∷ owners) (depth + 1) Joins ((a, CutOf) ∷ taken) [] b ≡ []
       owns' = right_none (unless (may_read around taken e && may_write around taken (a ∷ [])) line) _ owns
 
       free : is_held taken a ≡ false
-      free = loose_each taken (a ∷ []) (both_true (are_loose taken (a ∷ [])) (are_inner around (a ∷ [])) rules.1).0 a (front_among a [])
+      free = loose_each taken (a ∷ []) (and_parts (are_loose taken (a ∷ [])) (are_inner around (a ∷ [])) rules.1).0 a (front_among a [])
 
       same' : SameKnown ((r, name_kind.Array) ∷ (l, name_kind.Array) ∷ known) (r ∷ l ∷ owners)
       same' w = known_array_more w r (l ∷ owners) (is_int ((l, name_kind.Array) ∷ known) w) (is_array ((l, name_kind.Array) ∷ known) w) (known_array_more w l owners (is_int known w) (is_array known w) (same w))
@@ -214,22 +216,22 @@ module _ (program : Program) where
     stmt_stays (Declare x e) known owners around same depth line taken types owns t i o n = record { stays = i; unread = λ loud. unread_expr around taken e t (kept _ line owns) i loud }
     stmt_stays (DeclareArray x e) known owners around same depth line taken types owns t i o n = record { stays = i; unread = λ loud. unread_expr around taken e t (kept _ line owns) i loud }
     stmt_stays (Assign x e) known owners around same depth line taken types owns t i o n =
-        record { stays = i; unread = λ loud. unread_expr around taken e t (both_true (may_read around taken e) (may_write around taken (x ∷ [])) (kept _ line owns)).0 i loud }
+        record { stays = i; unread = λ loud. unread_expr around taken e t (and_parts (may_read around taken e) (may_write around taken (x ∷ [])) (kept _ line owns)).0 i loud }
     stmt_stays (AssignElement a j e) known owners around same depth line taken types owns t i o n =
-        let three = both_true (may_read around taken j && may_read around taken e && are_loose taken (a ∷ [])) (may_index around a j) (kept _ line owns) in
-        let two = both_true (may_read around taken j && may_read around taken e) (are_loose taken (a ∷ [])) three.0 in
-        let one = both_true (may_read around taken j) (may_read around taken e) two.0 in
+        let three = and_parts (may_read around taken j && may_read around taken e && are_loose taken (a ∷ [])) (may_index around a j) (kept _ line owns) in
+        let two = and_parts (may_read around taken j && may_read around taken e) (are_loose taken (a ∷ [])) three.0 in
+        let one = and_parts (may_read around taken j) (may_read around taken e) two.0 in
         record { stays = i; unread = λ loud. none_among t.0 (read_by j) (read_by e) (unread_expr around taken j t one.0 i loud) (unread_expr around taken e t one.1 i loud) }
     stmt_stays (Reduce how s e) known owners around same depth line taken types owns t i o n = record { stays = i; unread = λ loud. unread_expr around taken e t (kept _ line owns) i loud }
     stmt_stays (Call Plain site target f es) known owners around same depth line taken types owns t i o n =
-        let three = both_true _ (may_lend around (given program.functions f es) (lent program.functions f es)) (kept _ line owns) in
-        let two = both_true _ (differ (given program.functions f es)) three.0 in
-        let one = both_true (list_all (λ e. may_read around taken e) es) (may_write around taken (target_names target ++ given program.functions f es)) two.0 in
+        let three = and_parts _ (may_lend around (given program.functions f es) (lent program.functions f es)) (kept _ line owns) in
+        let two = and_parts _ (differ (given program.functions f es)) three.0 in
+        let one = and_parts (list_all (λ e. may_read around taken e) es) (may_write around taken (target_names target ++ given program.functions f es)) two.0 in
         record { stays = i; unread = λ loud. unread_all around taken es t one.0 i loud }
     stmt_stays (Call Spawned site target f es) known owners around same depth line taken types owns t i o n =
-        let three = both_true _ (may_lend around (given program.functions f es) (lent program.functions f es)) (kept _ line owns) in
-        let two = both_true _ (differ (given program.functions f es)) three.0 in
-        let one = both_true (list_all (λ e. may_read around taken e) es) (may_write around taken (target_names target ++ given program.functions f es)) two.0 in
+        let three = and_parts _ (may_lend around (given program.functions f es) (lent program.functions f es)) (kept _ line owns) in
+        let two = and_parts _ (differ (given program.functions f es)) three.0 in
+        let one = and_parts (list_all (λ e. may_read around taken e) es) (may_write around taken (target_names target ++ given program.functions f es)) two.0 in
         record { stays = in_right t (map (λ x. (x, ReaderIn depth)) (lent program.functions f es)) (taken_by depth (target_names target ++ given program.functions f es) taken) (in_right t (map (λ x. (x, SpawnIn depth)) (target_names target ++ given program.functions f es)) taken i); unread = λ loud. unread_all around taken es t one.0 i loud }
     stmt_stays (Start kind f es) known owners around same depth line taken types owns t i o n = absurd cc
     stmt_stays (Begin f from to captured over) known owners around same depth line taken types owns t i o n = absurd cc

@@ -2,6 +2,8 @@
 use Rattle.std.proofs.Common.{◌≡◌, ℕ, ◌+◌, Bool, true, false, List, [], ◌∷◌, ◌++◌, refl, ap, ◌∙◌}
 use Rattle.std.specs.Prelude.{◌&&◌, ◌||◌, not, if◌then◌else◌}
 use Rattle.std.specs.List.{list_any}
+use Rattle.std.proofs.lemmas.Bool.{and_parts}
+use Rattle.cw_facts.specs.Tests.{not_true}
 use Rattle.cw_model.specs.declared.syntax.NameKind.{NameKind}
 use Rattle.cw_model.specs.declared.syntax.NameKind.TheVariants.{Integer, Array, Const}
 use Rattle.cw_model.specs.Syntax.{is_written_kind, is_const_kind, Name, Expr, Number, Variable, Element, Length, Negative, Not, Binary, Stmt, Declare, DeclareArray, IfElse, Block, End, Then, Param}
@@ -9,9 +11,9 @@ use Rattle.cw_model.specs.Names.{is_among}
 use Rattle.cw_model.specs.Captured.{read_by, declared_in, declared_in_block}
 use Rattle.cw_model.specs.Typing.{Known, is_argument, are_arguments, surely_returns, block_returns}
 use Rattle.cw_model.specs.Ownership.{Taken, is_taken, is_held, own_names, names_in, arrays_given, arrays_lent, are_free, are_loose}
+use Rattle.cw_tree.specs.lemmas.Names.{front_among, later_among}
 use Rattle.cw_loops.specs.Lowered.{low, lower_index, lower_expr, lower_exprs, lower_stmt, lower_block, loop_count, loop_count_in}
-use Rattle.cw_loops.specs.lemmas.Tests.{both_true, not_true}
-use Rattle.cw_loops.specs.lemmas.Naming.{Placed, at_front, after_it, placed, Side, in_first, in_second, side, none_any, among_left, among_right, front_among, later_among}
+use Rattle.cw_loops.specs.lemmas.Naming.{Placed, at_front, after_it, placed, Side, in_first, in_second, side, none_any, among_left, among_right}
 
 mutual
   -- a lowered statement surely returns where its source does
@@ -54,7 +56,7 @@ pub given_same : (over : List Name) (known : Known) (ps : List Param) (es : List
 given_same over known [] es h = refl
 given_same over known (p ∷ ps) [] h = refl
 given_same over known (p ∷ ps) (e ∷ es) h =
-    let f = both_true (is_argument known p.kind e) (are_arguments known ps es) h in
+    let f = and_parts (is_argument known p.kind e) (are_arguments known ps es) h in
     ap (λ l. l ++ arrays_given ps (lower_exprs over es)) (one p.kind e f.0) ∙ ap (λ l. (if is_written_kind p.kind then names_in e else []) ++ l) (given_same over known ps es f.1)
   where
     one : (k : NameKind) (e : Expr) → is_argument known k e ≡ true → (if is_written_kind k then names_in (lower_expr over e) else []) ≡ (if is_written_kind k then names_in e else [])
@@ -68,7 +70,7 @@ pub lent_same : (over : List Name) (known : Known) (ps : List Param) (es : List 
 lent_same over known [] es h = refl
 lent_same over known (p ∷ ps) [] h = refl
 lent_same over known (p ∷ ps) (e ∷ es) h =
-    let f = both_true (is_argument known p.kind e) (are_arguments known ps es) h in
+    let f = and_parts (is_argument known p.kind e) (are_arguments known ps es) h in
     ap (λ l. l ++ arrays_lent ps (lower_exprs over es)) (one p.kind e f.0) ∙ ap (λ l. (if is_const_kind p.kind then names_in e else []) ++ l) (lent_same over known ps es f.1)
   where
     one : (k : NameKind) (e : Expr) → is_argument known k e ≡ true → (if is_const_kind k then names_in (lower_expr over e) else []) ≡ (if is_const_kind k then names_in e else [])

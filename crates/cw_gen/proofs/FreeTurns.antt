@@ -1,12 +1,12 @@
 -- Where no call on a half stands, a lowered statement holds what is taken after it in a source; so turns close.
 use Rattle.std.proofs.Common.{◌≡◌, ℕ, ◌+◌, true, List, ◌∷◌, ◌++◌, refl, sym, ap, ◌∙◌, subst, Contains}
+use Rattle.std.proofs.lemmas.Bool.{and_parts}
 use Rattle.cw_model.specs.declared.syntax.CallKind.TheVariants.{Plain, Spawned}
 use Rattle.cw_model.specs.Syntax.{Stmt, Call, Start, If, IfElse, While, For, Scope, Cut, Region, Block, End, Then, Function, Program}
 use Rattle.cw_model.specs.Typing.{block_returns}
 use Rattle.cw_model.specs.Ownership.{Taken, CutOf, freed, cut_ended, without, own_names, where_it_goes_on, taken_after, taken_after_all, IsLeastClosed}
 use Rattle.cw_model.specs.WhileLaw.{one_turn, WhilesAreLeast}
 use Rattle.cw_loops.specs.Lowered.{lowered}
-use Rattle.cw_loops.specs.lemmas.Tests.{both_true}
 use Rattle.cw_gen.proofs.Held.{held_after, held_after_all, held_turn, has_no_half, has_no_half_in}
 use Rattle.cw_gen.proofs.Texts.{TurnsClose}
 
@@ -19,7 +19,7 @@ mutual
   held_same fs (For x y z from to grain over b) depth taken h = absurd cc
   held_same fs (If e b) depth taken h = ap (λ t. where_it_goes_on (block_returns b) (without (own_names b) t) ++ taken) (all_same fs b depth taken h)
   held_same fs (IfElse e b c) depth taken h =
-      let p = both_true (has_no_half_in b) (has_no_half_in c) h in
+      let p = and_parts (has_no_half_in b) (has_no_half_in c) h in
       ap (λ t. where_it_goes_on (block_returns b) (without (own_names b) t) ++ where_it_goes_on (block_returns c) (without (own_names c) (held_after_all fs depth c taken))) (all_same fs b depth taken p.0)
       ∙ ap (λ t. where_it_goes_on (block_returns b) (without (own_names b) (taken_after_all fs depth b taken)) ++ where_it_goes_on (block_returns c) (without (own_names c) t)) (all_same fs c depth taken p.1)
   held_same fs (While e b) depth taken h = ap (λ t. taken ++ where_it_goes_on (block_returns b) (without (own_names b) t)) (all_same fs b depth taken h)
@@ -32,7 +32,7 @@ mutual
   pub all_same : (fs : List Function) (b : Block) (depth : ℕ) (taken : Taken) → has_no_half_in b ≡ true → held_after_all fs depth b taken ≡ taken_after_all fs depth b taken
   all_same fs End depth taken h = refl
   all_same fs (Then line s b) depth taken h =
-      let p = both_true (has_no_half s) (has_no_half_in b) h in
+      let p = and_parts (has_no_half s) (has_no_half_in b) h in
       all_same fs b depth (held_after fs depth s taken) p.1 ∙ ap (taken_after_all fs depth b) (held_same fs s depth taken p.0)
 
 -- the least set of a turn is that of a turn that does the same

@@ -1,8 +1,10 @@
 -- No name that a lowered program uses is taken.
+use Rattle.cw_facts.specs.Tests.{not_true}
 use Rattle.cw_model.specs.declared.syntax.NameKind.TheVariants as name_kind
 use Rattle.std.proofs.Common.{◌≡◌, ℕ, zero, suc, ◌+◌, ◌≤◌, List, [], ◌∷◌, ◌++◌, true, false, refl, sym, ap, ◌∙◌, arith, inr}
 use Rattle.std.specs.Prelude.{map, flat_map, not, ◌&&◌, ◌||◌, if◌then◌else◌, Option, Some, None}
 use Rattle.std.specs.List.{list_all, list_any}
+use Rattle.std.proofs.lemmas.Bool.{and_parts}
 use Rattle.cw_model.specs.declared.syntax.CallKind.{CallKind}
 use Rattle.cw_model.specs.Lines.{unless}
 use Rattle.cw_model.specs.Syntax.{Name, Expr, Stmt, Declare, DeclareArray, Assign, AssignElement, Reduce, Call, Start, Begin, Sync, If, IfElse, While, For, Scope, Cut, Region, Print, Return, Block, End, Then, Function, Program}
@@ -13,12 +15,13 @@ use Rattle.cw_model.specs.Typing.{Known, Returns, Nowhere, WithInt, Alone, is_fi
 use Rattle.cw_model.specs.Ownership.{Holder, CutOf, Taken, is_reader, is_taken, is_held, freed, own_names, target_names, given, lent, names_in, are_free, are_loose, are_inner, keeps_loop, may_read, may_write, may_lend, may_index, for_head, Around, NoLoop, InLoop, Closing, Joins, Leaves, Declared, declared_by, known_after, taken_after, taken_after_all, owner_faults, owner_faults_in, owner_faults_of}
 use Rattle.cw_model.specs.WhileLaw.{WhilesAreLeast}
 use Rattle.cw_model.specs.lemmas.Kept.{left_none, right_none, kept}
+use Rattle.cw_tree.specs.lemmas.Names.{front_among, later_among}
 use Rattle.cw_loops.specs.Lowered.{is_plain, low, lower_expr, lower_exprs, lower_stmt, lower_block, loop_count, loop_count_in, made_by, made_in, made_of, loop_name, loop_function, lower_functions, lowered}
 use Rattle.cw_loops.specs.Lowerable.{is_lowerable}
 use Rattle.cw_loops.specs.SourceLike.{is_source_expr, is_source_target, is_source_stmt, is_source_block, is_source_function}
 use Rattle.cw_loops.specs.LoweringLaws.{IsOwnedSource}
-use Rattle.cw_loops.specs.lemmas.Tests.{both_true, not_true, never, refuted, either_right}
-use Rattle.cw_loops.specs.lemmas.Naming.{Placed, at_front, after_it, placed, each_of, among_left, among_right, front_among, later_among, new_are_there}
+use Rattle.cw_loops.specs.lemmas.Tests.{never, refuted, either_right}
+use Rattle.cw_loops.specs.lemmas.Naming.{Placed, at_front, after_it, placed, each_of, among_left, among_right, new_are_there}
 use Rattle.cw_loops.specs.lemmas.Knowing.{known_more, known_array_more, new_unknown, not_both}
 use Rattle.cw_loops.specs.lemmas.Declaring.{HeadKept, head_kept, CutKept, cut_kept}
 use Rattle.cw_loops.specs.lemmas.Seeing.{SameKnown, after_known, call_kept, Seen, Home, declared_there, known_before, home, block_seen}
@@ -64,16 +67,16 @@ module _ (shift depth : ℕ) (owners : List Name) (held taken : Taken) (all : Al
   lowered_free over e h = expr_free held over e low_free (names_free (names_in e) h)
 
   read_free : (around : Around) (over : List Name) (e : Expr) → may_read around taken e ≡ true → are_free held (names_in (lower_expr over e)) ≡ true
-  read_free around over e h = lowered_free over e (both_true (are_free taken (names_in e)) (keeps_loop around e) h).0
+  read_free around over e h = lowered_free over e (and_parts (are_free taken (names_in e)) (keeps_loop around e) h).0
 
   reads_free : (around : Around) (over : List Name) (es : List Expr) → list_all (λ e. may_read around taken e) es ≡ true → ExprsFree held (lower_exprs over es)
   reads_free around over [] h = tt
   reads_free around over (e ∷ es) h =
-      let p = both_true (may_read around taken e) (list_all (λ e. may_read around taken e) es) h in
+      let p = and_parts (may_read around taken e) (list_all (λ e. may_read around taken e) es) h in
       (read_free around over e p.0, reads_free around over es p.1)
 
   write_loose : (around : Around) (x : Name) → may_write around taken (x ∷ []) ≡ true → is_held held x ≡ false
-  write_loose around x h = loose_carried shift depth owners held taken all x (loose_each taken (x ∷ []) (both_true (are_loose taken (x ∷ [])) (are_inner around (x ∷ [])) h).0 x (front_among x []))
+  write_loose around x h = loose_carried shift depth owners held taken all x (loose_each taken (x ∷ []) (and_parts (are_loose taken (x ∷ [])) (are_inner around (x ∷ [])) h).0 x (front_among x []))
 
   write_free : (around : Around) (x : Name) → may_write around taken (x ∷ []) ≡ true → is_taken held x ≡ false
   write_free around x h = loose_free x held (write_loose around x h)
@@ -108,18 +111,18 @@ module _ (program : Program) (least : WhilesAreLeast) (gs : List Function) (same
 
   call_frees : (kind : CallKind) (site : ℕ) (target : Option Name) (f : Name) (es : List Expr) → StmtFrees (Call kind site target f es)
   call_frees kind site target f es over k known owners around same returns line depth source shift some e held taken src types owns all found =
-      let s = both_true (is_source_target target) (is_plain f && list_all is_source_expr es) src in
-      let t = both_true (is_plain f) (list_all is_source_expr es) s.1 in
+      let s = and_parts (is_source_target target) (is_plain f && list_all is_source_expr es) src in
+      let t = and_parts (is_plain f) (list_all is_source_expr es) s.1 in
       let c = call_kept program.functions known target f es (kept (is_call known target (called f program.functions) es) line types) in
       let gives = given program.functions f es in
       let lends = lent program.functions f es in
-      let three = both_true _ (may_lend around gives lends) (kept _ line owns) in
-      let two = both_true (list_all (λ e. may_read around taken e) es && may_write around taken (target_names target ++ gives)) (differ gives) three.0 in
-      let one = both_true (list_all (λ e. may_read around taken e) es) (may_write around taken (target_names target ++ gives)) two.0 in
-      let loose = names_loose shift depth owners held taken all (target_names target ++ gives) (both_true (are_loose taken (target_names target ++ gives)) (are_inner around (target_names target ++ gives)) one.1).0 in
+      let three = and_parts _ (may_lend around gives lends) (kept _ line owns) in
+      let two = and_parts (list_all (λ e. may_read around taken e) es && may_write around taken (target_names target ++ gives)) (differ gives) three.0 in
+      let one = and_parts (list_all (λ e. may_read around taken e) es) (may_write around taken (target_names target ++ gives)) two.0 in
+      let loose = names_loose shift depth owners held taken all (target_names target ++ gives) (and_parts (are_loose taken (target_names target ++ gives)) (are_inner around (target_names target ++ gives)) one.1).0 in
       let same_given = call_same program.functions gs over known target f es (same_params f t.0) c in
       let same_lent = lent_call_same program.functions gs over known target f es (same_params f t.0) c in
-      let lending = both_true (are_inner around lends) (not (list_any (λ a. is_among a gives) lends)) three.1 in (
+      let lending = and_parts (are_inner around lends) (not (list_any (λ a. is_among a gives) lends)) three.1 in (
         (
           free_all held (target_names target) (λ x o. loose_free x held (loose_each held (target_names target ++ gives) loose x (among_left x (target_names target) gives o))),
           reads_free shift depth owners held taken all around over es one.0,
@@ -145,13 +148,13 @@ module _ (program : Program) (least : WhilesAreLeast) (gs : List Function) (same
       c = cut_kept program known a at l r (kept (is_cut program known a at l r) line (left_none _ (faults_in_block program Nowhere ((r, name_kind.Array) ∷ (l, name_kind.Array) ∷ known) b) types))
 
       rules : (may_read around taken at ≡ true) × (may_write around taken (a ∷ []) ≡ true)
-      rules = both_true (may_read around taken at) (may_write around taken (a ∷ [])) (kept _ line (left_none _ (owner_faults_in program.functions around (r ∷ l ∷ owners) (source + 1) Joins ((a, CutOf) ∷ taken) [] b) owns))
+      rules = and_parts (may_read around taken at) (may_write around taken (a ∷ [])) (kept _ line (left_none _ (owner_faults_in program.functions around (r ∷ l ∷ owners) (source + 1) Joins ((a, CutOf) ∷ taken) [] b) owns))
 
       s1 : (is_plain a ≡ true) × ((is_source_expr at && (is_plain l && (is_plain r && is_source_block b))) ≡ true)
-      s1 = both_true (is_plain a) (is_source_expr at && (is_plain l && (is_plain r && is_source_block b))) src
+      s1 = and_parts (is_plain a) (is_source_expr at && (is_plain l && (is_plain r && is_source_block b))) src
 
       s2 : is_source_block b ≡ true
-      s2 = (both_true (is_plain r) (is_source_block b) (both_true (is_plain l) (is_plain r && is_source_block b) (both_true (is_source_expr at) (is_plain l && (is_plain r && is_source_block b)) s1.1).1).1).1
+      s2 = (and_parts (is_plain r) (is_source_block b) (and_parts (is_plain l) (is_plain r && is_source_block b) (and_parts (is_source_expr at) (is_plain l && (is_plain r && is_source_block b)) s1.1).1).1).1
 
       same' : SameKnown ((r, name_kind.Array) ∷ (l, name_kind.Array) ∷ known) (r ∷ l ∷ owners)
       same' w = known_array_more w r (l ∷ owners) (is_int ((l, name_kind.Array) ∷ known) w) (is_array ((l, name_kind.Array) ∷ known) w) (known_array_more w l owners (is_int known w) (is_array known w) (same w))
@@ -209,28 +212,28 @@ module _ (program : Program) (least : WhilesAreLeast) (gs : List Function) (same
           (kept r line (left_none (unless r line) f owns), right_none (unless r line) f owns)
 
       three : ((may_read (for_head around) taken from && may_read (for_head around) taken to && may_write around taken on) ≡ true) × (differ on ≡ true)
-      three = both_true (may_read (for_head around) taken from && may_read (for_head around) taken to && may_write around taken on) (differ on) kept_rules.0
+      three = and_parts (may_read (for_head around) taken from && may_read (for_head around) taken to && may_write around taken on) (differ on) kept_rules.0
 
       apart : differ on ≡ true
       apart = three.1
 
       two : ((may_read (for_head around) taken from && may_read (for_head around) taken to) ≡ true) × (may_write around taken on ≡ true)
-      two = both_true (may_read (for_head around) taken from && may_read (for_head around) taken to) (may_write around taken on) three.0
+      two = and_parts (may_read (for_head around) taken from && may_read (for_head around) taken to) (may_write around taken on) three.0
 
       reads : (may_read (for_head around) taken from ≡ true) × (may_read (for_head around) taken to ≡ true)
-      reads = both_true (may_read (for_head around) taken from) (may_read (for_head around) taken to) two.0
+      reads = and_parts (may_read (for_head around) taken from) (may_read (for_head around) taken to) two.0
 
       over_loose : are_loose taken on ≡ true
-      over_loose = (both_true (are_loose taken on) (are_inner around on) two.1).0
+      over_loose = (and_parts (are_loose taken on) (are_inner around on) two.1).0
 
       s1 : (is_plain x ≡ true) × ((is_source_expr from && (is_source_expr to && (list_all is_plain on && is_source_block b))) ≡ true)
-      s1 = both_true (is_plain x) (is_source_expr from && (is_source_expr to && (list_all is_plain on && is_source_block b))) src
+      s1 = and_parts (is_plain x) (is_source_expr from && (is_source_expr to && (list_all is_plain on && is_source_block b))) src
 
       s2 : (is_source_expr from ≡ true) × ((is_source_expr to && (list_all is_plain on && is_source_block b)) ≡ true)
-      s2 = both_true (is_source_expr from) (is_source_expr to && (list_all is_plain on && is_source_block b)) s1.1
+      s2 = and_parts (is_source_expr from) (is_source_expr to && (list_all is_plain on && is_source_block b)) s1.1
 
       s4 : (list_all is_plain on ≡ true) × (is_source_block b ≡ true)
-      s4 = both_true (list_all is_plain on) (is_source_block b) (both_true (is_source_expr to) (list_all is_plain on && is_source_block b) s2.1).1
+      s4 = and_parts (list_all is_plain on) (is_source_block b) (and_parts (is_source_expr to) (list_all is_plain on && is_source_block b) s2.1).1
 
       same' : SameKnown ((x, name_kind.Integer) ∷ known) (x ∷ owners)
       same' w = known_more w x owners (is_int known w) (is_array known w) (same w)
@@ -267,14 +270,14 @@ module _ (program : Program) (least : WhilesAreLeast) (gs : List Function) (same
       let held' = held_after gs depth (While (lower_expr over test) (lower_block over k b)) held in
       let taken' = taken_after program.functions source (While test b) taken in
       let all' : AllCarried shift depth owners held' taken' = stmt_carries program least gs same_params (While test b) over k known owners around same returns line depth source shift e held taken src types owns all in
-      let s = both_true (is_source_expr test) (is_source_block b) src in
+      let s = and_parts (is_source_expr test) (is_source_block b) src in
       let inner = branch_frees b more over k known owners around same returns depth source shift some e Leaves held' taken' s.1 (right_none (unless (is_fine known test) line) _ types) (right_none (unless (may_read around taken' test) line) _ owns) all' found in
       ((read_free shift depth owners held' taken' all' around over test (kept (may_read around taken' test) line (left_none _ _ owns)), inner.0.0, inner.0.1), inner.1)
 
   choice_frees : (e : Expr) (b c : Block) → BlockFrees b → BlockFrees c → StmtFrees (IfElse e b c)
   choice_frees test b c one other over k known owners around same returns line depth source shift some e held taken src types owns all found =
-      let s = both_true (is_source_expr test) (is_source_block b && is_source_block c) src in
-      let s' = both_true (is_source_block b) (is_source_block c) s.1 in
+      let s = and_parts (is_source_expr test) (is_source_block b && is_source_block c) src in
+      let s' = and_parts (is_source_block b) (is_source_block c) s.1 in
       let types' = right_none (unless (is_fine known test) line) (faults_in_block program returns known b ++ faults_in_block program returns known c) types in
       let owns' = right_none (unless (may_read around taken test) line) (owner_faults_in program.functions around owners source Leaves taken [] b ++ owner_faults_in program.functions around owners source Leaves taken [] c) owns in
       let k' = k + loop_count_in b in
@@ -284,9 +287,9 @@ module _ (program : Program) (least : WhilesAreLeast) (gs : List Function) (same
 
   element_frees : (a : Name) (i e : Expr) → StmtFrees (AssignElement a i e)
   element_frees a i e' over k known owners around same returns line depth source shift some e held taken src types owns all found =
-      let three = both_true (may_read around taken i && may_read around taken e' && are_loose taken (a ∷ [])) (may_index around a i) (kept _ line owns) in
-      let two = both_true (may_read around taken i && may_read around taken e') (are_loose taken (a ∷ [])) three.0 in
-      let one = both_true (may_read around taken i) (may_read around taken e') two.0 in (
+      let three = and_parts (may_read around taken i && may_read around taken e' && are_loose taken (a ∷ [])) (may_index around a i) (kept _ line owns) in
+      let two = and_parts (may_read around taken i && may_read around taken e') (are_loose taken (a ∷ [])) three.0 in
+      let one = and_parts (may_read around taken i) (may_read around taken e') two.0 in (
         (
           loose_carried shift depth owners held taken all a (loose_each taken (a ∷ []) two.1 a (front_among a [])),
           index_free held (is_among a over) (lower_expr over i) (low_free shift depth owners held taken all) (read_free shift depth owners held taken all around over i one.0),
@@ -307,7 +310,7 @@ module _ (program : Program) (least : WhilesAreLeast) (gs : List Function) (same
     stmt_frees (Declare x e') over k known owners around same returns line depth source shift some e held taken src types owns all found = (read_free shift depth owners held taken all around over e' (kept (may_read around taken e') line owns), tt)
     stmt_frees (DeclareArray x e') over k known owners around same returns line depth source shift some e held taken src types owns all found = (read_free shift depth owners held taken all around over e' (kept (may_read around taken e') line owns), tt)
     stmt_frees (Assign x e') over k known owners around same returns line depth source shift some e held taken src types owns all found =
-        let p = both_true (may_read around taken e') (may_write around taken (x ∷ [])) (kept _ line owns) in
+        let p = and_parts (may_read around taken e') (may_write around taken (x ∷ [])) (kept _ line owns) in
         ((write_free shift depth owners held taken all around x p.1, read_free shift depth owners held taken all around over e' p.0), tt)
     stmt_frees (AssignElement a i e') over k known owners around same returns line depth source shift some e held taken src types owns all found =
         element_frees a i e' over k known owners around same returns line depth source shift some e held taken src types owns all found
@@ -318,7 +321,7 @@ module _ (program : Program) (least : WhilesAreLeast) (gs : List Function) (same
     stmt_frees (Begin f from to ints on) over k known owners around same returns line depth source shift some e held taken src types owns all found = absurd cc
     stmt_frees Sync over k known owners around same returns line depth source shift some e held taken src types owns all found = (tt, tt)
     stmt_frees (If e' b) over k known owners around same returns line depth source shift some e held taken src types owns all found =
-        let s = both_true (is_source_expr e') (is_source_block b) src in
+        let s = and_parts (is_source_expr e') (is_source_block b) src in
         let inner = branch_frees b (block_frees b) over k known owners around same returns depth source shift some e Leaves held taken s.1 (right_none (unless (is_fine known e') line) _ types) (right_none (unless (may_read around taken e') line) _ owns) all found in
         ((read_free shift depth owners held taken all around over e' (kept (may_read around taken e') line (left_none _ _ owns)), inner.0.0, inner.0.1), inner.1)
     stmt_frees (IfElse e' b c) over k known owners around same returns line depth source shift some e held taken src types owns all found =
@@ -341,7 +344,7 @@ module _ (program : Program) (least : WhilesAreLeast) (gs : List Function) (same
     pub block_frees : (b : Block) → BlockFrees b
     block_frees End over k known owners around same returns depth source shift some e closing held taken declared src types owns all found = (tt, tt)
     block_frees (Then line s b) over k known owners around same returns depth source shift some e closing held taken declared src types owns all found =
-        let q = both_true (is_source_stmt s) (is_source_block b) src in
+        let q = and_parts (is_source_stmt s) (is_source_block b) src in
         let types_s = left_none (faults_in program returns known line s) _ types in
         let owns_s = left_none (owner_faults program.functions around owners source taken line s) _ owns in
         let here = stmt_frees s over k known owners around same returns line depth source shift some e held taken q.0 types_s owns_s all (found_left gs (made_by line k s) (made_in (k + loop_count s) b) found) in
@@ -355,12 +358,12 @@ module _ (program : Program) (least : WhilesAreLeast) (gs : List Function) (same
   function_frees f k types owns src found =
       let returns = if f.gives_int then WithInt else Alone in
       block_frees f.body [] k (known_of f.params) (map (λ p. p.name) f.params) NoLoop (parameters_known f.params (head_of program f types).params) returns 1 1 0 (omega arith) refl Joins [] [] []
-      (both_true (is_plain f.name) (is_source_block f.body) src).1 (right_none (unless (is_head program f) f.line) _ types) owns (λ t i. absurd i) found
+      (and_parts (is_plain f.name) (is_source_block f.body) src).1 (right_none (unless (is_head program f) f.line) _ types) owns (λ t i. absurd i) found
 
   functions_walk : (fs : List Function) (k : ℕ) → flat_map (faults_of program) fs ≡ [] → flat_map (owner_faults_of program.functions) fs ≡ [] → list_all is_source_function fs ≡ true → Found gs (made_of k fs) → AllFree gs (lower_functions k fs) × AllFree gs (made_of k fs)
   functions_walk [] k types owns src found = (tt, tt)
   functions_walk (f ∷ fs) k types owns src found =
-      let q = both_true (is_source_function f) (list_all is_source_function fs) src in
+      let q = and_parts (is_source_function f) (list_all is_source_function fs) src in
       let here = function_frees f k (left_none _ _ types) (left_none _ _ owns) q.0 (found_left gs (made_in k f.body) (made_of (k + loop_count_in f.body) fs) found) in
       let rest = functions_walk fs (k + loop_count_in f.body) (right_none (faults_of program f) _ types) (right_none (owner_faults_of program.functions f) _ owns) q.1 (found_right gs (made_in k f.body) (made_of (k + loop_count_in f.body) fs) found) in
       ((here.0, rest.0), both_free gs (made_in k f.body) (made_of (k + loop_count_in f.body) fs) here.1 rest.1)

@@ -152,11 +152,6 @@ funcs_next first at next start end l rest left now new f funcs made whole is_nex
     ∙ sym (ap (λ ls. funcs ++ emitted_funcs first (length now) (loop_texts at ls)) is_left)
     ∙ before
 
--- which of two lists is at its end where a walk over both is
-pub which_ends : {S T : Type 0} {P : S → Type 0} {Q : T → Type 0} (m n : ℕ) → ((u : S) × ((m ≡ 0) × P u)) ⊎ ((u : T) × ((n ≡ 0) × Q u)) → (m ≡ 0) ⊎ (n ≡ 0)
-which_ends m n (inl x) = inl x.1.0
-which_ends m n (inr x) = inr x.1.0
-
 -- where either list is at its end no function is left
 pub no_more : (fs : List code.Function) (bodies : List (Vec Line Global)) → (length fs ≡ 0) ⊎ (length bodies ≡ 0) → with_bodies (map function_of fs) (map (λ b. block_of b.items) bodies) ≡ []
 no_more [] bodies h = refl

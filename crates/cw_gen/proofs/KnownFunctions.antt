@@ -2,15 +2,16 @@
 use Rattle.std.proofs.Common.{◌≡◌, ℕ, suc, ◌+◌, ◌≤◌, Bool, true, false, List, [], ◌∷◌, ◌++◌, Some, arith, refl, sym, ◌∙◌, ap, subst, append_assoc}
 use Rattle.std.specs.Prelude.{if◌then◌else◌}
 use Rattle.std.specs.List.{list_all}
+use Rattle.std.proofs.lemmas.Bool.{and_parts}
 use Rattle.cw_model.specs.Syntax.{Name, Stmt, If, IfElse, While, For, Scope, Cut, Region, Block, End, Then, Function}
 use Rattle.cw_model.specs.Names.{same_name}
 use Rattle.cw_model.specs.Meaning.{function_named}
 use Rattle.cw_model.specs.Captured.{captured}
 use Rattle.cw_model.specs.Typing.{called}
+use Rattle.cw_tree.specs.lemmas.Names.{same_itself}
 use Rattle.cw_loops.specs.Lowered.{is_plain, loop_name, loop_function, loop_count, loop_count_in, lower_block, lower_function, lower_functions, made_by, made_in, made_of}
 use Rattle.cw_loops.specs.Lowerable.{can_lower_function}
-use Rattle.cw_loops.specs.lemmas.Tests.{both_true}
-use Rattle.cw_loops.specs.lemmas.Apart.{same_itself, apart, apart_plain}
+use Rattle.cw_loops.specs.lemmas.Apart.{apart, apart_plain}
 use Rattle.cw_gen.proofs.Fine.{is_function}
 
 -- a function is the one of its name
@@ -134,8 +135,8 @@ found_behind before (g ∷ ms) k j below numbered = (
 source_below : (all : List Function) (k : ℕ) (fs : List Function) → list_all (can_lower_function all) fs ≡ true → Below 0 (lower_functions k fs)
 source_below all k [] h n more = refl
 source_below all k (f ∷ fs) h n more =
-    let two = both_true (can_lower_function all f) (list_all (can_lower_function all) fs) h in
-    let plain = (both_true (is_plain f.name) _ two.0).0 in
+    let two = and_parts (can_lower_function all f) (list_all (can_lower_function all) fs) h in
+    let plain = (and_parts (is_plain f.name) _ two.0).0 in
     ap (λ b. if b then true else is_function (loop_name n) (lower_functions (k + loop_count_in f.body) fs)) (apart_plain f.name (n ∷ []) plain)
     ∙ source_below all (k + loop_count_in f.body) fs two.1 n more
 

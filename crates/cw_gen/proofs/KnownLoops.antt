@@ -1,7 +1,9 @@
 -- The names that the function of a loop uses are known there.
+use Rattle.cw_facts.specs.Tests.{not_true}
 use Rattle.cw_model.specs.declared.syntax.NameKind.TheVariants as name_kind
 use Rattle.std.proofs.Common.{◌≡◌, ℕ, ◌+◌, true, false, List, [], ◌∷◌, ◌++◌, Some, refl, sym, ◌∙◌, ap, subst, append-nil}
 use Rattle.std.specs.Prelude.{not, ◌&&◌, ◌||◌, map}
+use Rattle.std.proofs.lemmas.Bool.{and_parts}
 use Rattle.cw_model.specs.declared.syntax.CallKind.{CallKind}
 use Rattle.cw_model.specs.declared.syntax.CallKind.TheVariants.{Plain, Spawned}
 use Rattle.cw_model.specs.Lines.{unless}
@@ -11,11 +13,12 @@ use Rattle.cw_model.specs.Captured.{captured}
 use Rattle.cw_model.specs.Typing.{Returns, Nowhere, Alone, Known, is_array, is_fine, is_cut, is_head_of_loop, called, surely_returns, ends_block, declares, faults_in, faults_in_block}
 use Rattle.cw_model.specs.lemmas.Kept.{kept, left_none, right_none}
 use Rattle.cw_tree.specs.Resolved.{Locals, with_int, with_array, locals_after, locals_of}
+use Rattle.cw_tree.specs.lemmas.Names.{same_are, front_among, later_among}
 use Rattle.cw_loops.specs.Lowered.{is_plain, low, high, middle, left_part, right_part, loop_name, int_params, array_params, variables, leaf_block, left_arguments, right_arguments, both_halves, in_cuts, node_block, loop_function, loop_count, loop_count_in, lower_block, made_by, made_in}
 use Rattle.cw_loops.specs.Lowerable.{Surroundings, can_read, is_local, can_evaluate, new_integers, new_arrays, can_capture, can_slice, inside, can_lower, can_lower_all}
-use Rattle.cw_loops.specs.lemmas.Tests.{both_true, not_true, never, refuted}
-use Rattle.cw_loops.specs.lemmas.Apart.{same_are, plain_apart}
-use Rattle.cw_loops.specs.lemmas.Naming.{front_among, later_among, among_left, among_right, Placed, at_front, after_it, placed, none_among}
+use Rattle.cw_loops.specs.lemmas.Tests.{never, refuted}
+use Rattle.cw_loops.specs.lemmas.Apart.{plain_apart}
+use Rattle.cw_loops.specs.lemmas.Naming.{among_left, among_right, Placed, at_front, after_it, placed, none_among}
 use Rattle.cw_loops.specs.lemmas.Knowing.{not_both}
 use Rattle.cw_loops.specs.lemmas.Heads.{names_of}
 use Rattle.cw_gen.proofs.Held.{has_no_half_in}
@@ -100,7 +103,7 @@ module _ (all : List Function) (given : List Name) where
       differ rest ≡ true → Begins given locals.arrays → ((r : Returns) → BlockKnown all given r (cut_locals rest locals) text) → BlockKnown all given returns locals (in_cuts line rest text)
   cuts_known returns line [] locals text lows middles there left right apart begins h = h returns
   cuts_known returns line (a ∷ rest) locals text lows middles there left right apart begins h =
-      let two = both_true (not (is_among a rest)) (differ rest) apart in (
+      let two = and_parts (not (is_among a rest)) (differ rest) apart in (
         (
           there a (front_among a rest),
           (middles, lows),
@@ -230,10 +233,10 @@ capture_each c ints [] can v o = absurd cc
 capture_each c ints (x ∷ xs) can v o = go (placed v x xs o) (capture_each c ints xs three.1 v)
   where
     one : (is_plain x ≡ true) × ((can_read c x && (is_among x (c.outer ++ ints) && can_capture c ints xs)) ≡ true)
-    one = both_true (is_plain x) (can_read c x && (is_among x (c.outer ++ ints) && can_capture c ints xs)) can
+    one = and_parts (is_plain x) (can_read c x && (is_among x (c.outer ++ ints) && can_capture c ints xs)) can
 
     three : (is_among x (c.outer ++ ints) ≡ true) × (can_capture c ints xs ≡ true)
-    three = both_true (is_among x (c.outer ++ ints)) (can_capture c ints xs) (both_true (can_read c x) (is_among x (c.outer ++ ints) && can_capture c ints xs) one.1).1
+    three = and_parts (is_among x (c.outer ++ ints)) (can_capture c ints xs) (and_parts (can_read c x) (is_among x (c.outer ++ ints) && can_capture c ints xs) one.1).1
 
     go : Placed v x xs → (is_among v xs ≡ true → (is_plain v ≡ true) × (is_among v (c.outer ++ ints) ≡ true)) → (is_plain v ≡ true) × (is_among v (c.outer ++ ints) ≡ true)
     go (at_front same) more = (ap is_plain same ∙ one.0, ap (λ z. is_among z (c.outer ++ ints)) same ∙ three.0)
@@ -244,10 +247,10 @@ slice_each c arrays [] can a o = absurd cc
 slice_each c arrays (x ∷ xs) can a o = go (placed a x xs o) (slice_each c arrays xs three.1 a)
   where
     one : (is_plain x ≡ true) × ((is_local c x && (is_among x arrays && can_slice c arrays xs)) ≡ true)
-    one = both_true (is_plain x) (is_local c x && (is_among x arrays && can_slice c arrays xs)) can
+    one = and_parts (is_plain x) (is_local c x && (is_among x arrays && can_slice c arrays xs)) can
 
     three : (is_among x arrays ≡ true) × (can_slice c arrays xs ≡ true)
-    three = both_true (is_among x arrays) (can_slice c arrays xs) (both_true (is_local c x) (is_among x arrays && can_slice c arrays xs) one.1).1
+    three = and_parts (is_among x arrays) (can_slice c arrays xs) (and_parts (is_local c x) (is_among x arrays && can_slice c arrays xs) one.1).1
 
     go : Placed a x xs → (is_among a xs ≡ true → (is_plain a ≡ true) × (is_among a arrays ≡ true)) → (is_plain a ≡ true) × (is_among a arrays ≡ true)
     go (at_front same) more = (ap is_plain same ∙ one.0, ap (λ z. is_among z arrays) same ∙ three.0)
@@ -264,9 +267,9 @@ module _ (program : Program) (all : List Function) (calls : (f : Name) (g : Func
     pub made_by_known : (returns : Returns) (c : Surroundings) (ints arrays : List Name) (known : Known) (locals : Locals) → Agree c ints arrays known locals → (line k : ℕ) (s : Stmt) →
         faults_in program returns known line s ≡ [] → can_lower c ints arrays s ≡ true → AllFound all (made_by line k s) → AllFunctionsKnown all (made_by line k s)
     made_by_known returns c ints arrays known locals agree line k (If e b) typed can found =
-        made_in_known returns c ints arrays known locals agree k b (right_none (unless (is_fine known e) line) (faults_in_block program returns known b) typed) (both_true (can_evaluate c e) (can_lower_all c ints arrays b) can).1 found
+        made_in_known returns c ints arrays known locals agree k b (right_none (unless (is_fine known e) line) (faults_in_block program returns known b) typed) (and_parts (can_evaluate c e) (can_lower_all c ints arrays b) can).1 found
     made_by_known returns c ints arrays known locals agree line k (IfElse e b d) typed can found =
-        let h = both_true (can_lower_all c ints arrays b) (can_lower_all c ints arrays d) (both_true (can_evaluate c e) _ can).1 in
+        let h = and_parts (can_lower_all c ints arrays b) (can_lower_all c ints arrays d) (and_parts (can_evaluate c e) _ can).1 in
         let first = faults_in_block program returns known b in
         let second = faults_in_block program returns known d in
         let branches = right_none (unless (is_fine known e) line) (first ++ second) typed in
@@ -275,7 +278,7 @@ module _ (program : Program) (all : List Function) (calls : (f : Name) (g : Func
         both_known all made made' (made_in_known returns c ints arrays known locals agree k b (left_none first second branches) h.0 (found_first all made made' found))
         (made_in_known returns c ints arrays known locals agree (k + loop_count_in b) d (right_none first second branches) h.1 (found_second all made made' found))
     made_by_known returns c ints arrays known locals agree line k (While e b) typed can found =
-        made_in_known returns c ints arrays known locals agree k b (right_none (unless (is_fine known e) line) (faults_in_block program returns known b) typed) (both_true (can_evaluate c e) (can_lower_all c ints arrays b) can).1 found
+        made_in_known returns c ints arrays known locals agree k b (right_none (unless (is_fine known e) line) (faults_in_block program returns known b) typed) (and_parts (can_evaluate c e) (can_lower_all c ints arrays b) can).1 found
     made_by_known returns c ints arrays known locals agree line k (For x y z from to grain over b) typed can found =
         let name = loop_name (k + loop_count_in b) in
         let taken = captured x b in
@@ -308,13 +311,13 @@ module _ (program : Program) (all : List Function) (calls : (f : Name) (g : Func
         let known' = (r, name_kind.Array) ∷ (l, name_kind.Array) ∷ known in
         let test = unless (is_cut program known a e l r) line in
         let cut = cut_kept program known a e l r (kept (is_cut program known a e l r) line (left_none test (faults_in_block program Nowhere known' b) typed)) in
-        let one = both_true (can_evaluate c e) _ can in
-        let two = both_true (is_local c a) _ one.1 in
-        let three = both_true (is_local c l) _ two.1 in
-        let four = both_true (is_local c r) _ three.1 in
-        let five = both_true (not (is_among l arrays)) _ four.1 in
-        let six = both_true (not (is_among r arrays)) _ five.1 in
-        let seven = both_true (not (same_name r l)) (can_lower_all c ints inner b) six.1 in
+        let one = and_parts (can_evaluate c e) _ can in
+        let two = and_parts (is_local c a) _ one.1 in
+        let three = and_parts (is_local c l) _ two.1 in
+        let four = and_parts (is_local c r) _ three.1 in
+        let five = and_parts (not (is_among l arrays)) _ four.1 in
+        let six = and_parts (not (is_among r arrays)) _ five.1 in
+        let seven = and_parts (not (same_name r l)) (can_lower_all c ints inner b) six.1 in
         made_in_known Nowhere c ints inner known' (with_array r (with_array l locals)) (cut_agrees agree a e l r cut) k b (right_none test (faults_in_block program Nowhere known' b) typed) seven.1 found
     made_by_known returns c ints arrays known locals agree line k (Region tag b) typed can found = made_in_known Nowhere c ints arrays known locals agree k b typed can found
     made_by_known returns c ints arrays known locals agree line k _ typed can found = tt
@@ -328,7 +331,7 @@ module _ (program : Program) (all : List Function) (calls : (f : Name) (g : Func
         let last = unless (not (surely_returns s) || ends_block b) line in
         let behind = faults_in_block program returns (declares s known) b in
         let typed_here = left_none here (last ++ behind) typed in
-        let two = both_true (can_lower c ints arrays s) (can_lower_all c (ints ++ new_integers s) (arrays ++ new_arrays s) b) can in
+        let two = and_parts (can_lower c ints arrays s) (can_lower_all c (ints ++ new_integers s) (arrays ++ new_arrays s) b) can in
         let made = made_by line k s in
         let made' = made_in (k + loop_count s) b in
         both_known all made made' (made_by_known returns c ints arrays known locals agree line k s typed_here two.0 (found_first all made made' found))

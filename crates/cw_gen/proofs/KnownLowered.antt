@@ -2,6 +2,7 @@
 use Rattle.std.proofs.Common.{◌≡◌, ℕ, ◌+◌, true, List, [], ◌∷◌, ◌++◌, Some, sym, ◌∙◌, ap, append-nil}
 use Rattle.std.specs.Prelude.{if◌then◌else◌, not, ◌&&◌, ◌||◌, map, flat_map}
 use Rattle.std.specs.List.{list_all, list_any}
+use Rattle.std.proofs.lemmas.Bool.{and_parts}
 use Rattle.cw_model.specs.Lines.{unless}
 use Rattle.cw_model.specs.Syntax.{wants_array, Name, Stmt, Declare, DeclareArray, Assign, AssignElement, Reduce, Call, Start, Begin, Sync, If, IfElse, While, For, Scope, Cut, Region, Print, Return, Block, End, Then, Function, Program}
 use Rattle.cw_model.specs.Captured.{captured}
@@ -13,7 +14,6 @@ use Rattle.cw_tree.specs.Resolved.{locals_of}
 use Rattle.cw_loops.specs.Lowered.{is_plain, loop_name, loop_function, loop_count, loop_count_in, lower_block, lower_function, lower_functions, made_by, made_in, made_of, lowered}
 use Rattle.cw_loops.specs.Lowerable.{nothing_around, integers_of, arrays_of, can_lower_function, is_lowerable}
 use Rattle.cw_loops.specs.LoweringLaws.{IsOwnedSource}
-use Rattle.cw_loops.specs.lemmas.Tests.{both_true}
 use Rattle.cw_loops.specs.lemmas.Heads.{names_of, array_kind}
 use Rattle.cw_gen.proofs.OwnNames.{AllOwnNames, unread_own, head_written, block_own}
 use Rattle.cw_gen.proofs.KnownParams.{local_arrays, loop_unread}
@@ -31,9 +31,9 @@ record HeadOf (f : Function) : Type 0 where
 
 head_of : (program : Program) (f : Function) → is_head program f ≡ true → HeadOf f
 head_of program f h =
-    let three = (both_true _ (not (same_name f.name main_name) || (f.gives_int && not (list_any (λ p. (wants_array p)) f.params))) h).0 in
-    let two = both_true _ (not f.gives_int || block_returns f.body) three in
-    record { apart = (both_true (differ (names_of f.params)) (not (list_any (λ p. is_among p.name (globals program)) f.params)) two.0).0; returns = two.1 }
+    let three = (and_parts _ (not (same_name f.name main_name) || (f.gives_int && not (list_any (λ p. (wants_array p)) f.params))) h).0 in
+    let two = and_parts _ (not f.gives_int || block_returns f.body) three in
+    record { apart = (and_parts (differ (names_of f.params)) (not (list_any (λ p. is_among p.name (globals program)) f.params)) two.0).0; returns = two.1 }
 
 module _ (program : Program) (all : List Function) (calls : (f : Name) (g : Function) → called f program.functions ≡ Some g → CallFound all f g) where
   -- a function of the source, and those of its loops
@@ -44,7 +44,7 @@ module _ (program : Program) (all : List Function) (calls : (f : Name) (g : Func
       let inner = faults_in_block program returns (known_of f.params) f.body in
       let head = head_of program f (kept (is_head program f) f.line (left_none test inner typed)) in
       let typed_body = right_none test inner typed in
-      let can_body = (both_true (differ (arrays_of f.params)) _ (both_true (is_plain f.name) _ can).1).1 in
+      let can_body = (and_parts (differ (arrays_of f.params)) _ (and_parts (is_plain f.name) _ can).1).1 in
       let agree = agree_head program.functions f.params head.apart in
       let around = nothing_around program.functions in
       let locals = locals_of f.params in (
@@ -61,7 +61,7 @@ module _ (program : Program) (all : List Function) (calls : (f : Name) (g : Func
       AllFunctionsKnown all (lower_functions k fs) × AllFunctionsKnown all (made_of k fs)
   sources_known k [] typed can found = (tt, tt)
   sources_known k (f ∷ fs) typed can found =
-      let two = both_true (can_lower_function program.functions f) (list_all (can_lower_function program.functions) fs) can in
+      let two = and_parts (can_lower_function program.functions f) (list_all (can_lower_function program.functions) fs) can in
       let made = made_in k f.body in
       let made' = made_of (k + loop_count_in f.body) fs in
       let here = source_known k f (left_none (faults_of program f) (flat_map (faults_of program) fs) typed) two.0 (found_first all made made' found) in

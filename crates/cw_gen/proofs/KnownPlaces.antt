@@ -1,18 +1,19 @@
 -- Where a statement of a source stands, what types and the test of lowering know of names there, and what its lowered text knows.
+use Rattle.cw_facts.specs.Tests.{not_true}
 use Rattle.cw_model.specs.declared.syntax.NameKind.TheVariants as name_kind
 use Rattle.std.proofs.Common.{◌≡◌, ℕ, Bool, true, false, List, [], ◌∷◌, ◌++◌, refl, sym, ◌∙◌, ap, subst, append_assoc, append-nil}
 use Rattle.std.specs.Prelude.{if◌then◌else◌, not, ◌&&◌, ◌||◌, map, Option, Some, None}
+use Rattle.std.proofs.lemmas.Bool.{and_parts}
 use Rattle.cw_model.specs.Syntax.{is_array_kind, wants_array, Name, Expr, Number, Variable, Element, Length, Negative, Not, Binary, Stmt, Declare, DeclareArray, Param, Function, Program}
 use Rattle.cw_model.specs.Names.{is_among, differ}
 use Rattle.cw_model.specs.Typing.{Known, is_int, is_array, is_new, is_fine, is_target, globals, declares, known_of, faults_in, Returns, Nowhere, WithInt, Alone, may_return}
 use Rattle.cw_model.specs.lemmas.Kept.{kept}
 use Rattle.cw_model.specs.lemmas.Fits.{fits_kind, fit_kinds}
 use Rattle.cw_tree.specs.Resolved.{Locals, with_int, with_array, locals_after, locals_of}
+use Rattle.cw_tree.specs.lemmas.Names.{same_are, front_among, later_among}
 use Rattle.cw_loops.specs.Lowered.{is_plain, low, high, lower_index, lower_expr, lower_exprs, lower_option}
 use Rattle.cw_loops.specs.Lowerable.{Surroundings, nothing_around, can_write, can_read, is_local, is_variable, can_evaluate, can_pass, can_pass_all, can_target, new_integers, new_arrays, can_capture, can_slice, inside, integers_of, arrays_of}
-use Rattle.cw_loops.specs.lemmas.Tests.{both_true, not_true}
-use Rattle.cw_loops.specs.lemmas.Apart.{same_are}
-use Rattle.cw_loops.specs.lemmas.Naming.{front_among, later_among, among_left, among_right, neither_among, none_among, pushed, passed}
+use Rattle.cw_loops.specs.lemmas.Naming.{among_left, among_right, neither_among, none_among, pushed, passed}
 use Rattle.cw_loops.specs.lemmas.Knowing.{not_there, not_both}
 use Rattle.cw_loops.specs.lemmas.Heads.{names_of, int_kind, array_kind}
 use Rattle.cw_gen.proofs.Kept.{ExprKnown, ArgKnown, ArgsKnown, TargetKnown, ReturnKnown, AllKnown}
@@ -44,7 +45,7 @@ module _ {c : Surroundings} {ints arrays : List Name} {known : Known} {locals : 
   -- an integer that may be written is of the turn itself
   pub write_there : (x : Name) → is_int known x ≡ true → can_write c x ≡ true → is_among x locals.ints ≡ true
   write_there x h w =
-      let two = both_true (not (is_among x c.outer)) (not (is_among x c.given)) w in
+      let two = and_parts (not (is_among x c.outer)) (not (is_among x c.given)) w in
       ap (is_among x) agree.ints_are ∙ among_right x c.given ints (in_second x c.outer ints (sym (agree.known_ints x) ∙ h) (not_true (is_among x c.outer) two.0))
 
   -- an integer that may be read is there
@@ -67,13 +68,13 @@ module _ {c : Surroundings} {ints arrays : List Name} {known : Known} {locals : 
   -- an array of the turn itself
   pub local_there : (a : Name) → is_array known a ≡ true → is_local c a ≡ true → is_among a locals.arrays ≡ true
   local_there a h l =
-      own_there a (in_second a c.arrays arrays (sym (agree.known_arrays a) ∙ h) (not_true (is_among a c.arrays) (both_true (not (is_among a c.arrays)) _ l).0))
+      own_there a (in_second a c.arrays arrays (sym (agree.known_arrays a) ∙ h) (not_true (is_among a c.arrays) (and_parts (not (is_among a c.arrays)) _ l).0))
 
   -- a name that is none of the turn's arrays, and may be named alone
   pub not_there_alone : (a : Name) → is_among a arrays ≡ false → is_local c a ≡ true → is_among a locals.arrays ≡ false
   not_there_alone a h l =
-      let two = both_true (not (is_among a c.arrays)) (not (is_among a c.over) && not (is_among a c.sliced)) l in
-      let over = not_true (is_among a c.over) (both_true (not (is_among a c.over)) (not (is_among a c.sliced)) two.1).0 in
+      let two = and_parts (not (is_among a c.arrays)) (not (is_among a c.over) && not (is_among a c.sliced)) l in
+      let over = not_true (is_among a c.over) (and_parts (not (is_among a c.over)) (not (is_among a c.sliced)) two.1).0 in
       ap (is_among a) agree.arrays_are ∙ none_among a c.over arrays over h
 
   -- an integer is no array
@@ -97,32 +98,32 @@ module _ {c : Surroundings} {ints arrays : List Name} {known : Known} {locals : 
     where
       go : (b : Bool) → is_among a c.over ≡ b → (if b then is_variable c i else (is_local c a && can_evaluate c i)) ≡ true → (is_among a locals.arrays ≡ true) × ExprKnown locals (lower_index b (lower_expr c.over i))
       go true o h = (over_there a o, (variable_known a o i h, given_there low (agree.low_given a o)))
-      go false o h = let two = both_true (is_local c a) (can_evaluate c i) h in (local_there a array two.0, more two.1)
+      go false o h = let two = and_parts (is_local c a) (can_evaluate c i) h in (local_there a array two.0, more two.1)
 
   -- an expression, and what is passed
   pub expr_known : (e : Expr) → is_fine known e ≡ true → can_evaluate c e ≡ true → ExprKnown locals (lower_expr c.over e)
   expr_known (Number n) fine can = tt
   expr_known (Variable x) fine can = int_there x fine can
   expr_known (Element a e) fine can =
-      let two = both_true (is_array known a) (is_fine known e) fine in
+      let two = and_parts (is_array known a) (is_fine known e) fine in
       spot_known a e two.0 can (λ g. expr_known e two.1 g)
   expr_known (Length a) fine can = local_there a fine can
   expr_known (Negative e) fine can = expr_known e fine can
   expr_known (Not e) fine can = expr_known e fine can
   expr_known (Binary operator d e) fine can =
-      let f = both_true (is_fine known d) (is_fine known e) fine in
-      let g = both_true (can_evaluate c d) (can_evaluate c e) can in
+      let f = and_parts (is_fine known d) (is_fine known e) fine in
+      let g = and_parts (can_evaluate c d) (can_evaluate c e) can in
       (expr_known d f.0 g.0, expr_known e f.1 g.1)
 
   arg_known : (b : Bool) (e : Expr) → fits_kind known b e ≡ true → can_pass c e ≡ true → ArgKnown b locals (lower_expr c.over e)
-  arg_known false (Variable x) fine can = let two = both_true (can_read c x) (is_local c x) can in (int_there x fine two.0, no_array x fine two.1)
+  arg_known false (Variable x) fine can = let two = and_parts (can_read c x) (is_local c x) can in (int_there x fine two.0, no_array x fine two.1)
   arg_known false (Number n) fine can = (tt, tt)
   arg_known false (Element a e) fine can = (expr_known (Element a e) fine can, tt)
   arg_known false (Length a) fine can = (expr_known (Length a) fine can, tt)
   arg_known false (Negative e) fine can = (expr_known (Negative e) fine can, tt)
   arg_known false (Not e) fine can = (expr_known (Not e) fine can, tt)
   arg_known false (Binary operator d e) fine can = (expr_known (Binary operator d e) fine can, tt)
-  arg_known true (Variable a) fine can = local_there a fine (both_true (can_read c a) (is_local c a) can).1
+  arg_known true (Variable a) fine can = local_there a fine (and_parts (can_read c a) (is_local c a) can).1
   arg_known true (Number n) fine can = absurd cc
   arg_known true (Element a e) fine can = absurd cc
   arg_known true (Length a) fine can = absurd cc
@@ -135,14 +136,14 @@ module _ {c : Surroundings} {ints arrays : List Name} {known : Known} {locals : 
   args_known [] (e ∷ es) fine can = absurd cc
   args_known (p ∷ ps) [] fine can = absurd cc
   args_known (p ∷ ps) (e ∷ es) fine can =
-      let f = both_true (fits_kind known (wants_array p) e) (fit_kinds known ps es) fine in
-      let g = both_true (can_pass c e) (can_pass_all c es) can in
+      let f = and_parts (fits_kind known (wants_array p) e) (fit_kinds known ps es) fine in
+      let g = and_parts (can_pass c e) (can_pass_all c es) can in
       (arg_known (wants_array p) e f.0 g.0, args_known ps es f.1 g.1)
 
   -- what takes a result
   pub target_known : (f : Function) (target : Option Name) → is_target known f target ≡ true → can_target c target ≡ true → TargetKnown locals f target
   target_known f None fine can = tt
-  target_known f (Some x) fine can = let two = both_true (is_int known x) f.gives_int fine in (write_there x two.0 can, two.1)
+  target_known f (Some x) fine can = let two = and_parts (is_int known x) f.gives_int fine in (write_there x two.0 can, two.1)
 
   -- what is returned
   pub return_known : (returns : Returns) (e : Option Expr) → may_return returns known e ≡ true → ((d : Expr) → e ≡ Some d → can_evaluate c d ≡ true) → ReturnKnown returns locals (lower_option c.over e)
@@ -157,17 +158,17 @@ module _ {c : Surroundings} {ints arrays : List Name} {known : Known} {locals : 
   pub captured_known : (xs : List Name) → can_capture c ints xs ≡ true → AllKnown locals.ints xs
   captured_known [] can = tt
   captured_known (x ∷ xs) can =
-      let one = both_true (is_plain x) (can_read c x && (is_among x (c.outer ++ ints) && can_capture c ints xs)) can in
-      let two = both_true (can_read c x) (is_among x (c.outer ++ ints) && can_capture c ints xs) one.1 in
-      let three = both_true (is_among x (c.outer ++ ints)) (can_capture c ints xs) two.1 in
+      let one = and_parts (is_plain x) (can_read c x && (is_among x (c.outer ++ ints) && can_capture c ints xs)) can in
+      let two = and_parts (can_read c x) (is_among x (c.outer ++ ints) && can_capture c ints xs) one.1 in
+      let three = and_parts (is_among x (c.outer ++ ints)) (can_capture c ints xs) two.1 in
       (int_there x (agree.known_ints x ∙ three.0) two.0, captured_known xs three.1)
 
   pub sliced_known : (xs : List Name) → can_slice c arrays xs ≡ true → AllKnown locals.arrays xs
   sliced_known [] can = tt
   sliced_known (a ∷ xs) can =
-      let one = both_true (is_plain a) (is_local c a && (is_among a arrays && can_slice c arrays xs)) can in
-      let two = both_true (is_local c a) (is_among a arrays && can_slice c arrays xs) one.1 in
-      let three = both_true (is_among a arrays) (can_slice c arrays xs) two.1 in
+      let one = and_parts (is_plain a) (is_local c a && (is_among a arrays && can_slice c arrays xs)) can in
+      let two = and_parts (is_local c a) (is_among a arrays && can_slice c arrays xs) one.1 in
+      let three = and_parts (is_among a arrays) (can_slice c arrays xs) two.1 in
       (own_there a three.0, sliced_known xs three.1)
 
   -- one name more
@@ -241,9 +242,9 @@ agree_head fs ps h = record {
 pub agree_after : (program : Program) (returns : Returns) (line : ℕ) (c : Surroundings) (ints arrays : List Name) (known : Known) (locals : Locals) (s : Stmt) → faults_in program returns known line s ≡ [] → Agree c ints arrays known locals →
     Agree c (ints ++ new_integers s) (arrays ++ new_arrays s) (declares s known) (locals_after locals s)
 agree_after program returns line c ints arrays known locals (Declare x e) typed agree =
-    let new = new_name program known x (both_true (is_fine known e) (is_new program known x) (kept (is_fine known e && is_new program known x) line typed)).1 in
+    let new = new_name program known x (and_parts (is_fine known e) (is_new program known x) (kept (is_fine known e && is_new program known x) line typed)).1 in
     only_ints (agree_int agree x new.1)
 agree_after program returns line c ints arrays known locals (DeclareArray x e) typed agree =
-    let new = new_name program known x (both_true (is_fine known e) (is_new program known x) (kept (is_fine known e && is_new program known x) line typed)).1 in
+    let new = new_name program known x (and_parts (is_fine known e) (is_new program known x) (kept (is_fine known e && is_new program known x) line typed)).1 in
     only_arrays (agree_array agree x new.0)
 agree_after program returns line c ints arrays known locals _ typed agree = agree_none agree

@@ -1,8 +1,10 @@
 -- The names that a lowered statement uses are known where it stands.
+use Rattle.cw_facts.specs.Tests.{not_true}
 use Rattle.cw_model.specs.declared.syntax.NameKind.TheVariants as name_kind
 use Rattle.std.proofs.Common.{◌≡◌, ℕ, suc, ◌+◌, ◌==◌, Bool, true, false, List, [], ◌∷◌, ◌++◌, length, Option, Some, None, refl, sym, ◌∙◌, ap, subst, append_assoc}
 use Rattle.std.specs.Prelude.{if◌then◌else◌, nat_le, not, ◌&&◌, ◌||◌}
 use Rattle.std.specs.List.{list_all}
+use Rattle.std.proofs.lemmas.Bool.{and_parts}
 use Rattle.cw_model.specs.declared.limits.TheConstants.{MOST_GRAIN}
 use Rattle.cw_model.specs.Lines.{unless}
 use Rattle.cw_model.specs.Syntax.{Name, Expr, Stmt, Declare, DeclareArray, Assign, AssignElement, Reduce, Call, Start, Begin, Sync, If, IfElse, While, For, Scope, Cut, Region, Print, Return, Block, End, Then, Function, Program}
@@ -16,7 +18,6 @@ use Rattle.cw_model.specs.lemmas.Fits.{arguments_fit, writable_array}
 use Rattle.cw_tree.specs.Resolved.{Locals, with_array, locals_after}
 use Rattle.cw_loops.specs.Lowered.{is_plain, loop_name, loop_function, loop_count, loop_count_in, lower_exprs, lower_stmt, lower_block, made_by, made_in}
 use Rattle.cw_loops.specs.Lowerable.{Surroundings, can_write, is_local, can_evaluate, can_pass_all, can_target, new_integers, new_arrays, can_capture, can_slice, can_loop, inside, can_lower, can_lower_all}
-use Rattle.cw_loops.specs.lemmas.Tests.{both_true, not_true}
 use Rattle.cw_loops.specs.lemmas.Naming.{none_among}
 use Rattle.cw_gen.proofs.Ordered.{range_order}
 use Rattle.cw_gen.proofs.Held.{has_no_half, has_no_half_in}
@@ -39,22 +40,22 @@ mutual
   no_half c ints arrays over k (Start kind f es) can = absurd cc
   no_half c ints arrays over k (Begin f from to captured' over') can = absurd cc
   no_half c ints arrays over k Sync can = refl
-  no_half c ints arrays over k (If e b) can = no_half_in c ints arrays over k b (both_true (can_evaluate c e) (can_lower_all c ints arrays b) can).1
+  no_half c ints arrays over k (If e b) can = no_half_in c ints arrays over k b (and_parts (can_evaluate c e) (can_lower_all c ints arrays b) can).1
   no_half c ints arrays over k (IfElse e b d) can =
-      let two = both_true (can_lower_all c ints arrays b) (can_lower_all c ints arrays d) (both_true (can_evaluate c e) _ can).1 in
+      let two = and_parts (can_lower_all c ints arrays b) (can_lower_all c ints arrays d) (and_parts (can_evaluate c e) _ can).1 in
       ap (λ q. q && has_no_half_in (lower_block over (k + loop_count_in b) d)) (no_half_in c ints arrays over k b two.0) ∙ no_half_in c ints arrays over (k + loop_count_in b) d two.1
-  no_half c ints arrays over k (While e b) can = no_half_in c ints arrays over k b (both_true (can_evaluate c e) (can_lower_all c ints arrays b) can).1
+  no_half c ints arrays over k (While e b) can = no_half_in c ints arrays over k b (and_parts (can_evaluate c e) (can_lower_all c ints arrays b) can).1
   no_half c ints arrays over k (For x y z from to grain over' b) can = refl
   no_half c ints arrays over k (Scope b) can = no_half_in c ints arrays over k b can
   no_half c ints arrays over k (Cut a e l r b) can =
       let inner = (arrays ++ l ∷ []) ++ r ∷ [] in
-      let one = (both_true (can_evaluate c e) _ can).1 in
-      let two = (both_true (is_local c a) _ one).1 in
-      let three = (both_true (is_local c l) _ two).1 in
-      let four = (both_true (is_local c r) _ three).1 in
-      let five = (both_true (not (is_among l arrays)) _ four).1 in
-      let six = (both_true (not (is_among r arrays)) _ five).1 in
-      no_half_in c ints inner over k b (both_true (not (same_name r l)) (can_lower_all c ints inner b) six).1
+      let one = (and_parts (can_evaluate c e) _ can).1 in
+      let two = (and_parts (is_local c a) _ one).1 in
+      let three = (and_parts (is_local c l) _ two).1 in
+      let four = (and_parts (is_local c r) _ three).1 in
+      let five = (and_parts (not (is_among l arrays)) _ four).1 in
+      let six = (and_parts (not (is_among r arrays)) _ five).1 in
+      no_half_in c ints inner over k b (and_parts (not (same_name r l)) (can_lower_all c ints inner b) six).1
   no_half c ints arrays over k (Region tag b) can = no_half_in c ints arrays over k b can
   no_half c ints arrays over k (Print e) can = refl
   no_half c ints arrays over k (Return e) can = refl
@@ -62,7 +63,7 @@ mutual
   pub no_half_in : (c : Surroundings) (ints arrays over : List Name) (k : ℕ) (b : Block) → can_lower_all c ints arrays b ≡ true → has_no_half_in (lower_block over k b) ≡ true
   no_half_in c ints arrays over k End can = refl
   no_half_in c ints arrays over k (Then line s b) can =
-      let two = both_true (can_lower c ints arrays s) (can_lower_all c (ints ++ new_integers s) (arrays ++ new_arrays s) b) can in
+      let two = and_parts (can_lower c ints arrays s) (can_lower_all c (ints ++ new_integers s) (arrays ++ new_arrays s) b) can in
       ap (λ q. q && has_no_half_in (lower_block over (k + loop_count s) b)) (no_half c ints arrays over k s two.0)
       ∙ no_half_in c (ints ++ new_integers s) (arrays ++ new_arrays s) over (k + loop_count s) b two.1
 
@@ -132,13 +133,13 @@ pub record HeadKept (known : Known) (x : Name) (from to : Expr) : Type 0 where
 
 pub head_kept : (program : Program) (known : Known) (x y z : Name) (from to : Expr) (grain : ℕ) (over : List Name) → is_head_of_loop program known x y z from to grain over ≡ true → HeadKept known x from to
 head_kept program known x y z from to grain over h =
-    let seven = (both_true _ (list_all (λ a. is_writable known a) over) h).0 in
-    let six = (both_true _ (nat_le grain MOST_GRAIN) seven).0 in
-    let five = (both_true _ (nat_le 1 grain) six).0 in
-    let four = both_true _ (is_fine known to) five in
-    let three = both_true _ (is_fine known from) four.0 in
-    let two = (both_true _ (same_name z x) three.0).0 in
-    let one = (both_true (is_new program known x) (same_name y x) two).0 in
+    let seven = (and_parts _ (list_all (λ a. is_writable known a) over) h).0 in
+    let six = (and_parts _ (nat_le grain MOST_GRAIN) seven).0 in
+    let five = (and_parts _ (nat_le 1 grain) six).0 in
+    let four = and_parts _ (is_fine known to) five in
+    let three = and_parts _ (is_fine known from) four.0 in
+    let two = (and_parts _ (same_name z x) three.0).0 in
+    let one = (and_parts (is_new program known x) (same_name y x) two).0 in
     let new = new_name program known x one in
     record { no_array = new.1; no_int = new.0; from_fine = three.1; to_fine = four.1 }
 
@@ -151,10 +152,10 @@ pub record CutKept (known : Known) (a : Name) (e : Expr) (l r : Name) : Type 0 w
 
 pub cut_kept : (program : Program) (known : Known) (a : Name) (e : Expr) (l r : Name) → is_cut program known a e l r ≡ true → CutKept known a e l r
 cut_kept program known a e l r h =
-    let four = (both_true _ (not (same_name l r)) h).0 in
-    let three = both_true _ (is_new program known r) four in
-    let two = both_true _ (is_new program known l) three.0 in
-    let one = both_true (is_writable known a) (is_fine known e) two.0 in
+    let four = (and_parts _ (not (same_name l r)) h).0 in
+    let three = and_parts _ (is_new program known r) four in
+    let two = and_parts _ (is_new program known l) three.0 in
+    let one = and_parts (is_writable known a) (is_fine known e) two.0 in
     record { array = writable_array known a one.0; at_fine = one.1; left = (new_name program known l two.1).0; right = (new_name program known r three.1).0 }
 
 -- in a cut, beside its two parts
@@ -182,16 +183,16 @@ pub loop_kept : (c : Surroundings) (ints arrays : List Name) (x y z : Name) (fro
     LoopKept c ints arrays x from to (captured x b) over b
 loop_kept c ints arrays x y z from to grain over b can =
     let taken = captured x b in
-    let one = both_true (can_evaluate c from) _ can in
-    let two = both_true (can_evaluate c to) _ one.1 in
-    let three = both_true (nat_le 1 grain) _ two.1 in
-    let four = both_true (can_loop c ints arrays x taken over) _ three.1 in
-    let five = both_true (is_plain x) _ four.0 in
-    let six = both_true (not (is_among x (c.outer ++ ints))) _ five.1 in
-    let seven = both_true (not (is_among x taken)) _ six.1 in
-    let eight = both_true (differ taken) _ seven.1 in
-    let nine = both_true (differ over) _ eight.1 in
-    let ten = both_true (can_capture c ints taken) (can_slice c arrays over) nine.1 in
+    let one = and_parts (can_evaluate c from) _ can in
+    let two = and_parts (can_evaluate c to) _ one.1 in
+    let three = and_parts (nat_le 1 grain) _ two.1 in
+    let four = and_parts (can_loop c ints arrays x taken over) _ three.1 in
+    let five = and_parts (is_plain x) _ four.0 in
+    let six = and_parts (not (is_among x (c.outer ++ ints))) _ five.1 in
+    let seven = and_parts (not (is_among x taken)) _ six.1 in
+    let eight = and_parts (differ taken) _ seven.1 in
+    let nine = and_parts (differ over) _ eight.1 in
+    let ten = and_parts (can_capture c ints taken) (can_slice c arrays over) nine.1 in
     record {
       from_can = one.0;
       to_can = two.0;
@@ -215,8 +216,8 @@ module _ (program : Program) (all : List Function) (calls : (f : Name) (g : Func
   call_known c ints arrays known locals agree target f es None e typed can_t can_p = absurd cc
   call_known c ints arrays known locals agree target f es (Some g) e typed can_t can_p =
       let is = calls f g e in
-      let one = (both_true _ (not (same_name g.name main_name)) typed).0 in
-      let two = both_true (is_target known g target) (are_arguments known g.params es) one in (
+      let one = (and_parts _ (not (same_name g.name main_name)) typed).0 in
+      let two = and_parts (is_target known g target) (are_arguments known g.params es) one in (
         is.there,
         gives target is.gives (target_known agree g target two.0 can_t),
         subst (λ ps. ArgsKnown locals ps (lower_exprs c.over es)) (sym is.params) (args_known agree g.params es (arguments_fit known g.params es two.1) can_p),
@@ -230,39 +231,39 @@ module _ (program : Program) (all : List Function) (calls : (f : Name) (g : Func
     pub stmt_known : (given : List Name) (returns : Returns) (c : Surroundings) (ints arrays : List Name) (known : Known) (locals : Locals) → Agree c ints arrays known locals → Begins given locals.arrays → (line k : ℕ) (s : Stmt) →
         faults_in program returns known line s ≡ [] → can_lower c ints arrays s ≡ true → AllFound all (made_by line k s) → StmtKnown all given returns locals (lower_stmt c.over k s)
     stmt_known given returns c ints arrays known locals agree begins line k (Declare x e) typed can found =
-        expr_known agree e (both_true (is_fine known e) (is_new program known x) (kept _ line typed)).0 can
+        expr_known agree e (and_parts (is_fine known e) (is_new program known x) (kept _ line typed)).0 can
     stmt_known given returns c ints arrays known locals agree begins line k (DeclareArray x e) typed can found =
-        (expr_known agree e (both_true (is_fine known e) (is_new program known x) (kept _ line typed)).0 can, begins)
+        (expr_known agree e (and_parts (is_fine known e) (is_new program known x) (kept _ line typed)).0 can, begins)
     stmt_known given returns c ints arrays known locals agree begins line k (Assign x e) typed can found =
-        let t = both_true (is_int known x) (is_fine known e) (kept _ line typed) in
-        let g = both_true (can_write c x) (can_evaluate c e) can in
+        let t = and_parts (is_int known x) (is_fine known e) (kept _ line typed) in
+        let g = and_parts (can_write c x) (can_evaluate c e) can in
         (write_there agree x t.0 g.0, expr_known agree e t.1 g.1)
     stmt_known given returns c ints arrays known locals agree begins line k (AssignElement a i e) typed can found =
-        let t = both_true _ (is_fine known e) (kept _ line typed) in
-        let u = both_true (is_writable known a) (is_fine known i) t.0 in
-        let g = both_true _ (can_evaluate c e) can in
+        let t = and_parts _ (is_fine known e) (kept _ line typed) in
+        let u = and_parts (is_writable known a) (is_fine known i) t.0 in
+        let g = and_parts _ (can_evaluate c e) can in
         let spot = spot_known agree a i (writable_array known a u.0) g.0 (λ h. expr_known agree i u.1 h) in
         (spot.0, spot.1, expr_known agree e t.1 g.1)
     stmt_known given returns c ints arrays known locals agree begins line k (Reduce how s e) typed can found =
-        expr_known agree e (both_true (is_reducer program how s) (is_fine known e) (kept _ line typed)).1 can
+        expr_known agree e (and_parts (is_reducer program how s) (is_fine known e) (kept _ line typed)).1 can
     stmt_known given returns c ints arrays known locals agree begins line k (Call kind site target f es) typed can found =
-        let one = both_true (is_plain f) _ can in
-        let two = both_true (length es == length (function_named f c.functions).params) _ one.1 in
-        let three = both_true (can_target c target) (can_pass_all c es) two.1 in
+        let one = and_parts (is_plain f) _ can in
+        let two = and_parts (length es == length (function_named f c.functions).params) _ one.1 in
+        let three = and_parts (can_target c target) (can_pass_all c es) two.1 in
         call_known c ints arrays known locals agree target f es (called f program.functions) refl (kept _ line typed) three.0 three.1
     stmt_known given returns c ints arrays known locals agree begins line k (Start kind f es) typed can found = absurd cc
     stmt_known given returns c ints arrays known locals agree begins line k (Begin f from to captured' over') typed can found = absurd cc
     stmt_known given returns c ints arrays known locals agree begins line k Sync typed can found = tt
     stmt_known given returns c ints arrays known locals agree begins line k (If e b) typed can found =
-        let g = both_true (can_evaluate c e) (can_lower_all c ints arrays b) can in
+        let g = and_parts (can_evaluate c e) (can_lower_all c ints arrays b) can in
         let test = unless (is_fine known e) line in
         let inner = faults_in_block program returns known b in (
           expr_known agree e (kept (is_fine known e) line (left_none test inner typed)) g.0,
           block_known given returns c ints arrays known locals agree begins k b (right_none test inner typed) g.1 found,
         )
     stmt_known given returns c ints arrays known locals agree begins line k (IfElse e b d) typed can found =
-        let g = both_true (can_evaluate c e) _ can in
-        let h = both_true (can_lower_all c ints arrays b) (can_lower_all c ints arrays d) g.1 in
+        let g = and_parts (can_evaluate c e) _ can in
+        let h = and_parts (can_lower_all c ints arrays b) (can_lower_all c ints arrays d) g.1 in
         let test = unless (is_fine known e) line in
         let first = faults_in_block program returns known b in
         let second = faults_in_block program returns known d in
@@ -274,7 +275,7 @@ module _ (program : Program) (all : List Function) (calls : (f : Name) (g : Func
           block_known given returns c ints arrays known locals agree begins (k + loop_count_in b) d (right_none first second branches) h.1 (found_second all made made' found),
         )
     stmt_known given returns c ints arrays known locals agree begins line k (While e b) typed can found =
-        let g = both_true (can_evaluate c e) (can_lower_all c ints arrays b) can in
+        let g = and_parts (can_evaluate c e) (can_lower_all c ints arrays b) can in
         let test = unless (is_fine known e) line in
         let inner = faults_in_block program returns known b in (
           expr_known agree e (kept (is_fine known e) line (left_none test inner typed)) g.0,
@@ -303,13 +304,13 @@ module _ (program : Program) (all : List Function) (calls : (f : Name) (g : Func
         let known' = (r, name_kind.Array) ∷ (l, name_kind.Array) ∷ known in
         let test = unless (is_cut program known a e l r) line in
         let cut = cut_kept program known a e l r (kept (is_cut program known a e l r) line (left_none test (faults_in_block program Nowhere known' b) typed)) in
-        let one = both_true (can_evaluate c e) _ can in
-        let two = both_true (is_local c a) _ one.1 in
-        let three = both_true (is_local c l) _ two.1 in
-        let four = both_true (is_local c r) _ three.1 in
-        let five = both_true (not (is_among l arrays)) _ four.1 in
-        let six = both_true (not (is_among r arrays)) _ five.1 in
-        let seven = both_true (not (same_name r l)) (can_lower_all c ints inner b) six.1 in
+        let one = and_parts (can_evaluate c e) _ can in
+        let two = and_parts (is_local c a) _ one.1 in
+        let three = and_parts (is_local c l) _ two.1 in
+        let four = and_parts (is_local c r) _ three.1 in
+        let five = and_parts (not (is_among l arrays)) _ four.1 in
+        let six = and_parts (not (is_among r arrays)) _ five.1 in
+        let seven = and_parts (not (same_name r l)) (can_lower_all c ints inner b) six.1 in
         let left_new = not_there_alone agree l (not_true _ five.0) three.0 in
         let right_new = not_there_alone agree r (not_true _ six.0) four.0 in
         let locals' = with_array l locals in (
@@ -326,7 +327,7 @@ module _ (program : Program) (all : List Function) (calls : (f : Name) (g : Func
     stmt_known given returns c ints arrays known locals agree begins line k (Print e) typed can found = expr_known agree e (kept (is_fine known e) line typed) can
     stmt_known given returns c ints arrays known locals agree begins line k (Return None) typed can found = (return_known agree returns None (kept _ line typed) (λ d q. absurd cc), begins)
     stmt_known given returns c ints arrays known locals agree begins line k (Return (Some e)) typed can found =
-        (return_known agree returns (Some e) (kept _ line typed) (λ d q. same d q (both_true c.returns (can_evaluate c e) can).1), begins)
+        (return_known agree returns (Some e) (kept _ line typed) (λ d q. same d q (and_parts c.returns (can_evaluate c e) can).1), begins)
       where
         same : (d : Expr) → Some e ≡ Some d → can_evaluate c e ≡ true → can_evaluate c d ≡ true
         same d q h = let is : e ≡ d = cc in ap (can_evaluate c) (sym is) ∙ h
@@ -339,7 +340,7 @@ module _ (program : Program) (all : List Function) (calls : (f : Name) (g : Func
         let last = unless (not (surely_returns s) || ends_block b) line in
         let behind = faults_in_block program returns (declares s known) b in
         let typed_here = left_none here (last ++ behind) typed in
-        let two = both_true (can_lower c ints arrays s) (can_lower_all c (ints ++ new_integers s) (arrays ++ new_arrays s) b) can in (
+        let two = and_parts (can_lower c ints arrays s) (can_lower_all c (ints ++ new_integers s) (arrays ++ new_arrays s) b) can in (
           stmt_known given returns c ints arrays known locals agree begins line k s typed_here two.0 (found_first all (made_by line k s) (made_in (k + loop_count s) b) found),
           subst (λ l. BlockKnown all given returns l (lower_block c.over (k + loop_count s) b)) (sym (same_after c.over k locals s))
               (block_known given returns c (ints ++ new_integers s) (arrays ++ new_arrays s) (declares s known) (locals_after locals s) (agree_after program returns line c ints arrays known locals s typed_here agree)

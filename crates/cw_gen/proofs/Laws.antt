@@ -2,6 +2,7 @@
 use Rattle.std.proofs.Common.{◌≡◌, ℕ, zero, suc, ◌+◌, ◌-◌, ◌≤◌, List, [], ◌++◌, length, Bool, true, false, if◌then◌else◌, nat_lt, Option, Some, None, refl, sym, ap, ◌∙◌, subst, arith, length-append, ℤ, pos, true≢false}
 use Rattle.std.specs.Prelude.{replicate}
 use Rattle.std.proofs.lemmas.List.{length-replicate, length-map}
+use Rattle.cw_facts.specs.Tests.{taken, not_taken}
 use Rattle.cw_model.specs.declared.trap.Trap.TheVariants as trap
 use Rattle.cw_model.specs.declared.limits.TheConstants.{MOST_DEPTH}
 use Rattle.cw_model.specs.Syntax.{Function}
@@ -14,12 +15,12 @@ use Rattle.cw_code.specs.declared.code.Func.{Func}
 use Rattle.cw_code.specs.declared.code.Instr.TheVariants as instr
 use Rattle.cw_code.specs.Code.{Code, reducer_names}
 use Rattle.cw_code.specs.Run.{synced, settled, full}
+use Rattle.cw_code.specs.lemmas.Runs.{joined_quiet}
 use Rattle.cw_gen.specs.Emit.{most_jump, first_list, emitted_end}
 use Rattle.cw_gen.proofs.Held.{held_after_all}
-use Rattle.cw_gen.proofs.Decided.{taken, not_taken}
 use Rattle.cw_gen.proofs.Marked.{owned, told_at}
 use Rattle.cw_gen.proofs.Fine.{Begins, marks_for}
-use Rattle.cw_gen.proofs.Traces.{resume, joined_quiet, resume_then}
+use Rattle.cw_gen.proofs.Traces.{resume, resume_then}
 use Rattle.cw_gen.proofs.Places.{HasAt, has_front, has_back}
 use Rattle.cw_gen.proofs.Scopes.{locals_after_all, names_extend}
 use Rattle.cw_gen.proofs.Stores.{Agrees, Fills}

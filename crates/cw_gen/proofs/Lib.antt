@@ -1,4 +1,3 @@
-pub mod Decided
 pub mod Frozen
 pub mod Places
 pub mod Held

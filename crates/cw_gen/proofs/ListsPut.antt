@@ -3,8 +3,8 @@ use Rattle.std.proofs.Common.{◌≡◌, ℕ, zero, suc, ◌+◌, ◌≤◌, ◌
 use Rattle.std.specs.Prelude.{if◌then◌else◌, map, nat_eq, slice_get, slice_set}
 use Rattle.std.proofs.lemmas.Bool.Decides.{nat_tests}
 use Rattle.std.proofs.lemmas.List.{length-set}
+use Rattle.cw_facts.specs.Lists.{set_other}
 use Rattle.cw_loops.specs.Slotted.{Stmt, Declare, DeclareArray, Assign, AssignElement, Reduce, Call, Start, Begin, Sync, If, IfElse, While, Scope, Cut, Region, Print, Return, Block, End, Then, Function}
-use Rattle.cw_code.specs.lemmas.Slots.{set_other}
 use Rattle.cw_code.specs.declared.code.Loan.{Loan}
 use Rattle.cw_gen.specs.Marks.{Marks, marks_of, array_at}
 use Rattle.cw_gen.specs.Emit.{whole_list, half_list, passed_in, lent_in, put_lists, put_lists_in, put_lists_of, put_loans, put_loans_in, put_loans_of}

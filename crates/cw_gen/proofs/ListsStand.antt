@@ -5,21 +5,20 @@ use Rattle.std.specs.List.{list_all}
 use Rattle.std.proofs.Math.Nat.{min-eq_left}
 use Rattle.std.proofs.lemmas.Bool.Decides.{nat_tests}
 use Rattle.std.proofs.lemmas.List.{length-map, length-replicate}
+use Rattle.cw_facts.specs.Tests.{first_true, second_true}
 use Rattle.cw_model.specs.declared.syntax.CallKind.{CallKind}
 use Rattle.cw_model.specs.declared.syntax.CallKind.TheVariants.{Plain, Spawned}
 use Rattle.cw_model.specs.declared.limits.TheConstants.{MOST_CALL_STATEMENTS}
 use Rattle.cw_model.specs.Syntax.{Name, Stmt, Declare, DeclareArray, Assign, AssignElement, Reduce, Call, Start, Begin, Sync, If, IfElse, While, For, Scope, Cut, Region, Print, Return, Block, End, Then, Function, Program}
-use Rattle.cw_model.specs.Names.{same_name}
 use Rattle.cw_model.specs.Sites.{CallSite, call_sites, are_numbered}
 use Rattle.cw_tree.specs.Resolved.{Lists, Locals, slot_of, with_array, locals_after, locals_of, function_names, resolved}
 use Rattle.cw_loops.specs.Lowered.{is_plain, loop_name, loop_count_in, lower_functions, made_of, lowered}
 use Rattle.cw_loops.specs.LoweringLaws.{IsOwnedSource}
 use Rattle.cw_loops.specs.SourceLike.{is_source_block, is_source_function}
 use Rattle.cw_loops.specs.Slotted.{slotted_stmt, slotted_block, slotted_function, slotted_functions, lowered_lists}
-use Rattle.cw_loops.specs.lemmas.Apart.{same_itself, apart_plain}
-use Rattle.cw_loops.specs.lemmas.Numbering.{Numbered, Made, count_of, made_functions, loops_apart, count_stays}
+use Rattle.cw_loops.specs.lemmas.Apart.{apart_plain}
+use Rattle.cw_loops.specs.lemmas.Numbering.{Made, count_of, made_functions, count_stays, numbered_slot}
 use Rattle.cw_gen.specs.Emit.{Tables, first_list, most_jump, whole_list, half_list, emitted_sites_of, no_lists}
-use Rattle.cw_gen.proofs.Decided.{first_true, second_true}
 use Rattle.cw_gen.proofs.Texts.{tables_in, code_of}
 use Rattle.cw_gen.proofs.Told.{PassesStmt, PassesBlock, AllPass}
 use Rattle.cw_code.specs.declared.code.Loan.{Loan}
@@ -233,23 +232,6 @@ loops_lend_none key k (suc count) = omega (arith, loops_lend_none key k count)
 
 -- the slots of generated functions are behind those of the source
 
-loop_slot : (made : List Function) (j i : ℕ) → Numbered j made → i < length made → slot_of (loop_name (j + i)) (function_names made) ≡ i
-loop_slot [] j i h less = absurd (omega (arith, less))
-loop_slot (f ∷ made) j zero h less =
-    ap (λ w. if same_name (loop_name (j + 0)) w then 0 else suc (slot_of (loop_name (j + 0)) (function_names made))) h.0
-    ∙ ap (λ w. if same_name (loop_name w) (loop_name j) then 0 else suc (slot_of (loop_name (j + 0)) (function_names made))) (none j)
-    ∙ ap (λ b. if b then 0 else suc (slot_of (loop_name (j + 0)) (function_names made))) (same_itself (loop_name j))
-  where
-    none : (n : ℕ) → n + 0 ≡ n
-    none n = omega arith
-loop_slot (f ∷ made) j (suc i) h less =
-    ap (λ w. if same_name (loop_name (j + suc i)) w then 0 else suc (slot_of (loop_name (j + suc i)) (function_names made))) h.0
-    ∙ ap (λ b. if b then 0 else suc (slot_of (loop_name (j + suc i)) (function_names made))) (loops_apart (j + suc i) j (omega arith))
-    ∙ ap (λ w. suc (slot_of (loop_name w) (function_names made))) (next j i) ∙ ap suc (loop_slot made (j + 1) i h.1 (omega (arith, less)))
-  where
-    next : (m n : ℕ) → m + suc n ≡ m + 1 + n
-    next m n = omega arith
-
 past_source : (fs made : List Function) (k j : ℕ) → list_all is_source_function fs ≡ true → slot_of (loop_name j) (function_names (lower_functions k fs ++ made)) ≡ length fs + slot_of (loop_name j) (function_names made)
 past_source [] made k j h = omega arith
 past_source (f ∷ fs) made k j h =
@@ -317,7 +299,7 @@ module _ (program : Program) (source_like : list_all is_source_function program.
   loop_at : (j : ℕ) → j < loops → slot_of (loop_name j) (lowered_lists program).functions ≡ length program.functions + j
   loop_at j less =
       past_source program.functions made 0 j source_like ∙ ap (λ i. length program.functions + slot_of (loop_name i) (function_names made)) none
-      ∙ ap (λ i. length program.functions + i) (loop_slot made 0 j numbered_loops.numbered (let many = numbered_loops.many in omega (arith, many, less)))
+      ∙ ap (λ i. length program.functions + i) (numbered_slot made 0 j numbered_loops.numbered (let many = numbered_loops.many in omega (arith, many, less)))
     where
       none : j ≡ 0 + j
       none = omega arith

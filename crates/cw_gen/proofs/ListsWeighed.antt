@@ -2,6 +2,7 @@
 use Rattle.std.proofs.Common.{◌≡◌, ℕ, zero, suc, ◌+◌, true, List, [], ◌∷◌, ◌++◌, flat_map, arith, refl, ◌∙◌, ap}
 use Rattle.std.specs.Prelude.{◌&&◌}
 use Rattle.std.specs.List.{list_all}
+use Rattle.cw_facts.specs.Tests.{first_true, second_true}
 use Rattle.cw_model.specs.declared.syntax.CallKind.{CallKind}
 use Rattle.cw_model.specs.declared.syntax.CallKind.TheVariants.{Plain, Spawned}
 use Rattle.cw_model.specs.Syntax.{Name, Stmt, Declare, DeclareArray, Assign, AssignElement, Reduce, Call, Start, Begin, Sync, If, IfElse, While, For, Scope, Cut, Region, Print, Return, Block, End, Then, Function}
@@ -10,7 +11,6 @@ use Rattle.cw_model.specs.Sites.{CallSite, sites_in, sites_in_block}
 use Rattle.cw_loops.specs.Lowered.{is_plain, in_cuts, both_halves, left_arguments, right_arguments, loop_name, loop_function, loop_count, loop_count_in, lower_stmt, lower_block, made_by, made_in, lower_functions, made_of}
 use Rattle.cw_loops.specs.SourceLike.{is_source_expr, is_source_stmt, is_source_block, is_source_function}
 use Rattle.cw_loops.specs.lemmas.Numbering.{count_of}
-use Rattle.cw_gen.proofs.Decided.{first_true, second_true}
 
 -- what calls weigh: that of a site, the first one of a loop's function, and those on its halves
 pub record Weights : Type 0 where

@@ -3,6 +3,7 @@ use Rattle.std.proofs.Common.{◌≡◌, ℕ, ◌+◌, List, [], ◌∷◌, ◌+
 use Rattle.std.specs.Prelude.{map, flat_map}
 use Rattle.std.specs.List.{list_all, list_any}
 use Rattle.std.proofs.lemmas.Slice.Eq.{bytes_eq-Decides}
+use Rattle.cw_facts.specs.Tests.{first_true, second_true, neither_first, neither_second, not_true}
 use Rattle.cw_model.specs.Syntax.{wants_array, Name, Param, Function, Reducer, Program}
 use Rattle.cw_model.specs.Names.{same_name, is_among}
 use Rattle.cw_model.specs.Lines.{unless}
@@ -17,13 +18,11 @@ use Rattle.cw_loops.specs.Lowered.{loop_count_in, lower_function, lower_function
 use Rattle.cw_loops.specs.LoweringLaws.{IsOwnedSource}
 use Rattle.cw_loops.specs.Slotted.{lowered_lists}
 use Rattle.cw_loops.specs.lemmas.Heads.{heads_kept}
-use Rattle.cw_loops.specs.lemmas.Tests.{not_true}
-use Rattle.cw_gen.proofs.Decided.{first_true, second_true}
 use Rattle.cw_gen.proofs.Fine.{is_function, ProgramFine}
 use Rattle.cw_gen.proofs.Kept.{AllFunctionsKnown, AllFree}
 use Rattle.cw_gen.proofs.NamedLowered.{all_listed}
 use Rattle.cw_gen.proofs.Rooms.{all_have_rooms}
-use Rattle.cw_gen.proofs.Rules.{neither_first, neither_second, function_there}
+use Rattle.cw_gen.proofs.Rules.{function_there}
 use Rattle.cw_gen.proofs.Texts.{code_of, tables_in}
 use Rattle.cw_gen.proofs.KnownLowered.{functions_own}
 use Rattle.cw_gen.proofs.Together.{functions_fine}

@@ -1,8 +1,8 @@
 -- The marks of parameters: which of their arrays are only read.
 use Rattle.std.proofs.Common.{◌≡◌, ℕ, zero, suc, ◌+◌, ◌≤◌, List, [], ◌∷◌, ◌++◌, length, Bool, true, false, not, if◌then◌else◌, cond, filter, refl, sym, ap, ◌∙◌, arith, true≢false}
 use Rattle.std.specs.Prelude.{map, ◌==◌}
-use Rattle.std.proofs.lemmas.Bool.{eqb-true}
 use Rattle.std.proofs.lemmas.Slice.Eq.{bytes_eq-Decides}
+use Rattle.cw_facts.specs.Tests.{first_true, second_true, not_true, eq_of}
 use Rattle.cw_model.specs.declared.syntax.NameKind.{NameKind}
 use Rattle.cw_model.specs.declared.syntax.NameKind.TheVariants.{Integer, Array, Const}
 use Rattle.cw_model.specs.Syntax.{Name, Expr, Variable, Param, is_array_kind, is_written_kind, is_const_kind, wants_array, takes_array}
@@ -11,8 +11,7 @@ use Rattle.cw_model.specs.Ownership.{Taken, names_in, arrays_given, arrays_lent}
 use Rattle.cw_tree.specs.Resolved.{Locals, slot_of, locals_of}
 use Rattle.cw_gen.specs.Marks.{Marks, marks_in, readers_in, unless_none, count_ints, count_arrays, count_taken, count_readers, is_integer_kind}
 use Rattle.cw_gen.proofs.Fine.{ArgFine, ArgsFine, marks_for}
-use Rattle.cw_gen.proofs.Passing.{negated, none_of_some}
-use Rattle.cw_gen.proofs.Decided.{first_true, second_true}
+use Rattle.cw_gen.proofs.Passing.{none_of_some}
 use Rattle.cw_gen.proofs.Texts.{taken_params}
 use Rattle.cw_gen.proofs.Codes.{arrays_named}
 use Rattle.cw_gen.proofs.Names.{Entries}
@@ -42,35 +41,32 @@ none_read (true ∷ marks) s h = cc
 none_read (false ∷ marks) zero h = refl
 none_read (false ∷ marks) (suc s) h = none_read marks s h
 
-is_none : (n : ℕ) → (n == 0) ≡ true → n ≡ 0
-is_none n h = eqb-true n 0 h
-
 pub owned_same : {X : Type 0} (marks : Marks) (xs : List X) → owned (unless_none marks) xs ≡ owned marks xs
 owned_same marks xs = test (readers_in marks == 0) refl
   where
     test : (b : Bool) → (readers_in marks == 0) ≡ b → owned (if b then [] else marks) xs ≡ owned marks xs
-    test true e = sym (none_owned marks xs (is_none (readers_in marks) e))
+    test true e = sym (none_owned marks xs (eq_of (readers_in marks) 0 e))
     test false e = refl
 
 pub lent_same : {X : Type 0} (marks : Marks) (xs : List X) → lent (unless_none marks) xs ≡ lent marks xs
 lent_same marks xs = test (readers_in marks == 0) refl
   where
     test : (b : Bool) → (readers_in marks == 0) ≡ b → lent (if b then [] else marks) xs ≡ lent marks xs
-    test true e = sym (none_lent marks xs (is_none (readers_in marks) e))
+    test true e = sym (none_lent marks xs (eq_of (readers_in marks) 0 e))
     test false e = refl
 
 pub read_same : (marks : Marks) (s : ℕ) → is_read (unless_none marks) s ≡ is_read marks s
 read_same marks s = test (readers_in marks == 0) refl
   where
     test : (b : Bool) → (readers_in marks == 0) ≡ b → is_read (if b then [] else marks) s ≡ is_read marks s
-    test true e = sym (none_read marks s (is_none (readers_in marks) e))
+    test true e = sym (none_read marks s (eq_of (readers_in marks) 0 e))
     test false e = refl
 
 pub count_same : (marks : Marks) → readers_in (unless_none marks) ≡ readers_in marks
 count_same marks = test (readers_in marks == 0) refl
   where
     test : (b : Bool) → (readers_in marks == 0) ≡ b → readers_in (if b then [] else marks) ≡ readers_in marks
-    test true e = sym (is_none (readers_in marks) e)
+    test true e = sym (eq_of (readers_in marks) 0 e)
     test false e = refl
 
 short_same : (marks : Marks) → length (unless_none marks) ≤ length marks
@@ -217,7 +213,7 @@ as_many_named marks locals taken (p ∷ ps) (e ∷ es) fine = one p.kind e fine.
 all_own : (ps : List Param) (q : Name) → differ (map (λ p. p.name) ps) ≡ true → is_among q (taken_params ps) ≡ true → IsOwn (all_marks ps) (slot_of q (locals_of ps).arrays)
 all_own [] q apart h = cc
 all_own (p ∷ ps) q apart h =
-    one p.kind (negated (is_among p.name (map (λ (z : Param). z.name) ps)) (first_true (not (is_among p.name (map (λ (z : Param). z.name) ps))) (differ (map (λ (z : Param). z.name) ps)) apart))
+    one p.kind (not_true (is_among p.name (map (λ (z : Param). z.name) ps)) (first_true (not (is_among p.name (map (λ (z : Param). z.name) ps))) (differ (map (λ (z : Param). z.name) ps)) apart))
     (all_own ps q (second_true (not (is_among p.name (map (λ (z : Param). z.name) ps))) (differ (map (λ (z : Param). z.name) ps)) apart)) h
   where
     one : (k : NameKind) → is_among p.name (map (λ (z : Param). z.name) ps) ≡ false → (is_among q (taken_params ps) ≡ true → IsOwn (all_marks ps) (slot_of q (locals_of ps).arrays)) →

@@ -1,4 +1,5 @@
 -- What a program of right types names: its reducers, tags and call sites are told by its code.
+use Rattle.cw_facts.specs.Tests.{first_true}
 use Rattle.cw_model.specs.declared.syntax.NameKind.TheVariants as name_kind
 use Rattle.std.proofs.Common.{◌≡◌, ℕ, List, [], ◌∷◌, ◌++◌, Bool, true, false, not, ◌&&◌, ◌||◌, if◌then◌else◌, Option, Some, None, refl, sym, ap, ◌∙◌, subst}
 use Rattle.std.specs.Prelude.{map, flat_map}
@@ -13,7 +14,6 @@ use Rattle.cw_tree.specs.Resolved.{Lists, Locals, slot_of, with_int, with_array,
 use Rattle.cw_tree.specs.lemmas.Reducers.{is_named}
 use Rattle.cw_loops.specs.lemmas.Heads.{heads_kept}
 use Rattle.cw_gen.specs.Emit.{Tables, emitted_sites, emitted_sites_in, emitted_sites_of}
-use Rattle.cw_gen.proofs.Decided.{first_true}
 use Rattle.cw_gen.proofs.Fine.{IsListed, HasSite}
 use Rattle.cw_gen.proofs.Rules.{Each, each_front, each_rear, listed_there}
 use Rattle.cw_gen.proofs.SourceSites.{StandsAtItsNumber}

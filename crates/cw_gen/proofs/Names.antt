@@ -2,13 +2,14 @@
 use Rattle.std.proofs.Common.{◌≡◌, ◌≢◌, ℕ, zero, suc, ◌+◌, ◌-◌, ◌<◌, ◌≤◌, List, [], ◌∷◌, ◌++◌, length, Bool, true, false, if◌then◌else◌, Option, Some, None, refl, sym, ap, ◌∙◌, arith, append_assoc, length-append, true≢false}
 use Rattle.std.specs.Prelude.{slice_get, slice_set, take, drop}
 use Rattle.std.proofs.Math.Seq.{set-append_seam, take-append_seam}
-use Rattle.std.proofs.lemmas.List.{length-set, length-map, map-set, set-set, set_comm}
+use Rattle.std.proofs.lemmas.List.{length-map, map-set, set-set, set_comm}
 use Rattle.std.proofs.lemmas.Option.{slice_get-map}
 use Rattle.std.proofs.lemmas.Slice.Eq.{bytes_eq-Decides}
 use Rattle.cw_model.specs.Syntax.{Name}
 use Rattle.cw_model.specs.Names.{same_name, is_among, find, put}
 use Rattle.cw_model.specs.Ownership.{Taken, is_taken, cut_ended, freed, without}
 use Rattle.cw_code.specs.Run.{Slots, Results, is_full, full, settled}
+use Rattle.cw_code.specs.lemmas.Slots.{settled_count, settled_append}
 use Rattle.cw_tree.specs.Resolved.{slot_of}
 use Rattle.cw_tree.specs.lemmas.NamedSlots.{slot_stays, slot_in}
 use Rattle.cw_loops.specs.lemmas.Naming.{among_left}
@@ -52,10 +53,6 @@ settled-set a x [] slots h = refl
 settled-set a x (r ∷ results) slots h =
     ap (settled results) (set_comm slots a r.0 x (Some r.1) h.0)
     ∙ settled-set a x results (slice_set slots r.0 (Some r.1)) h.1
-
-pub length-settled : {A : Type 0} (results : Results A) (slots : Slots A) → length (settled results slots) ≡ length slots
-length-settled [] slots = refl
-length-settled (r ∷ results) slots = length-settled results (slice_set slots r.0 (Some r.1)) ∙ length-set slots r.0 (Some r.1)
 
 -- the results that wait, one sync block after another, the innermost first
 abbrev pub all_of : {A : Type 0} → List (Results A) → Results A
@@ -123,10 +120,6 @@ slot_new x (y ∷ names) more h = test (slot_new x names more) (same_name x y) h
 both_apart : {A : Type 0} (a : ℕ) (r s : Results A) → NotAwaited a r → NotAwaited a s → NotAwaited a (r ++ s)
 both_apart a [] s h k = k
 both_apart a (e ∷ r) s h k = (h.0, both_apart a r s h.1 k)
-
-pub settled_append : {A : Type 0} (a b : Results A) (slots : Slots A) → settled (a ++ b) slots ≡ settled b (settled a slots)
-settled_append [] b slots = refl
-settled_append (r ∷ a) b slots = settled_append a b (slice_set slots r.0 (Some r.1))
 
 names_kept : {A : Type 0} (n : ℕ) (es : Entries A) → names_in (take n es) ≡ take n (names_in es)
 names_kept zero es = refl
@@ -228,7 +221,7 @@ module _ (cuts : Bool) {A : Type 0} where
   pub is_there : (names : List Name) (taken : Taken) (a : ℕ) (entries : Entries A) (slots : Slots A) (waits : List (Results A)) → NotAwaited a (all_of waits) → a < length slots → AgreesOf names taken entries slots waits → is_full (slice_get slots a) ≡ true
   is_there names taken a entries slots waits free within agrees =
       let all = values_in entries ++ agrees.rest in
-      let n : length slots ≡ length all = sym (length-settled (all_of waits) slots) ∙ ap length agrees.held ∙ length-map all (λ v. Some v) in
+      let n : length slots ≡ length all = sym (settled_count (all_of waits) slots) ∙ ap length agrees.held ∙ length-map all (λ v. Some v) in
       ap is_full (sym (get-settled a (all_of waits) slots free) ∙ ap (λ l. slice_get l a) agrees.held)
       ∙ found all a (omega (arith, n))
     where
@@ -240,7 +233,7 @@ module _ (cuts : Bool) {A : Type 0} where
   -- how many slots there are
   pub count_slots : (names : List Name) (taken : Taken) (entries : Entries A) (slots : Slots A) (waits : List (Results A)) (a : AgreesOf names taken entries slots waits) → length slots ≡ length names + length a.rest
   count_slots names taken entries slots waits a =
-      let n : length slots ≡ length (values_in entries ++ a.rest) = sym (length-settled (all_of waits) slots) ∙ ap length a.held ∙ length-map (values_in entries ++ a.rest) (λ v. Some v) in
+      let n : length slots ≡ length (values_in entries ++ a.rest) = sym (settled_count (all_of waits) slots) ∙ ap length a.held ∙ length-map (values_in entries ++ a.rest) (λ v. Some v) in
       omega (arith, n, length-append (values_in entries) a.rest, length_names entries, ap length a.named)
 
   -- the slot of a name can be written

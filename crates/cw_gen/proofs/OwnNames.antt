@@ -1,10 +1,12 @@
 -- Arrays that a function writes, gives away, cuts or loops over are none of its parameters that are only read.
+use Rattle.cw_facts.specs.Tests.{not_true}
 use Rattle.cw_model.specs.declared.syntax.NameKind.{NameKind}
 use Rattle.cw_model.specs.declared.syntax.NameKind.TheVariants as name_kind
 use Rattle.std.proofs.Common.{◌≡◌, ℕ, suc, ◌+◌, ◌≤◌, List, [], ◌∷◌, ◌++◌, length, Bool, true, false, not, cond, filter, refl, sym, ap, ◌∙◌, subst, arith, length-append, true≢false, inl, inr, ◌⊎◌}
 use Rattle.std.specs.Prelude.{map, if◌then◌else◌, ◌&&◌, ◌||◌, Option, Some, None}
 use Rattle.std.specs.List.{list_all}
 use Rattle.std.proofs.lemmas.Slice.Eq.{bytes_eq-Decides}
+use Rattle.std.proofs.lemmas.Bool.{and_parts}
 use Rattle.cw_model.specs.Lines.{unless}
 use Rattle.cw_model.specs.Syntax.{is_array_kind, is_written_kind, takes_array, Name, Expr, Number, Variable, Element, Length, Negative, Not, Binary, Stmt, Declare, DeclareArray, Assign, AssignElement, Reduce, Call, Start, Begin, Sync, If, IfElse, While, For, Scope, Cut, Region, Print, Return, Block, End, Then, Param, Function, Program}
 use Rattle.cw_model.specs.Names.{same_name, is_among, differ}
@@ -14,7 +16,6 @@ use Rattle.cw_model.specs.lemmas.Kept.{kept, left_none, right_none}
 use Rattle.cw_tree.specs.Resolved.{Locals, slot_of, with_int, with_array, locals_after, locals_of}
 use Rattle.cw_tree.specs.lemmas.NamedSlots.{slot_stays}
 use Rattle.cw_loops.specs.Lowered.{lower_expr, lower_exprs, lower_stmt, lower_block, loop_count, loop_count_in}
-use Rattle.cw_loops.specs.lemmas.Tests.{both_true, not_true}
 use Rattle.cw_loops.specs.lemmas.Knowing.{not_there}
 use Rattle.cw_gen.specs.Marks.{Marks}
 use Rattle.cw_gen.proofs.Marked.{IsOwn, is_read, own_behind}
@@ -241,7 +242,7 @@ args_own marks known locals w over [] [] h = tt
 args_own marks known locals w over [] (e ∷ es) h = tt
 args_own marks known locals w over (p ∷ ps) [] h = tt
 args_own marks known locals w over (p ∷ ps) (e ∷ es) h =
-    let two = both_true (is_argument known p.kind e) (are_arguments known ps es) h in
+    let two = and_parts (is_argument known p.kind e) (are_arguments known ps es) h in
     (one p.kind e two.0, args_own marks known locals w over ps es two.1)
   where
     one : (k : NameKind) (e : Expr) → is_argument known k e ≡ true → OwnArg k marks locals (lower_expr over e)
@@ -258,15 +259,15 @@ args_own marks known locals w over (p ∷ ps) (e ∷ es) h =
 over_own : (marks : Marks) (known : Known) (locals : Locals) → Written marks known locals → (over : List Name) → list_all (λ a. is_writable known a) over ≡ true → OwnAll marks locals over
 over_own marks known locals w [] h = tt
 over_own marks known locals w (a ∷ over) h =
-    let two = both_true (is_writable known a) (list_all (λ b. is_writable known b) over) h in
+    let two = and_parts (is_writable known a) (list_all (λ b. is_writable known b) over) h in
     (w.own a two.0, over_own marks known locals w over two.1)
 
 -- behind a statement
 after_written : (program : Program) (returns : Returns) (marks : Marks) (known : Known) (locals : Locals) (line : ℕ) (s : Stmt) → faults_in program returns known line s ≡ [] → Written marks known locals → Written marks (declares s known) (locals_after locals s)
 after_written program returns marks known locals line (Declare x e) typed w =
-    int_written marks known locals x (new_array program known x (both_true (is_fine known e) (is_new program known x) (kept (is_fine known e && is_new program known x) line typed)).1) w
+    int_written marks known locals x (new_array program known x (and_parts (is_fine known e) (is_new program known x) (kept (is_fine known e && is_new program known x) line typed)).1) w
 after_written program returns marks known locals line (DeclareArray x e) typed w =
-    array_written marks known locals x (new_array program known x (both_true (is_fine known e) (is_new program known x) (kept (is_fine known e && is_new program known x) line typed)).1) w
+    array_written marks known locals x (new_array program known x (and_parts (is_fine known e) (is_new program known x) (kept (is_fine known e && is_new program known x) line typed)).1) w
 after_written program returns marks known locals line _ typed w = w
 
 -- a lowered statement declares what its source does
@@ -299,10 +300,10 @@ record CutTyped (program : Program) (known : Known) (a l r : Name) : Type 0 wher
 
 cut_typed : (program : Program) (known : Known) (a : Name) (e : Expr) (l r : Name) → is_cut program known a e l r ≡ true → CutTyped program known a l r
 cut_typed program known a e l r h =
-    let four = both_true _ (not (same_name l r)) h in
-    let three = both_true _ (is_new program known r) four.0 in
-    let two = both_true _ (is_new program known l) three.0 in
-    let one = both_true (is_writable known a) (is_fine known e) two.0 in
+    let four = and_parts _ (not (same_name l r)) h in
+    let three = and_parts _ (is_new program known r) four.0 in
+    let two = and_parts _ (is_new program known l) three.0 in
+    let one = and_parts (is_writable known a) (is_fine known e) two.0 in
     record { writable = one.0; left = new_array program known l two.1; right = new_array program known r three.1; two = other (same_name r l) refl (not_true (same_name l r) four.1) }
   where
     other : (b : Bool) → same_name r l ≡ b → same_name l r ≡ false → b ≡ false
@@ -314,8 +315,8 @@ module _ (program : Program) (all : List Function) (calls : (f : Name) (g : Func
       OwnArgs marks locals (function_named f all).params (lower_exprs over es)
   call_own over known locals w target f es None e typed = absurd cc
   call_own over known locals w target f es (Some g) e typed =
-      let one = (both_true _ (not (same_name g.name main_name)) typed).0 in
-      let two = both_true (is_target known g target) (are_arguments known g.params es) one in
+      let one = (and_parts _ (not (same_name g.name main_name)) typed).0 in
+      let two = and_parts (is_target known g target) (are_arguments known g.params es) one in
       subst (λ ps. OwnArgs marks locals ps (lower_exprs over es)) (sym (calls f g e).params) (args_own marks known locals w over g.params es two.1)
 
   mutual
@@ -324,7 +325,7 @@ module _ (program : Program) (all : List Function) (calls : (f : Name) (g : Func
     stmt_own returns over known locals w line k (DeclareArray a e) typed = w.short
     stmt_own returns over known locals w line k (Assign x e) typed = tt
     stmt_own returns over known locals w line k (AssignElement a i e) typed =
-        w.own a (both_true (is_writable known a) (is_fine known i) (both_true _ (is_fine known e) (kept _ line typed)).0).0
+        w.own a (and_parts (is_writable known a) (is_fine known i) (and_parts _ (is_fine known e) (kept _ line typed)).0).0
     stmt_own returns over known locals w line k (Reduce how s e) typed = tt
     stmt_own returns over known locals w line k (Call kind site target f es) typed = call_own over known locals w target f es (called f program.functions) refl (kept _ line typed)
     stmt_own returns over known locals w line k (Start kind f es) typed = absurd cc
@@ -338,7 +339,7 @@ module _ (program : Program) (all : List Function) (calls : (f : Name) (g : Func
         (block_own returns over known locals w k b (left_none first second branches), block_own returns over known locals w (k + loop_count_in b) c (right_none first second branches))
     stmt_own returns over known locals w line k (While e b) typed = block_own returns over known locals w k b (right_none (unless (is_fine known e) line) (faults_in_block program returns known b) typed)
     stmt_own returns over known locals w line k (For x y z from to grain over' b) typed =
-        over_own marks known locals w over' (both_true _ (list_all (λ a. is_writable known a) over') (kept (is_head_of_loop program known x y z from to grain over') line (left_none _ (faults_in_block program Nowhere ((x, name_kind.Integer) ∷ known) b) typed))).1
+        over_own marks known locals w over' (and_parts _ (list_all (λ a. is_writable known a) over') (kept (is_head_of_loop program known x y z from to grain over') line (left_none _ (faults_in_block program Nowhere ((x, name_kind.Integer) ∷ known) b) typed))).1
     stmt_own returns over known locals w line k (Scope b) typed = block_own Nowhere over known locals w k b typed
     stmt_own returns over known locals w line k (Cut a e l r b) typed =
         let known' = (r, name_kind.Array) ∷ (l, name_kind.Array) ∷ known in

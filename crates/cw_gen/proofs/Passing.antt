@@ -5,6 +5,7 @@ use Rattle.std.proofs.lemmas.List.{length-set, set-set, set_comm}
 use Rattle.std.proofs.lemmas.Slice.Eq.{bytes_eq-Decides}
 use Rattle.std.specs.List.{list_any}
 use Rattle.std.specs.Prelude.{◌||◌}
+use Rattle.cw_facts.specs.Tests.{first_true, second_true, not_true}
 use Rattle.cw_model.specs.declared.syntax.NameKind.{NameKind}
 use Rattle.cw_model.specs.declared.syntax.NameKind.TheVariants.{Integer, Array, Const}
 use Rattle.cw_model.specs.Syntax.{Name, Expr, Number, Variable, Element, Length, Negative, Not, Binary, Param, takes_array, is_written_kind, is_const_kind}
@@ -16,6 +17,7 @@ use Rattle.cw_model.specs.Meaning.{returned_array, returned_arrays}
 use Rattle.cw_model.specs.Ownership.{Taken, names_in, arrays_given, arrays_lent}
 use Rattle.cw_code.specs.Run as run
 use Rattle.cw_code.specs.Run.{Slots, Results, Whole, moved_out, and_array, arrays_in, and_result, settled, full, given_back}
+use Rattle.cw_code.specs.lemmas.Slots.{settled_count, settled_append}
 use Rattle.cw_tree.specs.Resolved.{Locals, slot_of}
 use Rattle.cw_loops.specs.Slotted.{slotted_expr, slotted_argument, slotted_arguments}
 use Rattle.cw_loops.specs.Slotted as slotted
@@ -23,10 +25,9 @@ use Rattle.cw_gen.specs.Emit.{passed_in, lent_in}
 use Rattle.cw_gen.specs.Marks.{Marks, place_of, array_at}
 use Rattle.cw_gen.proofs.Marked.{owned, read_in, OwnSlots, numbers_at, AllOwn, loan_found}
 use Rattle.cw_gen.proofs.Texts.{taken_params}
-use Rattle.cw_gen.proofs.Decided.{first_true, second_true}
 use Rattle.cw_gen.proofs.Fine.{IsUsable, AllUsable, AllWritable, NotBoth, ArrayAlone, ArgFine, given_alone, ArgsFine}
 use Rattle.cw_gen.proofs.Takens.{holds}
-use Rattle.cw_gen.proofs.Names.{Entries, values_in, all_of, get-other, length-settled, slots_apart, settled_append, AgreesOf, AllHeld}
+use Rattle.cw_gen.proofs.Names.{Entries, values_in, all_of, get-other, slots_apart, AgreesOf, AllHeld}
 use Rattle.cw_gen.proofs.Names as holding
 use Rattle.cw_gen.proofs.Stores.{Store, Outside, int_waits, array_waits, Agrees}
 
@@ -161,11 +162,6 @@ not_same x given b h = cases (same_name x b) refl h
     cases true e h' = cc
     cases false e h' = (e, h')
 
--- what is not so
-pub negated : (b : Bool) → not b ≡ true → b ≡ false
-negated true h = cc
-negated false h = refl
-
 -- moving other arrays out leaves a slot
 pub get-moved : {A : Type 0} (names : List Name) (taken : Taken) (a : Name) (given : List Name) (slots : Slots A) → IsUsable names taken a → AllUsable names taken given → is_among a given ≡ false → slice_get (moved_out (slots_for names given) slots) (slot_of a names) ≡ slice_get slots (slot_of a names)
 get-moved names taken a [] slots u us apart = refl
@@ -192,7 +188,7 @@ pub arrays_found : (names : List Name) (taken : Taken) (entries : Entries (List 
     arrays_in (slots_for names given) slots ≡ Some (map (λ a. find [] a entries) given)
 arrays_found names taken entries slots waits [] agrees us apart = refl
 arrays_found names taken entries slots waits (a ∷ given) agrees us apart =
-    let other = negated (is_among a given) (first_true (not (is_among a given)) (differ given) apart) in
+    let other = not_true (is_among a given) (first_true (not (is_among a given)) (differ given) apart) in
     ap (λ o. and_array o (arrays_in (slots_for names given) slots)) (get-moved names taken a given slots us.0 us.1 other ∙ holding.loads true [] names taken a entries slots waits us.0 agrees)
     ∙ ap (λ o. and_array (Some (Some (find [] a entries))) o) (arrays_found names taken entries slots waits given agrees us.1 (second_true (not (is_among a given)) (differ given) apart))
 
@@ -272,7 +268,7 @@ firsts names [] qs more g entries rest n named apart same = refl
 firsts names (a ∷ given) [] more g entries rest n named apart same = absurd (omega (arith, n))
 firsts names (a ∷ given) (q ∷ qs) more g [] rest n named apart same = cc
 firsts names (a ∷ given) (q ∷ qs) more g (e ∷ entries) rest n named apart same =
-    let other = negated (is_among q qs) (first_true (not (is_among q qs)) (differ qs) apart) in
+    let other = not_true (is_among q qs) (first_true (not (is_among q qs)) (differ qs) apart) in
     let head : e.0 ≡ q = cc named in
     let tail : holding.names_in entries ≡ qs ++ more = cc named in
     let here : array_of g q ≡ e.1 = same q (ap (λ b. if b then true else is_among q qs) ((bytes_eq-Decides q q).1 refl)) ∙ ap (λ b. if b then e.1 else find [] q entries) ((bytes_eq-Decides q e.0).1 (sym head)) in
@@ -301,7 +297,7 @@ settled_moved names taken [] vs slots us apart n = refl
 settled_moved names taken (a ∷ given) [] slots us apart n = absurd (omega (arith, n))
 settled_moved names taken (a ∷ given) (v ∷ vs) slots us apart n =
     let i = slot_of a names in
-    let other = negated (is_among a given) (first_true (not (is_among a given)) (differ given) apart) in
+    let other = not_true (is_among a given) (first_true (not (is_among a given)) (differ given) apart) in
     ap (settled (backs names given vs)) (set-set (moved_out (slots_for names given) slots) i None (Some v) ∙ set-moved names taken a given (Some v) slots us.0 us.1 other)
     ∙ settled_moved names taken given vs (slice_set slots i (Some v)) us.1 (second_true (not (is_among a given)) (differ given) apart) (omega (arith, n))
 
@@ -361,7 +357,7 @@ differ_some p (q ∷ ps) h = test (differ_some p ps (second_true (not (is_among 
   where
     test : differ (map (λ (z : Param). z.name) (filter p ps)) ≡ true → (c : Bool) → differ (map (λ (z : Param). z.name) (cond c (q ∷ filter p ps) (filter p ps))) ≡ true
     test rest true =
-        ap (λ b. not b && differ (map (λ (z : Param). z.name) (filter p ps))) (none_of_some p q.name ps (negated (is_among q.name (map (λ (z : Param). z.name) ps)) (first_true (not (is_among q.name (map (λ (z : Param). z.name) ps))) (differ (map (λ (z : Param). z.name) ps)) h)))
+        ap (λ b. not b && differ (map (λ (z : Param). z.name) (filter p ps))) (none_of_some p q.name ps (not_true (is_among q.name (map (λ (z : Param). z.name) ps)) (first_true (not (is_among q.name (map (λ (z : Param). z.name) ps))) (differ (map (λ (z : Param). z.name) ps)) h)))
         ∙ rest
     test rest false = rest
 
@@ -376,7 +372,7 @@ arrived_after Spawned back arrived = back ++ arrived
 
 -- there are as many slots as before
 pub arrays_count : (kind : CallKind) (back : Results (List ℤ)) (passed : List ℕ) (arrays : Slots (List ℤ)) → length (arrays_after kind back (moved_out passed arrays)) ≡ length arrays
-arrays_count Plain back passed arrays = length-settled back (moved_out passed arrays) ∙ length-moved passed arrays
+arrays_count Plain back passed arrays = settled_count back (moved_out passed arrays) ∙ length-moved passed arrays
 arrays_count Spawned back passed arrays = length-moved passed arrays
 
 -- the caller's frame when a call has ended

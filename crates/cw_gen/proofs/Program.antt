@@ -1,8 +1,9 @@
 -- The code of a program does what its lowered program does.
-use Rattle.std.proofs.Common.{◌≡◌, ℕ, suc, ◌+◌, ◌-◌, ◌≤◌, List, [], ◌∷◌, ◌++◌, length, Bool, true, false, not, cond, filter, ◌&&◌, if◌then◌else◌, Some, refl, sym, ap, ◌∙◌, subst, arith, append_assoc, length-append, true≢false, ℤ}
+use Rattle.std.proofs.Common.{◌≡◌, ℕ, suc, ◌+◌, ◌-◌, ◌≤◌, List, [], ◌∷◌, ◌++◌, length, Bool, true, false, ◌&&◌, if◌then◌else◌, Some, refl, sym, ap, ◌∙◌, subst, arith, append_assoc, length-append, true≢false, ℤ}
 use Rattle.std.specs.Prelude.{slice_get, nat_eq, nat_le, option_map, map}
-use Rattle.std.proofs.lemmas.List.{map-append}
-use Rattle.cw_model.specs.Syntax.{Name, Stmt, If, IfElse, While, For, Scope, Cut, Region, Block, End, Then, Param, Function, Reducer, Program}
+use Rattle.std.proofs.lemmas.List.{map-append, nil_from_length}
+use Rattle.cw_facts.specs.Tests.{taken, both_true, at_most, equal}
+use Rattle.cw_model.specs.Syntax.{Name, Stmt, If, IfElse, While, For, Scope, Cut, Region, Block, End, Then, Function, Program}
 use Rattle.cw_model.specs.Names.{same_name, is_among}
 use Rattle.cw_model.specs.Frames.{no_frame}
 use Rattle.cw_model.specs.Outcome.{Outcome, Done, Trapped, Over, quiet}
@@ -28,7 +29,6 @@ use Rattle.cw_gen.proofs.KnownNames.{in_second}
 use Rattle.cw_gen.proofs.Fine.{is_function, BlockFine, marks_for, room_of, FunctionFine, FunctionsFine, ProgramFine}
 use Rattle.cw_gen.proofs.Traces.{resume}
 use Rattle.cw_gen.proofs.Places.{HasAt, has_all}
-use Rattle.cw_gen.proofs.Decided.{taken, both_true, at_most, equal}
 use Rattle.cw_gen.proofs.Codes.{bound_main, main_locals}
 use Rattle.cw_gen.proofs.Texts.{returns_of, room_of_func, function_code, tables_in, Compiled, Table, code_of, TurnsClose}
 use Rattle.cw_gen.proofs.Laws.{calls_run}
@@ -181,11 +181,6 @@ pub main_place : (program : Program) → is_function main_name (lowered program)
 main_place program h =
     sym (slot_stays main_name (function_names program.functions) (function_names (made_of 0 program.functions)) (main_there program h)) ∙ sym (ap (slot_of main_name) (names_are program))
 
--- a list of no items
-no_items : {A : Type 0} (xs : List A) → length xs ≡ 0 → xs ≡ []
-no_items [] h = refl
-no_items (x ∷ xs) h = absurd (omega (arith, h))
-
 -- the answer of the code is that of the program
 same_answer : (program : Program) (o : Outcome Returned) → option_map (λ o'. answer_of (reducers_of (code_of program)) o') (resume quiet o (λ r l u. Some (Done (r.0, no_frame) l u))) ≡ Some (answer_of program.reducers o)
 same_answer program (Done r l u) = ap (λ totals. Some (Ended (int_given r.0) u.lines totals (normal (Marked (Invocation 0) (tree_of u.events))))) (same_totals program.reducers u.updates)
@@ -219,7 +214,7 @@ same_run program small least fine args m n =
     ap (λ i. answer (go_on (first_transition (slice_get code.funcs i) args) n (λ s. steps code n s))) (main_place program fine.main)
     ∙ ap (λ o. answer (go_on (first_transition o args) n (λ s. steps code n s))) entry.1
     ∙ ap (λ w. answer (go_on w n (λ s. steps code n s))) (taken (nat_eq (length args) fn.params && (nat_le fn.params fn.slots && (nat_eq fn.array_params 0 && nat_eq fn.readers 0))) begin Stuck fits)
-    ∙ ap (λ ms. answer (steps code n (record first { arrays = owned ms first.arrays; readers = read_in ms first.arrays }))) (sym (no_items (marks_for main.params) no_marks))
+    ∙ ap (λ ms. answer (steps code n (record first { arrays = owned ms first.arrays; readers = read_in ms first.arrays }))) (sym (nil_from_length (marks_for main.params) no_marks))
     ∙ ap answer ((calls_run code fs lists small least table (names_kept program.reducers) refl (suc n) 0).enters Deeper refl main fn entry.2 args [] given many none (bound_main main.params args no_frame fine.ints m) [] main.line n quiet (λ r l u. Some (Done (r.0, no_frame) l u)) (omega arith) (λ v g arrays l u gives_int gives le. refl))
     ∙ same_answer program (call (suc n) 0 fs Deeper main (main_frame main.params args no_frame) main.line n)
 

@@ -1,9 +1,9 @@
 -- Which slots may be empty where certain names are taken.
 use Rattle.std.proofs.Common.{◌≡◌, ◌≢◌, ℕ, zero, suc, ◌+◌, ◌<◌, ◌≤◌, Option, Some, None, not, length-append, List, [], ◌∷◌, ◌++◌, length, Bool, true, false, ◌&&◌, if◌then◌else◌, refl, sym, ap, ◌∙◌, subst, arith, true≢false}
 use Rattle.std.specs.Prelude.{slice_get, slice_set, nat_eq}
-use Rattle.std.proofs.lemmas.Bool.Decides.{nat_tests}
 use Rattle.std.proofs.lemmas.List.{append-nil}
 use Rattle.std.proofs.lemmas.Slice.Eq.{bytes_eq-Decides}
+use Rattle.cw_facts.specs.Tests.{both_true, eq_of}
 use Rattle.cw_model.specs.Syntax.{Name}
 use Rattle.cw_model.specs.Names.{same_name, is_among}
 use Rattle.cw_model.specs.Ownership.{CutOf, Taken, is_taken, is_held}
@@ -14,7 +14,6 @@ use Rattle.cw_code.specs.Fits.{Row, Outer, Shape, empty_rows, gone_rows, is_full
 use Rattle.cw_loops.specs.lemmas.Naming.{among_left}
 use Rattle.cw_gen.specs.Emit.{halves_of}
 use Rattle.cw_gen.proofs.Takens.{holds, not_held}
-use Rattle.cw_gen.proofs.Decided.{both_true}
 use Rattle.cw_gen.proofs.Fine.{IsUsable, IsWritable, Room}
 use Rattle.cw_gen.specs.Marks.{Marks, array_at}
 use Rattle.cw_gen.proofs.Marked.{owned, IsOwn, get_owned, at_apart, own_behind}
@@ -118,9 +117,6 @@ covers_declared (suc n) depth (y ∷ names) x taken = (λ e. e, covers_declared 
 -- where more is held
 pub row_more : (n depth : ℕ) (names : List Name) (taken taken' : Taken) → ((x : Name) → holds false depth x taken ≡ true → holds false depth x taken' ≡ true) → Covers (row n depth names taken') (row n depth names taken)
 row_more n depth names taken taken' h = subst (λ ns. Covers (row n depth names taken') (row n depth ns taken)) (append-nil names) (covers_held n depth names [] taken taken' (λ x a. h x) (λ x a. cc))
-
-pub is_equal : (a b : ℕ) → nat_eq a b ≡ true → a ≡ b
-is_equal a b h = grind (arith, nat_tests)
 
 -- a slot that is empty in the first
 covers_raise : (s r : Row) (i : ℕ) → slice_get s i ≡ Some true → Covers s r → Covers s (slice_set r i true)
@@ -509,5 +505,5 @@ no_part size (Some c ∷ opened) locals now taken taken' i le own h =
     not_equal a b h' = cases (nat_eq a b) refl
       where
         cases : (c : Bool) → nat_eq a b ≡ c → c ≡ false
-        cases true e = absurd (h' (is_equal a b e))
+        cases true e = absurd (h' (eq_of a b e))
         cases false e = refl

@@ -1,25 +1,13 @@
 -- What a rule that no line breaks says, and lists whose items all have a property.
-use Rattle.std.proofs.Common.{◌≡◌, suc, List, [], ◌∷◌, ◌++◌, Bool, true, false, ◌||◌, if◌then◌else◌, Some, refl, sym, ap}
+use Rattle.std.proofs.Common.{◌≡◌, suc, List, [], ◌∷◌, ◌++◌, Bool, true, false, if◌then◌else◌, Some, refl, sym, ap}
 use Rattle.std.specs.Prelude.{map, slice_get}
 use Rattle.std.proofs.lemmas.Slice.Eq.{bytes_eq-Decides}
 use Rattle.cw_model.specs.Syntax.{Name, Function}
 use Rattle.cw_model.specs.Names.{same_name, is_among}
 use Rattle.cw_tree.specs.Resolved.{slot_of}
 use Rattle.cw_gen.proofs.Fine.{IsListed, is_function}
-
--- tests that fail
-pub neither_first : (a b : Bool) → (a || b) ≡ false → a ≡ false
-neither_first true b h = cc
-neither_first false b h = refl
-
-pub neither_second : (a b : Bool) → (a || b) ≡ false → b ≡ false
-neither_second true b h = cc
-neither_second false b h = h
-
 -- each item has a property
-abbrev pub Each : {A : Type 0} → (A → Type 0) → List A → Type 0
-Each P [] = Unit {0}
-Each P (x ∷ xs) = P x × Each P xs
+pub use Rattle.cw_facts.specs.Lists.{Each}
 
 -- so have those of each part of a list
 pub each_front : {A : Type 0} (P : A → Type 0) (xs ys : List A) → Each P (xs ++ ys) → Each P xs

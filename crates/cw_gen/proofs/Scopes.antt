@@ -6,8 +6,8 @@ use Rattle.cw_model.specs.Names.{same_name, is_among}
 use Rattle.cw_model.specs.Typing.{surely_returns, block_returns}
 use Rattle.cw_model.specs.Ownership.{own_names}
 use Rattle.cw_tree.specs.Resolved.{Lists, Locals, with_int, with_array, locals_after}
+use Rattle.cw_tree.specs.lemmas.Names.{later_among}
 use Rattle.cw_loops.specs.Slotted.{slotted_stmt, slotted_block}
-use Rattle.cw_loops.specs.lemmas.Naming.{later_among}
 use Rattle.cw_gen.specs.Emit.{stmt_returns, returns}
 
 -- the locals that are known after the statements of a block

@@ -1,6 +1,7 @@
 -- A function of generated code, and what its places find.
 use Rattle.std.proofs.Common.{◌≡◌, ℕ, zero, suc, ◌+◌, ◌<◌, ◌≤◌, List, [], ◌∷◌, ◌++◌, length, Bool, true, false, nat_lt, Option, Some, None, refl, ap, ◌∙◌, subst, arith}
 use Rattle.std.specs.Prelude.{slice_get}
+use Rattle.cw_facts.specs.Tests.{below}
 use Rattle.cw_model.specs.Syntax.{Name, Function}
 use Rattle.cw_model.specs.Typing.{Returns, Nowhere, WithInt, Alone}
 use Rattle.cw_model.specs.Ownership.{Taken}
@@ -10,11 +11,10 @@ use Rattle.cw_code.specs.declared.code.Instr.{Instr}
 use Rattle.cw_code.specs.Code.{Code, reducer_names}
 use Rattle.cw_code.specs.Fits.{names_well, Shape, is_ready, is_thawed, leaves, nexts, Table, FlowsInto, FlowsIntoEach}
 use Rattle.cw_gen.specs.Emit.{Tables, first_list}
-use Rattle.cw_gen.proofs.Decided.{below}
 use Rattle.cw_gen.specs.Marks.{Marks, readers_in}
 use Rattle.cw_gen.proofs.Fine.{Room}
 use Rattle.cw_gen.proofs.Texts as texts
-use Rattle.cw_gen.proofs.Texts.{expr_code, args_code, stmt_code, block_code, tables_in, TurnsClose}
+use Rattle.cw_gen.proofs.Texts.{tables_in, TurnsClose}
 use Rattle.cw_gen.proofs.Rows.{Over, over_itself, over_after}
 use Rattle.cw_gen.proofs.Shapes.{Opened, shape_at, Shapes}
 

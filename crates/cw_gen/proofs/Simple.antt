@@ -1,6 +1,7 @@
 -- The code of statements with no block and no call in them.
 use Rattle.std.proofs.Common.{◌≡◌, ℕ, ◌+◌, ◌≤◌, List, [], ◌∷◌, ◌++◌, length, Bool, true, false, if◌then◌else◌, Option, Some, sym, ap, ◌∙◌, arith, length-append, ℤ}
 use Rattle.std.specs.Prelude.{slice_get, slice_set}
+use Rattle.cw_facts.specs.Tests.{taken}
 use Rattle.cw_model.specs.Ints.{Result, is_zero}
 use Rattle.cw_model.specs.Syntax.{Expr}
 use Rattle.cw_model.specs.Frames.{Frame}
@@ -14,12 +15,12 @@ use Rattle.cw_code.specs.declared.code.Instr.{Instr}
 use Rattle.cw_code.specs.declared.code.Instr.TheVariants as instr
 use Rattle.cw_code.specs.Code.{Code}
 use Rattle.cw_code.specs.Run.{Slots, Around, State, On, Stuck, RunOutcome, ticked, is_full, set_array, back, act, go_on, steps}
+use Rattle.cw_code.specs.lemmas.Runs.{joined_quiet}
 use Rattle.cw_gen.specs.Emit.{returns}
-use Rattle.cw_gen.proofs.Decided.{taken}
 use Rattle.cw_gen.specs.Marks.{Marks, array_at}
 use Rattle.cw_gen.proofs.Marked.{IsOwn, owned, set_owned, set_read}
 use Rattle.cw_gen.proofs.Fine.{ExprFine, Room}
-use Rattle.cw_gen.proofs.Traces.{resume, joined_quiet, resume_then}
+use Rattle.cw_gen.proofs.Traces.{resume, resume_then}
 use Rattle.cw_gen.proofs.Places.{HasAt, has_front, has_back}
 use Rattle.cw_gen.proofs.Costs.{value_and_then}
 use Rattle.cw_gen.proofs.Stores.{Store, Outside, Agrees, Fills, with_slot, with_array_slot, fills_slot, fills_array}

@@ -5,6 +5,7 @@ use Rattle.std.specs.Prelude.{map, take, drop}
 use Rattle.std.specs.List.{list_all}
 use Rattle.std.proofs.lemmas.List.{length-map}
 use Rattle.std.proofs.lemmas.Slice.Eq.{bytes_eq-Decides}
+use Rattle.cw_facts.specs.Tests.{first_true, second_true, not_true}
 use Rattle.cw_model.specs.Syntax.{Name, Param, Function, wants_array}
 use Rattle.cw_model.specs.Names.{same_name, is_among, differ, find, put}
 use Rattle.cw_model.specs.Ints.{natural}
@@ -15,7 +16,6 @@ use Rattle.cw_code.specs.declared.code.Func.{Func}
 use Rattle.cw_code.specs.Run.{and_result, full, Part, parts_of, slot_taken, given_back}
 use Rattle.cw_tree.specs.Resolved.{Lists, Locals, slot_of, locals_of}
 use Rattle.cw_code.specs.Code.{Code}
-use Rattle.cw_gen.proofs.Decided.{first_true, second_true}
 use Rattle.cw_gen.specs.Marks.{Marks}
 use Rattle.cw_gen.proofs.Marked.{owned}
 use Rattle.cw_gen.proofs.Fine.{AllWritable, ints_first, TakesRange}
@@ -23,7 +23,7 @@ use Rattle.cw_gen.proofs.Names.{Entries, values_in}
 use Rattle.cw_gen.proofs.Names as holding
 use Rattle.cw_gen.proofs.Texts.{Compiled}
 use Rattle.cw_gen.proofs.Codes.{Bound, bound_none, bound_int, bound_array}
-use Rattle.cw_gen.proofs.Passing.{slots_for, negated, not_same, backs, put_backs, with_arrays}
+use Rattle.cw_gen.proofs.Passing.{slots_for, not_same, backs, put_backs, with_arrays}
 use Rattle.cw_gen.proofs.Calling.{Hands}
 
 -- arrays alone are in order, and none of them is an integer
@@ -91,7 +91,7 @@ pub slices_found : (names over more : List Name) (from : ℕ) (frame g : Frame) 
 slices_found names [] more from frame g entries rest named apart same = refl
 slices_found names (q ∷ qs) more from frame g [] rest named apart same = cc
 slices_found names (q ∷ qs) more from frame g (e ∷ entries) rest named apart same =
-    let other = negated (is_among q qs) (first_true (not (is_among q qs)) (differ qs) apart) in
+    let other = not_true (is_among q qs) (first_true (not (is_among q qs)) (differ qs) apart) in
     let head : e.0 ≡ q = cc named in
     let tail : holding.names_in entries ≡ qs ++ more = cc named in
     let whole = array_of frame q in
@@ -139,7 +139,7 @@ pub slices_put : (over : List Name) (from : ℕ) (g frame : Frame) → differ ov
 slices_put [] from g frame apart = refl
 slices_put (a ∷ over) from g frame apart =
     let v = with_slice (array_of frame a) from (array_of g a) in
-    let other = negated (is_among a over) (first_true (not (is_among a over)) (differ over) apart) in
+    let other = not_true (is_among a over) (first_true (not (is_among a over)) (differ over) apart) in
     slices_put over from g (set_array a v frame) (second_true (not (is_among a over)) (differ over) apart)
     ∙ ap (λ vs. with_arrays frame (put_backs over vs (put a v frame.arrays))) (sliced_other frame g from a v over other)
 

@@ -1,8 +1,8 @@
 -- What the generator answers, from the code that was emitted and what is proved of it.
-use Rattle.std.proofs.Common.{◌≡◌, ℕ, ◌≤◌, ◌<◌, Bool, true, false, length, [], ◌∷◌, ◌++◌, List, Some, refl, sym, ap, ◌∙◌, subst, arith}
+use Rattle.std.proofs.Common.{◌≡◌, ◌≤◌, ◌<◌, Bool, true, false, length, [], ◌∷◌, ◌++◌, List, Some, refl, sym, ap, ◌∙◌, subst, arith}
 use Rattle.std.specs.Prelude.{nat_le, map}
-use Rattle.std.proofs.lemmas.Bool.Decides.{nat_tests}
 use Rattle.std.proofs.lemmas.List.{length-map}
+use Rattle.cw_facts.specs.Tests.{at_most, not_at_most}
 use Rattle.cw_model.specs.declared.limits.TheConstants.{MOST_INSTRUCTIONS, MOST_CALL_STATEMENTS}
 use Rattle.cw_model.specs.Lines.{unless, IsLeastLine}
 use Rattle.cw_model.specs.Sites.{call_sites, are_numbered}
@@ -68,11 +68,11 @@ second_passed a true h = cc
 second_passed true false h = least_line (1 ∷ []) 1 refl
 second_passed false false h = least_line (1 ∷ 1 ∷ []) 1 refl
 
-within : (a b : ℕ) → a ≤ b → nat_le a b ≡ true
-within a b h = grind (arith, nat_tests)
-
-beyond : (a b : ℕ) → b < a → nat_le a b ≡ false
-beyond a b h = grind (arith, nat_tests)
+-- a tree whose names are looked up right has as many sites as call statements
+pub as_many_as_told : (tree : source.Tree) → is_resolved (resolved_of tree) ≡ true → (sites : List Site) → map site_view sites ≡ emitted_sites_of (resolved_of tree).functions → length sites ≡ call_count (program_of tree)
+as_many_as_told tree slots sites is =
+    let same : resolved_of tree ≡ resolved (program_of tree) = slots_are_right (resolved_of tree) slots in
+    sym (length-map sites site_view) ∙ ap length is ∙ ap (λ t. length (emitted_sites_of t.functions)) same ∙ as_many_sites (program_of tree)
 
 -- a source that is lowered, its code, and the laws
 module _ (least : WhilesAreLeast) (lowerable : OwnedIsLowerable) (answers : LoweringKeepsAnswers) (sizes : LoweringKeepsSize) (tree : source.Tree) (bodies : Tree) (slots : is_resolved (resolved_of tree) ≡ true) (typed : type_faults (program_of tree) ≡ []) (owned : ownership_faults (program_of tree) ≡ []) (limits : limit_faults (program_of tree) ≡ []) (few : loop_faults (program_of tree) ≡ []) (lowers : IsLowered tree bodies) (source_like : is_source_like (program_of tree) ≡ true) (numbered : are_numbered 0 (call_sites (program_of tree)) ≡ true) where
@@ -88,13 +88,13 @@ module _ (least : WhilesAreLeast) (lowerable : OwnedIsLowerable) (answers : Lowe
 
   -- there are as many sites as call statements
   site_count : (sites : List Site) → map site_view sites ≡ emitted_sites_of (resolved_of tree).functions → length sites ≡ call_count program
-  site_count sites is = sym (length-map sites site_view) ∙ ap length is ∙ ap (λ t. length (emitted_sites_of t.functions)) same_tree ∙ as_many_sites program
+  site_count = as_many_as_told tree slots
 
   -- the program has more call statements than the limit
   pub too_many_sites : (sites : List Site) → map site_view sites ≡ emitted_sites_of (resolved_of tree).functions → MOST_CALL_STATEMENTS < length sites → IsLeastLine (program_faults program) 1
   too_many_sites sites is h =
       let count = site_count sites is in
-      second_passed (nat_le (static_size program) MOST_INSTRUCTIONS) (nat_le (call_count program) MOST_CALL_STATEMENTS) (beyond (call_count program) MOST_CALL_STATEMENTS (omega (arith, count, h)))
+      second_passed (nat_le (static_size program) MOST_INSTRUCTIONS) (nat_le (call_count program) MOST_CALL_STATEMENTS) (not_at_most (call_count program) MOST_CALL_STATEMENTS (omega (arith, count, h)))
 
   module _ (sites : List Site) (sites_are : map site_view sites ≡ emitted_sites_of (resolved_of tree).functions) (few_sites : length sites ≤ MOST_CALL_STATEMENTS) (made : declared.Code) (is : code_view made ≡ emitted (resolved_of tree) (functions_of tree bodies)) where
     few_calls : length (call_sites program) ≤ MOST_CALL_STATEMENTS
@@ -119,7 +119,7 @@ module _ (least : WhilesAreLeast) (lowerable : OwnedIsLowerable) (answers : Lowe
 
     -- it has more instructions than the limit
     pub too_long : MOST_INSTRUCTIONS < length made.instrs.items → IsLeastLine (program_faults program) 1
-    too_long h = first_passed (nat_le (static_size program) MOST_INSTRUCTIONS) (nat_le (call_count program) MOST_CALL_STATEMENTS) (beyond (static_size program) MOST_INSTRUCTIONS (omega (arith, size, h)))
+    too_long h = first_passed (nat_le (static_size program) MOST_INSTRUCTIONS) (nat_le (call_count program) MOST_CALL_STATEMENTS) (not_at_most (static_size program) MOST_INSTRUCTIONS (omega (arith, size, h)))
 
     -- the code is what the generator promises
     pub generated : length made.instrs.items ≤ MOST_INSTRUCTIONS → Generates program (code_view made)
@@ -137,5 +137,5 @@ module _ (least : WhilesAreLeast) (lowerable : OwnedIsLowerable) (answers : Lowe
           main_line = head_is (lists_of program) program.functions main_name (source_main program typed);
           reducers = refl;
           tags = tags_are_told program;
-          small = none_passed (nat_le (static_size program) MOST_INSTRUCTIONS) (nat_le (call_count program) MOST_CALL_STATEMENTS) (within (static_size program) MOST_INSTRUCTIONS (omega (arith, size, h))) (within (call_count program) MOST_CALL_STATEMENTS few_calls);
+          small = none_passed (nat_le (static_size program) MOST_INSTRUCTIONS) (nat_le (call_count program) MOST_CALL_STATEMENTS) (at_most (static_size program) MOST_INSTRUCTIONS (omega (arith, size, h))) (at_most (call_count program) MOST_CALL_STATEMENTS few_calls);
         })

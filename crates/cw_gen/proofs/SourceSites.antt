@@ -2,15 +2,14 @@
 use Rattle.std.proofs.Common.{◌≡◌, ℕ, suc, ◌+◌, ◌-◌, ◌<◌, List, [], ◌∷◌, ◌++◌, length, true, Some, refl, sym, ap, ◌∙◌, subst, arith, append_assoc, length-append}
 use Rattle.std.specs.Prelude.{slice_get, map, flat_map, nat_eq}
 use Rattle.std.proofs.Math.Seq.{get_or-append_seam}
-use Rattle.std.proofs.lemmas.Bool.Decides.{nat_tests}
 use Rattle.std.proofs.lemmas.List.{length-map, map-append}
 use Rattle.std.proofs.lemmas.Option.{slice_get-get_or}
+use Rattle.cw_facts.specs.Tests.{first_true, second_true, eq_of}
 use Rattle.cw_model.specs.Syntax.{Stmt, Declare, DeclareArray, Assign, AssignElement, Reduce, Call, Start, Begin, Sync, If, IfElse, While, For, Scope, Cut, Region, Print, Return, Block, End, Then, Function, Program}
 use Rattle.cw_model.specs.Sites.{sites_in, sites_in_block, call_sites, are_numbered}
 use Rattle.cw_tree.specs.Resolved.{Lists, Locals, with_int, with_array, locals_after, locals_of, lists_of, resolved_stmt, resolved_block, resolved_function, resolved}
 use Rattle.cw_code.specs.Code.{CodeSite, told_sites}
 use Rattle.cw_gen.specs.Emit.{emitted_sites, emitted_sites_in, emitted_sites_of}
-use Rattle.cw_gen.proofs.Decided.{first_true, second_true}
 use Rattle.cw_gen.proofs.Rules.{Each}
 use Rattle.cw_gen.proofs.Texts.{code_of}
 
@@ -71,9 +70,6 @@ pub record StandsAtItsNumber (sites : List CodeSite) (s : CodeSite) : Type 0 whe
   pub positive : 0 < s.told.number
   pub there : slice_get sites (s.told.number - 1) ≡ Some s
 
-is_equal : (a b : ℕ) → nat_eq a b ≡ true → a ≡ b
-is_equal a b h = grind (arith, nat_tests)
-
 -- numbered sites stand at their numbers
 pub numbered_stand : (before now : List CodeSite) → are_numbered (length before) (map (λ s. s.told) now) ≡ true → Each (StandsAtItsNumber (before ++ now)) now
 numbered_stand before [] h = tt
@@ -84,7 +80,7 @@ numbered_stand before (s ∷ now) h =
     let next : suc (length before) ≡ length (before ++ s ∷ []) = omega (arith, n) in
     let here = nat_eq s.told.number (suc (length before)) in
     let there = are_numbered (suc (length before)) (map (λ q. q.told) now) in
-    let number : s.told.number ≡ suc (length before) = is_equal s.told.number (suc (length before)) (first_true here there h) in
+    let number : s.told.number ≡ suc (length before) = eq_of s.told.number (suc (length before)) (first_true here there h) in
     let place : length before ≡ s.told.number - 1 = omega (arith, number) in
     let more : are_numbered (length (before ++ s ∷ [])) (map (λ q. q.told) now) ≡ true = subst (λ m. are_numbered m (map (λ q. q.told) now) ≡ true) next (second_true here there h) in
     let rest = subst (λ l. Each (StandsAtItsNumber l) now) (append_assoc before (s ∷ []) now) (numbered_stand (before ++ s ∷ []) now more) in

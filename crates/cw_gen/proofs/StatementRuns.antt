@@ -1,20 +1,21 @@
 -- The code of each statement and of each block does what it does, where calls do.
 use Rattle.std.proofs.Common.{◌≡◌, ℕ, suc, ◌+◌, ◌<◌, ◌≤◌, List, [], ◌∷◌, ◌++◌, length, false, if◌then◌else◌, nat_lt, Option, Some, None, refl, sym, ap, ◌∙◌, subst, arith, append_assoc, length-append, ℤ, pos}
 use Rattle.std.specs.Prelude.{slice_get, slice_set, replicate, option_map}
+use Rattle.cw_facts.specs.Tests.{first_false, second_false}
 use Rattle.cw_model.specs.declared.limits.TheConstants.{MOST_DEPTH}
 use Rattle.cw_model.specs.Ints.{is_zero, natural}
 use Rattle.cw_model.specs.declared.syntax.CallKind.{CallKind}
 use Rattle.cw_model.specs.declared.syntax.CallKind.TheVariants.{Plain, Spawned}
 use Rattle.cw_model.specs.Syntax.{Name, Expr, Stmt, Declare, DeclareArray, Assign, AssignElement, Reduce, Call, Start, Begin, Sync, If, IfElse, While, Scope, Cut, Region, Print, Return, Block, End, Then, Function}
 use Rattle.cw_model.specs.Trees.{Join, works}
-use Rattle.cw_model.specs.Frames.{Frame, no_frame, int_of, array_of, new_int, new_array, set_int, set_result, leave}
+use Rattle.cw_model.specs.Frames.{Frame, no_frame, array_of, new_int, new_array, set_int}
 use Rattle.cw_model.specs.Frames as frames
 use Rattle.cw_model.specs.Expressions.{evaluate, and_then, written}
 use Rattle.cw_model.specs.Outcome.{Outcome, Trace, shows, joined, after, then_do, joined_up, pay, gives, pay_for}
-use Rattle.cw_model.specs.Meaning.{Returned, Completion, Normal, ByReturn, Calls, Deeper, going, onward, scoped, turns, Entry, SameDepth, depth_of, call_event, start_event, given_array, function_named, arguments, new_length, cut_place, uncut, returned_arrays, end_of_call, run_all, call}
+use Rattle.cw_model.specs.Meaning.{Completion, Normal, ByReturn, Calls, Deeper, going, onward, scoped, SameDepth, call_event, start_event, function_named, arguments, new_length, run_all}
 use Rattle.cw_model.specs.Meaning as meaning
 use Rattle.cw_model.specs.Typing.{Returns, Nowhere, WithInt, Alone, surely_returns, block_returns}
-use Rattle.cw_model.specs.Ownership.{Holder, SpawnIn, CutOf, Taken, IsLeastClosed, arrays_given, target_names, cut_ended, is_taken, taken_by, freed, without, own_names, where_it_goes_on, Joins, Leaves}
+use Rattle.cw_model.specs.Ownership.{CutOf, Taken, freed, without, own_names, where_it_goes_on}
 use Rattle.cw_model.specs.Ownership as ownership
 use Rattle.cw_tree.specs.Resolved.{Lists, params_of, Locals, slot_of, with_array, locals_after}
 use Rattle.cw_loops.specs.Slotted.{slotted_block}
@@ -22,11 +23,11 @@ use Rattle.cw_code.specs.declared.code.BlockKind.TheVariants as block
 use Rattle.cw_code.specs.declared.code.Instr.TheVariants as instr
 use Rattle.cw_code.specs.Code.{Code, reducer_names}
 use Rattle.cw_code.specs.Run.{Around, State, On, RunOutcome, ticked, synced, on_slot, set_array, is_full, settled, slots_named, loans_named, opened_region, adds, steps}
-use Rattle.cw_gen.specs.Emit.{most_jump, distance, first_list, half_list, whole_list, emitted_arg, emitted_loads, callee_of, half_of, halves_at, whole_of, past, emitted_end}
+use Rattle.cw_code.specs.lemmas.Runs.{joined_joined, joined_quiet}
+use Rattle.cw_gen.specs.Emit.{most_jump, distance, first_list, callee_of, half_of, halves_at, past}
 use Rattle.cw_gen.proofs.Held.{held_after, held_after_all}
-use Rattle.cw_gen.proofs.Decided.{first_false, second_false}
 use Rattle.cw_gen.proofs.Fine.{ExprFine, ReturnFine, IsListed, Room, StmtFine, BlockFine}
-use Rattle.cw_gen.proofs.Traces.{resume, joined_joined, joined_quiet, resume_then}
+use Rattle.cw_gen.proofs.Traces.{resume, resume_then}
 use Rattle.cw_gen.proofs.Places.{HasAt, has_front, has_back, length_within}
 use Rattle.cw_gen.proofs.Costs.{not_dearer}
 use Rattle.cw_gen.proofs.Takens.{holds, holds_behind, holds_before}

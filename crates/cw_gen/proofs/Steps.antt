@@ -1,6 +1,7 @@
 -- What one instruction does to a run: it pays, joins, traps, or goes on.
 use Rattle.std.proofs.Common.{◌≡◌, ℕ, zero, suc, ◌+◌, ◌-◌, ◌<◌, List, [], ◌∷◌, if◌then◌else◌, nat_lt, Some, refl, sym, ap, ◌∙◌, arith, ℤ}
 use Rattle.std.specs.Prelude.{slice_get}
+use Rattle.cw_facts.specs.Tests.{not_below}
 use Rattle.cw_model.specs.declared.trap.Trap.{Trap}
 use Rattle.std.proofs.lemmas.List.{append-nil}
 use Rattle.cw_model.specs.Ints.{Result, Value, Fails}
@@ -10,8 +11,8 @@ use Rattle.cw_model.specs.Outcome.{Outcome, Done, Trapped, Over, Trace, shows, a
 use Rattle.cw_code.specs.declared.code.Instr.{Instr}
 use Rattle.cw_code.specs.Code.{Code}
 use Rattle.cw_code.specs.Run.{State, Transition, Stops, RunOutcome, ticked, synced, operated, act, go_on, steps}
-use Rattle.cw_gen.proofs.Decided.{not_below}
-use Rattle.cw_gen.proofs.Traces.{resume, joined_quiet, resume_then, paid_one}
+use Rattle.cw_code.specs.lemmas.Runs.{joined_quiet}
+use Rattle.cw_gen.proofs.Traces.{resume, resume_then, paid_one}
 
 module _ (code : Code) where
   -- one instruction

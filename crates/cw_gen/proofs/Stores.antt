@@ -7,12 +7,13 @@ use Rattle.cw_model.specs.Names.{is_among}
 use Rattle.cw_model.specs.Frames.{Frame, int_of, array_of, new_int, new_array, set_int, set_array, leave}
 use Rattle.cw_model.specs.Ownership.{Taken, is_taken, freed, without}
 use Rattle.cw_code.specs.Run.{Slots, Results, is_full, settled}
+use Rattle.cw_code.specs.lemmas.Slots.{settled_count}
 use Rattle.cw_tree.specs.Resolved.{Locals, slot_of, with_int, with_array}
 use Rattle.cw_gen.specs.Marks.{Marks}
 use Rattle.cw_gen.proofs.Marked.{AllOwn}
 use Rattle.cw_gen.proofs.Fine.{IsUsable, Room}
 use Rattle.cw_gen.proofs.Takens.{holds}
-use Rattle.cw_gen.proofs.Names.{Entries, names_in, values_in, NotAwaited, all_of, get-other, length-settled, slot_new, AgreesOf, is_free, is_later, can_write, count_slots}
+use Rattle.cw_gen.proofs.Names.{names_in, AgreesOf, is_later}
 use Rattle.cw_gen.proofs.Names as names
 
 -- the slots of a call, and what waits for the join of its innermost sync block
@@ -95,7 +96,7 @@ pub fills_array : (marks : Marks) (i : ℕ) (v : Option (List ℤ)) (store : Sto
 fills_array marks i v store room n = record { ints = n.ints; arrays = length-set store.arrays i v ∙ n.arrays; own = n.own }
 
 pub fills_joined : (marks : Marks) (store : Store) (w : Waits) (room : Room) → AllOwn marks w.arrays → Fills marks store room → Fills marks (joined_with store w) room
-fills_joined marks store w room own n = record { ints = length-settled store.results store.slots ∙ n.ints; arrays = length-settled store.arrived store.arrays ∙ n.arrays; own = own }
+fills_joined marks store w room own n = record { ints = settled_count store.results store.slots ∙ n.ints; arrays = settled_count store.arrived store.arrays ∙ n.arrays; own = own }
 
 pub assigns : (locals : Locals) (taken : Taken) (x : Name) (v : ℤ) (frame : Frame) (store : Store) (outer : Outside) → IsUsable locals.ints taken x → Agrees locals taken frame store outer →
     Agrees locals taken (set_int x v frame) (with_slot (slot_of x locals.ints) (Some v) store) outer

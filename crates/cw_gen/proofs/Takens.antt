@@ -4,11 +4,12 @@ use Rattle.std.specs.Prelude.{map}
 use Rattle.std.proofs.lemmas.Bool.{eqb-true, eq-eqb}
 use Rattle.std.proofs.lemmas.List.Elements.{Contains-append_right, Contains-append_cases}
 use Rattle.std.proofs.lemmas.Slice.Eq.{bytes_eq-Decides}
+use Rattle.cw_facts.specs.Tests.{first_true, second_true}
 use Rattle.cw_model.specs.Syntax.{Name, Stmt, Declare, DeclareArray, Block, End, Then, Function}
 use Rattle.cw_model.specs.Names.{same_name, is_among}
 use Rattle.cw_model.specs.Lines.{unless}
 use Rattle.cw_model.specs.Ownership.{Holder, SpawnIn, ReaderIn, CutOf, Taken, is_taken, is_held, is_spawn_in, is_cut_of, cut_ended, freed, without, taken_by, own_names, taken_after, taken_after_all, IsLeastClosed, Around, Declared, left_taken, declared_by, known_after, Closing, at_end, owner_faults, owner_faults_in}
-use Rattle.cw_gen.proofs.Decided.{first_true, second_true}
+use Rattle.cw_model.specs.lemmas.Kept.{right_none}
 
 -- whether a holder is a spawn of the sync block at a depth, or, where cuts count, a cut
 abbrev pub held_in : Bool → ℕ → Holder → Bool
@@ -238,17 +239,13 @@ left_free (d ∷ declared) taken x h among = test (left_free declared taken x (m
     test more true e h' = ap (is_held taken) ((bytes_eq-Decides x d.0).0 e) ∙ free
     test more false e h' = more h'
 
-second_empty : (a b : List ℕ) → a ++ b ≡ [] → b ≡ []
-second_empty [] b h = h
-second_empty (x ∷ a) b h = cc
-
 -- at the end of a block none of the names that it declared is held
 pub ends_free : (fs : List Function) (around : Around) (known : List Name) (depth : ℕ) (closing : Closing) (taken : Taken) (declared : Declared) (b : Block) → owner_faults_in fs around known depth closing taken declared b ≡ [] → (x : Name) →
     is_among x (map (λ d. d.0) declared) ≡ true ⊎ is_among x (own_names b) ≡ true → is_held (at_end closing depth (taken_after_all fs depth b taken)) x ≡ false
 ends_free fs around known depth closing taken declared End h x (inl among) = left_free declared (at_end closing depth taken) x h among
 ends_free fs around known depth closing taken declared End h x (inr among) = cc
 ends_free fs around known depth closing taken declared (Then line s b) h x among =
-    ends_free fs around (known_after known s) depth closing (taken_after fs depth s taken) (declared_by line s declared) b (second_empty (owner_faults fs around known depth taken line s) _ h) x (moved s among)
+    ends_free fs around (known_after known s) depth closing (taken_after fs depth s taken) (declared_by line s declared) b (right_none (owner_faults fs around known depth taken line s) _ h) x (moved s among)
   where
     one : (y : Name) → is_among x (map (λ d. d.0) declared) ≡ true ⊎ (if same_name x y then true else is_among x (own_names b)) ≡ true → (if same_name x y then true else is_among x (map (λ d. d.0) declared)) ≡ true ⊎ is_among x (own_names b) ≡ true
     one y a = test (same_name x y) a

@@ -6,13 +6,14 @@ use Rattle.cw_model.specs.Meaning.{function_named}
 use Rattle.cw_model.specs.Typing.{Returns, Nowhere, WithInt, Alone}
 use Rattle.cw_model.specs.Ownership.{Taken, CutOf, is_taken, is_held, names_in, target_names, arrays_given, given, are_free}
 use Rattle.cw_tree.specs.Resolved.{Lists, params_of, slot_of, Locals, with_array, locals_after, locals_of}
+use Rattle.cw_tree.specs.lemmas.Names.{front_among, later_among}
 use Rattle.cw_gen.specs.Emit.{Tables, first_list, half_list, passed_in, lent_in}
 use Rattle.cw_gen.proofs.FreeTexts.{free_first, free_second, loose_each}
 use Rattle.cw_gen.proofs.Takens.{loose_free}
 use Rattle.cw_gen.proofs.OwnNames.{OwnName, OwnAll, OwnArg, OwnArgs, OwnStmt, OwnBlock, AllOwnNames}
 use Rattle.cw_gen.specs.Marks.{Marks}
 use Rattle.cw_loops.specs.Slotted.{slotted_arguments}
-use Rattle.cw_loops.specs.lemmas.Naming.{among_left, among_right, front_among, later_among}
+use Rattle.cw_loops.specs.lemmas.Naming.{among_left, among_right}
 use Rattle.cw_model.specs.declared.syntax.NameKind.{NameKind}
 use Rattle.cw_model.specs.declared.syntax.NameKind.TheVariants as name_kind
 use Rattle.cw_model.specs.Names.{is_among}

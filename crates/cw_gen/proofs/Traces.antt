@@ -1,29 +1,16 @@
 -- What a run shows, piece after piece.
-use Rattle.std.proofs.Common.{◌≡◌, Some, ℕ, suc, ◌-◌, ◌++◌, refl, sym, ap, ◌∙◌, append_assoc, arith, nat_lt, if◌then◌else◌}
-use Rattle.std.proofs.lemmas.List.{append-nil}
+use Rattle.std.proofs.Common.{◌≡◌, Some, ℕ, suc, ◌-◌, ◌++◌, refl, sym, ap, append_assoc, arith, nat_lt, if◌then◌else◌}
 use Rattle.std.proofs.lemmas.Bool.Decides.{nat_tests}
 use Rattle.cw_model.specs.Trees.{Tree, Event}
-use Rattle.cw_model.specs.Outcome.{Outcome, Done, Trapped, Over, Trace, quiet, joined, after, then_do, joined_up}
+use Rattle.cw_model.specs.Outcome.{Outcome, Done, Trapped, Over, Trace, joined, after, then_do, joined_up}
 use Rattle.cw_code.specs.Run.{RunOutcome, inside, rejoined}
+use Rattle.cw_code.specs.lemmas.Runs.{joined_joined}
 
 -- an outcome, and what comes next, after a trace
 abbrev pub resume : {A : Type 0} → Trace → Outcome A → (A → ℕ → Trace → RunOutcome) → RunOutcome
 resume t (Done a left u) next = next a left (joined t u)
 resume t (Trapped trap line lines) next = Some (Trapped trap line (t.lines ++ lines))
 resume t Over next = Some Over
-
-pub same_trace : (t u : Trace) → t.lines ≡ u.lines → t.updates ≡ u.updates → t.events ≡ u.events → t ≡ u
-same_trace t u a b c =
-    ap (λ l. record { lines = l; updates = t.updates; events = t.events }) a
-    ∙ ap (λ l. record { lines = u.lines; updates = l; events = t.events }) b
-    ∙ ap (λ l. record { lines = u.lines; updates = u.updates; events = l }) c
-
-pub joined_joined : (t u v : Trace) → joined (joined t u) v ≡ joined t (joined u v)
-joined_joined t u v =
-    same_trace _ _ (append_assoc t.lines u.lines v.lines) (append_assoc t.updates u.updates v.updates) (append_assoc t.events u.events v.events)
-
-pub joined_quiet : (t : Trace) → joined t quiet ≡ t
-joined_quiet t = same_trace _ _ (append-nil t.lines) (append-nil t.updates) (append-nil t.events)
 
 pub resume_after : {B : Type 0} (t u : Trace) (o : Outcome B) (next : B → ℕ → Trace → RunOutcome) → resume t (after u o) next ≡ resume (joined t u) o next
 resume_after t u (Done b l v) next = ap (next b l) (sym (joined_joined t u v))

@@ -10,7 +10,7 @@ use Rattle.cw_model.specs.Frames.{Frame, int_of, array_of, new_int, new_array}
 use Rattle.cw_model.specs.Expressions.{evaluate, and_then, done_at, apply, element, in_bounds}
 use Rattle.cw_model.specs.Outcome.{Outcome, Trace, then_do, pay_for}
 use Rattle.cw_model.specs.Meaning.{given_array, arguments}
-use Rattle.cw_model.specs.Ownership.{Holder, SpawnIn, CutOf, Taken, IsLeastClosed, arrays_given, target_names, cut_ended, is_taken, taken_by, freed, without, own_names, where_it_goes_on, Joins, Leaves}
+use Rattle.cw_model.specs.Ownership.{Taken}
 use Rattle.cw_model.specs.Ownership as ownership
 use Rattle.cw_tree.specs.Resolved.{Locals, slot_of, locals_of}
 use Rattle.cw_loops.specs.Slotted.{slotted_argument}
@@ -20,11 +20,12 @@ use Rattle.cw_code.specs.declared.code.Instr.TheVariants as instr
 use Rattle.cw_code.specs.declared.code.Loan.{Loan}
 use Rattle.cw_code.specs.Code.{Code}
 use Rattle.cw_code.specs.Run.{Around, State, Transition, RunOutcome, ticked, on_slot, onto, operated, act, go_on, steps}
+use Rattle.cw_code.specs.lemmas.Runs.{joined_quiet}
 use Rattle.cw_gen.specs.Emit.{emitted_arg, element_at, length_at}
 use Rattle.cw_gen.specs.Marks.{Marks, place_of}
 use Rattle.cw_gen.proofs.Marked.{is_read, place_own, place_read, get_owned, get_read}
 use Rattle.cw_gen.proofs.Fine.{ExprFine, ArrayAlone, ArgKept, arg_kept, ArgsFine}
-use Rattle.cw_gen.proofs.Traces.{resume, joined_quiet, resume_then}
+use Rattle.cw_gen.proofs.Traces.{resume, resume_then}
 use Rattle.cw_gen.proofs.Places.{HasAt, has_front, has_back}
 use Rattle.cw_gen.proofs.Costs.{value_and_then, value_also, not_dearer}
 use Rattle.cw_gen.proofs.Stores.{Store, Outside, Agrees, loads, finds}

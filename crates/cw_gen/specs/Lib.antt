@@ -1,4 +1,5 @@
 pub mod Emit
+pub mod Excess
 pub mod Generates
 pub mod Marks
 pub mod Written

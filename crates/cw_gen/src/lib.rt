@@ -2,6 +2,7 @@
 #![tactic(auto)]
 
 mod array_places;
+mod excess;
 mod expressions;
 mod functions;
 mod generating;
@@ -16,4 +17,5 @@ mod slots;
 mod statements;
 mod whole;
 
+pub use excess::{Excess, excess_of};
 pub use generating::generate;

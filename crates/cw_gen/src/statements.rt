@@ -44,7 +44,8 @@ fn statement(
     line: u32,
     stmt: &Stmt,
 ) -> Result<bool, AllocError>
-    ensures instrs { Adds instrs.old instrs.new (written_stmt first places.now line stmt.now) result }
+    ensures instrs { Adds instrs.old instrs.new (written_stmt first places.now line stmt.now)
+        result }
     ensures returns { IfOk result (λ returns. returns ≡ spec.stmt_returns (stmt_of stmt.now)) }
 {
     match stmt {
@@ -239,7 +240,8 @@ fn cut(
     parts: &Cut,
     lines: &[Line],
 ) -> Result<(), AllocError>
-    ensures { Adds instrs.old instrs.new (written_cut first places.now line parts.now lines.now) result }
+    ensures { Adds instrs.old instrs.new (written_cut first places.now line parts.now lines.now)
+        result }
 {
     let halves = Halves {
         array: places.array(parts.array),
@@ -262,7 +264,8 @@ fn turn(
     lines: &[Line],
 ) -> Result<(), AllocError>
     requires { start ≤ length instrs.old.items }
-    ensures { Adds instrs.old instrs.new (written_turn start instrs.old first places.now lines.now) result }
+    ensures { Adds instrs.old instrs.new (written_turn start instrs.old first places.now lines.now)
+        result }
 {
     let test = hole(instrs)?;
     block(instrs, first, places, lines)?;

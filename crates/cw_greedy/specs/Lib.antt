@@ -11,3 +11,4 @@ pub mod Blocks
 pub mod Counts
 pub mod Slots
 pub mod Rounds
+pub mod lemmas

@@ -2,7 +2,7 @@
 use Rattle.std.proofs.Common.{◌≡◌, ◌⊎◌, inl, inr, ⊎_elim, ℕ, zero, suc, ◌+◌, ◌-◌, ◌<◌, ◌≤◌, ℤ, pos, true, Option, Some, None, List, [], ◌∷◌, ◌++◌, length, refl, sym, ap, ◌∙◌, subst, arith}
 use Rattle.std.specs.Prelude.{replicate, slice_get}
 use Rattle.std.proofs.lemmas.List.{length-map, length-replicate}
-use Rattle.std.proofs.lemmas.Option.{slice_get_within}
+use Rattle.std.proofs.lemmas.Option.{slice_get_within, same_Some}
 use Rattle.std.proofs.lemmas.Bool.Decides.{nat_tests}
 use Rattle.cw_model.specs.declared.burden.Burden.{Burden}
 use Rattle.cw_model.specs.declared.limits.TheConstants.{MOST_LIMIT, MOST_BURDEN}
@@ -19,9 +19,6 @@ use Rattle.cw_jobs.specs.declared.call.Rest.{Rest}
 use Rattle.cw_slices.specs.Placed.{Placed, IsOwn}
 use Rattle.cw_jobs.specs.Calls.{cell, placed, Keeps, HasArrays, HasReaders, HoldsCall}
 use Rattle.cw_jobs.specs.Jobs.{Ok, OwnsSlots, IsJob, IsSound, is_asked, IsRootOf, IsFirst, code_of}
-
-some_same : {A : Type 0} (x y : A) → Some x ≡ Some y → x ≡ y
-some_same x y e = cc
 
 -- there is a main
 pub record Main (v : Verified) : Type 0 where
@@ -43,7 +40,7 @@ main_there v ok = let main = main_of v ok in slice_get_within (code_view v.code)
 
 -- the function that was found is main
 pub main_same : (v : Verified) (f g : Func) → slice_get (code_view v.code).funcs v.code.main ≡ Some f → slice_get (code_view v.code).funcs v.code.main ≡ Some g → f ≡ g
-main_same v f g e h = some_same f g (sym e ∙ h)
+main_same v f g e h = same_Some f g (sym e ∙ h)
 
 pub params_same : (v : Verified) (f : Func) → slice_get (code_view v.code).funcs v.code.main ≡ Some f → main_params (code_view v.code) ≡ f.params
 params_same v f e = ap params_of e
@@ -61,12 +58,12 @@ in_range params count n burden h = record { count_is = grind (arith, nat_tests, 
 -- a list holds itself
 keeps_full : (cells : List ℤ) (a : ℕ) (v : ℤ) → slice_get (full cells) a ≡ Some (Some v) → cell cells a ≡ v
 keeps_full [] a v e = cc
-keeps_full (x ∷ cells) zero v e = some_same x v (some_same (Some x) (Some v) e)
+keeps_full (x ∷ cells) zero v e = same_Some x v (same_Some (Some x) (Some v) e)
 keeps_full (x ∷ cells) (suc a) v e = keeps_full cells a v e
 
 empty_get : (n a : ℕ) (xs : List ℤ) → slice_get (full (replicate n [])) a ≡ Some (Some xs) → (a < n) × ([] ≡ xs)
 empty_get zero a xs e = cc
-empty_get (suc n) zero xs e = (omega arith, some_same [] xs (some_same (Some []) (Some xs) e))
+empty_get (suc n) zero xs e = (omega arith, same_Some [] xs (same_Some (Some []) (Some xs) e))
 empty_get (suc n) (suc a) xs e = let r = empty_get n a xs e in (omega (arith, r.0), r.1)
 
 module _ (v : Verified) (f : Func) (args : List ℤ) (r : Rest) (ok : Ok v) (found : slice_get (code_view v.code).funcs v.code.main ≡ Some f) (count : length args ≡ f.params) (first : IsFirst f args r) where

@@ -9,7 +9,7 @@ use Rattle.cw_model.specs.Outcome.{quiet}
 use Rattle.cw_code.specs.declared.code.Func.{Func}
 use Rattle.cw_code.specs.declared.code.Halves.{Halves}
 use Rattle.cw_code.specs.Code.{Code, code_view}
-use Rattle.cw_code.specs.Run.{Slots, Around, Caller, Block, State, is_full}
+use Rattle.cw_code.specs.Run.{Slots, State, is_full}
 use Rattle.cw_code.specs.Fits.{Outer, Shape, main_params}
 use Rattle.cw_code.specs.Frozen.{all_frozen, IsFrozenIn}
 use Rattle.cw_code.specs.Good.{Seat, GoodState}
@@ -29,6 +29,8 @@ use Rattle.cw_text.specs.declared.fault.Fault.{Fault}
 use Rattle.cw_text.specs.declared.fault.Fault.TheVariants as fault
 use Rattle.cw_jobs.specs.Calls.{cell, placed, LiesAs, HoldsCall}
 use Rattle.cw_jobs.specs.Cuts.{cut_slots, CutsStand, AreNone, AreThere, RoundThere}
+-- no call waits, only sync blocks of the same call
+pub use Rattle.cw_code.specs.Frozen.{AreBlocks}
 
 -- code that fits, and its instructions stand for it
 abbrev pub Ok : Verified → Type 0
@@ -50,12 +52,6 @@ origin_of p = begins_at p.extent p.site
 -- the code of a job
 abbrev pub code_of : Parts → Verified
 code_of p = arc_value p.code
-
--- no call waits, only sync blocks of the same call
-abbrev pub AreBlocks : List Around → Type 0
-AreBlocks [] = Unit {0}
-AreBlocks (Caller w ∷ around) = ⊥
-AreBlocks (Block o ∷ around) = AreBlocks around
 
 -- nothing stands round a state, and nothing waits for its join
 pub record IsOutermost (s : State) : Type 0 where

@@ -3,3 +3,4 @@ pub mod Cuts
 pub mod Jobs
 pub mod Means
 pub mod Totals
+pub mod lemmas

@@ -58,7 +58,8 @@ impl Job {
         detail: Detail,
     ) -> Result<Job, Fault>
         requires { burden.charge ≤ MOST_BURDEN → IsLight detail }
-        ensures { MatchResult result (λ job. IsRootOf code.value args.now n burden detail job.parts.value)
+        ensures { MatchResult result (λ job. IsRootOf code.value args.now n burden detail
+            job.parts.value)
             (IsRefused (code_view code.value.code) args.now n burden) }
     {
         let verified: &Verified = &code;

@@ -1,13 +1,13 @@
 -- No text is of two kinds at once: a separator, a word, a number, a symbol, a comment.
 use Rattle.std.proofs.Common.{◌≡◌, ℕ, zero, suc, ◌<◌, true, false, ◌&&◌, ◌||◌, List, [], ◌∷◌, length, get_or, take, Some, None, refl, sym, ap, subst, ◌∙◌, arith, eqb, inl, inr}
 use Rattle.std.specs.Prelude.{is_some}
-use Rattle.std.proofs.lemmas.Bool.{eqb-true, or_cases, or_left, or_right}
+use Rattle.std.proofs.lemmas.Bool.{eqb-true, or_cases, or_left, or_right, and_parts}
 use Rattle.cw_model.specs.declared.token.Kind.{Kind}
 use Rattle.cw_model.specs.declared.token.Kind.TheVariants as kind
 use Rattle.cw_model.specs.declared.limits.TheConstants.{MOST_NAME_BYTES, MOST_NUMBER}
 use Rattle.cw_model.specs.Pieces.{is_separator, is_digit, is_letter, one_byte, two_bytes, symbol, is_comment, is_word, is_number, is_piece, decimal_value}
 use Rattle.cw_model.specs.Tokens.{IsSpelled, word, number, mark, word_kind}
-use Rattle.cw_lex.proofs.Longest.{and_both, letter_no_digit, symbol_none, comment_none}
+use Rattle.cw_lex.proofs.Longest.{letter_no_digit, symbol_none, comment_none}
 
 -- ---- separators
 
@@ -43,15 +43,15 @@ separator_no_piece (b ∷ bs) (suc n) h p = let e = separator_piece b (take n bs
 pub word_no_number : (bs : List ℕ) → is_word bs ≡ true → is_number bs ≡ true → ⊥
 word_no_number [] w n = cc
 word_no_number (b ∷ bs) w n =
-    let letter = (and_both (is_letter b) _ w).0 in
-    let digit = (and_both (is_digit b) _ n).0 in
+    let letter = (and_parts (is_letter b) _ w).0 in
+    let digit = (and_parts (is_digit b) _ n).0 in
     let e = letter_no_digit b letter in
     cc
 
 pub word_no_symbol : (bs : List ℕ) (k : Kind) → is_word bs ≡ true → symbol bs ≡ Some k → ⊥
 word_no_symbol [] k w s = cc
 word_no_symbol (b ∷ bs) k w s =
-    let byte = or_left (is_letter b) (is_digit b) (and_both (is_letter b) _ w).0 in
+    let byte = or_left (is_letter b) (is_digit b) (and_parts (is_letter b) _ w).0 in
     let e = symbol_none b byte bs in
     let some : is_some (symbol (b ∷ bs)) ≡ true = ap is_some s in
     cc
@@ -59,14 +59,14 @@ word_no_symbol (b ∷ bs) k w s =
 pub word_no_comment : (bs : List ℕ) → is_word bs ≡ true → is_comment bs ≡ true → ⊥
 word_no_comment [] w c = cc
 word_no_comment (b ∷ bs) w c =
-    let byte = or_left (is_letter b) (is_digit b) (and_both (is_letter b) _ w).0 in
+    let byte = or_left (is_letter b) (is_digit b) (and_parts (is_letter b) _ w).0 in
     let e = comment_none b byte bs in
     cc
 
 pub number_no_symbol : (bs : List ℕ) (k : Kind) → is_number bs ≡ true → symbol bs ≡ Some k → ⊥
 number_no_symbol [] k n s = cc
 number_no_symbol (b ∷ bs) k n s =
-    let byte = or_right (is_letter b) (is_digit b) (and_both (is_digit b) _ n).0 in
+    let byte = or_right (is_letter b) (is_digit b) (and_parts (is_digit b) _ n).0 in
     let e = symbol_none b byte bs in
     let some : is_some (symbol (b ∷ bs)) ≡ true = ap is_some s in
     cc
@@ -74,7 +74,7 @@ number_no_symbol (b ∷ bs) k n s =
 pub number_no_comment : (bs : List ℕ) → is_number bs ≡ true → is_comment bs ≡ true → ⊥
 number_no_comment [] n c = cc
 number_no_comment (b ∷ bs) n c =
-    let byte = or_right (is_letter b) (is_digit b) (and_both (is_digit b) _ n).0 in
+    let byte = or_right (is_letter b) (is_digit b) (and_parts (is_digit b) _ n).0 in
     let e = comment_none b byte bs in
     cc
 
@@ -85,7 +85,7 @@ pub symbol_no_comment : (bs : List ℕ) (k : Kind) → symbol bs ≡ Some k → 
 symbol_no_comment [] k s c = cc
 symbol_no_comment (b ∷ []) k s c = cc
 symbol_no_comment (b ∷ d ∷ []) k s c =
-    let slashes = and_both (eqb b 47) (eqb d 47) (and_both (eqb b 47 && eqb d 47) _ c).0 in
+    let slashes = and_parts (eqb b 47) (eqb d 47) (and_parts (eqb b 47 && eqb d 47) _ c).0 in
     let e = slashes_no_symbol b d (eqb-true b 47 slashes.0) (eqb-true d 47 slashes.1) in
     cc
 symbol_no_comment (b ∷ d ∷ e ∷ bs) k s c = cc

@@ -1,7 +1,7 @@
 -- What stands at the front, from what the code knows.
 use Rattle.std.proofs.Common.{◌≡◌, ℕ, zero, suc, [], ◌∷◌, cond, ◌<◌, ◌≤◌, Bool, true, false, ◌&&◌, List, length, get_or, take, Option, Some, None, sym, ap, ◌∙◌, arith, eqb, inl, inr, ◌⊎◌}
 use Rattle.std.proofs.lemmas.List.{length-take}
-use Rattle.std.proofs.lemmas.Bool.{eqb-true, false_from_ne_true}
+use Rattle.std.proofs.lemmas.Bool.{eqb-true, false_from_ne_true, and_parts}
 use Rattle.std.specs.List.{list_all, prefix_len}
 use Rattle.cw_model.specs.declared.token.Kind.{Kind}
 use Rattle.cw_model.specs.declared.token.Kind.TheVariants as kind
@@ -10,7 +10,7 @@ use Rattle.cw_model.specs.declared.limits.TheConstants.{MOST_NAME_BYTES, MOST_NU
 use Rattle.cw_model.specs.Pieces.{is_separator, is_digit, is_letter, is_word_byte, is_inner, one_byte, two_bytes, is_empty, is_number, decimal_value}
 use Rattle.cw_model.specs.Tokens.{IsLongest, IsSpelled, word, number, mark, word_kind, HasLongName}
 use Rattle.cw_lex.specs.Front.{IsFront}
-use Rattle.cw_lex.proofs.Longest.{and_both, word_longest, comment_longest, NoComment, two_longest, one_longest, starts_nothing}
+use Rattle.cw_lex.proofs.Longest.{word_longest, comment_longest, NoComment, two_longest, one_longest, starts_nothing}
 
 module _ (bs : List ℕ) (len : ℕ) (some : 0 < length bs) (letter : is_letter (get_or bs 0 0) ≡ true) (is : len ≡ prefix_len is_word_byte bs) where
   pub long_word : word_kind (take len bs) ≡ kind.Name → MOST_NAME_BYTES < len → HasLongName bs
@@ -37,8 +37,8 @@ comment_front bs len b c is = let w = comment_longest bs b c in (rw is w.2, rw i
 
 all_at : (p : ℕ → Bool) (bs : List ℕ) (k : ℕ) → list_all p bs ≡ true → k < length bs → p (get_or bs k 0) ≡ true
 all_at p [] k h lt = absurd (omega arith)
-all_at p (b ∷ bs) zero h lt = (and_both (p b) (list_all p bs) h).0
-all_at p (b ∷ bs) (suc k) h lt = all_at p bs k (and_both (p b) (list_all p bs) h).1 (omega arith)
+all_at p (b ∷ bs) zero h lt = (and_parts (p b) (list_all p bs) h).0
+all_at p (b ∷ bs) (suc k) h lt = all_at p bs k (and_parts (p b) (list_all p bs) h).1 (omega arith)
 
 after_first : (t : Bool) (bs : List ℕ) (k : ℕ) → cond t (is_empty bs) (list_all is_digit bs) ≡ true → k < length bs → is_digit (get_or bs k 0) ≡ true
 after_first true [] k h lt = absurd (omega arith)
@@ -48,13 +48,13 @@ after_first false bs k h lt = all_at is_digit bs k h lt
 -- all digits of a number are digits
 pub digits_pass : (bs : List ℕ) → is_number bs ≡ true → (k : ℕ) → k < length bs → is_digit (get_or bs k 0) ≡ true
 digits_pass [] h k lt = absurd (omega arith)
-digits_pass (b ∷ bs) h zero lt = (and_both (is_digit b) _ h).0
-digits_pass (b ∷ bs) h (suc k) lt = after_first (eqb b 48) bs k (and_both (is_digit b) _ h).1 (omega arith)
+digits_pass (b ∷ bs) h zero lt = (and_parts (is_digit b) _ h).0
+digits_pass (b ∷ bs) h (suc k) lt = after_first (eqb b 48) bs k (and_parts (is_digit b) _ h).1 (omega arith)
 
 no_comment_at : (bs : List ℕ) → (get_or bs 0 0 ≡ 47 → get_or bs 1 0 ≡ 47 → ⊥) → NoComment bs
 no_comment_at bs h =
     false_from_ne_true (eqb (get_or bs 0 0) 47 && eqb (get_or bs 1 0) 47) (λ e.
-    let both = and_both (eqb (get_or bs 0 0) 47) (eqb (get_or bs 1 0) 47) e in
+    let both = and_parts (eqb (get_or bs 0 0) 47) (eqb (get_or bs 1 0) 47) e in
     h (eqb-true (get_or bs 0 0) 47 both.0) (eqb-true (get_or bs 1 0) 47 both.1))
 
 module _ (bs : List ℕ) (second : ℕ) (some : 0 < length bs) (plain : is_word_byte (get_or bs 0 0) ≡ false) (is : second ≡ get_or bs 1 0) (nc : ((get_or bs 0 0 ≡ 47) × (second ≡ 47 → ⊥)) ⊎ (get_or bs 0 0 ≡ 47 → ⊥)) where

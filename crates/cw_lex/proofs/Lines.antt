@@ -2,13 +2,12 @@
 use Rattle.std.proofs.Common.{◌≡◌, ℕ, ◌+◌, ◌<◌, Bool, true, false, cond, ◌&&◌, ◌||◌, List, [], ◌∷◌, length, get_or, take, drop, refl, sym, ap, ◌∙◌, arith, eqb, inl, inr}
 use Rattle.std.specs.Prelude.{is_some, count_by}
 use Rattle.std.specs.List.{list_all}
-use Rattle.std.proofs.lemmas.Bool.{eqb-true, or_cases, false_from_ne_true}
+use Rattle.std.proofs.lemmas.Bool.{eqb-true, or_cases, false_from_ne_true, and_parts}
 use Rattle.std.proofs.Math.Bool.{and-false}
 use Rattle.std.proofs.lemmas.List.Sums.{sum_by-append, count_by_more_no, count_by_more_yes}
 use Rattle.std.proofs.Math.Seq.{take-add}
 use Rattle.cw_model.specs.Text.{line_at}
 use Rattle.cw_model.specs.Pieces.{is_digit, is_letter, is_word_byte, is_inner, one_byte, two_bytes, symbol, is_comment, is_word, is_empty, is_number, is_piece}
-use Rattle.cw_lex.proofs.Longest.{and_both}
 
 abbrev is_lf : ℕ → Bool
 is_lf b = eqb b 10
@@ -20,7 +19,7 @@ other p b h e = false_from_ne_true (is_lf b) (λ f. let same = eqb-true b 10 f i
 all_other : (p : ℕ → Bool) (bs : List ℕ) → p 10 ≡ false → list_all p bs ≡ true → count_by is_lf bs ≡ 0
 all_other p [] h e = refl
 all_other p (b ∷ bs) h e =
-    let both = and_both (p b) (list_all p bs) e in
+    let both = and_parts (p b) (list_all p bs) e in
     let rest = all_other p bs h both.1 in
     let first = other p b h both.0 in
     rw first rest
@@ -33,7 +32,7 @@ one_of b bs f e = rw f e
 
 word_lf : (bs : List ℕ) → is_word bs ≡ true → count_by is_lf bs ≡ 0
 word_lf [] h = refl
-word_lf (b ∷ bs) h = let both = and_both (is_letter b) (list_all is_word_byte bs) h in one_of b bs (other is_letter b refl both.0) (all_other is_word_byte bs refl both.1)
+word_lf (b ∷ bs) h = let both = and_parts (is_letter b) (list_all is_word_byte bs) h in one_of b bs (other is_letter b refl both.0) (all_other is_word_byte bs refl both.1)
 
 number_rest : (t : Bool) (bs : List ℕ) → cond t (is_empty bs) (list_all is_digit bs) ≡ true → count_by is_lf bs ≡ 0
 number_rest true [] h = refl
@@ -42,7 +41,7 @@ number_rest false bs h = all_other is_digit bs refl h
 
 number_lf : (bs : List ℕ) → is_number bs ≡ true → count_by is_lf bs ≡ 0
 number_lf [] h = refl
-number_lf (b ∷ bs) h = let both = and_both (is_digit b) _ h in one_of b bs (other is_digit b refl both.0) (number_rest (eqb b 48) bs both.1)
+number_lf (b ∷ bs) h = let both = and_parts (is_digit b) _ h in one_of b bs (other is_digit b refl both.0) (number_rest (eqb b 48) bs both.1)
 
 symbol_lf : (bs : List ℕ) → is_some (symbol bs) ≡ true → count_by is_lf bs ≡ 0
 symbol_lf [] h = refl
@@ -55,8 +54,8 @@ comment_lf : (bs : List ℕ) → is_comment bs ≡ true → count_by is_lf bs �
 comment_lf [] h = refl
 comment_lf (b ∷ []) h = absurd cc
 comment_lf (b ∷ c ∷ bs) h =
-    let both = and_both (eqb b 47 && eqb c 47) (list_all is_inner bs) h in
-    let slashes = and_both (eqb b 47) (eqb c 47) both.0 in
+    let both = and_parts (eqb b 47 && eqb c 47) (list_all is_inner bs) h in
+    let slashes = and_parts (eqb b 47) (eqb c 47) both.0 in
     one_of b (c ∷ bs) (other (λ x. eqb x 47) b refl slashes.0) (one_of c bs (other (λ x. eqb x 47) c refl slashes.1) (all_other is_inner bs refl both.1))
 
 piece_lf : (bs : List ℕ) → is_piece bs ≡ true → count_by is_lf bs ≡ 0

@@ -2,7 +2,7 @@
 use Rattle.std.proofs.Common.{◌≡◌, ℕ, zero, suc, ◌+◌, ◌<◌, ◌≤◌, Bool, true, false, cond, ◌&&◌, ◌||◌, List, [], ◌∷◌, length, get_or, take, Option, Some, None, refl, sym, ap, ◌∙◌, arith, eqb, one-add}
 use Rattle.std.specs.Prelude.{is_some}
 use Rattle.std.specs.List.{list_all, prefix_len}
-use Rattle.std.proofs.lemmas.Bool.{eqb-true, or_left, or_right, false_from_ne_true}
+use Rattle.std.proofs.lemmas.Bool.{eqb-true, or_left, or_right, false_from_ne_true, and_parts, or_parts}
 use Rattle.std.proofs.Math.Bool.{and-false}
 use Rattle.std.proofs.lemmas.List.Sums.{prefix_len-le-length}
 use Rattle.std.proofs.lemmas.Bool.Decides.{nat_tests}
@@ -11,10 +11,6 @@ use Rattle.cw_model.specs.Pieces.{is_separator, is_digit, is_letter, is_word_byt
 use Rattle.cw_model.specs.Tokens.{IsLongest, StartsNothing}
 
 -- ---- tests
-
-pub and_both : (a b : Bool) → (a && b) ≡ true → (a ≡ true) × (b ≡ true)
-and_both true b e = (refl, e)
-and_both false b e = absurd cc
 
 module _ (p : ℕ → Bool) where
   run_head : (xs : List ℕ) (x : ℕ) (b : Bool) → p x ≡ b → list_all p (take (prefix_len p xs) xs) ≡ true → list_all p (take (cond b (1 + prefix_len p xs) 0) (x ∷ xs)) ≡ true
@@ -29,7 +25,7 @@ module _ (p : ℕ → Bool) where
   run_longest xs zero le h = omega arith
   run_longest [] (suc n) le h = le
   run_longest (x ∷ xs) (suc n) le h =
-      let both = and_both (p x) (list_all p (take n xs)) h in
+      let both = and_parts (p x) (list_all p (take n xs)) h in
       rw both.0 (omega (arith, run_longest xs n (omega arith) both.1))
 
 -- ---- first bytes
@@ -49,7 +45,7 @@ module _ (b : ℕ) (h : is_word_byte b ≡ true) where
   not_one c k rest hc e = none_if (eqb b c) k rest (λ t. differs b c h hc t) e
 
   not_two : (c d e : ℕ) (k : Kind) (rest : Option Kind) → is_word_byte c ≡ false → rest ≡ None → cond (eqb b c && eqb d e) (Some k) rest ≡ None
-  not_two c d e k rest hc r = none_if (eqb b c && eqb d e) k rest (λ t. differs b c h hc (and_both (eqb b c) (eqb d e) t).0) r
+  not_two c d e k rest hc r = none_if (eqb b c && eqb d e) k rest (λ t. differs b c h hc (and_parts (eqb b c) (eqb d e) t).0) r
 
   pub one_none : one_byte b ≡ None
   one_none =
@@ -75,10 +71,6 @@ no_others : (w n s c : Bool) → n ≡ false → s ≡ false → c ≡ false →
 no_others true n s c en es ec = refl
 no_others false n s c en es ec = rw (en, es, ec) refl
 
-pub neither : (a b : Bool) → (a || b) ≡ false → (a ≡ false) × (b ≡ false)
-neither true b e = absurd cc
-neither false b e = (refl, e)
-
 word_piece : (b : ℕ) (bs : List ℕ) → is_letter b ≡ true → is_piece (b ∷ bs) ≡ list_all is_word_byte bs
 word_piece b bs h =
     let wb = or_left (is_letter b) (is_digit b) h in
@@ -100,7 +92,7 @@ number_piece b bs h =
 
 mark_piece : (b : ℕ) (bs : List ℕ) → is_word_byte b ≡ false → is_piece (b ∷ bs) ≡ (is_some (symbol (b ∷ bs)) || is_comment (b ∷ bs))
 mark_piece b bs h =
-    let both = neither (is_letter b) (is_digit b) h in
+    let both = or_parts (is_letter b) (is_digit b) h in
     rw (both.0, both.1) refl
 
 -- ---- words

@@ -2,13 +2,9 @@
 use Rattle.std.proofs.Common.{ℕ, ◌<◌, ◌≤◌, List, [], ◌∷◌, length, All, arith}
 use Rattle.std.proofs.lemmas.List.Elements.{All-cons}
 use Rattle.cw_model.specs.declared.token.Token.{Token}
-use Rattle.cw_model.specs.Tokens.{IsGap, none, separator, comment, AreTokens, IsTokenCut}
+use Rattle.cw_model.specs.Tokens.{AreTokens, IsTokenCut}
 use Rattle.cw_lex.specs.Laws.{AreRising}
-
-gap_rises : {text : List ℕ} {at to : ℕ} → IsGap text at to → at ≤ to
-gap_rises none = omega arith
-gap_rises (separator lt s g) = omega (arith, gap_rises g)
-gap_rises (comment len l c g) = omega (arith, gap_rises g)
+use Rattle.cw_lex.specs.lemmas.Gaps.{gap_rises}
 
 tokens_rise : (text : List ℕ) (from : ℕ) (ts : List Token) (to : ℕ) → AreTokens text from ts to → AreRising from ts to
 tokens_rise text from [] to g = gap_rises g

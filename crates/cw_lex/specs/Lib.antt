@@ -1,3 +1,4 @@
 pub mod Front
 pub mod Faults
 pub mod Laws
+pub mod lemmas

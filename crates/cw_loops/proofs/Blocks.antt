@@ -3,6 +3,7 @@ use Rattle.std.proofs.Common.{◌≡◌, ℕ, ◌+◌, Bool, true, false, ℤ, p
 use Rattle.std.specs.Prelude.{if◌then◌else◌, ◌&&◌, Option, slice_set}
 use Rattle.std.proofs.lemmas.List.{length-set}
 use Rattle.std.proofs.Math.Seq.{take-append-add, take-append_seam}
+use Rattle.std.proofs.lemmas.Bool.{and_parts}
 use Rattle.cw_model.specs.Ints.{fits, natural}
 use Rattle.cw_model.specs.Syntax.{Name, Expr, AssignElement, Function}
 use Rattle.cw_model.specs.Names.{is_among, find, put}
@@ -12,7 +13,6 @@ use Rattle.cw_model.specs.Outcome.{quiet, Done, Piece}
 use Rattle.cw_model.specs.Meaning.{Completion, Normal, ByReturn, onward, going, scoped, Calls, run}
 use Rattle.cw_loops.specs.Lowered.{lower_index, lower_expr}
 use Rattle.cw_loops.specs.Lowerable.{Surroundings, is_local, is_variable, can_evaluate, can_lower}
-use Rattle.cw_loops.specs.lemmas.Tests.{both_true}
 use Rattle.cw_loops.proofs.Alike.{Alike, alike_then}
 use Rattle.cw_loops.proofs.Cuts.{alike_right}
 use Rattle.cw_loops.proofs.Tables.{keys}
@@ -100,8 +100,8 @@ module _ (c : Surroundings) (fo go : List (Name × ℤ)) (Slot : (fa ga : List (
     where
       by_test : (b : Bool) → is_among a c.over ≡ b → ((if b then is_variable c i else (is_local c a && can_evaluate c i)) && can_evaluate c e) ≡ true →
           Alike (Out c fo go Slot ints arrays f0) left (run (AssignElement a i e) line fs calls f0 left) (run (AssignElement a (lower_index b (lower_expr c.over i)) (lower_expr c.over e)) line fs' calls' g0 left)
-      by_test true o g = let p = both_true (is_variable c i) (can_evaluate c e) g in write_slice a i e o p.0 p.1 line left fs fs' calls calls'
-      by_test false o g = let p = both_true (is_local c a && can_evaluate c i) (can_evaluate c e) g in let q = both_true (is_local c a) (can_evaluate c i) p.0 in write_local a i e q.0 q.1 p.1 line left fs fs' calls calls'
+      by_test true o g = let p = and_parts (is_variable c i) (can_evaluate c e) g in write_slice a i e o p.0 p.1 line left fs fs' calls calls'
+      by_test false o g = let p = and_parts (is_local c a && can_evaluate c i) (can_evaluate c e) g in let q = and_parts (is_local c a) (can_evaluate c i) p.0 in write_local a i e q.0 q.1 p.1 line left fs fs' calls calls'
 
 -- from an earlier frame
 pub out_before : {c : Surroundings} {fo go : List (Name × ℤ)} {Slot : (fa ga : List (Name × List ℤ)) → Type 0} {ints arrays : List Name} (before f : Frame) {way way' : Completion} → Kept before.arrays f.arrays →

@@ -4,6 +4,7 @@ use Rattle.std.specs.Prelude.{if◌then◌else◌, not, nat_le, ◌==◌, ◌&&�
 use Rattle.std.specs.List.{list_all}
 use Rattle.std.proofs.lemmas.Bool.Decides.{nat_tests}
 use Rattle.std.proofs.lemmas.List.{map-append, length-map}
+use Rattle.std.proofs.lemmas.Bool.{and_parts}
 use Rattle.cw_model.specs.declared.syntax.CallKind.{CallKind}
 use Rattle.cw_model.specs.declared.syntax.Operator.TheVariants.{Minus}
 use Rattle.cw_model.specs.declared.syntax.NameKind.TheVariants as name_kind
@@ -15,18 +16,19 @@ use Rattle.cw_model.specs.Meaning.{function_named}
 use Rattle.cw_model.specs.Captured.{captured}
 use Rattle.cw_model.specs.Typing.{Known, is_int, is_array, is_fine, is_new, is_head_of_loop, faults_in, faults_in_block, declares, ends_block, surely_returns, Returns, Nowhere}
 use Rattle.cw_model.specs.lemmas.Kept.{left_none, right_none, kept}
-use Rattle.cw_tree.specs.Resolved.{Lists, Locals, Use, slot_of, use_of, resolved_expr, resolved_argument, resolved_stmt, resolved_block, with_int, with_array, locals_after, head_with, resolved_arguments}
+use Rattle.cw_tree.specs.Resolved.{Lists, Locals, slot_of, use_of, resolved_expr, resolved_argument, resolved_stmt, resolved_block, with_int, with_array, locals_after, head_with, resolved_arguments}
 use Rattle.cw_tree.specs.Resolved as source
 use Rattle.cw_tree.specs.Bounds.{Counts, fits_expr, fits_head, fits_parts, fits_stmt, fits_block}
+use Rattle.cw_tree.specs.lemmas.NamedSlots.{turned}
+use Rattle.cw_tree.specs.lemmas.Names.{among_append, same_are, front_among, later_among}
 use Rattle.cw_loops.specs.Lowered.{is_plain, low, high, loop_name, lower_index, lower_expr, lower_exprs, lower_option, loop_count, loop_count_in, lower_stmt, lower_block, made_by, made_in, loop_function}
 use Rattle.cw_loops.specs.Lowerable.{Surroundings, can_write, can_read, is_local, is_variable, can_evaluate, can_pass, can_pass_all, can_target, new_integers, new_arrays, can_loop, inside, can_lower, can_lower_all}
 use Rattle.cw_loops.specs.Slotted.{slotted_expr, slotted_argument, slotted_stmt, slotted_block, slotted_function, slotted_arguments}
 use Rattle.cw_loops.specs.Slotted as slotted
 use Rattle.cw_loops.specs.Moved.{slot, Moves, slots_of, moves_of, moved_int, moved_array, is_over, from_low, moved_expr, moved_argument, moved_target, moved_return, moved_ints, moved_arrays, arrays_after, Loop, moved_head, loop_with, loop_index, Made, MadeAll, made_stmt, made_block}
 use Rattle.cw_loops.specs.Expanded.{loop_text, loop_texts}
-use Rattle.cw_loops.specs.lemmas.Tests.{both_true, Told, yes_is, no_is, told, never, refuted, either_right}
-use Rattle.cw_loops.specs.lemmas.Apart.{same_are}
-use Rattle.cw_loops.specs.lemmas.Naming.{each_of, same_turned, Side, in_first, in_second, side, among_right, among_join, front_among, later_among}
+use Rattle.cw_loops.specs.lemmas.Tests.{Told, yes_is, no_is, told, never, refuted, either_right}
+use Rattle.cw_loops.specs.lemmas.Naming.{each_of, Side, in_first, in_second, side, among_right}
 use Rattle.cw_loops.specs.lemmas.Knowing.{new_unknown, not_both}
 use Rattle.cw_loops.specs.lemmas.Declaring.{HeadKept, head_kept, CutKept, cut_kept}
 use Rattle.cw_loops.proofs.Shifting.{small_slot}
@@ -49,14 +51,14 @@ module _ (m : Moves) (c : Surroundings) (t : Tracks m c) (ints arrays : List Nam
     where
       go : (b : Bool) → is_among a c.over ≡ b → (if b then is_variable c i else (is_local c a && can_evaluate c i)) ≡ true → can_evaluate c i ≡ true
       go true e g = variable_can c i (t.variable_read a e) g
-      go false e g = (both_true (is_local c a) (can_evaluate c i) g).1
+      go false e g = (and_parts (is_local c a) (can_evaluate c i) g).1
 
   spot_array : (a : Name) (i : Expr) → (if is_among a c.over then is_variable c i else (is_local c a && can_evaluate c i)) ≡ true → moved_array m (slot_of a (c.arrays ++ arrays)) ≡ slot_of a (c.over ++ arrays)
   spot_array a i h = go (is_among a c.over) refl h
     where
       go : (b : Bool) → is_among a c.over ≡ b → (if b then is_variable c i else (is_local c a && can_evaluate c i)) ≡ true → moved_array m (slot_of a (c.arrays ++ arrays)) ≡ slot_of a (c.over ++ arrays)
       go true e g = t.array_over a arrays e
-      go false e g = t.array_local a arrays (both_true (is_local c a) (can_evaluate c i) g).0 few_arrays
+      go false e g = t.array_local a arrays (and_parts (is_local c a) (can_evaluate c i) g).0 few_arrays
 
   spot_index : (a : Name) (i : Expr) → (if is_among a c.over then is_variable c i else (is_local c a && can_evaluate c i)) ≡ true →
       from_low (is_over m (slot_of a (c.arrays ++ arrays))) (slotted_expr at_target (lower_expr c.over i)) ≡ slotted_expr at_target (lower_index (is_among a c.over) (lower_expr c.over i))
@@ -67,7 +69,7 @@ module _ (m : Moves) (c : Surroundings) (t : Tracks m c) (ints arrays : List Nam
       go true e g =
           ap (λ b. from_low b (slotted_expr at_target (lower_expr c.over i))) (t.over_is_over a arrays e)
           ∙ sym (ap (λ s. slotted.Binary Minus (slotted_expr at_target (lower_expr c.over i)) (slotted.Variable s)) (t.low_first a e ints))
-      go false e g = ap (λ b. from_low b (slotted_expr at_target (lower_expr c.over i))) (t.local_not_over a arrays (both_true (is_local c a) (can_evaluate c i) g).0)
+      go false e g = ap (λ b. from_low b (slotted_expr at_target (lower_expr c.over i))) (t.local_not_over a arrays (and_parts (is_local c a) (can_evaluate c i) g).0)
 
   expr_moved : (e : Expr) → can_evaluate c e ≡ true → moved_expr m (resolved_expr at_source e) ≡ slotted_expr at_target (lower_expr c.over e)
   expr_moved (Number n) h = refl
@@ -80,12 +82,12 @@ module _ (m : Moves) (c : Surroundings) (t : Tracks m c) (ints arrays : List Nam
   expr_moved (Negative e) h = ap (λ i. slotted.Negative i) (expr_moved e h)
   expr_moved (Not e) h = ap (λ i. slotted.Not i) (expr_moved e h)
   expr_moved (Binary operator d e) h =
-      let g = both_true (can_evaluate c d) (can_evaluate c e) h in
+      let g = and_parts (can_evaluate c d) (can_evaluate c e) h in
       ap (λ i. slotted.Binary operator i (moved_expr m (resolved_expr at_source e))) (expr_moved d g.0) ∙ ap (λ i. slotted.Binary operator (slotted_expr at_target (lower_expr c.over d)) i) (expr_moved e g.1)
 
   same_kind_there : (y : Name) → is_local c y ≡ true → is_among y (c.arrays ++ arrays) ≡ is_among y (c.over ++ arrays)
   same_kind_there y h =
-      among_join y c.arrays arrays ∙ ap (λ b. b || is_among y arrays) (outside_not_arrays c y h ∙ sym (outside_not_over c y h)) ∙ sym (among_join y c.over arrays)
+      among_append y c.arrays arrays ∙ ap (λ b. b || is_among y arrays) (outside_not_arrays c y h ∙ sym (outside_not_over c y h)) ∙ sym (among_append y c.over arrays)
 
   name_moved : (y : Name) (ps : List Param) → can_pass c (Variable y) ≡ true → moved_argument m (resolved_argument at_source ps (Variable y)) ≡ slotted_argument at_target ps (Variable y)
   name_moved y ps h =
@@ -93,7 +95,7 @@ module _ (m : Moves) (c : Surroundings) (t : Tracks m c) (ints arrays : List Nam
       ∙ go (is_among y (c.over ++ arrays))
     where
       g : (can_read c y ≡ true) × (is_local c y ≡ true)
-      g = both_true (can_read c y) (is_local c y) h
+      g = and_parts (can_read c y) (is_local c y) h
 
       passed : (r : Bool) → moved_array m (slot_of y (c.arrays ++ arrays)) ≡ slot_of y (c.over ++ arrays) →
           moved_argument m (if r then source.Shared (use_of (c.arrays ++ arrays) y) else source.Array (use_of (c.arrays ++ arrays) y)) ≡ (if r then slotted.Shared (slot_of y (c.over ++ arrays)) else slotted.Array (slot_of y (c.over ++ arrays)))
@@ -116,7 +118,7 @@ module _ (m : Moves) (c : Surroundings) (t : Tracks m c) (ints arrays : List Nam
   arguments_moved : (es : List Expr) (ps : List Param) → can_pass_all c es ≡ true → map (moved_argument m) (resolved_arguments at_source ps es) ≡ slotted_arguments at_target ps (lower_exprs c.over es)
   arguments_moved [] ps h = refl
   arguments_moved (e ∷ es) ps h =
-      let g = both_true (can_pass c e) (can_pass_all c es) h in
+      let g = and_parts (can_pass c e) (can_pass_all c es) h in
       ap (λ y. y ∷ map (moved_argument m) (resolved_arguments at_source (drop 1 ps) es)) (argument_moved e ps g.0) ∙ ap (λ r. slotted_argument at_target ps (lower_expr c.over e) ∷ r) (arguments_moved es (drop 1 ps) g.1)
 
   write_moved : (x : Name) → can_write c x ≡ true → moved_int m (slot_of x (c.outer ++ ints)) ≡ slot_of x (c.given ++ ints)
@@ -128,7 +130,7 @@ module _ (m : Moves) (c : Surroundings) (t : Tracks m c) (ints arrays : List Nam
 
   return_moved : (e : Option Expr) → can_lower c ints arrays (Return e) ≡ true → moved_return m (option_map (resolved_expr at_source) e) ≡ option_map (slotted_expr at_target) (lower_option c.over e)
   return_moved None h = refl
-  return_moved (Some e) h = ap (λ i. Some i) (expr_moved e (both_true c.returns (can_evaluate c e) h).1)
+  return_moved (Some e) h = ap (λ i. Some i) (expr_moved e (and_parts c.returns (can_evaluate c e) h).1)
 
   ints_moved : (vs : List Name) → ((v : Name) → is_among v vs ≡ true → can_read c v ≡ true) → moved_ints m (map (use_of (c.outer ++ ints)) vs) ≡ map (λ x. slot_of x (c.given ++ ints)) vs
   ints_moved [] h = refl
@@ -305,10 +307,10 @@ module _ (program : Program) (fs fs' rs ts : List Name) (gs gs' : List model.Fun
   here_after : {m : Moves} {c : Surroundings} {ints arrays : List Name} {known : Known} {counts : Counts} (s : Stmt) (returns : Returns) (line : ℕ) → Here n m c ints arrays known counts →
       fits_stmt counts (resolved_stmt Source (at c ints arrays) s) ≡ true → faults_in program returns known line s ≡ [] → Here n m c (ints ++ new_integers s) (arrays ++ new_arrays s) (declares s known) counts
   here_after {m} {c} {ints} {arrays} {known} {counts} (Declare x e) returns line here fits types =
-      here_as refl (sym (append-nil arrays)) (here_int x (both_true (nat_lt (length (c.outer ++ ints)) counts.ints) _ fits).0 here)
+      here_as refl (sym (append-nil arrays)) (here_int x (and_parts (nat_lt (length (c.outer ++ ints)) counts.ints) _ fits).0 here)
   here_after {m} {c} {ints} {arrays} {known} {counts} (DeclareArray a e) returns line here fits types =
       here_as (sym (append-nil ints)) refl
-      (here_array a (both_true (nat_lt (length (c.arrays ++ arrays)) counts.arrays) _ fits).0 (new_unknown program known a (both_true (is_fine known e) (is_new program known a) (kept _ line types)).1).no_int here)
+      (here_array a (and_parts (nat_lt (length (c.arrays ++ arrays)) counts.arrays) _ fits).0 (new_unknown program known a (and_parts (is_fine known e) (is_new program known a) (kept _ line types)).1).no_int here)
   here_after {m} {c} {ints} {arrays} {known} {counts} (Assign x e) returns line here fits types = here_as (sym (append-nil ints)) (sym (append-nil arrays)) here
   here_after {m} {c} {ints} {arrays} {known} {counts} (AssignElement a i e) returns line here fits types = here_as (sym (append-nil ints)) (sym (append-nil arrays)) here
   here_after {m} {c} {ints} {arrays} {known} {counts} (Reduce how s e) returns line here fits types = here_as (sym (append-nil ints)) (sym (append-nil arrays)) here
@@ -349,10 +351,10 @@ module _ (program : Program) (fs fs' rs ts : List Name) (gs gs' : List model.Fun
       begun.many (omega (arith, room))))
     where
       one : (can_lower c ints arrays s ≡ true) × (can_lower_all c (ints ++ new_integers s) (arrays ++ new_arrays s) b ≡ true)
-      one = both_true (can_lower c ints arrays s) _ can
+      one = and_parts (can_lower c ints arrays s) _ can
 
       two : (fits_stmt counts (resolved_stmt Source (at c ints arrays) s) ≡ true) × (fits_block counts (resolved_block Source (locals_after (at c ints arrays) s) b) ≡ true)
-      two = both_true (fits_stmt counts (resolved_stmt Source (at c ints arrays) s)) _ fits
+      two = and_parts (fits_stmt counts (resolved_stmt Source (at c ints arrays) s)) _ fits
 
       types_here : faults_in program returns known line s ≡ []
       types_here = left_none (faults_in program returns known line s) _ types
@@ -373,26 +375,26 @@ module _ (program : Program) (fs fs' rs ts : List Name) (gs gs' : List model.Fun
       t = here.tracks
 
       one : (can_evaluate c e ≡ true) × ((is_local c a && (is_local c l && (is_local c r && (not (is_among l arrays) && (not (is_among r arrays) && (not (same_name r l) && can_lower_all c ints ((arrays ++ l ∷ []) ++ r ∷ []) b)))))) ≡ true)
-      one = both_true (can_evaluate c e) _ can
+      one = and_parts (can_evaluate c e) _ can
 
       array_local : is_local c a ≡ true
-      array_local = (both_true (is_local c a) _ one.1).0
+      array_local = (and_parts (is_local c a) _ one.1).0
 
       can_inner : can_lower_all c ints ((arrays ++ l ∷ []) ++ r ∷ []) b ≡ true
       can_inner =
-          (both_true (not (same_name r l)) _ (both_true (not (is_among r arrays)) _ (both_true (not (is_among l arrays)) _ (both_true (is_local c r) _ (both_true (is_local c l) _ (both_true (is_local c a) _ one.1).1).1).1).1).1).1
+          (and_parts (not (same_name r l)) _ (and_parts (not (is_among r arrays)) _ (and_parts (not (is_among l arrays)) _ (and_parts (is_local c r) _ (and_parts (is_local c l) _ (and_parts (is_local c a) _ one.1).1).1).1).1).1).1
 
       twice_after : (o q : List Name) → with_array r (with_array l (joined o q ints arrays)) ≡ joined o q ints ((arrays ++ l ∷ []) ++ r ∷ [])
       twice_after o q = ap (with_array r) (after_array o q ints arrays l) ∙ after_array o q ints (arrays ++ l ∷ []) r
 
       two : (fits_parts counts (source.parts_of (at c ints arrays) a e l r) ≡ true) × (fits_block counts (resolved_block Source (with_array r (with_array l (at c ints arrays))) b) ≡ true)
-      two = both_true (fits_parts counts (source.parts_of (at c ints arrays) a e l r)) _ fits
+      two = and_parts (fits_parts counts (source.parts_of (at c ints arrays) a e l r)) _ fits
 
       left_below : nat_lt (length (c.arrays ++ arrays)) counts.arrays ≡ true
-      left_below = (both_true _ (nat_lt (length (c.arrays ++ arrays)) counts.arrays) (both_true _ (nat_lt (length ((c.arrays ++ arrays) ++ l ∷ [])) counts.arrays) two.0).0).1
+      left_below = (and_parts _ (nat_lt (length (c.arrays ++ arrays)) counts.arrays) (and_parts _ (nat_lt (length ((c.arrays ++ arrays) ++ l ∷ [])) counts.arrays) two.0).0).1
 
       right_below : nat_lt (length ((c.arrays ++ arrays) ++ l ∷ [])) counts.arrays ≡ true
-      right_below = (both_true _ (nat_lt (length ((c.arrays ++ arrays) ++ l ∷ [])) counts.arrays) two.0).1
+      right_below = (and_parts _ (nat_lt (length ((c.arrays ++ arrays) ++ l ∷ [])) counts.arrays) two.0).1
 
       keeps : CutKept program known a e l r
       keeps = cut_kept program known a e l r (kept _ line (left_none _ _ types))
@@ -401,7 +403,7 @@ module _ (program : Program) (fs fs' rs ts : List Name) (gs gs' : List model.Fun
       between = here_array l left_below (new_unknown program known l keeps.left).no_int here
 
       right_new : is_int ((l, name_kind.Array) ∷ known) r ≡ false
-      right_new = ap (λ w. if w then false else is_int known r) (same_turned r l ∙ keeps.two) ∙ (new_unknown program known r keeps.right).no_int
+      right_new = ap (λ w. if w then false else is_int known r) (turned r l ∙ keeps.two) ∙ (new_unknown program known r keeps.right).no_int
 
       there : Here n m c ints ((arrays ++ l ∷ []) ++ r ∷ []) ((r, name_kind.Array) ∷ (l, name_kind.Array) ∷ known) counts
       there = here_array r (ap (λ w. nat_lt (length w) counts.arrays) (sym (append_assoc c.arrays arrays (l ∷ []))) ∙ right_below) right_new between
@@ -559,32 +561,32 @@ module _ (program : Program) (fs fs' rs ts : List Name) (gs gs' : List model.Fun
       less = omega (arith, room)
 
       one : (can_evaluate c from ≡ true) × ((can_evaluate c to && (nat_le 1 grain && (can_loop c ints arrays x (captured x b) over && can_lower_all (inside c ints arrays x (captured x b) over) [] [] b))) ≡ true)
-      one = both_true (can_evaluate c from) _ can
+      one = and_parts (can_evaluate c from) _ can
 
       from_can : can_evaluate c from ≡ true
       from_can = one.0
 
       two : (can_evaluate c to ≡ true) × ((nat_le 1 grain && (can_loop c ints arrays x (captured x b) over && can_lower_all (inside c ints arrays x (captured x b) over) [] [] b)) ≡ true)
-      two = both_true (can_evaluate c to) _ one.1
+      two = and_parts (can_evaluate c to) _ one.1
 
       four : (can_loop c ints arrays x (captured x b) over ≡ true) × (can_lower_all (inside c ints arrays x (captured x b) over) [] [] b ≡ true)
-      four = both_true (can_loop c ints arrays x (captured x b) over) _ (both_true (nat_le 1 grain) _ two.1).1
+      four = and_parts (can_loop c ints arrays x (captured x b) over) _ (and_parts (nat_le 1 grain) _ two.1).1
 
       keeps : HeadKept program known x from to grain over
       keeps = head_kept program known x y z from to grain over (kept _ line (left_none _ _ types))
 
       head_fits : (fits_head counts (headed c ints arrays x from to grain over b) ≡ true) × (fits_block counts (resolved_block Source (with_int x (at c ints arrays)) b) ≡ true)
-      head_fits = both_true (fits_head counts (headed c ints arrays x from to grain over b)) _ fits
+      head_fits = and_parts (fits_head counts (headed c ints arrays x from to grain over b)) _ fits
 
       below : nat_lt (length (c.outer ++ ints)) counts.ints ≡ true
-      below = (both_true (nat_lt (length (c.outer ++ ints)) counts.ints) _ (both_true _ _ (both_true _ _ (both_true _ _ head_fits.0).0).0).0).0
+      below = (and_parts (nat_lt (length (c.outer ++ ints)) counts.ints) _ (and_parts _ _ (and_parts _ _ (and_parts _ _ head_fits.0).0).0).0).0
 
       inner : Blocks (moves_in c ints arrays x from to grain over b) (length (c.arrays ++ arrays)) (with_int x (at c ints arrays)) (joined [] [] ((low ∷ high ∷ captured x b) ++ x ∷ []) over) over loops k b
       inner = for_inner x from to grain over b loops k more here four.0 four.1 below head_fits.1 (right_none (unless (is_head_of_loop program known x y z from to grain over) line) _ types) len (omega (arith, room))
 
   element_made : (a : Name) (i e : Expr) → StmtMade (AssignElement a i e)
   element_made a i e m c ints arrays known counts returns loops k line here can fits types len room =
-      let g = both_true (if is_among a c.over then is_variable c i else (is_local c a && can_evaluate c i)) (can_evaluate c e) can in
+      let g = and_parts (if is_among a c.over then is_variable c i else (is_local c a && can_evaluate c i)) (can_evaluate c e) can in
       done_alone n Target _ _ loops k len
       (ap (λ s. slotted.AssignElement s (from_low (is_over m (slot_of a (c.arrays ++ arrays))) (moved_expr m (resolved_expr (at c ints arrays) i))) (moved_expr m (resolved_expr (at c ints arrays) e)))
       (spot_array m c here.tracks ints arrays here.few_ints here.few_arrays a i g.0)
@@ -599,13 +601,13 @@ module _ (program : Program) (fs fs' rs ts : List Name) (gs gs' : List model.Fun
       (ap (λ g. slotted.Call kind site (moved_target m (option_map (use_of (c.outer ++ ints)) target)) g (map (moved_argument m) (resolved_arguments (at c ints arrays) (function_named f gs).params es))) (sym (callee f below))
       ∙ ap (λ g. slotted.Call kind site g (slot_of f fs') (map (moved_argument m) (resolved_arguments (at c ints arrays) (function_named f gs).params es))) (target_moved m c here.tracks ints arrays here.few_ints here.few_arrays target three.0)
       ∙ ap (λ g. slotted.Call kind site (option_map (λ x. slot_of x (c.given ++ ints)) target) (slot_of f fs') g) (arguments_moved m c here.tracks ints arrays here.few_ints here.few_arrays es (function_named f gs).params three.1)
-      ∙ ap (λ ps. slotted.Call kind site (option_map (λ x. slot_of x (c.given ++ ints)) target) (slot_of f fs') (slotted_arguments (lowered_at c ints arrays) ps (lower_exprs c.over es))) (sym (params_stay f (both_true (is_plain f) _ can).0)))
+      ∙ ap (λ ps. slotted.Call kind site (option_map (λ x. slot_of x (c.given ++ ints)) target) (slot_of f fs') (slotted_arguments (lowered_at c ints arrays) ps (lower_exprs c.over es))) (sym (params_stay f (and_parts (is_plain f) _ can).0)))
     where
       three : (can_target c target ≡ true) × (can_pass_all c es ≡ true)
-      three = both_true (can_target c target) _ (both_true (length es == length (function_named f c.functions).params) _ (both_true (is_plain f) _ can).1).1
+      three = and_parts (can_target c target) _ (and_parts (length es == length (function_named f c.functions).params) _ (and_parts (is_plain f) _ can).1).1
 
       known_callee : nat_lt (slot_of f fs) counts.functions ≡ true
-      known_callee = (both_true _ (nat_lt (slot_of f fs) counts.functions) (both_true _ _ fits).0).1
+      known_callee = (and_parts _ (nat_lt (slot_of f fs) counts.functions) (and_parts _ _ fits).0).1
 
       below : slot_of f fs < n
       below = was_below (slot_of f fs) counts.functions n known_callee (let e = here.functions_are in omega (arith, e))
@@ -619,16 +621,16 @@ module _ (program : Program) (fs fs' rs ts : List Name) (gs gs' : List model.Fun
       (other m c ints arrays known counts returns (made_block n m (length (c.arrays ++ arrays)) loops (resolved_block Source (at c ints arrays) b)).loops (k + loop_count_in b) here h.1 f.1 (right_none _ _ rest) first.many (omega (arith, room))))
     where
       g : (can_evaluate c e ≡ true) × ((can_lower_all c ints arrays b && can_lower_all c ints arrays d) ≡ true)
-      g = both_true (can_evaluate c e) _ can
+      g = and_parts (can_evaluate c e) _ can
 
       h : (can_lower_all c ints arrays b ≡ true) × (can_lower_all c ints arrays d ≡ true)
-      h = both_true (can_lower_all c ints arrays b) _ g.1
+      h = and_parts (can_lower_all c ints arrays b) _ g.1
 
       fit : ((fits_expr counts (resolved_expr (at c ints arrays) e) && fits_block counts (resolved_block Source (at c ints arrays) b)) ≡ true) × (fits_block counts (resolved_block Source (at c ints arrays) d) ≡ true)
-      fit = both_true _ (fits_block counts (resolved_block Source (at c ints arrays) d)) fits
+      fit = and_parts _ (fits_block counts (resolved_block Source (at c ints arrays) d)) fits
 
       f : (fits_block counts (resolved_block Source (at c ints arrays) b) ≡ true) × (fits_block counts (resolved_block Source (at c ints arrays) d) ≡ true)
-      f = ((both_true (fits_expr counts (resolved_expr (at c ints arrays) e)) _ fit.0).1, fit.1)
+      f = ((and_parts (fits_expr counts (resolved_expr (at c ints arrays) e)) _ fit.0).1, fit.1)
 
       rest : faults_in_block program returns known b ++ faults_in_block program returns known d ≡ []
       rest = right_none (unless (is_fine known e) line) _ types
@@ -647,7 +649,7 @@ module _ (program : Program) (fs fs' rs ts : List Name) (gs gs' : List model.Fun
         (ap (λ s. slotted.DeclareArray s (moved_expr m (resolved_expr (at c ints arrays) e))) (here.tracks.array_next arrays here.few_arrays)
         ∙ ap (λ i. slotted.DeclareArray (length (c.over ++ arrays)) i) (expr_moved m c here.tracks ints arrays here.few_ints here.few_arrays e can))
     stmt_made (Assign x e) m c ints arrays known counts returns loops k line here can fits types len room =
-        let g = both_true (can_write c x) (can_evaluate c e) can in
+        let g = and_parts (can_write c x) (can_evaluate c e) can in
         done_alone n Target _ _ loops k len
         (ap (λ s. slotted.Assign s (moved_expr m (resolved_expr (at c ints arrays) e))) (write_moved m c here.tracks ints arrays here.few_ints here.few_arrays x g.0)
         ∙ ap (λ i. slotted.Assign (slot_of x (c.given ++ ints)) i) (expr_moved m c here.tracks ints arrays here.few_ints here.few_arrays e g.1))
@@ -659,17 +661,17 @@ module _ (program : Program) (fs fs' rs ts : List Name) (gs gs' : List model.Fun
     stmt_made (Begin f from to captured' over') m c ints arrays known counts returns loops k line here can fits types len room = absurd cc
     stmt_made Sync m c ints arrays known counts returns loops k line here can fits types len room = done_alone n Target _ _ loops k len refl
     stmt_made (If e b) m c ints arrays known counts returns loops k line here can fits types len room =
-        let g = both_true (can_evaluate c e) (can_lower_all c ints arrays b) can in
+        let g = and_parts (can_evaluate c e) (can_lower_all c ints arrays b) can in
         done_around (λ bl. slotted.If (moved_expr m (resolved_expr (at c ints arrays) e)) bl) (λ bl. slotted.If (slotted_expr (lowered_at c ints arrays) (lower_expr c.over e)) bl)
         (ap (λ i. slotted.If i (slotted_block Target (lowered_at c ints arrays) (lower_block c.over k b))) (expr_moved m c here.tracks ints arrays here.few_ints here.few_arrays e g.0))
-        (block_made b m c ints arrays known counts returns loops k here g.1 (both_true (fits_expr counts (resolved_expr (at c ints arrays) e)) _ fits).1 (right_none (unless _ line) _ types) len room)
+        (block_made b m c ints arrays known counts returns loops k here g.1 (and_parts (fits_expr counts (resolved_expr (at c ints arrays) e)) _ fits).1 (right_none (unless _ line) _ types) len room)
     stmt_made (IfElse e b d) m c ints arrays known counts returns loops k line here can fits types len room =
         choice_made e b d (block_made b) (block_made d) m c ints arrays known counts returns loops k line here can fits types len room
     stmt_made (While e b) m c ints arrays known counts returns loops k line here can fits types len room =
-        let g = both_true (can_evaluate c e) (can_lower_all c ints arrays b) can in
+        let g = and_parts (can_evaluate c e) (can_lower_all c ints arrays b) can in
         done_around (λ bl. slotted.While (moved_expr m (resolved_expr (at c ints arrays) e)) bl) (λ bl. slotted.While (slotted_expr (lowered_at c ints arrays) (lower_expr c.over e)) bl)
         (ap (λ i. slotted.While i (slotted_block Target (lowered_at c ints arrays) (lower_block c.over k b))) (expr_moved m c here.tracks ints arrays here.few_ints here.few_arrays e g.0))
-        (block_made b m c ints arrays known counts returns loops k here g.1 (both_true (fits_expr counts (resolved_expr (at c ints arrays) e)) _ fits).1 (right_none (unless _ line) _ types) len room)
+        (block_made b m c ints arrays known counts returns loops k here g.1 (and_parts (fits_expr counts (resolved_expr (at c ints arrays) e)) _ fits).1 (right_none (unless _ line) _ types) len room)
     stmt_made (For x y z from to grain over b) m c ints arrays known counts returns loops k line here can fits types len room =
         for_made x y z from to grain over b (block_made b) m c ints arrays known counts returns loops k line here can fits types len room
     stmt_made (Scope b) m c ints arrays known counts returns loops k line here can fits types len room =
@@ -677,7 +679,7 @@ module _ (program : Program) (fs fs' rs ts : List Name) (gs gs' : List model.Fun
     stmt_made (Cut a e l r b) m c ints arrays known counts returns loops k line here can fits types len room =
         cut_made a e l r b (block_made b) m c ints arrays known counts returns loops k line here can fits types len room
     stmt_made (Region tag b) m c ints arrays known counts returns loops k line here can fits types len room =
-        done_around (λ bl. slotted.Region (slot_of tag ts) bl) (λ bl. slotted.Region (slot_of tag ts) bl) refl (block_made b m c ints arrays known counts Nowhere loops k here can (both_true (nat_lt (slot_of tag ts) counts.tags) _ fits).1 types len room)
+        done_around (λ bl. slotted.Region (slot_of tag ts) bl) (λ bl. slotted.Region (slot_of tag ts) bl) refl (block_made b m c ints arrays known counts Nowhere loops k here can (and_parts (nat_lt (slot_of tag ts) counts.tags) _ fits).1 types len room)
     stmt_made (Print e) m c ints arrays known counts returns loops k line here can fits types len room =
         done_alone n Target _ _ loops k len (ap (λ i. slotted.Print i) (expr_moved m c here.tracks ints arrays here.few_ints here.few_arrays e can))
     stmt_made (Return e) m c ints arrays known counts returns loops k line here can fits types len room =

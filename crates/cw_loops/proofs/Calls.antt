@@ -1,6 +1,7 @@
 -- Call statements in the source's frame and in the function's.
 use Rattle.std.proofs.Common.{◌≡◌, ℕ, ◌-◌, ◌≤◌, ◌<◌, Bool, true, false, ℤ, List, [], ◌∷◌, ◌++◌, length, arith, refl, sym, ◌∙◌, ap, append_assoc, append-nil, subst}
 use Rattle.std.specs.Prelude.{if◌then◌else◌, Option, Some, None}
+use Rattle.std.proofs.lemmas.Bool.{and_parts}
 use Rattle.cw_model.specs.declared.syntax.NameKind.{NameKind}
 use Rattle.cw_model.specs.Trees.{Invocation}
 use Rattle.cw_model.specs.TreeLaws.{in_mark}
@@ -13,10 +14,9 @@ use Rattle.cw_model.specs.Frames.{Frame, no_frame, array_of, new_int, new_array,
 use Rattle.cw_model.specs.Expressions.{evaluate}
 use Rattle.cw_model.specs.Outcome.{Outcome, Done, then_do, quiet, pay, pay_for, joined_up}
 use Rattle.cw_model.specs.Meaning.{Completion, Normal, Returned, Deeper, Calls, function_named, given_array, arguments, returned_array, returned_arrays, call_event, run}
+use Rattle.cw_tree.specs.lemmas.Names.{front_among, later_among}
 use Rattle.cw_loops.specs.Lowered.{lower_expr, lower_exprs}
 use Rattle.cw_loops.specs.Lowerable.{Surroundings, can_evaluate, can_pass, can_pass_all, can_target, can_read, is_local, integers_of, arrays_of}
-use Rattle.cw_loops.specs.lemmas.Tests.{both_true}
-use Rattle.cw_loops.specs.lemmas.Naming.{later_among, front_among}
 use Rattle.cw_loops.proofs.Alike.{Alike, Whole, Keeps, same_series, same_fork, no_event, alike_pay, alike_then, alike_one, alike_weaken}
 use Rattle.cw_loops.proofs.Tables.{keys}
 use Rattle.cw_loops.proofs.Arguments.{Fresh, find_at, keys-append}
@@ -39,7 +39,7 @@ keys-sizes (e ∷ t) = ap (λ w. e.0 ∷ w) (keys-sizes t)
 
 pass_evaluates : (c : Surroundings) (e : Expr) → can_pass c e ≡ true → can_evaluate c e ≡ true
 pass_evaluates c (Number n) h = h
-pass_evaluates c (Variable x) h = (both_true (can_read c x) (is_local c x) h).0
+pass_evaluates c (Variable x) h = (and_parts (can_read c x) (is_local c x) h).0
 pass_evaluates c (Element a e) h = h
 pass_evaluates c (Length a) h = h
 pass_evaluates c (Negative e) h = h
@@ -103,7 +103,7 @@ module _ (c : Surroundings) (fo go : List (Name × ℤ)) (Slot : (fa ga : List (
   g0 = target go loc ga la
 
   given_same : (e : Expr) → can_pass c e ≡ true → given_array (lower_expr c.over e) g0 ≡ given_array e f0
-  given_same (Variable a) h = local_same c fo go Slot w fa ga la slot a (both_true (can_read c a) (is_local c a) h).1
+  given_same (Variable a) h = local_same c fo go Slot w fa ga la slot a (and_parts (can_read c a) (is_local c a) h).1
   given_same (Number n) h = refl
   given_same (Element a e) h = refl
   given_same (Length a) h = refl
@@ -116,7 +116,7 @@ module _ (c : Surroundings) (fo go : List (Name × ℤ)) (Slot : (fa ga : List (
   args_alike [] es as_many can start g fresh line left = alike_done left (record { same = refl; good = g; more = []; is = sym (append-nil start.arrays); matches = tt; sliced_is = refl; ints_are = sym (append-nil (keys start.ints)); arrays_are = sym (append-nil (keys start.arrays)) })
   args_alike (p ∷ ps) [] as_many can start g fresh line left = absurd (omega arith)
   args_alike (p ∷ ps) (e ∷ es) as_many can start g fresh line left =
-      by_kind (wants_array p) refl (both_true (can_pass c e) (can_pass_all c es) can) (λ start g f l. args_alike ps es (omega arith) (both_true (can_pass c e) (can_pass_all c es) can).1 start g f line l)
+      by_kind (wants_array p) refl (and_parts (can_pass c e) (can_pass_all c es) can) (λ start g f l. args_alike ps es (omega arith) (and_parts (can_pass c e) (can_pass_all c es) can).1 start g f line l)
     where
       by_kind : (b : Bool) → wants_array p ≡ b → (can_pass c e ≡ true) × (can_pass_all c es ≡ true) →
           ((start : Frame) → Good start → Fresh (keys start.arrays) (arrays_of ps) → (l : ℕ) → Alike (SameGiven ps es f0 start) l (arguments ps es f0 line start l) (arguments ps (lower_exprs c.over es) g0 line start l)) →
@@ -166,7 +166,7 @@ module _ (c : Surroundings) (fo go : List (Name × ℤ)) (Slot : (fa ga : List (
   back_rel [] es can t m callee gc k f g rel s = (rel, s)
   back_rel (p ∷ ps) [] can t m callee gc k f g rel s = (rel, s)
   back_rel (p ∷ ps) (e ∷ es) can t m callee gc k f g rel s =
-      let cans = both_true (can_pass c e) (can_pass_all c es) can in
+      let cans = and_parts (can_pass c e) (can_pass_all c es) can in
       let one = one_back e cans.0 m.0 in
       back_rel ps es cans.1 t m.1 callee gc k (returned_array p e callee f) (returned_array p (lower_expr c.over e) callee g) one.0 one.1
     where
@@ -178,7 +178,7 @@ module _ (c : Surroundings) (fo go : List (Name × ℤ)) (Slot : (fa ga : List (
               Rel c fo go Slot ints arrays (if b then set_array a (array_of callee p.name) f else f) (if b then set_array a (array_of callee p.name) g else g) × (sizes (if b then set_array a (array_of callee p.name) f else f).arrays ≡ sizes f0.arrays)
           by_kind false q f g rel s = (rel, s)
           by_kind true q f g (related loc' fa' ga' la' slot' ki' ka' good') s =
-              let here : is_local c a ≡ true = (both_true (can_read c a) (is_local c a) h).1 in
+              let here : is_local c a ≡ true = (and_parts (can_read c a) (is_local c a) h).1 in
               let m = n (taken_wanted p.kind q) in
               let there : is_among p.name (keys (sizes t)) ≡ true = ap (λ ks. is_among p.name ks) (keys-sizes t) ∙ m.0 in
               let same : length (array_of callee p.name) ≡ length (find [] a (fa' ++ la')) =

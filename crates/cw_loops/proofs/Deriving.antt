@@ -2,12 +2,13 @@
 use Rattle.std.proofs.Common.{◌≡◌, ℕ, Bool, true, false, List, [], ◌∷◌, Option, Some, arith, refl, sym, ◌∙◌, ap}
 use Rattle.std.specs.Prelude.{◌==◌, not, length}
 use Rattle.std.specs.List.{list_all}
-use Rattle.std.proofs.lemmas.Bool.{eqb-true}
+use Rattle.std.proofs.lemmas.Bool.{eqb-true, and_parts}
+use Rattle.cw_facts.specs.Tests.{both_true}
 use Rattle.cw_model.specs.declared.token.Token.{Token}
 use Rattle.cw_model.specs.declared.token.Kind.{Kind}
 use Rattle.cw_model.specs.Text.{between}
 use Rattle.cw_model.specs.Pieces.{is_letter, is_word_byte, is_word, is_number, is_digit, symbol, one_byte, two_bytes}
-use Rattle.cw_model.specs.Tokens.{IsSpelled, IsToken, IsGap, AreTokens, IsTokenCut}
+use Rattle.cw_model.specs.Tokens.{IsSpelled, AreTokens, IsTokenCut}
 use Rattle.cw_model.specs.Tokens as tokens
 use Rattle.cw_model.specs.Syntax.{Name, Expr, Stmt, Block, Function, Reducer, Program}
 use Rattle.cw_model.specs.Syntax as tree
@@ -15,7 +16,6 @@ use Rattle.cw_model.specs.Grammar as grammar
 use Rattle.cw_model.specs.Grammar.{name_of, Part, level, chain, ReadsExpr, operand, operators, end, infixed, ReadsOperand, negative, negation, number, variable, element, length_of, parentheses, ReadsMoreArguments, ReadsArguments, ReadsCall, ReadsMoreNames, ReadsGrain, ReadsOver, Head, ReadsHead, ReadsAssigned, ReadsNamed, ReadsDeclared, ReadsReturned, ReadsStmt, begins, ReadsStmtBy, ReadsBlock, braces, ReadsStmts, ReadsParam, ReadsMoreParams, ReadsParams, ReadsFunction, ReadsItems, Derives}
 use Rattle.cw_loops.specs.Lowered.{is_plain}
 use Rattle.cw_loops.specs.SourceLike.{is_source_expr, is_source_return, is_source_stmt, is_source_block, is_source_function, is_source_like}
-use Rattle.cw_loops.specs.lemmas.Tests.{both_true, all_of}
 use Rattle.cw_loops.proofs.Numbers.{tested}
 
 -- the names among tokens
@@ -29,14 +29,14 @@ first_plain b bs h = go (b == 35) refl
 
 word_plain : (text : List ℕ) → is_word text ≡ true → is_plain text ≡ true
 word_plain [] h = refl
-word_plain (b ∷ bs) h = first_plain b bs (λ e. no_letter (sym (ap is_letter e) ∙ (both_true (is_letter b) (list_all is_word_byte bs) h).0))
+word_plain (b ∷ bs) h = first_plain b bs (λ e. no_letter (sym (ap is_letter e) ∙ (and_parts (is_letter b) (list_all is_word_byte bs) h).0))
   where
     no_letter : is_letter 35 ≡ true → ⊥
     no_letter g = cc
 
 number_plain : (text : List ℕ) → is_number text ≡ true → is_plain text ≡ true
 number_plain [] h = refl
-number_plain (b ∷ bs) h = first_plain b bs (λ e. no_digit (sym (ap is_digit e) ∙ (both_true (is_digit b) _ h).0))
+number_plain (b ∷ bs) h = first_plain b bs (λ e. no_digit (sym (ap is_digit e) ∙ (and_parts (is_digit b) _ h).0))
   where
     no_digit : is_digit 35 ≡ true → ⊥
     no_digit g = cc
@@ -84,14 +84,14 @@ module _ (text : List ℕ) where
     expr_from plain before end = (before, plain)
     expr_from plain before (infixed {d = d} {e = e} is right more) =
         let h = expr_from plain.1 tt right in
-        expr_from h.1 (all_of (is_source_expr d) (is_source_expr e) before h.0) more
+        expr_from h.1 (both_true (is_source_expr d) (is_source_expr e) before h.0) more
 
     operand_from : {k : Kind} {t : Token} {ts rest : List Token} {e : Expr} → Plain text (t ∷ ts) → ReadsOperand text k t ts e rest → Sourced text (is_source_expr e) rest
     operand_from plain (negative read) = expr_from plain.1 tt read
     operand_from plain (negation read) = expr_from plain.1 tt read
     operand_from plain (number {n = n} small) = (tested n (omega arith), plain.1)
     operand_from plain variable = plain
-    operand_from plain (element {t = t} {e = e} left read right) = let h = expr_from plain.1.1 tt read in (all_of (is_plain (name_of text t)) (is_source_expr e) plain.0 h.0, h.1.1)
+    operand_from plain (element {t = t} {e = e} left read right) = let h = expr_from plain.1.1 tt read in (both_true (is_plain (name_of text t)) (is_source_expr e) plain.0 h.0, h.1.1)
     operand_from plain (length_of left name right) = (plain.1.1.0, plain.1.1.1.1)
     operand_from plain (parentheses read right) = let h = expr_from plain.1 tt read in (h.0, h.1.1)
 
@@ -100,14 +100,14 @@ module _ (text : List ℕ) where
   more_from plain (grammar.ReadsMoreArguments.comma {e = e} {es = es} is read more) =
       let h = expr_from plain.1 tt read in
       let k = more_from h.1 more in
-      (all_of (is_source_expr e) (list_all is_source_expr es) h.0 k.0, k.1)
+      (both_true (is_source_expr e) (list_all is_source_expr es) h.0 k.0, k.1)
 
   arguments_from : {ts rest : List Token} {es : List Expr} → Plain text ts → ReadsArguments text ts es rest → Sourced text (list_all is_source_expr es) rest
   arguments_from plain (grammar.ReadsArguments.none is) = (refl, plain.1)
   arguments_from plain (grammar.ReadsArguments.some {e = e} {es = es} read more) =
       let h = expr_from plain tt read in
       let k = more_from h.1 more in
-      (all_of (is_source_expr e) (list_all is_source_expr es) h.0 k.0, k.1)
+      (both_true (is_source_expr e) (list_all is_source_expr es) h.0 k.0, k.1)
 
   call_from : {ts rest : List Token} {es : List Expr} → Plain text ts → ReadsCall text ts es rest → Sourced text (list_all is_source_expr es) rest
   call_from plain (grammar.called left read right) = let h = arguments_from plain.1 read in (h.0, h.1.1)
@@ -116,7 +116,7 @@ module _ (text : List ℕ) where
   names_from plain (grammar.ReadsMoreNames.close is) = (refl, plain.1)
   names_from plain (grammar.ReadsMoreNames.comma {u = u} {xs = xs} is name more) =
       let k = names_from plain.1.1 more in
-      (all_of (is_plain (name_of text u)) (list_all is_plain xs) plain.1.0 k.0, k.1)
+      (both_true (is_plain (name_of text u)) (list_all is_plain xs) plain.1.0 k.0, k.1)
 
   grain_from : {ts rest : List Token} {n : ℕ} → Plain text ts → ReadsGrain ts n rest → Plain text rest
   grain_from plain grammar.usual = plain
@@ -126,7 +126,7 @@ module _ (text : List ℕ) where
   over_from plain grammar.ReadsOver.nothing = (refl, plain)
   over_from plain (grammar.over {v = v} {xs = xs} is left name more) =
       let k = names_from plain.1.1.1 more in
-      (all_of (is_plain (name_of text v)) (list_all is_plain xs) plain.1.1.0 k.0, k.1)
+      (both_true (is_plain (name_of text v)) (list_all is_plain xs) plain.1.1.0 k.0, k.1)
 
   -- the head of a loop
   record HeadFrom (h : Head) (rest : List Token) : Type 0 where
@@ -144,27 +144,27 @@ module _ (text : List ℕ) where
       record { variable' = plain.1.1.0; from = f.0; to = t.0; over = o.0; rest' = o.1 }
 
   assigned_from : {n m : ℕ} {x : Name} {ts rest : List Token} {s : Stmt} → is_plain x ≡ true → Plain text ts → ReadsAssigned text n x ts s m rest → Sourced text (is_source_stmt s) rest
-  assigned_from {x = x} known plain (grammar.ReadsAssigned.value {e = e} read is) = let h = expr_from plain tt read in (all_of (is_plain x) (is_source_expr e) known h.0, h.1.1)
+  assigned_from {x = x} known plain (grammar.ReadsAssigned.value {e = e} read is) = let h = expr_from plain tt read in (both_true (is_plain x) (is_source_expr e) known h.0, h.1.1)
   assigned_from {x = x} known plain (grammar.ReadsAssigned.call {f = f} {es = es} is read) =
       let h = call_from plain.1 read in
-      (all_of (is_plain x) _ known (all_of (is_plain (name_of text f)) (list_all is_source_expr es) plain.0 h.0), h.1)
+      (both_true (is_plain x) _ known (both_true (is_plain (name_of text f)) (list_all is_source_expr es) plain.0 h.0), h.1)
   assigned_from {x = x} known plain (grammar.ReadsAssigned.spawn {f = f} {es = es} is name read) =
       let h = call_from plain.1.1 read in
-      (all_of (is_plain x) _ known (all_of (is_plain (name_of text f)) (list_all is_source_expr es) plain.1.0 h.0), h.1)
+      (both_true (is_plain x) _ known (both_true (is_plain (name_of text f)) (list_all is_source_expr es) plain.1.0 h.0), h.1)
 
   named_from : {n m : ℕ} {k : Kind} {t : Token} {ts rest : List Token} {s : Stmt} → is_plain (name_of text t) ≡ true → Plain text ts → ReadsNamed text n k t ts s m rest → Sourced text (is_source_stmt s) rest
   named_from known plain (grammar.ReadsNamed.assign read) = assigned_from known plain read
   named_from {t = t} known plain (grammar.ReadsNamed.assign_element {i = i} {e = e} index u v value w) =
       let h = expr_from plain tt index in
       let k = expr_from h.1.1.1 tt value in
-      (all_of (is_plain (name_of text t)) _ known (all_of (is_source_expr i) (is_source_expr e) h.0 k.0), k.1.1)
-  named_from {t = t} known plain (grammar.ReadsNamed.add {e = e} read is) = let h = expr_from plain tt read in (all_of (is_plain (name_of text t)) (is_source_expr e) known h.0, h.1.1)
-  named_from {t = t} known plain (grammar.ReadsNamed.raise {e = e} equals read is) = let h = expr_from plain.1 tt read in (all_of (is_plain (name_of text t)) (is_source_expr e) known h.0, h.1.1)
-  named_from {t = t} known plain (grammar.ReadsNamed.call {es = es} read is) = let h = arguments_from plain read in (all_of (is_plain (name_of text t)) (list_all is_source_expr es) known h.0, h.1.1)
+      (both_true (is_plain (name_of text t)) _ known (both_true (is_source_expr i) (is_source_expr e) h.0 k.0), k.1.1)
+  named_from {t = t} known plain (grammar.ReadsNamed.add {e = e} read is) = let h = expr_from plain tt read in (both_true (is_plain (name_of text t)) (is_source_expr e) known h.0, h.1.1)
+  named_from {t = t} known plain (grammar.ReadsNamed.raise {e = e} equals read is) = let h = expr_from plain.1 tt read in (both_true (is_plain (name_of text t)) (is_source_expr e) known h.0, h.1.1)
+  named_from {t = t} known plain (grammar.ReadsNamed.call {es = es} read is) = let h = arguments_from plain read in (both_true (is_plain (name_of text t)) (list_all is_source_expr es) known h.0, h.1.1)
 
   declared_from : {x : Name} {ts rest : List Token} {s : Stmt} → is_plain x ≡ true → Plain text ts → ReadsDeclared text x ts s rest → Sourced text (is_source_stmt s) rest
-  declared_from {x = x} known plain (grammar.ReadsDeclared.integer {e = e} is read u) = let h = expr_from plain.1 tt read in (all_of (is_plain x) (is_source_expr e) known h.0, h.1.1)
-  declared_from {x = x} known plain (grammar.ReadsDeclared.array {e = e} is read u v) = let h = expr_from plain.1 tt read in (all_of (is_plain x) (is_source_expr e) known h.0, h.1.1.1)
+  declared_from {x = x} known plain (grammar.ReadsDeclared.integer {e = e} is read u) = let h = expr_from plain.1 tt read in (both_true (is_plain x) (is_source_expr e) known h.0, h.1.1)
+  declared_from {x = x} known plain (grammar.ReadsDeclared.array {e = e} is read u v) = let h = expr_from plain.1 tt read in (both_true (is_plain x) (is_source_expr e) known h.0, h.1.1.1)
 
   returned_from : {ts rest : List Token} {e : Option Expr} → Plain text ts → ReadsReturned text ts e rest → Sourced text (is_source_return e) rest
   returned_from plain (grammar.ReadsReturned.nothing is) = (refl, plain.1)
@@ -179,30 +179,30 @@ module _ (text : List ℕ) where
     kind_from plain (grammar.named is read) = named_from plain.0 plain.1.1 read
     kind_from plain (grammar.ReadsStmtBy.spawn {f = f} {es = es} name read) =
         let h = call_from plain.1.1 read in
-        (all_of (is_plain (name_of text f)) (list_all is_source_expr es) plain.1.0 h.0, h.1)
+        (both_true (is_plain (name_of text f)) (list_all is_source_expr es) plain.1.0 h.0, h.1)
     kind_from plain (grammar.sync is) = (refl, plain.1.1)
     kind_from plain (grammar.when {e = e} {b = b} left test right body) =
         let h = expr_from plain.1.1 tt test in
         let k = block_from h.1.1 body in
-        (all_of (is_source_expr e) (is_source_block b) h.0 k.0, k.1)
+        (both_true (is_source_expr e) (is_source_block b) h.0 k.0, k.1)
     kind_from plain (grammar.choose {e = e} {b = b} {c = c} left test right body other rest_of) =
         let h = expr_from plain.1.1 tt test in
         let k = block_from h.1.1 body in
         let j = block_from k.1.1 rest_of in
-        (all_of (is_source_expr e) _ h.0 (all_of (is_source_block b) (is_source_block c) k.0 j.0), j.1)
+        (both_true (is_source_expr e) _ h.0 (both_true (is_source_block b) (is_source_block c) k.0 j.0), j.1)
     kind_from plain (grammar.repeat {e = e} {b = b} left test right body) =
         let h = expr_from plain.1.1 tt test in
         let k = block_from h.1.1 body in
-        (all_of (is_source_expr e) (is_source_block b) h.0 k.0, k.1)
+        (both_true (is_source_expr e) (is_source_block b) h.0 k.0, k.1)
     kind_from plain (grammar.loop {h = heading} {b = b} read body) =
         let h = head_from plain.1 read in
         let k = block_from h.rest' body in
-        (all_of (is_plain heading.variable) _ h.variable' (all_of (is_source_expr heading.from) _ h.from (all_of (is_source_expr heading.to) _ h.to (all_of (list_all is_plain heading.over) (is_source_block b) h.over k.0))), k.1)
+        (both_true (is_plain heading.variable) _ h.variable' (both_true (is_source_expr heading.from) _ h.from (both_true (is_source_expr heading.to) _ h.to (both_true (list_all is_plain heading.over) (is_source_block b) h.over k.0))), k.1)
     kind_from plain (grammar.scope body) = block_from plain.1 body
     kind_from plain (grammar.cut {a = a} {l = l} {r = r} {e = e} {b = b} array at read is left comma right body) =
         let h = expr_from plain.1.1.1 tt read in
         let k = block_from h.1.1.1.1.1 body in
-        (all_of (is_plain (name_of text a)) _ plain.1.0 (all_of (is_source_expr e) _ h.0 (all_of (is_plain (name_of text l)) _ h.1.1.0 (all_of (is_plain (name_of text r)) (is_source_block b) h.1.1.1.1.0 k.0))), k.1)
+        (both_true (is_plain (name_of text a)) _ plain.1.0 (both_true (is_source_expr e) _ h.0 (both_true (is_plain (name_of text l)) _ h.1.1.0 (both_true (is_plain (name_of text r)) (is_source_block b) h.1.1.1.1.0 k.0))), k.1)
     kind_from plain (grammar.region tag body) = block_from plain.1.1 body
     kind_from plain (grammar.print left read right end') = let h = expr_from plain.1.1 tt read in (h.0, h.1.1.1)
     kind_from plain (grammar.give read) = returned_from plain.1 read
@@ -215,7 +215,7 @@ module _ (text : List ℕ) where
     stmts_from plain (grammar.one_more {s = s} {b = b} first others) =
         let h = stmt_from plain first in
         let k = stmts_from h.1 others in
-        (all_of (is_source_stmt s) (is_source_block b) h.0 k.0, k.1)
+        (both_true (is_source_stmt s) (is_source_block b) h.0 k.0, k.1)
 
   param_from : {ts rest : List Token} {p : tree.Param} → Plain text ts → ReadsParam text ts p rest → Plain text rest
   param_from plain (grammar.ReadsParam.integer is name) = plain.1.1
@@ -233,14 +233,14 @@ module _ (text : List ℕ) where
   function_from : {n m : ℕ} {ts rest : List Token} {f : Function} → Plain text ts → ReadsFunction text n ts f m rest → Sourced text (is_source_function f) rest
   function_from plain (grammar.function {f = f} {b = b} gives name left params body) =
       let h = block_from (params_from plain.1.1.1 params) body in
-      (all_of (is_plain (name_of text f)) (is_source_block b) plain.1.0 h.0, h.1)
+      (both_true (is_plain (name_of text f)) (is_source_block b) plain.1.0 h.0, h.1)
 
   items_from : {n : ℕ} {ts : List Token} {rs : List Reducer} {fs : List Function} → Plain text ts → ReadsItems text n ts rs fs → list_all is_source_function fs ≡ true
   items_from plain grammar.no_item = refl
   items_from plain (grammar.one_reducer t u s v more) = items_from plain.1.1.1.1 more
   items_from plain (grammar.one_function {f = f} {fs = fs} first more) =
       let h = function_from plain first in
-      all_of (is_source_function f) (list_all is_source_function fs) h.0 (items_from h.1 more)
+      both_true (is_source_function f) (list_all is_source_function fs) h.0 (items_from h.1 more)
 
 pub derived_like : (text : List ℕ) (ts : List Token) (program : Program) → IsTokenCut text ts → Derives text ts program → is_source_like program ≡ true
 derived_like text ts program cut derived = items_from text (tokens_plain text 0 ts (length text) cut) derived.items

@@ -2,14 +2,13 @@
 use Rattle.std.proofs.Common.{◌≡◌, ℕ, ◌==◌, ◌<◌, ◌≤◌, nat_lt, Bool, true, false, List, [], ◌∷◌, ◌++◌, length, arith, refl, sym, ◌∙◌}
 use Rattle.std.specs.Prelude.{if◌then◌else◌, not, ◌&&◌, ◌||◌}
 use Rattle.std.specs.List.{list_any, AllByRecursion, IsDistinct}
-use Rattle.std.proofs.lemmas.Bool.{eqb-true}
-use Rattle.std.proofs.lemmas.Bool.Decides.{nat_tests}
+use Rattle.std.proofs.lemmas.Bool.{eqb-true, and_parts, or_parts}
 use Rattle.std.proofs.lemmas.List.{map-append, length-map}
 use Rattle.std.proofs.lemmas.List.Folds.{list_any-append}
 use Rattle.std.proofs.lemmas.Map.Steps.{length-le_from_distinct_below}
+use Rattle.cw_facts.specs.Tests.{lt_of, not_true}
 use Rattle.cw_tree.specs.Resolved.{Use, is_slot_in, with_first, first_uses, reads_in_block, captured_in, Block}
 use Rattle.cw_loops.specs.Moved.{slots_of}
-use Rattle.cw_loops.specs.lemmas.Tests.{both_true, not_true, none_of}
 
 -- slots of which no two are equal, each below a number
 record AreApart (n : ℕ) (slots : List ℕ) : Type 0 where
@@ -24,7 +23,7 @@ distinct_last : (slots : List ℕ) (s : ℕ) → is_slot_in s slots ≡ false �
 unfolding IsDistinct
 distinct_last [] s new d = (tt, d)
 distinct_last (k ∷ slots) s new d =
-    let two = none_of (k == s) (is_slot_in s slots) new in
+    let two = or_parts (k == s) (is_slot_in s slots) new in
     (others_apart k slots s two.0 d.0, distinct_last slots s two.1 d.1)
 
 below_last : (n : ℕ) (slots : List ℕ) (s : ℕ) → s < n → ((q : ℕ) → list_any (λ k. q == k) slots ≡ true → q < n) → (q : ℕ) → list_any (λ k. q == k) (slots ++ s ∷ []) ≡ true → q < n
@@ -35,21 +34,18 @@ below_last n slots s less below q h = go (list_any (λ k. q == k) slots) (q == s
     go false true e f g = let same = eqb-true q s f in omega (arith, same, less)
     go false false e f g = absurd cc
 
-was_below : (k n : ℕ) → nat_lt k n ≡ true → k < n
-was_below k n h = grind (arith, nat_tests, h)
-
 apart_with : (n : ℕ) (found : List Use) (u : Use) → AreApart n (slots_of found) → AreApart n (slots_of (with_first n found u))
 apart_with n found u h = go (nat_lt u.slot n && not (is_slot_in u.slot (slots_of found))) refl
   where
     more : nat_lt u.slot n ≡ true → is_slot_in u.slot (slots_of found) ≡ false → AreApart n (slots_of found ++ u.slot ∷ [])
     more less new = record {
       distinct = distinct_last (slots_of found) u.slot new h.distinct;
-      below = below_last n (slots_of found) u.slot (was_below u.slot n less) h.below;
+      below = below_last n (slots_of found) u.slot (lt_of u.slot n less) h.below;
     }
 
     go : (b : Bool) → (nat_lt u.slot n && not (is_slot_in u.slot (slots_of found))) ≡ b → AreApart n (slots_of (if b then found ++ u ∷ [] else found))
     go true e =
-        let two = both_true (nat_lt u.slot n) (not (is_slot_in u.slot (slots_of found))) e in
+        let two = and_parts (nat_lt u.slot n) (not (is_slot_in u.slot (slots_of found))) e in
         rw (map-append (λ (w : Use). w.slot) found (u ∷ [])) (more two.0 (not_true _ two.1))
     go false e = h
 

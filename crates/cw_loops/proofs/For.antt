@@ -1,8 +1,9 @@
 -- A `cilk_for` of the source, and the text that it is lowered to.
 use Rattle.std.proofs.Common.{◌≡◌, ℕ, zero, suc, ◌+◌, ◌≤◌, ◌<◌, ◌^◌, Bool, true, false, ℤ, pos, negsuc, ◌+ℤ◌, List, [], ◌∷◌, ◌++◌, length, take, drop, arith, refl, sym, ◌∙◌, ap, subst, length-drop}
 use Rattle.std.specs.Prelude.{if◌then◌else◌, not, ◌&&◌, nat_lt, int_le, map}
-use Rattle.std.proofs.lemmas.Bool.{leb-true}
+use Rattle.std.proofs.lemmas.Bool.{leb-true, and_parts}
 use Rattle.std.proofs.lemmas.List.{length-take-le}
+use Rattle.cw_facts.specs.Tests.{not_true}
 use Rattle.cw_model.specs.declared.limits.TheConstants.{MOST_DEPTH}
 use Rattle.cw_model.specs.Ints.{natural, fits}
 use Rattle.cw_model.specs.Trees.{Series}
@@ -13,11 +14,11 @@ use Rattle.cw_model.specs.Outcome.{Done, then_do, quiet, joined_up}
 use Rattle.cw_model.specs.Loops.{lies_within, halves}
 use Rattle.cw_model.specs.LoopLaws.{for_body}
 use Rattle.cw_model.specs.Meaning.{Normal, Returned, SameDepth, Calls, function_named, loop_frame, with_slice, slices_back, call}
+use Rattle.cw_tree.specs.lemmas.Names.{same_are, front_among, later_among}
 use Rattle.cw_loops.specs.Lowered.{is_plain, low, high, loop_function}
 use Rattle.cw_loops.specs.Lowerable.{Surroundings, can_read, is_local, can_capture, can_slice, can_loop}
-use Rattle.cw_loops.specs.lemmas.Tests.{both_true, not_true}
-use Rattle.cw_loops.specs.lemmas.Apart.{same_are, plain_apart}
-use Rattle.cw_loops.specs.lemmas.Naming.{later_among, front_among, among_right}
+use Rattle.cw_loops.specs.lemmas.Apart.{plain_apart}
+use Rattle.cw_loops.specs.lemmas.Naming.{among_right}
 use Rattle.cw_loops.proofs.Alike.{Alike, alike_then, alike_one, series_keeps}
 use Rattle.cw_loops.proofs.Tables.{keys, find_past, put_past}
 use Rattle.cw_loops.proofs.Arguments.{Fresh, table, keys-append}
@@ -56,8 +57,8 @@ sizes_mapped (a ∷ as') f t d h =
 lies_each : (lo hi : ℤ) (over : List Name) (g : Name → List ℤ) → lies_within lo hi (map g over) ≡ true → (a : Name) → is_among a over ≡ true → (int_le (pos 0) lo ≡ true) × (int_le hi (pos (length (g a))) ≡ true)
 lies_each lo hi [] g h a o = absurd cc
 lies_each lo hi (b ∷ over) g h a o =
-    let p = both_true (int_le (pos 0) lo && int_le hi (pos (length (g b)))) (lies_within lo hi (map g over)) h in
-    let q = both_true (int_le (pos 0) lo) (int_le hi (pos (length (g b)))) p.0 in
+    let p = and_parts (int_le (pos 0) lo && int_le hi (pos (length (g b)))) (lies_within lo hi (map g over)) h in
+    let q = and_parts (int_le (pos 0) lo) (int_le hi (pos (length (g b)))) p.0 in
     go (same_name a b) refl o q (lies_each lo hi over g p.1 a)
   where
     go : (x : Bool) → same_name a b ≡ x → (if x then true else is_among a over) ≡ true → (int_le (pos 0) lo ≡ true) × (int_le hi (pos (length (g b))) ≡ true) →
@@ -78,9 +79,9 @@ up_to lo n m e h =
 captured_plain : (c : Surroundings) (ints xs : List Name) → can_capture c ints xs ≡ true → (v : Name) → is_among v xs ≡ true → (is_plain v ≡ true) × (can_read c v ≡ true) × (is_among v (c.outer ++ ints) ≡ true)
 captured_plain c ints [] h v o = absurd cc
 captured_plain c ints (x ∷ xs) h v o =
-    let p = both_true (is_plain x) (can_read c x && (is_among x (c.outer ++ ints) && can_capture c ints xs)) h in
-    let q = both_true (can_read c x) (is_among x (c.outer ++ ints) && can_capture c ints xs) p.1 in
-    let r = both_true (is_among x (c.outer ++ ints)) (can_capture c ints xs) q.1 in
+    let p = and_parts (is_plain x) (can_read c x && (is_among x (c.outer ++ ints) && can_capture c ints xs)) h in
+    let q = and_parts (can_read c x) (is_among x (c.outer ++ ints) && can_capture c ints xs) p.1 in
+    let r = and_parts (is_among x (c.outer ++ ints)) (can_capture c ints xs) q.1 in
     go (same_name v x) refl o (p.0, q.0, r.0) (captured_plain c ints xs r.1 v)
   where
     go : (b : Bool) → same_name v x ≡ b → (if b then true else is_among v xs) ≡ true → (is_plain x ≡ true) × (can_read c x ≡ true) × (is_among x (c.outer ++ ints) ≡ true) →
@@ -91,9 +92,9 @@ captured_plain c ints (x ∷ xs) h v o =
 sliced_plain : (c : Surroundings) (arrays xs : List Name) → can_slice c arrays xs ≡ true → (a : Name) → is_among a xs ≡ true → (is_plain a ≡ true) × (is_local c a ≡ true) × (is_among a arrays ≡ true)
 sliced_plain c arrays [] h a o = absurd cc
 sliced_plain c arrays (x ∷ xs) h a o =
-    let p = both_true (is_plain x) (is_local c x && (is_among x arrays && can_slice c arrays xs)) h in
-    let q = both_true (is_local c x) (is_among x arrays && can_slice c arrays xs) p.1 in
-    let r = both_true (is_among x arrays) (can_slice c arrays xs) q.1 in
+    let p = and_parts (is_plain x) (is_local c x && (is_among x arrays && can_slice c arrays xs)) h in
+    let q = and_parts (is_local c x) (is_among x arrays && can_slice c arrays xs) p.1 in
+    let r = and_parts (is_among x arrays) (can_slice c arrays xs) q.1 in
     go (same_name a x) refl o (p.0, q.0, r.0) (sliced_plain c arrays xs r.1 a)
   where
     go : (b : Bool) → same_name a x ≡ b → (if b then true else is_among a xs) ≡ true → (is_plain x ≡ true) × (is_local c x ≡ true) × (is_among x arrays ≡ true) →
@@ -113,12 +114,12 @@ pub record LoopTests (c : Surroundings) (ints arrays : List Name) (x : Name) (ta
 
 pub loop_tests : (c : Surroundings) (ints arrays : List Name) (x : Name) (taken over : List Name) → can_loop c ints arrays x taken over ≡ true → LoopTests c ints arrays x taken over
 loop_tests c ints arrays x taken over h =
-    let p1 = both_true (is_plain x) _ h in
-    let p2 = both_true (not (is_among x (c.outer ++ ints))) _ p1.1 in
-    let p3 = both_true (not (is_among x taken)) _ p2.1 in
-    let p4 = both_true (differ taken) _ p3.1 in
-    let p5 = both_true (differ over) _ p4.1 in
-    let p6 = both_true (can_capture c ints taken) (can_slice c arrays over) p5.1 in
+    let p1 = and_parts (is_plain x) _ h in
+    let p2 = and_parts (not (is_among x (c.outer ++ ints))) _ p1.1 in
+    let p3 = and_parts (not (is_among x taken)) _ p2.1 in
+    let p4 = and_parts (differ taken) _ p3.1 in
+    let p5 = and_parts (differ over) _ p4.1 in
+    let p6 = and_parts (can_capture c ints taken) (can_slice c arrays over) p5.1 in
     record {
       plain = p1.0;
       is_new = not_true (is_among x (c.outer ++ ints)) p2.0;

@@ -2,6 +2,8 @@
 use Rattle.std.proofs.Common.{◌≡◌, ℕ, zero, suc, ◌+◌, ◌*◌, Bool, true, false, pos, List, [], ◌∷◌, ◌++◌, length, map, arith, refl, sym, ◌∙◌, ap, append_assoc, append-nil, length-append}
 use Rattle.std.specs.Prelude.{if◌then◌else◌, not, ◌||◌, replicate, filter}
 use Rattle.std.proofs.lemmas.List.{map-append}
+use Rattle.std.proofs.lemmas.Bool.{and_parts}
+use Rattle.cw_facts.specs.Tests.{not_true}
 use Rattle.cw_model.specs.declared.syntax.NameKind.{NameKind}
 use Rattle.cw_model.specs.declared.syntax.NameKind.TheVariants as name_kind
 use Rattle.cw_model.specs.declared.syntax.CallKind.TheVariants.{Plain, Spawned}
@@ -11,14 +13,15 @@ use Rattle.cw_model.specs.Syntax as model
 use Rattle.cw_model.specs.Names.{same_name, is_among, differ}
 use Rattle.cw_tree.specs.Resolved.{Lists, Locals, slot_of, params_of}
 use Rattle.cw_tree.specs.lemmas.NamedSlots.{slot_stays}
+use Rattle.cw_tree.specs.lemmas.Names.{among_append, same_itself, same_are, front_among, later_among}
 use Rattle.cw_loops.specs.Lowered.{is_plain, low, high, middle, left_part, right_part, int_params, array_params, variables, loop_function, leaf_block, node_block, both_halves, in_cuts, left_arguments, right_arguments}
 use Rattle.cw_loops.specs.Slotted.{Expr, Number, Variable, Binary, Int, Array, Declare, Assign, Start, IfElse, While, Scope, Cut, Block, End, Then, Function, slotted_name, slotted_argument, slotted_block, slotted_function, slotted_arguments}
 use Rattle.cw_loops.specs.Expanded.{turn_slot, left_slot, right_slot, numbers, half, loop_text}
 use Rattle.cw_loops.specs.Expanded as by_slot
 use Rattle.cw_loops.specs.Moved.{Loop}
-use Rattle.cw_loops.specs.lemmas.Tests.{both_true, never, refuted, not_true}
-use Rattle.cw_loops.specs.lemmas.Apart.{same_are, same_itself, plain_apart, apart_plain}
-use Rattle.cw_loops.specs.lemmas.Naming.{Placed, at_front, after_it, placed, among_right, among_join, front_among, later_among}
+use Rattle.cw_loops.specs.lemmas.Tests.{never, refuted}
+use Rattle.cw_loops.specs.lemmas.Apart.{plain_apart, apart_plain}
+use Rattle.cw_loops.specs.lemmas.Naming.{Placed, at_front, after_it, placed, among_right}
 use Rattle.cw_loops.proofs.Fresh.{left_left, right_right}
 use Rattle.cw_loops.proofs.Shifting.{slot_past}
 use Rattle.cw_loops.proofs.Readers.{reads_none, all_taken}
@@ -32,7 +35,7 @@ one_more done v = length-append done (v ∷ []) ∙ omega arith
 not_before : (v : Name) (done rest : List Name) → differ (done ++ v ∷ rest) ≡ true → is_among v done ≡ false
 not_before v [] rest h = refl
 not_before v (y ∷ done) rest h =
-    let two = both_true (not (is_among y (done ++ v ∷ rest))) (differ (done ++ v ∷ rest)) h in
+    let two = and_parts (not (is_among y (done ++ v ∷ rest))) (differ (done ++ v ∷ rest)) h in
     let other : same_name v y ≡ false = refuted (same_name v y) (λ e. never (is_among y (done ++ v ∷ rest)) (among_right y done (v ∷ rest) (ap (λ w. is_among w (v ∷ rest)) (sym (same_are v y e)) ∙ front_among v rest)) (not_true _ two.0)) in
     ap (λ b. if b then true else is_among v done) other ∙ not_before v done rest two.1
 
@@ -205,17 +208,17 @@ module _ (lists : Lists) (line : ℕ) (name x : Name) (grain : ℕ) (taken over 
 
   -- what is no array
   low_no_array : is_among low all ≡ false
-  low_no_array = among_join low over (parts over) ∙ ap (λ b. b || is_among low (parts over)) (generated_free low over over_plain (λ a p. apart_plain a (108 ∷ []) p)) ∙ no_part low over (λ b. refl) (λ b. refl)
+  low_no_array = among_append low over (parts over) ∙ ap (λ b. b || is_among low (parts over)) (generated_free low over over_plain (λ a p. apart_plain a (108 ∷ []) p)) ∙ no_part low over (λ b. refl) (λ b. refl)
 
   high_no_array : is_among high all ≡ false
-  high_no_array = among_join high over (parts over) ∙ ap (λ b. b || is_among high (parts over)) (generated_free high over over_plain (λ a p. apart_plain a (104 ∷ []) p)) ∙ no_part high over (λ b. refl) (λ b. refl)
+  high_no_array = among_append high over (parts over) ∙ ap (λ b. b || is_among high (parts over)) (generated_free high over over_plain (λ a p. apart_plain a (104 ∷ []) p)) ∙ no_part high over (λ b. refl) (λ b. refl)
 
   middle_no_array : is_among middle all ≡ false
-  middle_no_array = among_join middle over (parts over) ∙ ap (λ b. b || is_among middle (parts over)) (generated_free middle over over_plain (λ a p. apart_plain a (109 ∷ []) p)) ∙ no_part middle over (λ b. refl) (λ b. refl)
+  middle_no_array = among_append middle over (parts over) ∙ ap (λ b. b || is_among middle (parts over)) (generated_free middle over over_plain (λ a p. apart_plain a (109 ∷ []) p)) ∙ no_part middle over (λ b. refl) (λ b. refl)
 
   taken_no_array : (v : Name) → is_among v taken ≡ true → is_among v all ≡ false
   taken_no_array v o =
-      among_join v over (parts over) ∙ ap (λ b. b || is_among v (parts over)) (kept_apart v o)
+      among_append v over (parts over) ∙ ap (λ b. b || is_among v (parts over)) (kept_apart v o)
       ∙ no_part v over (λ b. plain_apart v (60 ∷ b) (taken_plain v o)) (λ b. plain_apart v (62 ∷ b) (taken_plain v o))
 
   left_no_over : (a : Name) → is_among (left_part a) over ≡ false

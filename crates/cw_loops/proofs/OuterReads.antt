@@ -1,19 +1,21 @@
 -- What a resolved body takes from outside, in the body of a loop that can be lowered.
 use Rattle.std.proofs.Common.{◌≡◌, ℕ, nat_lt, Bool, true, false, List, [], ◌∷◌, ◌++◌, length, map, arith, refl, sym, ◌∙◌, ap, subst, append_assoc, append-nil, drop}
 use Rattle.std.specs.Prelude.{if◌then◌else◌, nat_le, ◌==◌, not, ◌&&◌, ◌||◌, Some, None}
+use Rattle.std.proofs.lemmas.Bool.{and_parts}
+use Rattle.cw_facts.specs.Tests.{not_below, not_true}
 use Rattle.cw_model.specs.Syntax.{Name, Expr, Number, Variable, Element, Length, Negative, Not, Binary, Stmt, Declare, DeclareArray, Assign, AssignElement, Reduce, Call, Start, Begin, Sync, If, IfElse, While, For, Scope, Cut, Region, Print, Return, Block, End, Then, Param}
 use Rattle.cw_model.specs.Names.{same_name, is_among, new_names}
 use Rattle.cw_model.specs.Meaning.{function_named}
 use Rattle.cw_loops.specs.Lowered.{is_plain}
 use Rattle.cw_model.specs.Captured.{captured, read_by, read_by_all, read_in, read_in_block, declared_in, declared_in_block}
-use Rattle.cw_tree.specs.Resolved.{Lists, Locals, Use, slot_of, use_of, resolved_expr, resolved_argument, resolved_stmt, resolved_block, with_int, with_array, locals_after, reads, argument_reads, arguments_read, reads_in, reads_in_block, captured_in, resolved_arguments}
+use Rattle.cw_tree.specs.Resolved.{Lists, Locals, Use, slot_of, use_of, resolved_expr, resolved_argument, resolved_stmt, resolved_block, with_int, with_array, reads, argument_reads, arguments_read, reads_in, reads_in_block, captured_in, resolved_arguments}
 use Rattle.cw_tree.specs.Resolved as spec
 use Rattle.cw_tree.specs.lemmas.NamedSlots.{slot_stays}
+use Rattle.cw_tree.specs.lemmas.Names.{same_are, front_among, later_among}
 use Rattle.cw_loops.specs.Lowerable.{Surroundings, can_write, can_read, is_local, is_variable, can_evaluate, can_pass, can_pass_all, can_target, new_integers, new_arrays, can_loop, inside, can_lower, can_lower_all}
-use Rattle.cw_loops.specs.lemmas.Tests.{both_true, Told, yes_is, no_is, told, never, not_true}
-use Rattle.cw_loops.specs.lemmas.Apart.{same_are}
-use Rattle.cw_loops.specs.lemmas.Naming.{Side, in_first, in_second, side, among_left, among_right, front_among, later_among, neither_among, new_are_there, new_are_all}
-use Rattle.cw_loops.proofs.Shifting.{above, slot_past}
+use Rattle.cw_loops.specs.lemmas.Tests.{Told, yes_is, no_is, told, never}
+use Rattle.cw_loops.specs.lemmas.Naming.{Side, in_first, in_second, side, among_left, among_right, neither_among, new_are_there, new_are_all}
+use Rattle.cw_loops.proofs.Shifting.{slot_past}
 use Rattle.cw_loops.proofs.Taken.{Matches, both_match, kept_match, own_match, dropped_match, fewer_match, each_match, matched}
 use Rattle.cw_loops.proofs.Entering.{at, Entered, entered, variable_can, two_lists, after_stmt, after_array}
 
@@ -63,7 +65,7 @@ module _ (c : Surroundings) (ints0 arrays0 : List Name) (x : Name) (total declar
       go : Told (is_among v (new_names total (x ∷ declared) ++ x ∷ [])) → is_among v before ≡ false
       go (yes_is e) = by (side v (new_names total (x ∷ declared)) (x ∷ []) e)
       go (no_is e) =
-          (neither_among v before (x ∷ []) (not_true (is_among v (before ++ x ∷ [])) (both_true (not (is_among v (before ++ x ∷ []))) _ (ap (λ b. b || can_write turn v) (sym e) ∙ r)).0)).0
+          (neither_among v before (x ∷ []) (not_true (is_among v (before ++ x ∷ [])) (and_parts (not (is_among v (before ++ x ∷ []))) _ (ap (λ b. b || can_write turn v) (sym e) ∙ r)).0)).0
 
   name_in : (v : Name) (ints : List Name) → can_read turn v ≡ true → is_among v total ≡ true → In (use_of (turn.outer ++ ints) v ∷ []) (v ∷ [])
   name_in v ints r there = go (told (is_among v (new_names total (x ∷ declared))))
@@ -74,7 +76,7 @@ module _ (c : Surroundings) (ints0 arrays0 : List Name) (x : Name) (total declar
       past : is_among v before ≡ false → nat_lt (slot_of v ((before ++ x ∷ []) ++ ints)) (length before) ≡ false
       past unknown =
           let e = ap (slot_of v) (append_assoc before (x ∷ []) ints) ∙ slot_past v before (x ∷ [] ++ ints) unknown in
-          above (slot_of v ((before ++ x ∷ []) ++ ints)) (length before) (omega (arith, e))
+          not_below (slot_of v ((before ++ x ∷ []) ++ ints)) (length before) (omega (arith, e))
 
       go : Told (is_among v (new_names total (x ∷ declared))) → In (use_of (turn.outer ++ ints) v ∷ []) (v ∷ [])
       go (yes_is e) =
@@ -96,7 +98,7 @@ module _ (c : Surroundings) (ints0 arrays0 : List Name) (x : Name) (total declar
     where
       go : (b : Bool) → (if b then is_variable turn e else (is_local turn a && can_evaluate turn e)) ≡ true → can_evaluate turn e ≡ true
       go true g = variable_can turn e variable_read g
-      go false g = (both_true (is_local turn a) (can_evaluate turn e) g).1
+      go false g = (and_parts (is_local turn a) (can_evaluate turn e) g).1
 
   expr_in : (e : Expr) (ints arrays : List Name) → can_evaluate turn e ≡ true → AllAmong (read_by e) total → In (reads (resolved_expr (at turn ints arrays) e)) (read_by e)
   expr_in (Number n) ints arrays h all = λ found. refl
@@ -106,7 +108,7 @@ module _ (c : Surroundings) (ints0 arrays0 : List Name) (x : Name) (total declar
   expr_in (Negative e) ints arrays h all = expr_in e ints arrays h all
   expr_in (Not e) ints arrays h all = expr_in e ints arrays h all
   expr_in (Binary operator d e) ints arrays h all =
-      let g = both_true (can_evaluate turn d) (can_evaluate turn e) h in
+      let g = and_parts (can_evaluate turn d) (can_evaluate turn e) h in
       both_match before (x ∷ declared) (reads (resolved_expr (at turn ints arrays) d)) (reads (resolved_expr (at turn ints arrays) e)) (read_by d) (read_by e)
       (expr_in d ints arrays g.0 (first_among (read_by d) (read_by e) total all)) (expr_in e ints arrays g.1 (second_among (read_by d) (read_by e) total all))
 
@@ -115,7 +117,7 @@ module _ (c : Surroundings) (ints0 arrays0 : List Name) (x : Name) (total declar
   alone_in y ps ints arrays h there own = go (is_among y (turn.arrays ++ arrays)) refl
     where
       g : (can_read turn y ≡ true) × (is_local turn y ≡ true)
-      g = both_true (can_read turn y) (is_local turn y) h
+      g = and_parts (can_read turn y) (is_local turn y) h
 
       passed : (r : Bool) → In [] (y ∷ []) → In (argument_reads (if r then spec.Shared (use_of (turn.arrays ++ arrays) y) else spec.Array (use_of (turn.arrays ++ arrays) y))) (y ∷ [])
       passed true d = d
@@ -125,7 +127,7 @@ module _ (c : Surroundings) (ints0 arrays0 : List Name) (x : Name) (total declar
       go true e = passed (spec.is_reader ps) (dropped_match before (x ∷ declared) y (own y (by (side y turn.arrays arrays e))))
         where
           by : Side y turn.arrays arrays → is_among y arrays ≡ true
-          by (in_first p) = never (is_among y turn.arrays) p (not_true (is_among y turn.arrays) (both_true (not (is_among y turn.arrays)) _ g.1).0)
+          by (in_first p) = never (is_among y turn.arrays) p (not_true (is_among y turn.arrays) (and_parts (not (is_among y turn.arrays)) _ g.1).0)
           by (in_second p) = p
       go false e = name_in y ints g.0 there
 
@@ -142,7 +144,7 @@ module _ (c : Surroundings) (ints0 arrays0 : List Name) (x : Name) (total declar
       In (arguments_read (resolved_arguments (at turn ints arrays) ps es)) (read_by_all es)
   arguments_in [] ps ints arrays h all own = λ found. refl
   arguments_in (e ∷ es) ps ints arrays h all own =
-      let g = both_true (can_pass turn e) (can_pass_all turn es) h in
+      let g = and_parts (can_pass turn e) (can_pass_all turn es) h in
       both_match before (x ∷ declared) (argument_reads (resolved_argument (at turn ints arrays) ps e)) (arguments_read (resolved_arguments (at turn ints arrays) (drop 1 ps) es)) (read_by e) (read_by_all es)
       (argument_in e ps ints arrays g.0 (first_among (read_by e) (read_by_all es) total all) own)
       (arguments_in es (drop 1 ps) ints arrays g.1 (second_among (read_by e) (read_by_all es) total all) own)
@@ -183,13 +185,13 @@ for_reads y z w from to grain over' b more c ints0 arrays0 x total declared over
     turn' = inside c ints0 arrays0 x (new_names total (x ∷ declared)) over
 
     one : (can_evaluate turn' from ≡ true) × ((can_evaluate turn' to && (nat_le 1 grain && (can_loop turn' ints arrays y (captured y b) over' && can_lower_all (inside turn' ints arrays y (captured y b) over') [] [] b))) ≡ true)
-    one = both_true (can_evaluate turn' from) _ here
+    one = and_parts (can_evaluate turn' from) _ here
 
     two : (can_evaluate turn' to ≡ true) × ((nat_le 1 grain && (can_loop turn' ints arrays y (captured y b) over' && can_lower_all (inside turn' ints arrays y (captured y b) over') [] [] b)) ≡ true)
-    two = both_true (can_evaluate turn' to) _ one.1
+    two = and_parts (can_evaluate turn' to) _ one.1
 
     four : (can_loop turn' ints arrays y (captured y b) over' ≡ true) × (can_lower_all (inside turn' ints arrays y (captured y b) over') [] [] b ≡ true)
-    four = both_true (can_loop turn' ints arrays y (captured y b) over') _ (both_true (nat_le 1 grain) _ two.1).1
+    four = and_parts (can_loop turn' ints arrays y (captured y b) over') _ (and_parts (nat_le 1 grain) _ two.1).1
 
     inner : Entered turn' ints arrays y (captured y b) over'
     inner = entered turn' ints arrays y (captured y b) over' four.0
@@ -222,11 +224,11 @@ cut_reads a e l r b more c ints0 arrays0 x total declared over can lists ints ar
     turn' = inside c ints0 arrays0 x (new_names total (x ∷ declared)) over
 
     one : (can_evaluate turn' e ≡ true) × ((is_local turn' a && (is_local turn' l && (is_local turn' r && (not (is_among l arrays) && (not (is_among r arrays) && (not (same_name r l) && can_lower_all turn' ints ((arrays ++ l ∷ []) ++ r ∷ []) b)))))) ≡ true)
-    one = both_true (can_evaluate turn' e) _ here
+    one = and_parts (can_evaluate turn' e) _ here
 
     inner : can_lower_all turn' ints ((arrays ++ l ∷ []) ++ r ∷ []) b ≡ true
     inner =
-        (both_true (not (same_name r l)) _ (both_true (not (is_among r arrays)) _ (both_true (not (is_among l arrays)) _ (both_true (is_local turn' r) _ (both_true (is_local turn' l) _ (both_true (is_local turn' a) _ one.1).1).1).1).1).1).1
+        (and_parts (not (same_name r l)) _ (and_parts (not (is_among r arrays)) _ (and_parts (not (is_among l arrays)) _ (and_parts (is_local turn' r) _ (and_parts (is_local turn' l) _ (and_parts (is_local turn' a) _ one.1).1).1).1).1).1).1
 
 declared_new : (s : Stmt) → AllAmong (new_arrays s) (declared_in s)
 declared_new (DeclareArray a e) v o = o
@@ -260,7 +262,7 @@ then_reads line s b first more c ints0 arrays0 x total declared over can lists i
     turn' = inside c ints0 arrays0 x (new_names total (x ∷ declared)) over
 
     one : (can_lower turn' ints arrays s ≡ true) × (can_lower_all turn' (ints ++ new_integers s) (arrays ++ new_arrays s) b ≡ true)
-    one = both_true (can_lower turn' ints arrays s) _ here
+    one = and_parts (can_lower turn' ints arrays s) _ here
 
 abbrev Inner : Surroundings → (ints arrays : List Name) → Name → (total declared over : List Name) → Surroundings
 Inner c ints arrays x total declared over = inside c ints arrays x (new_names total (x ∷ declared)) over
@@ -270,31 +272,31 @@ mutual
   stmt_reads (Declare y e) c ints0 arrays0 x total declared over can lists ints arrays here all own arrays_own = expr_in c ints0 arrays0 x total declared over can e ints arrays here all
   stmt_reads (DeclareArray y e) c ints0 arrays0 x total declared over can lists ints arrays here all own arrays_own = expr_in c ints0 arrays0 x total declared over can e ints arrays here all
   stmt_reads (Assign y e) c ints0 arrays0 x total declared over can lists ints arrays here all own arrays_own =
-      expr_in c ints0 arrays0 x total declared over can e ints arrays (both_true (can_write (Inner c ints0 arrays0 x total declared over) y) _ here).1 all
+      expr_in c ints0 arrays0 x total declared over can e ints arrays (and_parts (can_write (Inner c ints0 arrays0 x total declared over) y) _ here).1 all
   stmt_reads (AssignElement a i e) c ints0 arrays0 x total declared over can lists ints arrays here all own arrays_own =
       let t = Inner c ints0 arrays0 x total declared over in
-      let g = both_true (if is_among a over then is_variable t i else (is_local t a && can_evaluate t i)) (can_evaluate t e) here in
+      let g = and_parts (if is_among a over then is_variable t i else (is_local t a && can_evaluate t i)) (can_evaluate t e) here in
       both_match (c.outer ++ ints0) (x ∷ declared) (reads (resolved_expr (at t ints arrays) i)) (reads (resolved_expr (at t ints arrays) e)) (read_by i) (read_by e)
       (expr_in c ints0 arrays0 x total declared over can i ints arrays (element_can c ints0 arrays0 x total declared over can a i g.0) (first_among (read_by i) (read_by e) total all))
       (expr_in c ints0 arrays0 x total declared over can e ints arrays g.1 (second_among (read_by i) (read_by e) total all))
   stmt_reads (Reduce how s e) c ints0 arrays0 x total declared over can lists ints arrays here all own arrays_own = expr_in c ints0 arrays0 x total declared over can e ints arrays here all
   stmt_reads (Call kind site target f es) c ints0 arrays0 x total declared over can lists ints arrays here all own arrays_own =
       let t = Inner c ints0 arrays0 x total declared over in
-      let g = both_true (is_plain f) _ here in
-      let g2 = both_true (length es == length (function_named f t.functions).params) _ g.1 in
-      arguments_in c ints0 arrays0 x total declared over can es (spec.params_of lists f) ints arrays (both_true (can_target t target) (can_pass_all t es) g2.1).1 all arrays_own
+      let g = and_parts (is_plain f) _ here in
+      let g2 = and_parts (length es == length (function_named f t.functions).params) _ g.1 in
+      arguments_in c ints0 arrays0 x total declared over can es (spec.params_of lists f) ints arrays (and_parts (can_target t target) (can_pass_all t es) g2.1).1 all arrays_own
   stmt_reads (Start kind f es) c ints0 arrays0 x total declared over can lists ints arrays here all own arrays_own = absurd cc
   stmt_reads (Begin f from to captured' over') c ints0 arrays0 x total declared over can lists ints arrays here all own arrays_own = absurd cc
   stmt_reads Sync c ints0 arrays0 x total declared over can lists ints arrays here all own arrays_own = λ found. refl
   stmt_reads (If e b) c ints0 arrays0 x total declared over can lists ints arrays here all own arrays_own =
       let t = Inner c ints0 arrays0 x total declared over in
-      let g = both_true (can_evaluate t e) (can_lower_all t ints arrays b) here in
+      let g = and_parts (can_evaluate t e) (can_lower_all t ints arrays b) here in
       tested_reads e b c ints0 arrays0 x total declared over can ints arrays (reads_in_block (resolved_block lists (at t ints arrays) b)) g.0 all
       (λ rest. block_reads b c ints0 arrays0 x total declared over can lists ints arrays g.1 rest own arrays_own)
   stmt_reads (IfElse e b d) c ints0 arrays0 x total declared over can lists ints arrays here all own arrays_own =
       let t = Inner c ints0 arrays0 x total declared over in
-      let g = both_true (can_evaluate t e) _ here in
-      let g2 = both_true (can_lower_all t ints arrays b) (can_lower_all t ints arrays d) g.1 in
+      let g = and_parts (can_evaluate t e) _ here in
+      let g2 = and_parts (can_lower_all t ints arrays b) (can_lower_all t ints arrays d) g.1 in
       let rest = second_among (read_by e) (read_in_block b ++ read_in_block d) total all in
       both_match (c.outer ++ ints0) (x ∷ declared) (reads (resolved_expr (at t ints arrays) e)) (reads_in_block (resolved_block lists (at t ints arrays) b) ++ reads_in_block (resolved_block lists (at t ints arrays) d)) (read_by e) (read_in_block b ++ read_in_block d)
       (expr_in c ints0 arrays0 x total declared over can e ints arrays g.0 (first_among (read_by e) (read_in_block b ++ read_in_block d) total all))
@@ -303,7 +305,7 @@ mutual
       (block_reads d c ints0 arrays0 x total declared over can lists ints arrays g2.1 (second_among (read_in_block b) (read_in_block d) total rest) (second_among (declared_in_block b) (declared_in_block d) (x ∷ declared) own) arrays_own))
   stmt_reads (While e b) c ints0 arrays0 x total declared over can lists ints arrays here all own arrays_own =
       let t = Inner c ints0 arrays0 x total declared over in
-      let g = both_true (can_evaluate t e) (can_lower_all t ints arrays b) here in
+      let g = and_parts (can_evaluate t e) (can_lower_all t ints arrays b) here in
       tested_reads e b c ints0 arrays0 x total declared over can ints arrays (reads_in_block (resolved_block lists (at t ints arrays) b)) g.0 all
       (λ rest. block_reads b c ints0 arrays0 x total declared over can lists ints arrays g.1 rest own arrays_own)
   stmt_reads (For y z w from to grain over' b) c ints0 arrays0 x total declared over can lists ints arrays here all own arrays_own =

@@ -2,6 +2,8 @@
 use Rattle.std.proofs.Common.{◌≡◌, ℕ, ◌+◌, Bool, true, false, List, [], ◌∷◌, ◌++◌, drop, map, refl, ◌∙◌, ap}
 use Rattle.std.specs.Prelude.{if◌then◌else◌, not}
 use Rattle.std.specs.List.{list_all}
+use Rattle.std.proofs.lemmas.Bool.{and_parts}
+use Rattle.cw_facts.specs.Tests.{not_true}
 use Rattle.cw_model.specs.Captured.{captured}
 use Rattle.cw_model.specs.Syntax.{Name, Expr, Number, Variable, Element, Length, Negative, Not, Binary, Stmt, Declare, DeclareArray, Assign, AssignElement, Reduce, Call, Start, Begin, Sync, If, IfElse, While, For, Scope, Cut, Region, Print, Return, Block, End, Then, Param, Function, reads_array}
 use Rattle.cw_model.specs.Names.{same_name, is_among}
@@ -11,7 +13,6 @@ use Rattle.cw_loops.specs.Lowered.{loop_name, loop_count, loop_count_in, int_par
 use Rattle.cw_loops.specs.Lowerable.{can_lower_function}
 use Rattle.cw_loops.specs.Slotted.{Int, Array, Shared, slotted_argument, slotted_arguments}
 use Rattle.cw_loops.specs.Slotted as slotted
-use Rattle.cw_loops.specs.lemmas.Tests.{both_true, not_true}
 use Rattle.cw_loops.specs.lemmas.Finding.{lowered_plain}
 
 -- no parameter is only read
@@ -22,11 +23,11 @@ reads_none ps = list_all (λ p. not (reads_array p)) ps
 
 first_taken : (ps : List Param) → reads_none ps ≡ true → is_reader ps ≡ false
 first_taken [] h = refl
-first_taken (p ∷ ps) h = not_true (reads_array p) (both_true (not (reads_array p)) (reads_none ps) h).0
+first_taken (p ∷ ps) h = not_true (reads_array p) (and_parts (not (reads_array p)) (reads_none ps) h).0
 
 rest_taken : (ps : List Param) → reads_none ps ≡ true → reads_none (drop 1 ps) ≡ true
 rest_taken [] h = refl
-rest_taken (p ∷ ps) h = (both_true (not (reads_array p)) (reads_none ps) h).1
+rest_taken (p ∷ ps) h = (and_parts (not (reads_array p)) (reads_none ps) h).1
 
 one_taken : (l : Locals) (ps : List Param) (e : Expr) → reads_none ps ≡ true → slotted_argument l ps e ≡ slotted_argument l [] e
 one_taken l ps (Variable x) h =

@@ -1,6 +1,7 @@
 -- The test of lowered trees holds of a tree and itself.
 use Rattle.std.proofs.Common.{◌≡◌, ℕ, ◌==◌, ℤ, pos, negsuc, true, List, [], ◌∷◌, Option, Some, None, refl, sym, ◌∙◌, ap, arith}
 use Rattle.std.proofs.lemmas.Bool.Decides.{nat_tests}
+use Rattle.cw_facts.specs.Tests.{both_true}
 use Rattle.cw_model.specs.declared.syntax.CallKind.{CallKind}
 use Rattle.cw_model.specs.declared.syntax.CallKind.TheVariants.{Plain, Spawned}
 use Rattle.cw_model.specs.declared.syntax.Reduction.{Reduction}
@@ -10,7 +11,6 @@ use Rattle.cw_loops.specs.Slotted.{Expr, Number, Variable, Element, Length, Nega
 use Rattle.cw_loops.specs.Moved.{Loop}
 use Rattle.cw_loops.specs.Lowers.{Bodies}
 use Rattle.cw_loops.specs.Same.{number_of, same_kind, same_int, same_slots, same_target, same_expr, same_argument, same_arguments, same_return, same_stmt, same_block, same_loop, same_loops, same_blocks, same_bodies}
-use Rattle.cw_loops.specs.lemmas.Tests.{all_of}
 
 itself : (n : ℕ) → (n == n) ≡ true
 itself n = grind (arith, nat_tests)
@@ -29,7 +29,7 @@ int_itself (negsuc n) = itself n
 
 slots_itself : (ns : List ℕ) → same_slots ns ns ≡ true
 slots_itself [] = refl
-slots_itself (n ∷ ns) = all_of (n == n) _ (itself n) (slots_itself ns)
+slots_itself (n ∷ ns) = both_true (n == n) _ (itself n) (slots_itself ns)
 
 target_itself : (t : Option ℕ) → same_target t t ≡ true
 target_itself None = refl
@@ -38,11 +38,11 @@ target_itself (Some n) = itself n
 expr_itself : (e : Expr) → same_expr e e ≡ true
 expr_itself (Number n) = int_itself n
 expr_itself (Variable u) = itself u
-expr_itself (Element u e) = all_of (u == u) _ (itself u) (expr_itself e)
+expr_itself (Element u e) = both_true (u == u) _ (itself u) (expr_itself e)
 expr_itself (Length u) = itself u
 expr_itself (Negative e) = expr_itself e
 expr_itself (Not e) = expr_itself e
-expr_itself (Binary o d e) = all_of (number_of o == number_of o) _ (itself (number_of o)) (all_of (same_expr d d) _ (expr_itself d) (expr_itself e))
+expr_itself (Binary o d e) = both_true (number_of o == number_of o) _ (itself (number_of o)) (both_true (same_expr d d) _ (expr_itself d) (expr_itself e))
 
 argument_itself : (e : Argument) → same_argument e e ≡ true
 argument_itself (Int e) = expr_itself e
@@ -51,7 +51,7 @@ argument_itself (Shared u) = itself u
 
 arguments_itself : (es : List Argument) → same_arguments es es ≡ true
 arguments_itself [] = refl
-arguments_itself (e ∷ es) = all_of (same_argument e e) _ (argument_itself e) (arguments_itself es)
+arguments_itself (e ∷ es) = both_true (same_argument e e) _ (argument_itself e) (arguments_itself es)
 
 return_itself : (e : Option Expr) → same_return e e ≡ true
 return_itself None = refl
@@ -59,41 +59,41 @@ return_itself (Some e) = expr_itself e
 
 mutual
   stmt_itself : (s : Stmt) → same_stmt s s ≡ true
-  stmt_itself (Declare u e) = all_of (u == u) _ (itself u) (expr_itself e)
-  stmt_itself (DeclareArray u e) = all_of (u == u) _ (itself u) (expr_itself e)
-  stmt_itself (Assign u e) = all_of (u == u) _ (itself u) (expr_itself e)
-  stmt_itself (AssignElement u i e) = all_of (u == u) _ (itself u) (all_of (same_expr i i) _ (expr_itself i) (expr_itself e))
-  stmt_itself (Reduce how u e) = all_of (same_reduction how how) _ (reduction_itself how) (all_of (u == u) _ (itself u) (expr_itself e))
+  stmt_itself (Declare u e) = both_true (u == u) _ (itself u) (expr_itself e)
+  stmt_itself (DeclareArray u e) = both_true (u == u) _ (itself u) (expr_itself e)
+  stmt_itself (Assign u e) = both_true (u == u) _ (itself u) (expr_itself e)
+  stmt_itself (AssignElement u i e) = both_true (u == u) _ (itself u) (both_true (same_expr i i) _ (expr_itself i) (expr_itself e))
+  stmt_itself (Reduce how u e) = both_true (same_reduction how how) _ (reduction_itself how) (both_true (u == u) _ (itself u) (expr_itself e))
   stmt_itself (Call k s t f es) =
-      all_of (same_kind k k) _ (kind_itself k) (all_of (s == s) _ (itself s) (all_of (same_target t t) _ (target_itself t) (all_of (f == f) _ (itself f) (arguments_itself es))))
-  stmt_itself (Start k f es) = all_of (same_kind k k) _ (kind_itself k) (all_of (f == f) _ (itself f) (arguments_itself es))
+      both_true (same_kind k k) _ (kind_itself k) (both_true (s == s) _ (itself s) (both_true (same_target t t) _ (target_itself t) (both_true (f == f) _ (itself f) (arguments_itself es))))
+  stmt_itself (Start k f es) = both_true (same_kind k k) _ (kind_itself k) (both_true (f == f) _ (itself f) (arguments_itself es))
   stmt_itself (Begin f a b ks os) =
-      all_of (f == f) _ (itself f) (all_of (same_expr a a) _ (expr_itself a) (all_of (same_expr b b) _ (expr_itself b) (all_of (same_slots ks ks) _ (slots_itself ks) (slots_itself os))))
+      both_true (f == f) _ (itself f) (both_true (same_expr a a) _ (expr_itself a) (both_true (same_expr b b) _ (expr_itself b) (both_true (same_slots ks ks) _ (slots_itself ks) (slots_itself os))))
   stmt_itself Sync = refl
-  stmt_itself (If e b) = all_of (same_expr e e) _ (expr_itself e) (block_itself b)
-  stmt_itself (IfElse e b c) = all_of (same_expr e e) _ (expr_itself e) (all_of (same_block b b) _ (block_itself b) (block_itself c))
-  stmt_itself (While e b) = all_of (same_expr e e) _ (expr_itself e) (block_itself b)
+  stmt_itself (If e b) = both_true (same_expr e e) _ (expr_itself e) (block_itself b)
+  stmt_itself (IfElse e b c) = both_true (same_expr e e) _ (expr_itself e) (both_true (same_block b b) _ (block_itself b) (block_itself c))
+  stmt_itself (While e b) = both_true (same_expr e e) _ (expr_itself e) (block_itself b)
   stmt_itself (Scope b) = block_itself b
   stmt_itself (Cut u e l r b) =
-      all_of (u == u) _ (itself u) (all_of (same_expr e e) _ (expr_itself e) (all_of (l == l) _ (itself l) (all_of (r == r) _ (itself r) (block_itself b))))
-  stmt_itself (Region u b) = all_of (u == u) _ (itself u) (block_itself b)
+      both_true (u == u) _ (itself u) (both_true (same_expr e e) _ (expr_itself e) (both_true (l == l) _ (itself l) (both_true (r == r) _ (itself r) (block_itself b))))
+  stmt_itself (Region u b) = both_true (u == u) _ (itself u) (block_itself b)
   stmt_itself (Print e) = expr_itself e
   stmt_itself (Return e) = return_itself e
 
   block_itself : (b : Block) → same_block b b ≡ true
   block_itself End = refl
-  block_itself (Then l s b) = all_of (l == l) _ (itself l) (all_of (same_stmt s s) _ (stmt_itself s) (block_itself b))
+  block_itself (Then l s b) = both_true (l == l) _ (itself l) (both_true (same_stmt s s) _ (stmt_itself s) (block_itself b))
 
 loops_itself : (ls : List Loop) → same_loops ls ls ≡ true
 loops_itself [] = refl
 loops_itself (l ∷ ls) =
-    all_of (same_loop l l) _
-    (all_of (l.line == l.line) _ (itself l.line) (all_of (l.grain == l.grain) _ (itself l.grain) (all_of (l.captured == l.captured) _ (itself l.captured) (all_of (l.over == l.over) _ (itself l.over) (block_itself l.body)))))
+    both_true (same_loop l l) _
+    (both_true (l.line == l.line) _ (itself l.line) (both_true (l.grain == l.grain) _ (itself l.grain) (both_true (l.captured == l.captured) _ (itself l.captured) (both_true (l.over == l.over) _ (itself l.over) (block_itself l.body)))))
     (loops_itself ls)
 
 blocks_itself : (bs : List Block) → same_blocks bs bs ≡ true
 blocks_itself [] = refl
-blocks_itself (b ∷ bs) = all_of (same_block b b) _ (block_itself b) (blocks_itself bs)
+blocks_itself (b ∷ bs) = both_true (same_block b b) _ (block_itself b) (blocks_itself bs)
 
 pub bodies_itself : (a b : Bodies) → a ≡ b → same_bodies a b ≡ true
-bodies_itself a b e = ap (same_bodies a) (sym e) ∙ all_of (same_blocks a.blocks a.blocks) _ (blocks_itself a.blocks) (loops_itself a.loops)
+bodies_itself a b e = ap (same_bodies a) (sym e) ∙ both_true (same_blocks a.blocks a.blocks) _ (blocks_itself a.blocks) (loops_itself a.loops)

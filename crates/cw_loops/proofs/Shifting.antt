@@ -1,25 +1,19 @@
 -- The slot of a name where it went is its place among the names of the function of its loop.
-use Rattle.std.proofs.Common.{◌≡◌, ℕ, suc, ◌+◌, ◌-◌, ◌≤◌, ◌<◌, nat_lt, Bool, true, false, List, [], ◌∷◌, ◌++◌, length, map, arith, sym, ◌∙◌, ap}
+use Rattle.std.proofs.Common.{◌≡◌, ℕ, suc, ◌+◌, ◌-◌, ◌≤◌, nat_lt, Bool, true, false, List, [], ◌∷◌, ◌++◌, length, map, arith, sym, ◌∙◌, ap}
 use Rattle.std.specs.Prelude.{if◌then◌else◌}
 use Rattle.std.proofs.lemmas.Bool.Decides.{nat_tests}
+use Rattle.cw_facts.specs.Tests.{below, not_below}
 use Rattle.cw_model.specs.Syntax.{Name}
 use Rattle.cw_model.specs.Names.{same_name, is_among}
 use Rattle.cw_tree.specs.Resolved.{slot_of}
-use Rattle.cw_tree.specs.lemmas.NamedSlots.{one_slot, slot_in, slot_stays}
+use Rattle.cw_tree.specs.lemmas.NamedSlots.{one_slot, slot_in, slot_stays, turned}
 use Rattle.cw_loops.specs.Lowered.{is_plain, low, high}
 use Rattle.cw_loops.specs.Moved.{most_slot, slot, Moves, place_from, moved_int, moved_array}
 use Rattle.cw_loops.specs.lemmas.Apart.{plain_apart}
-use Rattle.cw_loops.specs.lemmas.Naming.{same_turned}
 
 -- a count that is small is told as it is
 pub small_slot : (n : ℕ) → n ≤ most_slot → slot n ≡ n
 small_slot n h = grind (arith, nat_tests, h)
-
-pub below : (k n : ℕ) → k < n → nat_lt k n ≡ true
-below k n h = grind (arith, nat_tests, h)
-
-pub above : (k n : ℕ) → n ≤ k → nat_lt k n ≡ false
-above k n h = grind (arith, nat_tests, h)
 
 -- a name that is not there comes behind all
 pub slot_past : (x : Name) (names more : List Name) → is_among x names ≡ false → slot_of x (names ++ more) ≡ length names + slot_of x more
@@ -35,7 +29,7 @@ slot_past x (y ∷ names) more h = first (same_name x y) (slot_past x names more
 pub place_is : (n : ℕ) (x : Name) (before taken : List Name) → is_among x before ≡ true → n + length taken ≤ most_slot → place_from n (slot_of x before) (map (λ y. slot_of y before) taken) ≡ n + slot_of x taken
 place_is n x before [] h small = omega arith
 place_is n x before (y ∷ taken) h small =
-    ap (λ b. if b then n else place_from (slot (n + 1)) (slot_of x before) (map (λ z. slot_of z before) taken)) (one_slot y x before h ∙ same_turned y x)
+    ap (λ b. if b then n else place_from (slot (n + 1)) (slot_of x before) (map (λ z. slot_of z before) taken)) (one_slot y x before h ∙ turned y x)
     ∙ ap (λ k. if same_name x y then n else place_from k (slot_of x before) (map (λ z. slot_of z before) taken)) (small_slot (n + 1) (omega (arith, small)))
     ∙ first (same_name x y) (place_is (n + 1) x before taken h (omega (arith, small)))
   where
@@ -67,7 +61,7 @@ module _ (m : Moves) (before taken : List Name) (before_is : m.ints_before ≡ l
   pub past_int : (n : ℕ) → 2 + length taken + n ≤ most_slot → moved_int m (length before + n) ≡ suc (suc (length taken)) + n
   past_int n small =
       ap (λ k. if nat_lt (length before + n) k then place_from 2 (length before + n) m.captured else slot (length before + n - k + m.first_int)) before_is
-      ∙ ap (λ b. if b then place_from 2 (length before + n) m.captured else slot (length before + n - length before + m.first_int)) (above (length before + n) (length before) (omega arith))
+      ∙ ap (λ b. if b then place_from 2 (length before + n) m.captured else slot (length before + n - length before + m.first_int)) (not_below (length before + n) (length before) (omega arith))
       ∙ ap (λ k. slot (length before + n - length before + k)) first_is
       ∙ small_slot (length before + n - length before + (2 + length taken)) (omega (arith, small))
       ∙ behind_two (length before) n (length taken)
@@ -92,7 +86,7 @@ module _ (m : Moves) (before over : List Name) (before_is : m.arrays_before ≡ 
   pub past_array : (n : ℕ) → length over + n ≤ most_slot → moved_array m (length before + n) ≡ length over + n
   past_array n small =
       ap (λ k. if nat_lt (length before + n) k then place_from 0 (length before + n) m.over else slot (length before + n - k + m.first_array)) before_is
-      ∙ ap (λ b. if b then place_from 0 (length before + n) m.over else slot (length before + n - length before + m.first_array)) (above (length before + n) (length before) (omega arith))
+      ∙ ap (λ b. if b then place_from 0 (length before + n) m.over else slot (length before + n - length before + m.first_array)) (not_below (length before + n) (length before) (omega arith))
       ∙ ap (λ k. slot (length before + n - length before + k)) first_is
       ∙ small_slot (length before + n - length before + length over) (omega (arith, small))
       ∙ omega arith

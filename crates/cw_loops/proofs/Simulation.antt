@@ -1,7 +1,8 @@
 -- Each statement of the source does what its lowered text does.
 use Rattle.std.proofs.Common.{◌≡◌, ℕ, ◌+◌, ◌-◌, ◌≤◌, ◌<◌, true, false, ℤ, pos, List, [], ◌∷◌, ◌++◌, length, arith, ◌∙◌, ap, append_assoc, append-nil}
 use Rattle.std.specs.Prelude.{not, ◌&&◌, ◌==◌, nat_lt, nat_le, map, Some, None}
-use Rattle.std.proofs.lemmas.Bool.{leb-true, eqb-true}
+use Rattle.std.proofs.lemmas.Bool.{leb-true, eqb-true, and_parts}
+use Rattle.cw_facts.specs.Tests.{not_true}
 use Rattle.cw_model.specs.declared.limits.TheConstants.{MOST_DEPTH}
 use Rattle.cw_model.specs.Syntax.{Name, Expr, Stmt, Declare, DeclareArray, Assign, AssignElement, Reduce, Call, Start, Begin, Sync, If, IfElse, While, For, Scope, Cut, Region, Print, Return, Block, End, Then, Function}
 use Rattle.cw_model.specs.Names.{same_name, is_among}
@@ -14,7 +15,6 @@ use Rattle.cw_model.specs.Meaning.{Completion, Deeper, Calls, function_named, ru
 use Rattle.cw_loops.specs.Lowered.{is_plain, lower_expr, lower_stmt, lower_block, loop_count, loop_count_in, made_by, made_in, loop_function, loop_name}
 use Rattle.cw_loops.specs.Lowerable.{Surroundings, can_evaluate, can_lower, can_lower_all, can_loop, can_target, can_pass_all, can_write, is_local, new_integers, new_arrays, integers_of, arrays_of}
 use Rattle.cw_loops.specs.lemmas.Finding.{Found, found_left, found_right}
-use Rattle.cw_loops.specs.lemmas.Tests.{both_true, not_true}
 use Rattle.cw_loops.proofs.Alike.{Alike, Whole, alike_pay, alike_then, alike_weaken}
 use Rattle.cw_loops.proofs.Arguments.{Fresh}
 use Rattle.cw_loops.proofs.Tables.{keys}
@@ -51,10 +51,10 @@ module _ (fs fs' : List Function) (calls : Calls) (depth : ℕ) (shallow : nat_l
 
   for_alike : (x y z : Name) (from to : Expr) (grain : ℕ) (over : List Name) (b : Block) → AllAlike b → StmtAlike (For x y z from to grain over b)
   for_alike x y z from to grain over b more c fo go Slot w fine ints arrays can k line found f g (related loc fa ga la slot ki ka good) left bound h1 h2 =
-      let c1 = both_true (can_evaluate c from) _ can in
-      let c2 = both_true (can_evaluate c to) _ c1.1 in
-      let c3 = both_true (nat_le 1 grain) _ c2.1 in
-      let c4 = both_true (can_loop c ints arrays x (captured x b) over) _ c3.1 in
+      let c1 = and_parts (can_evaluate c from) _ can in
+      let c2 = and_parts (can_evaluate c to) _ c1.1 in
+      let c3 = and_parts (nat_le 1 grain) _ c2.1 in
+      let c4 = and_parts (can_loop c ints arrays x (captured x b) over) _ c3.1 in
       let tests : LoopTests c ints arrays x (captured x b) over = loop_tests c ints arrays x (captured x b) over c4.0 in
       let taken : List Name = captured x b in
       let g0 : Frame = target go loc ga la in
@@ -83,17 +83,17 @@ module _ (fs fs' : List Function) (calls : Calls) (depth : ℕ) (shallow : nat_l
     stmt_alike (DeclareArray a e) c fo go Slot w fine ints arrays can k line found f g (related loc fa ga la slot ki ka good) left bound h1 h2 =
         rw (append-nil ints) (declare_array_alike c fo go Slot w ints arrays loc fa ga la slot ki ka good a e can line left fs fs' calls (call bound depth fs'))
     stmt_alike (Assign x e) c fo go Slot w fine ints arrays can k line found f g (related loc fa ga la slot ki ka good) left bound h1 h2 =
-        let p = both_true (can_write c x) (can_evaluate c e) can in
+        let p = and_parts (can_write c x) (can_evaluate c e) can in
         no_more (assign_alike c fo go Slot w ints arrays loc fa ga la slot ki ka good x e p.0 p.1 line left fs fs' calls (call bound depth fs'))
     stmt_alike (AssignElement a i e) c fo go Slot w fine ints arrays can k line found f g (related loc fa ga la slot ki ka good) left bound h1 h2 =
         no_more (write_alike c fo go Slot w ints arrays loc fa ga la slot ki ka good a i e can line left fs fs' calls (call bound depth fs'))
     stmt_alike (Reduce how s e) c fo go Slot w fine ints arrays can k line found f g (related loc fa ga la slot ki ka good) left bound h1 h2 =
         no_more (reduce_alike c fo go Slot w ints arrays loc fa ga la slot ki ka good how s e can line left fs fs' calls (call bound depth fs'))
     stmt_alike (Call kind site target' callee es) c fo go Slot w fine ints arrays can k line found f g (related loc fa ga la slot ki ka good) left bound h1 h2 =
-        let n = both_true (is_plain callee) _ can in
-        let n2 = both_true (length es == length (function_named callee c.functions).params) (can_target c target' && can_pass_all c es) n.1 in
+        let n = and_parts (is_plain callee) _ can in
+        let n2 = and_parts (length es == length (function_named callee c.functions).params) (can_target c target' && can_pass_all c es) n.1 in
         let as_many : length es ≡ length (function_named callee fs).params = eqb-true (length es) (length (function_named callee c.functions).params) n2.0 ∙ ap (λ t. length (function_named callee t).params) fine in
-        let p = both_true (can_target c target') (can_pass_all c es) n2.1 in
+        let p = and_parts (can_target c target') (can_pass_all c es) n2.1 in
         no_more (call_alike c fo go Slot w ints arrays loc fa ga la slot ki ka good kind site target' callee es p.0 p.1 fs fs' calls (call bound depth fs') left as_many (params_same callee n.0) (params_once callee n.0)
         (λ given line l e good' ks ki' ka'. deeper callee n.0 given line l bound (omega arith) (omega arith) good' ks ki' ka') line left (omega arith))
     stmt_alike (Start kind callee es) c fo go Slot w fine ints arrays can k line found f g rel left bound h1 h2 = absurd cc
@@ -101,17 +101,17 @@ module _ (fs fs' : List Function) (calls : Calls) (depth : ℕ) (shallow : nat_l
     stmt_alike Sync c fo go Slot w fine ints arrays can k line found f g (related loc fa ga la slot ki ka good) left bound h1 h2 =
         no_more (sync_alike c fo go Slot w ints arrays loc fa ga la slot ki ka good line left fs fs' calls (call bound depth fs'))
     stmt_alike (If e b) c fo go Slot w fine ints arrays can k line found f g rel left bound h1 h2 =
-        let p = both_true (can_evaluate c e) (can_lower_all c ints arrays b) can in
+        let p = and_parts (can_evaluate c e) (can_lower_all c ints arrays b) can in
         no_more (if_alike c fo go Slot w ints arrays e b (lower_block c.over k b) left line fs fs' calls (call bound depth fs') p.0
         (λ f g rel l le. block_alike b c fo go Slot w fine ints arrays p.1 k found f g rel l bound (omega arith) (omega arith)) f g rel left (omega arith))
     stmt_alike (IfElse e b d) c fo go Slot w fine ints arrays can k line found f g rel left bound h1 h2 =
-        let p = both_true (can_evaluate c e) _ can in
-        let q = both_true (can_lower_all c ints arrays b) (can_lower_all c ints arrays d) p.1 in
+        let p = and_parts (can_evaluate c e) _ can in
+        let q = and_parts (can_lower_all c ints arrays b) (can_lower_all c ints arrays d) p.1 in
         no_more (if_else_alike c fo go Slot w ints arrays e b (lower_block c.over k b) d (lower_block c.over (k + loop_count_in b) d) left line fs fs' calls (call bound depth fs') p.0
         (λ f g rel l le. block_alike b c fo go Slot w fine ints arrays q.0 k (found_left fs' (made_in k b) (made_in (k + loop_count_in b) d) found) f g rel l bound (omega arith) (omega arith))
         (λ f g rel l le. block_alike d c fo go Slot w fine ints arrays q.1 (k + loop_count_in b) (found_right fs' (made_in k b) (made_in (k + loop_count_in b) d) found) f g rel l bound (omega arith) (omega arith)) f g rel left (omega arith))
     stmt_alike (While e b) c fo go Slot w fine ints arrays can k line found f g rel left bound h1 h2 =
-        let p = both_true (can_evaluate c e) (can_lower_all c ints arrays b) can in
+        let p = and_parts (can_evaluate c e) (can_lower_all c ints arrays b) can in
         no_more (while_alike c fo go Slot w ints arrays e b (lower_block c.over k b) left line fs fs' calls (call bound depth fs') p.0
         (λ f g rel l le. block_alike b c fo go Slot w fine ints arrays p.1 k found f g rel l bound (omega arith) (omega arith)) f g rel left (omega arith))
     stmt_alike (For x y z from to grain over b) c fo go Slot w fine ints arrays can k line found f g rel left bound h1 h2 =
@@ -120,13 +120,13 @@ module _ (fs fs' : List Function) (calls : Calls) (depth : ℕ) (shallow : nat_l
         no_more (scope_alike c fo go Slot w ints arrays b (lower_block c.over k b) left line fs fs' calls (call bound depth fs')
         (λ f g rel l le. block_alike b c fo go Slot w fine ints arrays can k found f g rel l bound (omega arith) (omega arith)) f g rel left (omega arith))
     stmt_alike (Cut a e l r b) c fo go Slot w fine ints arrays can k line found f g (related loc fa ga la slot ki ka good) left bound h1 h2 =
-        let p1 = both_true (can_evaluate c e) _ can in
-        let p2 = both_true (is_local c a) _ p1.1 in
-        let p3 = both_true (is_local c l) _ p2.1 in
-        let p4 = both_true (is_local c r) _ p3.1 in
-        let p5 = both_true (not (is_among l arrays)) _ p4.1 in
-        let p6 = both_true (not (is_among r arrays)) _ p5.1 in
-        let p7 = both_true (not (same_name r l)) (can_lower_all c ints ((arrays ++ l ∷ []) ++ r ∷ []) b) p6.1 in
+        let p1 = and_parts (can_evaluate c e) _ can in
+        let p2 = and_parts (is_local c a) _ p1.1 in
+        let p3 = and_parts (is_local c l) _ p2.1 in
+        let p4 = and_parts (is_local c r) _ p3.1 in
+        let p5 = and_parts (not (is_among l arrays)) _ p4.1 in
+        let p6 = and_parts (not (is_among r arrays)) _ p5.1 in
+        let p7 = and_parts (not (same_name r l)) (can_lower_all c ints ((arrays ++ l ∷ []) ++ r ∷ []) b) p6.1 in
         no_more (cut_alike c fo go Slot w ints arrays loc fa ga la slot ki ka good a l r p2.0 p3.0 p4.0 (not_true (is_among l arrays) p5.0) (not_true (is_among r arrays) p6.0) (not_true (same_name r l) p7.0)
         e b (lower_block c.over k b) left line fs fs' calls (call bound depth fs') p1.0
         (λ f g rel l' le. block_alike b c fo go Slot w fine ints ((arrays ++ l ∷ []) ++ r ∷ []) p7.1 k found f g rel l' bound (omega arith) (omega arith)) left (omega arith))
@@ -138,13 +138,13 @@ module _ (fs fs' : List Function) (calls : Calls) (depth : ℕ) (shallow : nat_l
     stmt_alike (Return None) c fo go Slot w fine ints arrays can k line found f g (related loc fa ga la slot ki ka good) left bound h1 h2 =
         no_more (return_alike c fo go Slot w ints arrays loc fa ga la slot ki ka good None can can line left fs fs' calls (call bound depth fs'))
     stmt_alike (Return (Some e)) c fo go Slot w fine ints arrays can k line found f g (related loc fa ga la slot ki ka good) left bound h1 h2 =
-        no_more (return_alike c fo go Slot w ints arrays loc fa ga la slot ki ka good (Some e) (both_true c.returns (can_evaluate c e) can).0 can line left fs fs' calls (call bound depth fs'))
+        no_more (return_alike c fo go Slot w ints arrays loc fa ga la slot ki ka good (Some e) (and_parts c.returns (can_evaluate c e) can).0 can line left fs fs' calls (call bound depth fs'))
 
     pub block_alike : (b : Block) → AllAlike b
     block_alike End c fo go Slot w fine ints arrays can k found f g rel left bound h1 h2 =
         alike_done left (record { more_ints = []; more_arrays = []; out = rw (append-nil ints, append-nil arrays) (stays c fo go Slot w ints arrays f g rel) })
     block_alike (Then line s b) c fo go Slot w fine ints arrays can k found f g rel left bound h1 h2 =
-        let p = both_true (can_lower c ints arrays s) (can_lower_all c (ints ++ new_integers s) (arrays ++ new_arrays s) b) can in
+        let p = and_parts (can_lower c ints arrays s) (can_lower_all c (ints ++ new_integers s) (arrays ++ new_arrays s) b) can in
         alike_then (stmt_alike s c fo go Slot w fine ints arrays p.0 k line (found_left fs' (made_by line k s) (made_in (k + loop_count s) b) found) f g rel left bound h1 h2)
         (λ way way' l out le. onward_then (OutAll c fo go Slot ints arrays f) l out (λ f'. run_all b fs calls f') (λ g'. run_all (lower_block c.over (k + loop_count s) b) fs' (call bound depth fs') g')
         (λ v f' r fit good kept. record { more_ints = []; more_arrays = []; out = returns r fit good kept })

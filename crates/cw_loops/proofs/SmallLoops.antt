@@ -2,8 +2,9 @@
 use Rattle.std.proofs.Common.{◌≡◌, ℕ, ◌+◌, ◌≤◌, Bool, true, List, [], ◌∷◌, ◌++◌, length, map, flat_map, arith, refl, sym, subst, ◌∙◌, ap, length-append}
 use Rattle.std.specs.Prelude.{if◌then◌else◌, nat_le, ◌&&◌}
 use Rattle.std.specs.List.{list_all}
-use Rattle.std.proofs.lemmas.Bool.Decides.{nat_tests}
-use Rattle.std.proofs.lemmas.List.{length-map}
+use Rattle.std.proofs.lemmas.List.{length-map, length_push}
+use Rattle.std.proofs.lemmas.Bool.{and_parts}
+use Rattle.cw_facts.specs.Tests.{le_of}
 use Rattle.cw_model.specs.declared.syntax.NameKind.{NameKind}
 use Rattle.cw_model.specs.declared.limits.TheConstants.{MOST_FUNCTIONS, MOST_GRAIN, MOST_LOOPS}
 use Rattle.cw_model.specs.Lines.{unless}
@@ -26,7 +27,7 @@ use Rattle.cw_loops.specs.Moved.{Loop, Moves, slot, moves_of, nothing_moved, arr
 use Rattle.cw_loops.specs.Slotted as slotted
 use Rattle.cw_loops.specs.Lowers.{Bodies, arrays_from, made_bodies, made_of_tree}
 use Rattle.cw_loops.specs.Small.{IsSmallLoop, AreSmallLoops}
-use Rattle.cw_loops.specs.lemmas.Tests.{both_true, Told, yes_is, no_is, told, never}
+use Rattle.cw_loops.specs.lemmas.Tests.{Told, yes_is, no_is, told, never}
 use Rattle.cw_loops.specs.lemmas.Naming.{Placed, at_front, after_it, placed}
 use Rattle.cw_loops.specs.lemmas.Knowing.{not_there}
 use Rattle.cw_loops.specs.lemmas.Declaring.{head_kept}
@@ -42,11 +43,8 @@ use Rattle.cw_loops.proofs.FewUses.{few_captured}
 abbrev FewAfter : Locals → Known → Stmt → Type 0
 FewAfter l known s = (length (locals_after l s).ints ≤ length l.ints + declares_in s) × (length (declares s known) ≤ length known + declares_in s)
 
-one_more : (xs : List Name) (x : Name) → length (xs ++ x ∷ []) ≡ length xs + 1
-one_more xs x = length-append xs (x ∷ [])
-
 few_after : (l : Locals) (known : Known) (s : Stmt) → FewAfter l known s
-few_after l known (Declare x e) = let p = one_more l.ints x in (omega (arith, p), omega arith)
+few_after l known (Declare x e) = let p = length_push l.ints x in (omega (arith, p), omega arith)
 few_after l known (DeclareArray a e) = (omega arith, omega arith)
 few_after l known (Assign x e) = (omega arith, omega arith)
 few_after l known (AssignElement a i e) = (omega arith, omega arith)
@@ -80,7 +78,7 @@ array_known known a h = go (told (is_among a (names_known known)))
 arrays_known : (known : Known) (over : List Name) → list_all (λ a. is_array known a) over ≡ true → (v : Name) → is_among v over ≡ true → is_among v (names_known known) ≡ true
 arrays_known known [] h v o = absurd cc
 arrays_known known (a ∷ over) h v o =
-    let two = both_true (is_array known a) (list_all (λ w. is_array known w) over) h in
+    let two = and_parts (is_array known a) (list_all (λ w. is_array known w) over) h in
     go two.0 (placed v a over o) (λ p. arrays_known known over two.1 v p)
   where
     go : is_array known a ≡ true → Placed v a over → (is_among v over ≡ true → is_among v (names_known known) ≡ true) → is_among v (names_known known) ≡ true
@@ -96,18 +94,15 @@ few_over known over apart arrays =
 small_count : (n : ℕ) → n ≤ 256 → slot n ≤ 256
 small_count n h = let e = small_slot n (omega (arith, h)) in rw (e) h
 
-no_greater : (a b : ℕ) → nat_le a b ≡ true → a ≤ b
-no_greater a b h = grind (arith, nat_tests, h)
-
 small_last : (loops : List Loop) (l : Loop) → AreSmallLoops loops → IsSmallLoop l → AreSmallLoops (loops ++ l ∷ [])
 small_last [] l h one = (one, h)
 small_last (k ∷ loops) l h one = (h.0, small_last loops l h.1 one)
 
 grain_kept : (program : Program) (known : Known) (x y z : Name) (from to : Expr) (grain : ℕ) (over : List Name) → is_head_of_loop program known x y z from to grain over ≡ true → grain ≤ MOST_GRAIN
 grain_kept program known x y z from to grain over h =
-    let a = both_true _ (list_all (λ a. is_writable known a) over) h in
-    let b = both_true _ (nat_le grain MOST_GRAIN) a.0 in
-    no_greater grain MOST_GRAIN b.1
+    let a = and_parts _ (list_all (λ a. is_writable known a) over) h in
+    let b = and_parts _ (nat_le grain MOST_GRAIN) a.0 in
+    le_of grain MOST_GRAIN b.1
 
 loop_small : (program : Program) (l : Locals) (known : Known) (line : ℕ) (x y z : Name) (from to : Expr) (grain : ℕ) (over : List Name) (body : source.Block) {b : slotted.Block} → length l.ints ≤ 256 → length known ≤ 256 →
     is_head_of_loop program known x y z from to grain over ≡ true → differ over ≡ true → IsSmallLoop (loop_with line (head_with l x from to grain over body) b)
@@ -143,7 +138,7 @@ module _ (program : Program) (lists : Lists) (n : ℕ) where
   for_small x y z from to grain over b inner m arrays line l known returns around owners depth taken loops few_ints few_known types owns h =
       small_last (made_block n (moves_of head arrays) arrays loops body).loops _
       (inner (moves_of head arrays) arrays (with_int x l) ((x, name_kind.Integer) ∷ known) Nowhere (InLoop (x ∷ owners) x over) (x ∷ owners) (depth + 1) Joins taken [] loops
-      (let p = one_more l.ints x in omega (arith, p, few_ints)) (omega (arith, few_known)) (right_none (unless (is_head_of_loop program known x y z from to grain over) line) _ types) (right_none (unless owner_rule line) _ owns) h)
+      (let p = length_push l.ints x in omega (arith, p, few_ints)) (omega (arith, few_known)) (right_none (unless (is_head_of_loop program known x y z from to grain over) line) _ types) (right_none (unless owner_rule line) _ owns) h)
       (loop_small program l known line x y z from to grain over body (omega (arith, few_ints)) (omega (arith, few_known)) (kept _ line (left_none (unless (is_head_of_loop program known x y z from to grain over) line) _ types)) apart)
     where
       body : source.Block
@@ -157,7 +152,7 @@ module _ (program : Program) (lists : Lists) (n : ℕ) where
 
       apart : differ over ≡ true
       apart =
-          (both_true _ (differ over)
+          (and_parts _ (differ over)
           (kept owner_rule line (left_none (unless owner_rule line) (owner_faults_in fs (InLoop (x ∷ owners) x over) (x ∷ owners) (depth + 1) Joins taken [] b) owns))).1
 
   mutual

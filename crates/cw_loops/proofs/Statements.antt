@@ -1,7 +1,7 @@
 -- What statements do in the source's frame and in the function's.
 use Rattle.std.proofs.Common.{◌≡◌, ℕ, zero, suc, ◌+◌, ◌-◌, ◌≤◌, ◌<◌, ◌^◌, Bool, true, false, ℤ, pos, negsuc, List, [], ◌∷◌, ◌++◌, length, take, arith, refl, sym, ◌∙◌, ap, append_assoc}
 use Rattle.std.specs.Prelude.{nat_lt, if◌then◌else◌, Option, Some, None, slice_set, replicate}
-use Rattle.std.proofs.lemmas.Bool.{ltb-true}
+use Rattle.std.proofs.lemmas.Bool.{ltb-true, and_parts}
 use Rattle.std.proofs.lemmas.List.{length-replicate, length-set}
 use Rattle.cw_model.specs.declared.limits.TheConstants.{MOST_ELEMENTS}
 use Rattle.cw_model.specs.Ints.{Result, Value, Fails, fits, natural}
@@ -16,7 +16,6 @@ use Rattle.cw_model.specs.Outcome.{shows, quiet, Outcome, Done, Trapped, Over, t
 use Rattle.cw_model.specs.Meaning.{Completion, Normal, ByReturn, Calls, new_length, run}
 use Rattle.cw_loops.specs.Lowered.{lower_expr, lower_option}
 use Rattle.cw_loops.specs.Lowerable.{Surroundings, can_write, is_local, can_evaluate, can_lower}
-use Rattle.cw_loops.specs.lemmas.Tests.{both_true}
 use Rattle.cw_loops.proofs.Alike.{Alike, both_done, both_trapped, both_over, alike_pay, alike_after, same_events, value_pays}
 use Rattle.cw_loops.proofs.Cuts.{alike_right, alike_left}
 use Rattle.cw_loops.proofs.Tables.{keys, put_past}
@@ -212,6 +211,6 @@ module _ (c : Surroundings) (fo go : List (Name × ℤ)) (Slot : (fa ga : List (
   return_alike None r can line left fs fs' calls calls' =
       alike_after {t = shows (Join ∷ [])} {u = shows (Join ∷ [])} (omega arith) refl refl (same_events (Join ∷ [])) (alike_pay 1 left _ _ (λ enough. back_alike None (left - 1) r tt))
   return_alike (Some e) r can line left fs fs' calls calls' =
-      let ok = both_true c.returns (can_evaluate c e) can in
+      let ok = and_parts c.returns (can_evaluate c e) can in
       value_then (evaluate e f0) (evaluate (lower_expr c.over e) g0) line left (evaluate_same c fo go Slot w e ok.1 loc fa ga la slot) (evaluate_fits e f0 good (can_fit c e ok.1)) _ _ (λ v l f le.
       alike_after {t = shows (Join ∷ [])} {u = shows (Join ∷ [])} (omega arith) refl refl (same_events (Join ∷ [])) (alike_pay 1 l _ _ (λ enough. back_alike (Some v) (l - 1) r f)))

@@ -1,15 +1,15 @@
 -- The integers that a resolved body takes from outside are those that it names by name.
 use Rattle.std.proofs.Common.{◌≡◌, ℕ, nat_lt, Bool, true, false, List, [], ◌∷◌, ◌++◌, length, map, refl, sym, ◌∙◌, ap, append_assoc, append-nil}
 use Rattle.std.specs.Prelude.{if◌then◌else◌, not, ◌&&◌, ◌||◌}
+use Rattle.cw_facts.specs.Tests.{below}
 use Rattle.cw_model.specs.Syntax.{Name}
 use Rattle.cw_model.specs.Names.{same_name, is_among, new_names}
 use Rattle.cw_tree.specs.Resolved.{Use, slot_of, use_of, is_slot_in, with_first, first_uses}
-use Rattle.cw_tree.specs.lemmas.NamedSlots.{one_slot, slot_in, among_push}
+use Rattle.cw_tree.specs.lemmas.NamedSlots.{one_slot, slot_in, among_push, turned}
+use Rattle.cw_tree.specs.lemmas.Names.{same_itself, front_among, later_among}
 use Rattle.std.proofs.lemmas.List.{map-append}
 use Rattle.cw_loops.specs.lemmas.Tests.{either_left}
-use Rattle.cw_loops.specs.lemmas.Apart.{same_itself}
-use Rattle.cw_loops.specs.lemmas.Naming.{Placed, at_front, after_it, placed, front_among, later_among, same_turned}
-use Rattle.cw_loops.proofs.Shifting.{below}
+use Rattle.cw_loops.specs.lemmas.Naming.{Placed, at_front, after_it, placed}
 
 -- the names found so far, and behind them a name that is neither known nor found
 abbrev pub with_new : (known found : List Name) → Name → List Name
@@ -103,7 +103,7 @@ both_match names known us ws vs xs h g found =
 pub slots_among : (names : List Name) (v : Name) (found : List Name) → is_among v names ≡ true → is_slot_in (slot_of v names) (map (λ (w : Use). w.slot) (map (use_of names) found)) ≡ is_among v found
 slots_among names v [] there = refl
 slots_among names v (y ∷ found) there =
-    ap (λ b. b || is_slot_in (slot_of v names) (map (λ (w : Use). w.slot) (map (use_of names) found))) (one_slot y v names there ∙ same_turned y v)
+    ap (λ b. b || is_slot_in (slot_of v names) (map (λ (w : Use). w.slot) (map (use_of names) found))) (one_slot y v names there ∙ turned y v)
     ∙ first (same_name v y) (slots_among names v found there)
   where
     first : (b : Bool) → is_slot_in (slot_of v names) (map (λ (w : Use). w.slot) (map (use_of names) found)) ≡ is_among v found →

@@ -1,17 +1,20 @@
 -- Each local of the source is where its name is in the function that its text goes to.
 use Rattle.std.proofs.Common.{◌≡◌, ℕ, suc, ◌+◌, ◌-◌, ◌≤◌, nat_lt, Bool, true, false, List, [], ◌∷◌, ◌++◌, length, map, arith, refl, sym, ◌∙◌, ap, append_assoc, length-append}
 use Rattle.std.specs.Prelude.{if◌then◌else◌, not, ◌&&◌, ◌||◌}
+use Rattle.std.proofs.lemmas.Bool.{and_parts}
+use Rattle.cw_facts.specs.Tests.{below, not_below, not_true, both_true}
 use Rattle.cw_model.specs.Syntax.{Name, Function}
 use Rattle.cw_model.specs.Names.{same_name, is_among, differ}
 use Rattle.cw_tree.specs.Resolved.{Use, slot_of, use_of, is_slot_in}
 use Rattle.cw_tree.specs.lemmas.NamedSlots.{slot_in, slot_out, slot_stays}
+use Rattle.cw_tree.specs.lemmas.Names.{same_itself, same_are, front_among, later_among}
 use Rattle.cw_loops.specs.Lowered.{is_plain, low, high}
 use Rattle.cw_loops.specs.Lowerable.{Surroundings, can_write, can_read, is_local, nothing_around, inside}
 use Rattle.cw_loops.specs.Moved.{slot, Moves, nothing_moved, moved_int, moved_array, is_over}
-use Rattle.cw_loops.specs.lemmas.Tests.{both_true, Told, yes_is, no_is, told, never, refuted, not_true, all_of}
-use Rattle.cw_loops.specs.lemmas.Apart.{same_are, same_itself, plain_apart}
-use Rattle.cw_loops.specs.lemmas.Naming.{Placed, at_front, after_it, placed, Side, in_first, in_second, side, among_right, front_among, later_among, neither_among}
-use Rattle.cw_loops.proofs.Shifting.{small_slot, below, above, slot_past, int_moved, past_int, own_int_moved, array_moved, past_array, own_array_moved}
+use Rattle.cw_loops.specs.lemmas.Tests.{Told, yes_is, no_is, told, never, refuted}
+use Rattle.cw_loops.specs.lemmas.Apart.{plain_apart}
+use Rattle.cw_loops.specs.lemmas.Naming.{Placed, at_front, after_it, placed, Side, in_first, in_second, side, among_right, neither_among}
+use Rattle.cw_loops.proofs.Shifting.{small_slot, slot_past, int_moved, past_int, own_int_moved, array_moved, past_array, own_array_moved}
 use Rattle.cw_loops.proofs.Taken.{slots_among}
 use Rattle.cw_loops.proofs.Entering.{Entered}
 
@@ -42,7 +45,7 @@ still_there v x (y ∷ ys) h other = go (same_name x y) refl (placed v y ys h) (
 pub no_more : (xs ys : List Name) → differ xs ≡ true → ((v : Name) → is_among v xs ≡ true → is_among v ys ≡ true) → length xs ≤ length ys
 no_more [] ys h all = omega arith
 no_more (x ∷ xs) ys h all =
-    let two = both_true (not (is_among x xs)) (differ xs) h in
+    let two = and_parts (not (is_among x xs)) (differ xs) h in
     let apart : (v : Name) → is_among v xs ≡ true → same_name v x ≡ false = λ v o. refuted (same_name v x) (λ e. never (is_among x xs) (ap (λ w. is_among w xs) (sym (same_are v x e)) ∙ o) (not_true (is_among x xs) two.0)) in
     let rest = no_more xs (without x ys) two.1 (λ v o. still_there v x ys (all v (later_among v x xs o)) (apart v o)) in
     let less = one_less x ys (all x (front_among x xs)) in
@@ -72,17 +75,17 @@ pub record Tracks (m : Moves) (c : Surroundings) : Type 0 where
   pub variable_read : (a : Name) → is_among a c.over ≡ true → can_read c c.variable ≡ true
 
 pub outside_not_arrays : (c : Surroundings) (a : Name) → is_local c a ≡ true → is_among a c.arrays ≡ false
-outside_not_arrays c a h = not_true (is_among a c.arrays) (both_true (not (is_among a c.arrays)) _ h).0
+outside_not_arrays c a h = not_true (is_among a c.arrays) (and_parts (not (is_among a c.arrays)) _ h).0
 
 pub outside_not_over : (c : Surroundings) (a : Name) → is_local c a ≡ true → is_among a c.over ≡ false
-outside_not_over c a h = not_true (is_among a c.over) (both_true (not (is_among a c.over)) _ (both_true (not (is_among a c.arrays)) _ h).1).0
+outside_not_over c a h = not_true (is_among a c.over) (and_parts (not (is_among a c.over)) _ (and_parts (not (is_among a c.arrays)) _ h).1).0
 
 -- outside all loops each local stays
 int_stays : (s : ℕ) → s ≤ 256 → moved_int nothing_moved s ≡ s
-int_stays s h = ap (λ b. if b then 2 else slot (s - 0 + 0)) (above s 0 (omega arith)) ∙ small_slot (s - 0 + 0) (omega (arith, h)) ∙ omega arith
+int_stays s h = ap (λ b. if b then 2 else slot (s - 0 + 0)) (not_below s 0 (omega arith)) ∙ small_slot (s - 0 + 0) (omega (arith, h)) ∙ omega arith
 
 array_stays : (s : ℕ) → s ≤ 256 → moved_array nothing_moved s ≡ s
-array_stays s h = ap (λ b. if b then 0 else slot (s - 0 + 0)) (above s 0 (omega arith)) ∙ small_slot (s - 0 + 0) (omega (arith, h)) ∙ omega arith
+array_stays s h = ap (λ b. if b then 0 else slot (s - 0 + 0)) (not_below s 0 (omega arith)) ∙ small_slot (s - 0 + 0) (omega (arith, h)) ∙ omega arith
 
 pub tracks_outside : (fs : List Function) → Tracks nothing_moved (nothing_around fs)
 tracks_outside fs = record {
@@ -91,7 +94,7 @@ tracks_outside fs = record {
   array_local = λ a arrays here room. let p = slot_most a arrays in array_stays (slot_of a arrays) (omega (arith, p, room));
   array_over = λ a arrays o. absurd cc;
   array_next = λ arrays room. array_stays (length arrays) room;
-  local_not_over = λ a arrays here. ap (λ b. b && false) (above (slot_of a arrays) 0 (omega arith));
+  local_not_over = λ a arrays here. ap (λ b. b && false) (not_below (slot_of a arrays) 0 (omega arith));
   over_is_over = λ a arrays o. absurd cc;
   low_first = λ a o. absurd cc;
   variable_read = λ a o. absurd cc;
@@ -143,7 +146,7 @@ module _ (c : Surroundings) (ints0 arrays0 : List Name) (x : Name) (taken over :
       go : Told (is_among v (taken ++ x ∷ [])) → (is_among v before ≡ false) × (is_among v (low ∷ high ∷ taken) ≡ false)
       go (yes_is e) = by (side v taken (x ∷ []) e)
       go (no_is e) =
-          let w = both_true (not (is_among v (before ++ x ∷ []))) (not (is_among v ((low ∷ high ∷ taken) ++ x ∷ []))) (ap (λ b. b || can_write turn v) (sym e) ∙ r) in
+          let w = and_parts (not (is_among v (before ++ x ∷ []))) (not (is_among v ((low ∷ high ∷ taken) ++ x ∷ []))) (ap (λ b. b || can_write turn v) (sym e) ∙ r) in
           ((neither_among v before (x ∷ []) (not_true (is_among v (before ++ x ∷ [])) w.0)).0, (neither_among v (low ∷ high ∷ taken) (x ∷ []) (not_true (is_among v ((low ∷ high ∷ taken) ++ x ∷ [])) w.1)).0)
 
   own_few : (ints : List Name) → length ((before ++ x ∷ []) ++ ints) ≤ 256 → length (x ∷ ints) ≤ 256
@@ -191,12 +194,12 @@ module _ (c : Surroundings) (ints0 arrays0 : List Name) (x : Name) (taken over :
   not_one a arrays here =
       let p = slot_past a arrays_there arrays (outside_not_arrays turn a here) in
       ap (λ k. nat_lt (slot_of a (arrays_there ++ arrays)) k && is_slot_in (slot_of a (arrays_there ++ arrays)) m.over) arrays_before
-      ∙ ap (λ b. b && is_slot_in (slot_of a (arrays_there ++ arrays)) m.over) (above (slot_of a (arrays_there ++ arrays)) (length arrays_there) (omega (arith, p)))
+      ∙ ap (λ b. b && is_slot_in (slot_of a (arrays_there ++ arrays)) m.over) (not_below (slot_of a (arrays_there ++ arrays)) (length arrays_there) (omega (arith, p)))
 
   one_of_them : (a : Name) (arrays : List Name) → is_among a over ≡ true → is_over m (slot_of a (arrays_there ++ arrays)) ≡ true
   one_of_them a arrays o =
       ap (is_over m) (slot_stays a arrays_there arrays (over_there a o))
-      ∙ all_of (nat_lt (slot_of a arrays_there) m.arrays_before) (is_slot_in (slot_of a arrays_there) m.over)
+      ∙ both_true (nat_lt (slot_of a arrays_there) m.arrays_before) (is_slot_in (slot_of a arrays_there) m.over)
       (ap (nat_lt (slot_of a arrays_there)) arrays_before ∙ below (slot_of a arrays_there) (length arrays_there) (slot_in a arrays_there (over_there a o)))
       (ap (is_slot_in (slot_of a arrays_there)) (over_are ∙ sym (slots_are arrays_there over)) ∙ slots_among arrays_there a over (over_there a o) ∙ o)
 

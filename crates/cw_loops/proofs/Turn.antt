@@ -10,10 +10,11 @@ use Rattle.cw_model.specs.Names.{same_name, is_among, find, put}
 use Rattle.cw_model.specs.Frames.{Frame, new_int, inside_loop, leave}
 use Rattle.cw_model.specs.Outcome.{Done, quiet}
 use Rattle.cw_model.specs.Meaning.{Completion, Normal, onward, going, Calls, run_all, call, with_slice}
+use Rattle.cw_tree.specs.lemmas.Names.{same_itself, same_are, front_among, later_among}
 use Rattle.cw_loops.specs.Lowered.{is_plain, low, high}
 use Rattle.cw_loops.specs.Lowerable.{Surroundings}
-use Rattle.cw_loops.specs.lemmas.Apart.{same_are, same_itself, not_first, not_later, apart, plain_apart}
-use Rattle.cw_loops.specs.lemmas.Naming.{later_among, front_among, among_left}
+use Rattle.cw_loops.specs.lemmas.Apart.{not_first, not_later, apart, plain_apart}
+use Rattle.cw_loops.specs.lemmas.Naming.{among_left}
 use Rattle.cw_loops.proofs.Alike.{Alike, alike_then, then_gives}
 use Rattle.cw_loops.proofs.Numbers.{tested, between}
 use Rattle.cw_loops.proofs.Tables.{keys}

@@ -2,6 +2,7 @@
 use Rattle.std.proofs.Common.{◌≡◌, ℕ, zero, suc, ◌+◌, ◌-◌, ◌<◌, Bool, true, false, ℤ, pos, List, [], ◌∷◌, ◌++◌, length, arith, refl, sym, ◌∙◌, ap, append_assoc, append-nil, subst}
 use Rattle.std.specs.Prelude.{if◌then◌else◌, not, nat_lt, map, None}
 use Rattle.std.specs.List.{list_all}
+use Rattle.cw_facts.specs.Tests.{not_true}
 use Rattle.cw_model.specs.declared.limits.TheConstants.{MOST_DEPTH}
 use Rattle.cw_model.specs.Ints.{fits}
 use Rattle.cw_model.specs.declared.trap.Trap.TheVariants as trap
@@ -16,7 +17,6 @@ use Rattle.cw_model.specs.Meaning.{Completion, Returned, Deeper, function_named,
 use Rattle.cw_model.specs.Answers.{Ended, TrappedAt, total_to, int_given, answer_of, main_frame, main_name, serial_answer}
 use Rattle.cw_loops.specs.Lowered.{is_plain, loop_count_in, lower_block, made_in, lower_function, lower_functions, made_of, lowered}
 use Rattle.cw_loops.specs.Lowerable.{nothing_around, integers_of, arrays_of, can_lower_all, can_lower_function, is_lowerable}
-use Rattle.cw_loops.specs.lemmas.Tests.{both_true, not_true}
 use Rattle.cw_loops.specs.lemmas.Finding.{Found, found_left, found_right, looked, fs', all_found, params_same}
 use Rattle.cw_loops.proofs.Alike.{Alike, Whole, whole_done, whole_trapped, whole_over, as_whole, alike_then, alike_after, alike_pay, same_events}
 use Rattle.cw_loops.proofs.LeafCall.{whole_left, whole_right}
@@ -30,6 +30,7 @@ use Rattle.cw_loops.proofs.Fresh.{fresh_from}
 use Rattle.cw_loops.proofs.Calls.{CallSame, same_call}
 use Rattle.std.specs.Prelude.{sum_by}
 use Rattle.std.proofs.lemmas.List.Sums.{sum_by-append, sum_by-cons}
+use Rattle.std.proofs.lemmas.Bool.{and_parts}
 use Rattle.cw_model.specs.Sizes.{function_size, static_size}
 use Rattle.cw_loops.proofs.Sizes.{size_block}
 use Rattle.cw_loops.proofs.Simulation.{block_alike}
@@ -37,8 +38,8 @@ use Rattle.cw_loops.proofs.Simulation.{block_alike}
 params_once : (fs : List Function) → list_all (can_lower_function fs) fs ≡ true → (g : Name) → is_plain g ≡ true → Fresh [] (arrays_of (function_named g fs).params)
 params_once fs can g plain =
     let l = looked fs can g plain in
-    let n = both_true (is_plain l.f.name) _ l.can in
-    let d = both_true (differ (arrays_of l.f.params)) _ n.1 in
+    let n = and_parts (is_plain l.f.name) _ l.can in
+    let d = and_parts (differ (arrays_of l.f.params)) _ n.1 in
     subst (λ (f : Function). Fresh [] (arrays_of f.params)) (sym l.is) (fresh_from (arrays_of l.f.params) [] (differ_distinct (arrays_of l.f.params) d.0) (λ a o. refl))
 
 abbrev deep_or : Bool → ℕ → Piece Returned → Piece Returned
@@ -109,8 +110,8 @@ module _ (fs : List Function) (can : list_all (can_lower_function fs) fs ≡ tru
           (deep_or b line (λ left. then_do (run_all (lower_block [] k f.body) (fs' fs can) (call bound' (depth + 1) (fs' fs can)) given left) (λ way l. end_of_call way l)) left)
       by_test true e = whole_trapped refl
       by_test false e =
-          let p = both_true (is_plain f.name) _ can_f in
-          let q = both_true (differ (arrays_of f.params)) (can_lower_all (nothing_around fs) (integers_of f.params) (arrays_of f.params) f.body) p.1 in
+          let p = and_parts (is_plain f.name) _ can_f in
+          let q = and_parts (differ (arrays_of f.params)) (can_lower_all (nothing_around fs) (integers_of f.params) (arrays_of f.params) f.body) p.1 in
           as_whole (alike_then (block_alike fs (fs' fs can) (call bound (depth + 1) fs) (depth + 1) e left (params_same fs can) (params_once fs can)
           (λ g plain given' line' l bound'' e1 e2 good' ks' ki' ka'. more g plain (depth + 1) given' line' l bound bound'' (omega arith) (omega arith) e2 good' ks' ki' ka')
           f.body (nothing_around fs) [] [] TopSlot (top_world fs) refl (integers_of f.params) (arrays_of f.params) q.1 k made given given rel left bound' (omega arith) (omega arith))
@@ -132,14 +133,14 @@ main_good : (ps : List Param) (args : List ℤ) (frame : Frame) → Good frame �
 main_good [] args frame g h = g
 main_good (p ∷ ps) [] frame g h = g
 main_good (p ∷ ps) (v ∷ args) frame g h =
-    let q = both_true (fits v) (list_all fits args) h in
+    let q = and_parts (fits v) (list_all fits args) h in
     main_good ps args (new_int p.name v frame) (record { ints = fit-append frame.ints ((p.name, v) ∷ []) g.ints (q.0, tt); arrays = g.arrays }) q.1
 
 main_ints : (ps : List Param) (args : List ℤ) (frame : Frame) → length args ≡ length ps → list_all (λ p. not (wants_array p)) ps ≡ true → keys (main_frame ps args frame).ints ≡ keys frame.ints ++ integers_of ps
 main_ints [] args frame n h = sym (append-nil (keys frame.ints))
 main_ints (p ∷ ps) [] frame n h = absurd (omega arith)
 main_ints (p ∷ ps) (v ∷ args) frame n h =
-    let q = both_true (not (wants_array p)) (list_all (λ p. not (wants_array p)) ps) h in
+    let q = and_parts (not (wants_array p)) (list_all (λ p. not (wants_array p)) ps) h in
     main_ints ps args (new_int p.name v frame) (omega arith) q.1 ∙ ap (λ t. t ++ integers_of ps) (keys-append frame.ints ((p.name, v) ∷ [])) ∙ append_assoc (keys frame.ints) (p.name ∷ []) (integers_of ps)
     ∙ ap (λ b. keys frame.ints ++ (if b then integers_of ps else p.name ∷ integers_of ps)) (sym (not_true (wants_array p) q.0))
 
@@ -147,7 +148,7 @@ main_arrays : (ps : List Param) (args : List ℤ) (frame : Frame) → length arg
 main_arrays [] args frame n h = sym (append-nil (keys frame.arrays))
 main_arrays (p ∷ ps) [] frame n h = absurd (omega arith)
 main_arrays (p ∷ ps) (v ∷ args) frame n h =
-    let q = both_true (not (wants_array p)) (list_all (λ p. not (wants_array p)) ps) h in
+    let q = and_parts (not (wants_array p)) (list_all (λ p. not (wants_array p)) ps) h in
     main_arrays ps args (new_int p.name v frame) (omega arith) q.1 ∙ ap (λ b. keys frame.arrays ++ (if b then p.name ∷ arrays_of ps else arrays_of ps)) (sym (not_true (wants_array p) q.0))
 
 main_sliced : (ps : List Param) (args : List ℤ) (frame : Frame) → (main_frame ps args frame).sliced ≡ frame.sliced
@@ -189,9 +190,9 @@ sizes_add : (all0 fs all : List Function) (k : ℕ) → ((g : Name) → is_plain
     sum_by (function_size all) (lower_functions k fs) + sum_by (function_size all) (made_of k fs) ≡ sum_by (function_size all0) fs
 sizes_add all0 [] all k keep h found = omega arith
 sizes_add all0 (f ∷ fs) all k keep h found =
-    let p = both_true (can_lower_function all0 f) (list_all (can_lower_function all0) fs) h in
-    let n = both_true (is_plain f.name) _ p.0 in
-    let d = both_true (differ (arrays_of f.params)) (can_lower_all (nothing_around all0) (integers_of f.params) (arrays_of f.params) f.body) n.1 in
+    let p = and_parts (can_lower_function all0 f) (list_all (can_lower_function all0) fs) h in
+    let n = and_parts (is_plain f.name) _ p.0 in
+    let d = and_parts (differ (arrays_of f.params)) (can_lower_all (nothing_around all0) (integers_of f.params) (arrays_of f.params) f.body) n.1 in
     let x = made_in k f.body in
     let y = made_of (k + loop_count_in f.body) fs in
     let one = size_block all0 all keep f.body (nothing_around all0) (integers_of f.params) (arrays_of f.params) (λ a o. absurd cc) d.1 k (found_left all x y found) in

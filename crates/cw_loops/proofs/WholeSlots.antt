@@ -1,20 +1,21 @@
 -- Lowering a whole program by slot makes the lowered program, each name looked up.
-use Rattle.std.proofs.Common.{◌≡◌, ℕ, zero, suc, ◌+◌, ◌≤◌, ◌<◌, Bool, true, false, List, [], ◌∷◌, ◌++◌, length, map, flat_map, arith, refl, sym, ◌∙◌, ap, append_assoc, append-nil, length-append}
+use Rattle.std.proofs.Common.{◌≡◌, ℕ, suc, ◌+◌, ◌≤◌, ◌<◌, Bool, true, false, List, [], ◌∷◌, ◌++◌, length, map, flat_map, arith, refl, sym, ◌∙◌, ap, append_assoc, append-nil, length-append}
 use Rattle.std.specs.Prelude.{if◌then◌else◌, not, nat_le, ◌&&◌, filter}
 use Rattle.std.specs.List.{list_all}
 use Rattle.std.proofs.lemmas.Bool.Decides.{nat_tests}
 use Rattle.std.proofs.lemmas.List.{map-append, length-map}
+use Rattle.std.proofs.lemmas.Bool.{and_parts}
 use Rattle.cw_model.specs.Meaning.{function_named}
 use Rattle.cw_model.specs.declared.limits.TheConstants.{MOST_DECLARED}
 use Rattle.cw_model.specs.Lines.{unless}
 use Rattle.cw_model.specs.Syntax.{Name, Stmt, Declare, DeclareArray, Assign, AssignElement, Reduce, Call, Start, Begin, Sync, If, IfElse, While, For, Scope, Cut, Region, Print, Return, Block, End, Then, Param, Function, Program, wants_array}
-use Rattle.cw_model.specs.Names.{same_name, is_among, differ}
+use Rattle.cw_model.specs.Names.{is_among, differ}
 use Rattle.cw_model.specs.Sizes.{loops_in, loops_in_block, limit_faults, loop_faults, function_limits}
 use Rattle.cw_model.specs.Typing.{is_head, faults_of, type_faults, WithInt, Alone, known_of, IsWellTyped}
 use Rattle.cw_model.specs.Ownership.{KeepsOwnership}
 use Rattle.cw_model.specs.lemmas.Kept.{left_none, right_none}
 use Rattle.cw_tree.specs.Declares.{declares_in_block}
-use Rattle.cw_tree.specs.Resolved.{Lists, Locals, slot_of, resolved_function, resolved_block, resolved, locals_of, lists_of, function_names, reducer_names, tags_of}
+use Rattle.cw_tree.specs.Resolved.{slot_of, resolved_function, resolved_block, resolved, locals_of, lists_of, function_names, reducer_names, tags_of}
 use Rattle.cw_tree.specs.Resolved as source
 use Rattle.cw_tree.specs.declared.resolved.Tree.{Tree}
 use Rattle.cw_tree.specs.ResolvedView.{program_of, resolved_of}
@@ -32,10 +33,10 @@ use Rattle.cw_loops.specs.Slotted as slotted
 use Rattle.cw_loops.specs.Moved.{slot, nothing_moved, Loop, MadeAll, made_body}
 use Rattle.cw_loops.specs.Lowers.{Bodies, arrays_from, made_bodies, made_of_tree}
 use Rattle.cw_loops.specs.Expanded.{loop_texts, with_bodies, expanded, lowered_by_slot}
-use Rattle.cw_loops.specs.lemmas.Tests.{both_true, Told, yes_is, no_is, told}
-use Rattle.cw_loops.specs.lemmas.Apart.{same_itself, apart_plain}
+use Rattle.cw_loops.specs.lemmas.Tests.{Told, yes_is, no_is, told}
+use Rattle.cw_loops.specs.lemmas.Apart.{apart_plain}
 use Rattle.cw_loops.specs.lemmas.Heads.{int_kind, head_of, heads_kept}
-use Rattle.cw_loops.specs.lemmas.Numbering.{Numbered, Made, count_of, made_functions, loops_apart, names_stay}
+use Rattle.cw_loops.specs.lemmas.Numbering.{Made, count_of, made_functions, names_stay, numbered_slot}
 use Rattle.cw_loops.specs.lemmas.Finding as finding
 use Rattle.cw_loops.proofs.Accepting.{owned_can}
 use Rattle.cw_loops.proofs.Shifting.{small_slot, slot_past}
@@ -134,28 +135,11 @@ arrays_counted n (p ∷ ps) few = go (wants_array p) few (λ m. arrays_counted m
 
 -- the indices of functions
 
-numbered_slot : (made : List Function) (j i : ℕ) → Numbered j made → i < length made → slot_of (loop_name (j + i)) (function_names made) ≡ i
-numbered_slot [] j i h less = absurd (omega (arith, less))
-numbered_slot (f ∷ made) j zero h less =
-    ap (λ w. if same_name (loop_name (j + 0)) w then 0 else suc (slot_of (loop_name (j + 0)) (function_names made))) h.0
-    ∙ ap (λ w. if same_name (loop_name w) (loop_name j) then 0 else suc (slot_of (loop_name (j + 0)) (function_names made))) (none j)
-    ∙ ap (λ b. if b then 0 else suc (slot_of (loop_name (j + 0)) (function_names made))) (same_itself (loop_name j))
-  where
-    none : (n : ℕ) → n + 0 ≡ n
-    none n = omega arith
-numbered_slot (f ∷ made) j (suc i) h less =
-    ap (λ w. if same_name (loop_name (j + suc i)) w then 0 else suc (slot_of (loop_name (j + suc i)) (function_names made))) h.0
-    ∙ ap (λ b. if b then 0 else suc (slot_of (loop_name (j + suc i)) (function_names made))) (loops_apart (j + suc i) j (omega arith))
-    ∙ ap (λ w. suc (slot_of (loop_name w) (function_names made))) (next j i) ∙ ap suc (numbered_slot made (j + 1) i h.1 (omega (arith, less)))
-  where
-    next : (m n : ℕ) → m + suc n ≡ m + 1 + n
-    next m n = omega arith
-
 no_loop_named : (all fs : List Function) (k : ℕ) → list_all (can_lower_function all) fs ≡ true → is_among (loop_name k) (function_names fs) ≡ false
 no_loop_named all [] k h = refl
 no_loop_named all (f ∷ fs) k h =
-    let two = both_true (can_lower_function all f) (list_all (can_lower_function all) fs) h in
-    ap (λ b. if b then true else is_among (loop_name k) (function_names fs)) (apart_plain f.name (k ∷ []) (both_true (is_plain f.name) _ two.0).0) ∙ no_loop_named all fs k two.1
+    let two = and_parts (can_lower_function all f) (list_all (can_lower_function all) fs) h in
+    ap (λ b. if b then true else is_among (loop_name k) (function_names fs)) (apart_plain f.name (k ∷ []) (and_parts (is_plain f.name) _ two.0).0) ∙ no_loop_named all fs k two.1
 
 -- a function that is accepted, and its resolved text
 record Accepted (program : Program) (g : Function) : Type 0 where
@@ -215,8 +199,8 @@ module _ (program : Program) (can : is_lowerable program ≡ true) (within : lim
   head_here g h =
       let few = small_head g h.limits in
       let kinds = few_kinds g.params in
-      let fit = both_true (nat_le (resolved_function (lists_of program) g).ints MOST_DECLARED && nat_le (resolved_function (lists_of program) g).arrays MOST_DECLARED) _ h.fit in
-      let two = both_true (nat_le (resolved_function (lists_of program) g).ints MOST_DECLARED) (nat_le (resolved_function (lists_of program) g).arrays MOST_DECLARED) fit.0 in
+      let fit = and_parts (nat_le (resolved_function (lists_of program) g).ints MOST_DECLARED && nat_le (resolved_function (lists_of program) g).arrays MOST_DECLARED) _ h.fit in
+      let two = and_parts (nat_le (resolved_function (lists_of program) g).ints MOST_DECLARED) (nat_le (resolved_function (lists_of program) g).arrays MOST_DECLARED) fit.0 in
       record {
         tracks = tracks_outside program.functions;
         few_ints = omega (arith, few, kinds);
@@ -251,10 +235,10 @@ module _ (program : Program) (can : is_lowerable program ≡ true) (within : lim
 
       body_can : can_lower_all (nothing_around program.functions) (integers_of g.params) (arrays_of g.params) g.body ≡ true
       body_can =
-          (both_true (differ (arrays_of g.params)) (can_lower_all (nothing_around program.functions) (integers_of g.params) (arrays_of g.params) g.body) (both_true (is_plain g.name) _ h.can).1).1
+          (and_parts (differ (arrays_of g.params)) (can_lower_all (nothing_around program.functions) (integers_of g.params) (arrays_of g.params) g.body) (and_parts (is_plain g.name) _ h.can).1).1
 
       body_fits : fits_block (counts_of (resolved program) (resolved_function (lists_of program) g)) (resolved_function (lists_of program) g).body ≡ true
-      body_fits = (both_true (nat_le (resolved_function (lists_of program) g).ints MOST_DECLARED && nat_le (resolved_function (lists_of program) g).arrays MOST_DECLARED) _ h.fit).1
+      body_fits = (and_parts (nat_le (resolved_function (lists_of program) g).ints MOST_DECLARED && nat_le (resolved_function (lists_of program) g).arrays MOST_DECLARED) _ h.fit).1
 
   whole : Function → slotted.Block → slotted.Function
   whole g b = record { gives_int = g.gives_int; params = map (λ (p : Param). p.kind) g.params; body = b }
@@ -269,8 +253,8 @@ module _ (program : Program) (can : is_lowerable program ≡ true) (within : lim
   unfolding whole
   bodies_are [] can' fit types limits loops k len room = (refl, sym (append-nil (loop_texts many loops)))
   bodies_are (g ∷ gs) can' fit types limits loops k len room =
-      let c = both_true (can_lower_function program.functions g) (list_all (can_lower_function program.functions) gs) can' in
-      let f = both_true (fits_function (resolved program) (resolved_function (lists_of program) g)) (list_all (fits_function (resolved program)) (map (resolved_function (lists_of program)) gs)) fit in
+      let c = and_parts (can_lower_function program.functions g) (list_all (can_lower_function program.functions) gs) can' in
+      let f = and_parts (fits_function (resolved program) (resolved_function (lists_of program) g)) (list_all (fits_function (resolved program)) (map (resolved_function (lists_of program)) gs)) fit in
       let here : Accepted program g = record { can = c.0; fit = f.0; types = left_none (faults_of program g) _ types; limits = left_none (function_limits g) _ limits } in
       let d = function_made g here loops k len (omega (arith, room)) in
       let rest = bodies_are gs c.1 f.1 (right_none (faults_of program g) _ types) (right_none (function_limits g) _ limits) (body_of loops g).loops (k + loop_count_in g.body) d.many (omega (arith, room)) in (
@@ -295,7 +279,7 @@ module _ (program : Program) (can : is_lowerable program ≡ true) (within : lim
       both : (with_bodies functions' (all_of_them [] program.functions).blocks ≡ map (slotted_function (lowered_lists program)) (lower_functions 0 program.functions))
           × (loop_texts many (all_of_them [] program.functions).loops ≡ loop_texts many [] ++ map (slotted_function (lowered_lists program)) (made_of 0 program.functions))
       both =
-          bodies_are program.functions can (both_true (list_all (fits_function (resolved program)) (resolved program).functions) _ fitting).0 (heads_kept program types) (heads_small program within)
+          bodies_are program.functions can (and_parts (list_all (fits_function (resolved program)) (resolved program).functions) _ fitting).0 (heads_kept program types) (heads_small program within)
           [] 0 refl (omega arith)
 
 pub lowers_by_slot : ResolvedFits → (program : Program) → IsWellTyped program → KeepsOwnership program → is_source_like program ≡ true → limit_faults program ≡ [] → loop_faults program ≡ [] → lowered_by_slot (resolved program) ≡ slotted_functions program

@@ -74,19 +74,19 @@ fn statement(
 {
     match stmt {
         Stmt::If(e, b) => {
-            let condition = expression(alloc, here.moves, e)?;
             let body = block(alloc, here, b, loops)?;
+            let condition = expression(alloc, here.moves, e)?;
             Ok(tree::Stmt::If(condition, body))
         }
         Stmt::IfElse(e, b, c) => {
-            let condition = expression(alloc, here.moves, e)?;
             let body = block(alloc, here, b, loops)?;
-            let other = block(alloc, here, c, loops)?;
-            Ok(tree::Stmt::IfElse(condition, body, Box::new(alloc, other)?))
+            let other = Box::new(alloc, block(alloc, here, c, loops)?)?;
+            let condition = expression(alloc, here.moves, e)?;
+            Ok(tree::Stmt::IfElse(condition, body, other))
         }
         Stmt::While(e, b) => {
-            let condition = expression(alloc, here.moves, e)?;
             let body = block(alloc, here, b, loops)?;
+            let condition = expression(alloc, here.moves, e)?;
             Ok(tree::Stmt::While(condition, body))
         }
         Stmt::For(head, b) => lowered(alloc, here, line, head, b, loops),
@@ -131,7 +131,6 @@ fn lowered(
     };
     let body = block(alloc, inside, body, loops)?;
     let callee = slot(loops.len()).saturating_add(here.functions);
-    let begun = beginning(alloc, here.moves, callee, head)?;
     loops.push(Loop {
         line,
         grain: head.grain,
@@ -139,6 +138,7 @@ fn lowered(
         over: slot(head.over.len()),
         body,
     })?;
+    let begun = beginning(alloc, here.moves, callee, head)?;
     Ok(begun)
 }
 
@@ -154,7 +154,6 @@ fn in_cut(
     ensures stmt { IfOk result (IsCut here.entry cut.now body.now loops.old) }
     ensures loops { OnOk result (LoopsOfCut here.entry cut.now body.now loops.old loops.new) }
 {
-    let at = expression(alloc, here.moves, &cut.at)?;
     let inside = Here {
         functions: here.functions,
         moves: here.moves,
@@ -163,7 +162,7 @@ fn in_cut(
     let body = block(alloc, inside, body, loops)?;
     let parts = tree::Cut {
         array: here.moves.array(cut.array.slot),
-        at,
+        at: expression(alloc, here.moves, &cut.at)?,
         left: here.moves.array(cut.left.slot),
         right: here.moves.array(cut.right.slot),
     };

@@ -24,6 +24,7 @@ fn from_low(alloc: Global, is_over: bool, e: tree::Expr) -> Result<tree::Expr, A
 }
 
 /// An expression.
+#[cycle(expressions)]
 pub(crate) fn expression(alloc: Global, moves: Moves, e: &Expr) -> Result<tree::Expr, AllocError>
     ensures { IfOk result (moved.IsExpr moves.entry e.now) }
 {
@@ -37,21 +38,29 @@ pub(crate) fn expression(alloc: Global, moves: Moves, e: &Expr) -> Result<tree::
         }
         Expr::Length(a) => Ok(tree::Expr::Length(moves.array(a.slot))),
         Expr::Negative(d) => {
-            let operand = expression(alloc, moves, d)?;
-            Ok(tree::Expr::Negative(Box::new(alloc, operand)?))
+            let operand = boxed(alloc, moves, d)?;
+            Ok(tree::Expr::Negative(operand))
         }
         Expr::Not(d) => {
-            let operand = expression(alloc, moves, d)?;
-            Ok(tree::Expr::Not(Box::new(alloc, operand)?))
+            let operand = boxed(alloc, moves, d)?;
+            Ok(tree::Expr::Not(operand))
         }
         Expr::Binary(operator, d, e) => {
-            let left = expression(alloc, moves, d)?;
-            let right = expression(alloc, moves, e)?;
-            let left = Box::new(alloc, left)?;
-            let right = Box::new(alloc, right)?;
+            let left = boxed(alloc, moves, d)?;
+            let right = boxed(alloc, moves, e)?;
             Ok(tree::Expr::Binary(*operator, left, right))
         }
     }
+}
+
+// Such an expression in a box.
+#[cycle(expressions)]
+fn boxed(alloc: Global, moves: Moves, e: &Expr) -> Result<Box<tree::Expr>, AllocError>
+    ensures { IfOk result (λ made. moved.IsExpr moves.entry e.now made.value) }
+{
+    let made = expression(alloc, moves, e)?;
+    let made = Box::new(alloc, made)?;
+    Ok(made)
 }
 
 // An argument.
@@ -138,10 +147,10 @@ pub(crate) fn beginning(
 ) -> Result<tree::Stmt, AllocError>
     ensures { IfOk result (moved.IsBeginning moves.entry callee head.now) }
 {
-    let from = expression(alloc, moves, &head.from)?;
-    let to = expression(alloc, moves, &head.to)?;
     let captured = ints(alloc, moves, &head.captured)?;
     let over = arrays(alloc, moves, &head.over)?;
+    let from = expression(alloc, moves, &head.from)?;
+    let to = expression(alloc, moves, &head.to)?;
     let begun = tree::Begin {
         callee,
         from,

@@ -10,7 +10,7 @@ use cw_own::Owned;
 
 /// A program that types and ownership accept, as its source has it and with its loops lowered. Sites, reducers and tags
 /// are told by the source: there they stand by place.
-#[derive(Drop, Debug)]
+#[derive(Drop)]
 pub struct Core {
     pub source: Owned,
     pub tree: Tree,

@@ -7,7 +7,7 @@
 use cw_model::syntax::{CallKind, Operator, Reduction};
 
 /// An expression.
-#[derive(Drop, Debug)]
+#[derive(Drop)]
 pub enum Expr {
     /// A number, from 0 to `i64::MAX`.
     Number(i64),
@@ -26,7 +26,7 @@ pub enum Expr {
 }
 
 /// What is given for a parameter.
-#[derive(Drop, Debug)]
+#[derive(Drop)]
 pub enum Argument {
     /// The value of an expression.
     Int(Expr),
@@ -37,7 +37,7 @@ pub enum Argument {
 }
 
 /// A call statement.
-#[derive(Drop, Debug)]
+#[derive(Drop)]
 pub struct Call {
     /// Whether the call is spawned.
     pub kind: CallKind,
@@ -52,7 +52,7 @@ pub struct Call {
 }
 
 /// The first call of a loop's function.
-#[derive(Drop, Debug)]
+#[derive(Drop)]
 pub struct Begin {
     /// The index of the function.
     pub callee: u32,
@@ -67,7 +67,7 @@ pub struct Begin {
 }
 
 /// Where an array is cut, and the slots of its two parts.
-#[derive(Drop, Debug)]
+#[derive(Drop)]
 pub struct Cut {
     /// The slot of the array that is cut.
     pub array: u32,
@@ -81,7 +81,7 @@ pub struct Cut {
 
 /// A statement, with the line of its first token.
 #[cycle(stmt)]
-#[derive(Drop, Debug)]
+#[derive(Drop)]
 pub struct Line {
     pub line: u32,
     pub stmt: Stmt,
@@ -89,7 +89,7 @@ pub struct Line {
 
 /// A statement.
 #[cycle(stmt)]
-#[derive(Drop, Debug)]
+#[derive(Drop)]
 pub enum Stmt {
     /// A new integer and its first value.
     Declare(u32, Expr),
@@ -127,7 +127,7 @@ pub enum Stmt {
 
 /// The function of a loop. Its integers are the two ends of its range, then those that it takes along, then the loop's
 /// variable, then what a turn declares; its arrays are those of the loop, then what a turn declares.
-#[derive(Drop, Debug)]
+#[derive(Drop)]
 pub struct Loop {
     /// The line of the `cilk_for`.
     pub line: u32,
@@ -143,7 +143,7 @@ pub struct Loop {
 
 /// The functions of a program: the bodies of those of the source, in their order, and the loops, each behind those in
 /// its body.
-#[derive(Drop, Debug)]
+#[derive(Drop)]
 pub struct Tree {
     pub bodies: Vec<Vec<Line>>,
     pub loops: Vec<Loop>,

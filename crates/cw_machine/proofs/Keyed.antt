@@ -1,16 +1,17 @@
 -- How rows come under their keys.
-use Rattle.std.proofs.Common.{◌≡◌, ◌⊎◌, inl, inr, ℕ, suc, ◌+◌, ◌<◌, Bool, true, false, not, ◌&&◌, ◌||◌, List, [], ◌∷◌, ◌++◌}
+use Rattle.std.proofs.Common.{◌≡◌, ◌⊎◌, inl, inr, ℕ, suc, ◌+◌, ◌<◌, Bool, true, false, not, List, [], ◌∷◌, ◌++◌}
 use Rattle.std.proofs.Common.{length, map, take, refl, sym, ap, ◌∙◌, subst, arith, nat_eq, append_assoc}
 use Rattle.std.proofs.Math.ListN.{get_or}
 use Rattle.std.proofs.Math.Seq.{take-suc}
 use Rattle.std.specs.Global.{Vec}
 use Rattle.std.specs.List.{enumerate_from, range_with_len, zip}
 use Rattle.std.specs.Str.{bytes_eq}
-use Rattle.std.proofs.lemmas.Bool.{cases_Bool}
+use Rattle.std.proofs.lemmas.Bool.{cases_Bool, and_parts, or_parts}
 use Rattle.std.proofs.lemmas.Bool.Decides.{nat_tests}
 use Rattle.std.proofs.lemmas.List.{append-nil, length-take-le, map-append}
 use Rattle.std.proofs.lemmas.Slice.Eq.{bytes_eq-Decides}
 use Rattle.std.proofs.lemmas.Slice.Zip.{firsts-zip, seconds-zip}
+use Rattle.cw_facts.specs.Tests.{not_true}
 use Rattle.cw_model.specs.Syntax.{Name}
 use Rattle.cw_code.specs.Fits.{is_among, are_apart}
 use Rattle.indexmap.specs.IndexMap.{insert_entry}
@@ -59,23 +60,11 @@ same_tag x y = bytes_eq x.items y.items
 abbrev pub texts : {X : Type 0} → List (Vec ℕ × X) → List Name
 texts entries = map (λ e. e.0.items) entries
 
-both : (a b : Bool) → (a && b) ≡ true → (a ≡ true) × (b ≡ true)
-both true b h = (refl, h)
-both false b h = cc
-
-neither : (a b : Bool) → (a || b) ≡ false → (a ≡ false) × (b ≡ false)
-neither true b h = cc
-neither false b h = (refl, h)
-
-refused : (a : Bool) → not a ≡ true → a ≡ false
-refused true h = cc
-refused false h = refl
-
 -- a name that is among none of these is not one of them
 not_among : (name : Name) (front : List Name) (tag : Name) (rest : List Name)
     → is_among name (front ++ tag ∷ rest) ≡ false → bytes_eq name tag ≡ false
-not_among name [] tag rest h = (neither (bytes_eq name tag) _ h).0
-not_among name (x ∷ front) tag rest h = not_among name front tag rest (neither (bytes_eq name x) _ h).1
+not_among name [] tag rest h = (or_parts (bytes_eq name tag) _ h).0
+not_among name (x ∷ front) tag rest h = not_among name front tag rest (or_parts (bytes_eq name x) _ h).1
 
 turned : (x y : Name) → bytes_eq x y ≡ false → bytes_eq y x ≡ false
 turned x y h = elim (cases_Bool (bytes_eq y x)) [
@@ -89,8 +78,8 @@ pub next_tag : {X : Type 0} (entries : List (Vec ℕ × X)) (key : Vec ℕ) (row
     → insert_entry same_tag entries key row ≡ entries ++ (key, row) ∷ []
 next_tag [] key row tag rest e apart = refl
 next_tag (entry ∷ entries) key row tag rest e apart =
-    let split = both (not (is_among entry.0.items (texts entries ++ tag ∷ rest))) _ apart in
-    let other = turned entry.0.items tag (not_among entry.0.items (texts entries) tag rest (refused _ split.0)) in
+    let split = and_parts (not (is_among entry.0.items (texts entries ++ tag ∷ rest))) _ apart in
+    let other = turned entry.0.items tag (not_among entry.0.items (texts entries) tag rest (not_true _ split.0)) in
     let differs : bytes_eq key.items entry.0.items ≡ false = subst (λ k. bytes_eq k entry.0.items ≡ false) (sym e) other in
     rw differs (ap (λ l. entry ∷ l) (next_tag entries key row tag rest e split.1))
 
@@ -142,8 +131,3 @@ module _ {X : Type 0} (entries : List (Vec ℕ × X)) (tags : List Name) (rows :
   -- and the rows under them are those rows
   pub rows_under_tags : map (λ e. e.1) entries ≡ rows
   rows_under_tags = rows_named entries ∙ ap (map (λ p. p.1)) is ∙ seconds-zip tags rows as_many
-
--- which of two walks is at its end
-pub which_ends : {S T : Type 0} {P : S → Type 0} {Q : T → Type 0} (m n : ℕ) → ((u : S) × ((m ≡ 0) × P u)) ⊎ ((u : T) × ((n ≡ 0) × Q u)) → (m ≡ 0) ⊎ (n ≡ 0)
-which_ends m n (inl x) = inl x.1.0
-which_ends m n (inr x) = inr x.1.0

@@ -12,6 +12,7 @@ pub mod Indexing
 pub mod Moving
 pub mod Singly
 pub mod Order
+pub mod Passing
 pub mod Seats
 pub mod Stepping
 pub mod Blocks

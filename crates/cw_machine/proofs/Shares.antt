@@ -2,10 +2,10 @@
 use Rattle.std.proofs.Common.{◌≡◌, ◌⊎◌, inl, inr, ⊎_elim, ℕ, suc, ◌+◌, ◌-◌, ◌<◌, ◌≤◌, Bool, true, false, if◌then◌else◌, Some, List, [], ◌∷◌, ◌++◌, length, refl, sym, ap, ◌∙◌, subst, arith}
 use Rattle.std.specs.Prelude.{◌&&◌, nat_eq, nat_le, nat_lt, slice_get}
 use Rattle.std.proofs.lemmas.Option.{slice_get_within}
+use Rattle.cw_facts.specs.Tests.{not_taken, first_true, second_true, first_false, second_false, le_of, lt_of, eq_of}
 use Rattle.cw_slices.specs.Placed.{Placed}
 use Rattle.cw_machine.specs.declared.machine.View.{View}
 use Rattle.cw_machine.specs.Arrays.{Out, view, Memory, whose, is_shared, lies_in, shares_in, shares_at, AreAway, Floored}
-use Rattle.cw_machine.proofs.Decided.{first_true, second_true, first_false, second_false, not_taken, eq_of, le_of, lt_of}
 use Rattle.cw_machine.proofs.Places.{less_or}
 use Rattle.cw_machine.proofs.Reading.{read_whose}
 

@@ -2,13 +2,14 @@
 use Rattle.std.proofs.Common.{◌≡◌, ◌⊎◌, inl, inr, ⊎_elim, ℕ, zero, suc, ◌+◌, ◌-◌, ◌<◌, ◌≤◌, ℤ, true, false, not, ◌||◌, Option, Some, None, List, [], ◌∷◌, length, refl, sym, ap, ◌∙◌, subst, arith}
 use Rattle.std.specs.Prelude.{◌&&◌, nat_eq, nat_le, nat_lt, drop, slice_get, slice_index_or}
 use Rattle.std.proofs.lemmas.Option.{slice_get_within}
+use Rattle.cw_facts.specs.Lists.{there_at}
+use Rattle.cw_facts.specs.Tests.{taken, not_taken, both_true, first_false, at_most, below, not_below, equal}
 use Rattle.cw_slices.specs.Placed.{Placed}
 use Rattle.cw_slices.specs.Blocks.{Lodged}
 use Rattle.cw_machine.specs.declared.machine.View.{View}
 use Rattle.cw_machine.specs.Arrays.{Out, IsOut, view, block, found, Memory, here, Has, Reads, LiesAway, SlicesLie, LiesUnder, is_among, is_shared, lies_in, shares_in, shares_at}
 use Rattle.cw_machine.specs.Unwinding.{LieBelow}
 use Rattle.cw_machine.proofs.Blocks.{found_is, block_there}
-use Rattle.cw_machine.proofs.Decided.{both_true, equal, at_most, below, not_below, taken, not_taken, first_false}
 use Rattle.cw_machine.proofs.Places.{less_or}
 use Rattle.cw_machine.proofs.Reading.{read_len, read_here}
 use Rattle.cw_machine.proofs.Shares.{share_of, share_or, lies_at, all_shares_none}
@@ -219,11 +220,6 @@ pub index_is : {A : Type 0} (xs : List A) (k : ℕ) (x d : A) → x ≡ slice_in
 index_is [] k x d e lt = absurd (omega (arith, lt))
 index_is (y ∷ xs) zero x d e lt = e
 index_is (y ∷ xs) (suc k) x d e lt = index_is xs k x d e (omega (arith, lt))
-
-pub there_at : {A : Type 0} (xs : List A) (k : ℕ) → k < length xs → (x : A) × (slice_get xs k ≡ Some x)
-there_at [] k lt = absurd (omega (arith, lt))
-there_at (x ∷ xs) zero lt = (x, refl)
-there_at (x ∷ xs) (suc k) lt = there_at xs k (omega (arith, lt))
 
 -- so it is in in the blocks of the machine, and each place has its right
 module _ (m : Memory) (outs : List Out) (real : List Lodged) (u : LiesUnder outs m.views real m.blocks) (c : ℕ) (xs : List ℤ) (h : Seen m outs c xs) where

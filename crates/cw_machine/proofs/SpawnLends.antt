@@ -2,6 +2,8 @@
 use Rattle.std.proofs.Common.{◌≡◌, ℕ, zero, suc, ◌+◌, ℤ, Bool, true, false, nat_lt, if◌then◌else◌, Option, Some, None, List, [], ◌∷◌, refl, sym, ap, ◌∙◌, subst, arith, inl}
 use Rattle.std.specs.Prelude.{nat_eq, map, slice_get, slice_set}
 use Rattle.std.proofs.lemmas.List.{length-map}
+use Rattle.std.proofs.lemmas.Option.{same_Some}
+use Rattle.cw_facts.specs.Tests.{eq_of}
 use Rattle.cw_model.specs.declared.limits.TheConstants.{MOST_DEPTH}
 use Rattle.cw_model.specs.declared.trap.Trap.{Trap}
 use Rattle.cw_model.specs.declared.trap.Trap.TheVariants as trap
@@ -15,14 +17,13 @@ use Rattle.cw_code.specs.declared.code.Instr.{Instr}
 use Rattle.cw_code.specs.declared.code.Instr.TheVariants.{Call}
 use Rattle.cw_code.specs.Code.{code_view}
 use Rattle.cw_code.specs.Run.{Slots, Readers, Taken, Whole, slot_taken, Waiting, Around, Caller, State, On, Stops, Stuck, is_full, and_array, reader, lent_in, moved_out, arrays_in, on_arrays, may_begin, begun, begins, call_of, enter, passed_by, lent_by, act, step}
-use Rattle.cw_code.specs.Fits.{Row, Outer, is_full_in, slots_lent, with_gone, leaves, nexts, Covers, FlowsIntoEach}
+use Rattle.cw_code.specs.Fits.{Row, Outer, is_full_in, slots_lent, with_gone, leaves, nexts, FlowsIntoEach}
 use Rattle.cw_code.specs.Good.{Seat, GoodState}
+use Rattle.cw_code.specs.lemmas.Slots.{covers_true, set_frozen}
 use Rattle.cw_strand_laws.specs.Strands.{Goes, HandsOut, turn_of}
 use Rattle.cw_jobs.specs.Jobs.{IsFrozenBy}
 use Rattle.cw_runnable.specs.declared.verified.Verified.{Verified}
 use Rattle.cw_machine.specs.Arrays.{IsFit, is_among, slots_lent_by, KeepsLent}
-use Rattle.cw_machine.proofs.Decided.{eq_of}
-use Rattle.cw_machine.proofs.Order.{some_same}
 
 -- arrays are all there, where there is a list of them
 and_some : (o : Option (Option (List ℤ))) (r : Option (List (List ℤ))) (all : List (List ℤ)) → and_array o r ≡ Some all → (is_full o ≡ true) × ((others : List (List ℤ)) × (r ≡ Some others))
@@ -51,31 +52,13 @@ mark_here [] a = refl
 mark_here (x ∷ row) zero = refl
 mark_here (x ∷ row) (suc a) = mark_here row a
 
-mark_more : (row : Row) (a b : ℕ) → is_full_in (slice_get row a) ≡ false → is_full_in (slice_get (slice_set row b true) a) ≡ false
-mark_more [] a b h = h
-mark_more (x ∷ row) zero zero h = refl
-mark_more (x ∷ row) zero (suc b) h = h
-mark_more (x ∷ row) (suc a) zero h = h
-mark_more (x ∷ row) (suc a) (suc b) h = mark_more row a b h
-
 marked : (slots : List ℕ) (row : Row) (a : ℕ) → is_among a slots ≡ true → is_full_in (slice_get (with_gone slots row) a) ≡ false
 marked [] row a among = cc
 marked (b ∷ slots) row a among = at (λ h. marked slots row a h) (nat_eq b a) refl among
   where
     at : (is_among a slots ≡ true → is_full_in (slice_get (with_gone slots row) a) ≡ false) → (t : Bool) → nat_eq b a ≡ t → (if t then true else is_among a slots) ≡ true → is_full_in (slice_get (slice_set (with_gone slots row) b true) a) ≡ false
     at more true is h = subst (λ k. is_full_in (slice_get (slice_set (with_gone slots row) k true) a) ≡ false) (sym (eq_of b a is)) (mark_here (with_gone slots row) a)
-    at more false is h = mark_more (with_gone slots row) a b (more h)
-
-covered : (xs bs : Row) (a : ℕ) → Covers xs bs → is_full_in (slice_get bs a) ≡ false → is_full_in (slice_get xs a) ≡ false
-covered [] [] a c h = h
-covered [] (b ∷ bs) a c h = absurd c
-covered (x ∷ xs) [] a c h = absurd c
-covered (true ∷ xs) (b ∷ bs) zero c h = refl
-covered (false ∷ xs) (b ∷ bs) zero c h = absurd (never (sym h ∙ ap (λ x. is_full_in (Some x)) (c.0 refl)))
-  where
-    never : false ≡ true → ⊥
-    never e = cc
-covered (x ∷ xs) (b ∷ bs) (suc a) c h = covered xs bs a c.1 h
+    at more false is h = set_frozen (with_gone slots row) a b (more h)
 
 -- the caller of a call that has begun
 pub record Began (s s' : State) (passed : List ℕ) (loans : List Loan) : Type 0 where
@@ -132,11 +115,11 @@ call_keeps v is s s' good c instr steps w around e a among =
     let b = began s s' Spawned c (passed_by code c.passed) loans (slice_get code.funcs c.function) (sym (ap (act code s) instr) ∙ steps) in
     let at = b.waits w around e in
     let facts = is.facts s good in
-    let same : facts.instr ≡ Call Spawned c = some_same facts.instr (Call Spawned c) (sym facts.is ∙ instr) in
+    let same : facts.instr ≡ Call Spawned c = same_Some facts.instr (Call Spawned c) (sym facts.is ∙ instr) in
     let table = (is.fits.each good.seat.index good.seat.func good.seat.is_func).table in
     let l = (subst (λ i. FlowsIntoEach table (leaves code good.seat.shape i) (nexts s.place i)) same facts.leads).0 in
     let many = length-map l.there.outer (λ (o : Outer). o.frozen) in
-    let frozen : is_full_in (slice_get l.there.frozen a) ≡ false = covered l.there.frozen (with_gone (slots_lent loans) good.seat.shape.frozen) a l.covers_frozen (marked (slots_lent loans) good.seat.shape.frozen a among) in
+    let frozen : is_full_in (slice_get l.there.frozen a) ≡ false = covers_true l.there.frozen (with_gone (slots_lent loans) good.seat.shape.frozen) a l.covers_frozen (marked (slots_lent loans) good.seat.shape.frozen a among) in
     let here : (seat : Seat code is.fits (s.place + 1)) × IsFrozenBy seat.shape a =
     (record { index = good.seat.index; func = good.seat.func; is_func = good.seat.is_func; shape = l.there; at = l.found }, inl (omega (arith, many), frozen)) in
     let there = subst (λ p. (seat : Seat code is.fits p) × IsFrozenBy seat.shape a) (sym at.0) here in (

@@ -1,6 +1,7 @@
 -- What a run was given as shares stays, whatever changes beside it.
 use Rattle.std.proofs.Common.{◌≡◌, ◌≢◌, ℕ, ◌+◌, ◌<◌, ℤ, true, Some, None, List, [], ◌∷◌, length, refl, ap, ◌∙◌, arith}
 use Rattle.std.specs.Prelude.{slice_get, slice_set}
+use Rattle.cw_facts.specs.Lists.{set_other}
 use Rattle.cw_slices.specs.Placed.{Placed}
 use Rattle.cw_code.specs.Run.{Slots, Results, Readers, Around, Caller, Block, is_full, moved_out, settled}
 use Rattle.cw_code.specs.Frozen.{AreBlocks, outermost_arrays}
@@ -8,7 +9,6 @@ use Rattle.cw_code.specs.Good.{IsNotAmong, slots_in}
 use Rattle.cw_jobs.specs.Calls.{placed}
 use Rattle.cw_machine.specs.declared.machine.View.{View}
 use Rattle.cw_machine.specs.Arrays.{view, outermost_readers, SharesStay}
-use Rattle.cw_machine.proofs.Places.{get_set_other}
 
 -- the slots of the first call that have shares keep their arrays
 abbrev pub KeepsShared : (given : List Placed) → (slots : ℕ) → (arrays arrays' : Slots (List ℤ)) → Type 0
@@ -50,19 +50,19 @@ module _ (given : List Placed) (slots : ℕ) (views : List View) where
 -- what waits for a join goes back into slots that are empty
 pub settled_beside : {A : Type 0} (results : Results A) (slots : Slots A) (a : ℕ) → IsNotAmong a (slots_in results) → slice_get (settled results slots) a ≡ slice_get slots a
 settled_beside [] slots a none = refl
-settled_beside (r ∷ results) slots a none = settled_beside results (slice_set slots r.0 (Some r.1)) a none.1 ∙ get_set_other slots r.0 a (Some r.1) none.0
+settled_beside (r ∷ results) slots a none = settled_beside results (slice_set slots r.0 (Some r.1)) a none.1 ∙ set_other slots r.0 a (Some r.1) none.0
 
 pub keeps_settled : (given : List Placed) (slots : ℕ) (arrived : Results (List ℤ)) (arrays : Slots (List ℤ)) → ((a : ℕ) → is_full (slice_get arrays a) ≡ true → IsNotAmong a (slots_in arrived)) → KeepsShared given slots arrays (settled arrived arrays)
 keeps_settled given slots arrived arrays apart a lt some e = settled_beside arrived arrays a (apart a (ap is_full e)) ∙ e
 
 -- another slot was written
 pub keeps_set : (given : List Placed) (slots : ℕ) (arrays : Slots (List ℤ)) (b : ℕ) (xs : List ℤ) → ((a : ℕ) → a < slots → 0 < (placed given a).spot.halved → a ≢ b) → KeepsShared given slots arrays (slice_set arrays b (Some xs))
-keeps_set given slots arrays b xs apart a lt some e = get_set_other arrays b a (Some xs) (apart a lt some) ∙ e
+keeps_set given slots arrays b xs apart a lt some e = set_other arrays b a (Some xs) (apart a lt some) ∙ e
 
 -- others were moved out
 pub moved_beside : (passed : List ℕ) (arrays : Slots (List ℤ)) (a : ℕ) → IsNotAmong a passed → slice_get (moved_out passed arrays) a ≡ slice_get arrays a
 moved_beside [] arrays a none = refl
-moved_beside (b ∷ passed) arrays a none = get_set_other (moved_out passed arrays) b a None none.0 ∙ moved_beside passed arrays a none.1
+moved_beside (b ∷ passed) arrays a none = set_other (moved_out passed arrays) b a None none.0 ∙ moved_beside passed arrays a none.1
 
 pub keeps_moved : (given : List Placed) (slots : ℕ) (arrays : Slots (List ℤ)) (passed : List ℕ) → ((a : ℕ) → a < slots → 0 < (placed given a).spot.halved → IsNotAmong a passed) → KeepsShared given slots arrays (moved_out passed arrays)
 keeps_moved given slots arrays passed apart a lt some e = moved_beside passed arrays a (apart a lt some) ∙ e

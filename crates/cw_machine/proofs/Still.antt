@@ -8,9 +8,8 @@ use Rattle.cw_code.specs.Run.{Around, Caller, Block}
 use Rattle.cw_machine.specs.declared.machine.Frame.{Frame}
 use Rattle.cw_machine.specs.declared.machine.View.{View}
 use Rattle.cw_machine.specs.Arrays.{Out, upto, view, no_block, block, IsBare, found, put, kept_of, Memory, IsOut, shares_at, IsLent, IsSharedOut, LiesAway, AreAway, AllAbove, Floored, AllFrom, OutsAt, AreGiven}
-use Rattle.std.proofs.lemmas.Option.{slice_get_within}
+use Rattle.std.proofs.lemmas.Option.{slice_get_within, same_Some}
 use Rattle.cw_machine.proofs.Blocks.{found_is}
-use Rattle.cw_machine.proofs.Order.{some_same}
 use Rattle.cw_machine.proofs.Places.{less_or, Steady, has_steady}
 use Rattle.cw_machine.proofs.Reading.{reads_steady}
 use Rattle.cw_machine.proofs.Shares.{all_shares_as}
@@ -77,7 +76,7 @@ module _ (m m' : Memory) (first round : ℕ) (outs : List Out) (floors : Floored
 
     newest : OutsSeen m.views m'.views (upto o k ∷ drop (suc j) outs)
     newest zero q e n lt =
-        let q_is : upto o k ≡ q = some_same (upto o k) q e in
+        let q_is : upto o k ≡ q = same_Some (upto o k) q e in
         let first_is : o.first ≡ q.first = ap (λ (x : Out). x.first) q_is in
         let few = few_taken (suc k) o.slices in
         let many : length (take (suc k) o.slices) ≡ length q.slices = ap (λ (x : Out). length x.slices) q_is in

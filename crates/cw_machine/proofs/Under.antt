@@ -2,13 +2,12 @@
 use Rattle.std.proofs.Common.{◌≡◌, ◌≢◌, ◌⊎◌, inl, inr, ⊎_elim, ℕ, zero, suc, ◌+◌, ◌^◌, ◌<◌, ◌≤◌, ℤ, Bool, Option, Some, None, List, [], ◌∷◌, ◌++◌, length, refl, sym, ap, ◌∙◌, subst, arith, length-append}
 use Rattle.std.specs.Prelude.{take, replicate, is_some, slice_get, slice_set}
 use Rattle.std.proofs.lemmas.List.{length-set, length-map, length-replicate, get_or-set_other, get_or-set_same}
-use Rattle.std.proofs.lemmas.Option.{slice_get_within}
+use Rattle.std.proofs.lemmas.Option.{slice_get_within, same_Some}
 use Rattle.cw_slices.specs.Placed.{Spot}
 use Rattle.cw_slices.specs.Blocks.{Lodged, ins, IsWhole}
 use Rattle.cw_machine.specs.declared.machine.View.{View}
 use Rattle.cw_machine.specs.Arrays.{Out, view, no_block, block, IsBare, found, put, kept_of, Memory, Has, shares_at, AreAway, Floored, IsOut, LiesUnder}
 use Rattle.cw_machine.proofs.Blocks.{found_is, is_found}
-use Rattle.cw_machine.proofs.Order.{some_same}
 use Rattle.cw_machine.proofs.Places.{same_or}
 use Rattle.cw_machine.proofs.Shares.{all_shares_as, none_high}
 use Rattle.cw_machine.proofs.Still.{OutsSeen, seen_below, outs_on, outs_back, kept_put, block_take, block_past}
@@ -78,7 +77,7 @@ found_beside outs views real blocks b k x u none e = at (slice_get (block real b
         short (c ∷ cs) (d ∷ ds) zero n e e' = cc
         short (c ∷ cs) (d ∷ ds) (suc k) n e e' = short cs ds k (omega (arith, n)) e e'
     at (Some None) is = absurd (none (u.missing b k is))
-    at (Some (Some y)) is = is_found real b k x f.0 (is ∙ ap (λ z. Some z) (some_same (Some y) (Some x) (sym (u.same b k y is) ∙ f.1)))
+    at (Some (Some y)) is = is_found real b k x f.0 (is ∙ ap (λ z. Some z) (same_Some (Some y) (Some x) (sym (u.same b k y is) ∙ f.1)))
 
 pub found_in : (m : Memory) (real : List Lodged) (first round : ℕ) (outs : List Out) (b k : ℕ) (x : ℤ) → Floored outs first → AreAway m first round outs → LiesUnder outs m.views real m.blocks → first ≤ m.owner b k → found m.blocks b k ≡ Some x → found real b k ≡ Some x
 found_in m real first round outs b k x floors away u le e = found_beside outs m.views real m.blocks b k x u (λ o. let lt = out_owned m first round outs b k floors away o in omega (arith, lt, le)) e
@@ -182,7 +181,7 @@ replicated zero d k x e = absurd (none_right x e)
   where
     none_right : (x : ℕ) → None ≡ Some x → ⊥
     none_right x e = cc
-replicated (suc n) d zero x e = sym (some_same d x e)
+replicated (suc n) d zero x e = sym (same_Some d x e)
 replicated (suc n) d (suc k) x e = replicated n d k x e
 
 -- a new block, all in, at a cell of the call that runs

@@ -2,7 +2,8 @@
 use Rattle.std.proofs.Common.{◌≡◌, ◌≢◌, ◌⊎◌, inl, inr, ⊎_elim, ℕ, zero, suc, ◌+◌, ◌-◌, ◌<◌, ◌≤◌, ℤ, pos, Bool, true, false, Option, Some, None, List, [], ◌∷◌, ◌++◌, length, map, refl, sym, ap, ◌∙◌, subst, arith, if◌then◌else◌, nat_lt}
 use Rattle.std.specs.Prelude.{reverse, drop, nat_eq, nat_le, slice_get, slice_index_or}
 use Rattle.std.proofs.lemmas.List.{reverse-reverse, get_or-reverse, length-reverse}
-use Rattle.std.proofs.lemmas.Bool.Decides.{nat_tests}
+use Rattle.std.proofs.lemmas.Option.{same_Some}
+use Rattle.cw_facts.specs.Tests.{taken, not_taken, below, not_below, equal, not_equal, not_le_of}
 use Rattle.cw_model.specs.declared.syntax.CallKind.TheVariants.{Spawned}
 use Rattle.cw_model.specs.Outcome.{quiet}
 use Rattle.cw_code.specs.declared.code.Func.{Func}
@@ -12,6 +13,8 @@ use Rattle.cw_code.specs.Run.{Results, Taken, slot_taken, Waiting, Around, Calle
 use Rattle.cw_code.specs.Fits.{Shape, gone_rows}
 use Rattle.cw_code.specs.Good.{IsNotAmong, slots_in, slot_cut, arrays_round, all_of, IsGiven, Resumed, Resumes, AllResume}
 use Rattle.cw_code.specs.Good.{Holds as HoldsSlots}
+use Rattle.cw_code.specs.lemmas.Runs.{same_state}
+use Rattle.cw_code.specs.lemmas.Slots.{not_in_first, not_in_second, not_in_both}
 use Rattle.cw_runnable.specs.declared.verified.Verified.{Verified}
 use Rattle.cw_machine.specs.declared.machine.Frame.{Frame}
 use Rattle.cw_machine.specs.declared.machine.Machine.{Machine}
@@ -20,39 +23,23 @@ use Rattle.cw_machine.specs.Shows.{Stands, Round, Shows, cut_cell, cut_cells}
 use Rattle.cw_jobs.specs.Cuts.{parts_round, cut_slots}
 use Rattle.cw_machine.specs.Arrays.{is_among}
 use Rattle.cw_machine.specs.Hands.{is_cut_among, stays_here, lent_count, ComesRound}
-use Rattle.cw_machine.proofs.Cells.{not_first, not_second}
-use Rattle.cw_machine.proofs.Decided.{taken, not_taken, equal, eq_of, below, not_below}
-use Rattle.cw_machine.proofs.Order.{some_same, full_value}
+use Rattle.cw_machine.proofs.Order.{full_value}
 use Rattle.cw_machine.proofs.Places.{same_or}
 
 never : true ≡ false → ⊥
 never e = cc
-
-unequal : (a b : ℕ) → a ≢ b → nat_eq a b ≡ false
-unequal a b n = cases (nat_eq a b) refl
-  where
-    cases : (t : Bool) → nat_eq a b ≡ t → t ≡ false
-    cases true q = absurd (n (eq_of a b q))
-    cases false q = refl
-
-more_of : (a b : ℕ) → nat_le a b ≡ false → b < a
-more_of a b h = grind (arith, nat_tests)
-
-both : (a : ℕ) (xs ys : List ℕ) → IsNotAmong a xs → IsNotAmong a ys → IsNotAmong a (xs ++ ys)
-both a [] ys h k = k
-both a (x ∷ xs) ys h k = (h.0, both a xs ys h.1 k)
 
 -- a slot that is not found among some is none of them, and the other way round
 among_not : (a : ℕ) (bs : List ℕ) → is_among a bs ≡ false → IsNotAmong a bs
 among_not a [] e = tt
 among_not a (b ∷ bs) e = ⊎_elim
     (λ q. absurd (never (sym (taken (nat_eq b a) true (is_among a bs) (equal b a (sym q))) ∙ e)))
-    (λ n. (n, among_not a bs (sym (not_taken (nat_eq b a) true (is_among a bs) (unequal b a (λ r. n (sym r)))) ∙ e)))
+    (λ n. (n, among_not a bs (sym (not_taken (nat_eq b a) true (is_among a bs) (not_equal b a (λ r. n (sym r)))) ∙ e)))
     (same_or a b)
 
 not_among : (a : ℕ) (bs : List ℕ) → IsNotAmong a bs → is_among a bs ≡ false
 not_among a [] h = refl
-not_among a (b ∷ bs) h = not_taken (nat_eq b a) true (is_among a bs) (unequal b a (λ r. h.0 (sym r))) ∙ not_among a bs h.1
+not_among a (b ∷ bs) h = not_taken (nat_eq b a) true (is_among a bs) (not_equal b a (λ r. h.0 (sym r))) ∙ not_among a bs h.1
 
 pub is_there : (a : ℕ) (bs : List ℕ) (k : ℕ) → slice_get bs k ≡ Some a → is_among a bs ≡ true
 is_there a [] k e = absurd (none e)
@@ -65,7 +52,7 @@ is_there a (b ∷ bs) zero e = taken (nat_eq b a) true (is_among a bs) (equal b 
     same e = cc
 is_there a (b ∷ bs) (suc k) e = ⊎_elim
     (λ q. taken (nat_eq b a) true (is_among a bs) (equal b a q))
-    (λ n. not_taken (nat_eq b a) true (is_among a bs) (unequal b a n) ∙ is_there a bs k e)
+    (λ n. not_taken (nat_eq b a) true (is_among a bs) (not_equal b a n) ∙ is_there a bs k e)
     (same_or b a)
 
 -- the search among the arrays that are cut
@@ -75,7 +62,7 @@ found_cut c first cells le =
 
 past_cut : (cell c first : ℕ) (cells : List ℕ) → first ≤ c → c ≢ cell → is_cut_among cell first (c ∷ cells) ≡ is_cut_among cell first cells
 past_cut cell c first cells le n =
-    not_taken (nat_lt c first) false (if nat_eq c cell then true else is_cut_among cell first cells) (not_below c first le) ∙ not_taken (nat_eq c cell) true (is_cut_among cell first cells) (unequal c cell n)
+    not_taken (nat_lt c first) false (if nat_eq c cell then true else is_cut_among cell first cells) (not_below c first le) ∙ not_taken (nat_eq c cell) true (is_cut_among cell first cells) (not_equal c cell n)
 
 ends_cut : (cell c first : ℕ) (cells : List ℕ) → c < first → is_cut_among cell first (c ∷ cells) ≡ false
 ends_cut cell c first cells lt = taken (nat_lt c first) false (if nat_eq c cell then true else is_cut_among cell first cells) (below c first lt)
@@ -121,7 +108,7 @@ module _ (v : Verified) (ok : Ok v) (m : Memory) where
           (λ ne. ((ne, tt), sym (past_cut (first + a) (first + h.array) first rest (omega arith) (λ r. ne (omega (arith, r)))) ∙ is))
           (same_or a h.array)
       own false q =
-          let lt : round < ok.outer = more_of ok.outer round q in
+          let lt : round < ok.outer = not_le_of ok.outer round q in
           let is : is_cut_among (first + a) first rest ≡ false = sym (ap (λ l. is_cut_among (first + a) first (l ++ rest)) (not_taken (nat_le ok.outer round) ((first + h.array) ∷ []) [] q)) ∙ e in
           ⊎_elim
           (λ r. absurd (let none = (cut.stays lt).bare in let same = ap (λ k. (view m.views (first + k)).len) r in omega (arith, none, same, some)))
@@ -137,7 +124,7 @@ module _ (v : Verified) (ok : Ok v) (m : Memory) where
       let c = cut_or first n a o.cut _ _ (length around) (cut_cells ok.outer first frames around) h.1 e some in
       ⊎_elim
       (λ none. ⊎_elim
-      (λ more. inl (both a (slot_cut o.cut ++ slots_in o.arrived) (all_of (arrays_round around)) (both a (slot_cut o.cut) (slots_in o.arrived) c.0 none) more))
+      (λ more. inl (not_in_both a (slot_cut o.cut ++ slots_in o.arrived) (all_of (arrays_round around)) (not_in_both a (slot_cut o.cut) (slots_in o.arrived) c.0 none) more))
       (λ has. inr has)
       (round_or place first n frames around h.2 a c.1 some))
       (λ has. inr has)
@@ -166,8 +153,8 @@ module _ (v : Verified) (ok : Ok v) (m : Memory) where
   none_cut place first n frames (Caller w ∷ around) h a none =
       ap (λ fs. is_cut_among (first + a) first (cut_cells ok.outer first fs (Caller w ∷ around))) h.2
       ∙ none_below (first + a) first w.place h.0.first_array (length w.arrays) h.1 around (let ends = h.5.ends in omega (arith, ends)) h.6
-  none_cut place first n frames (Block o ∷ around) h a none = cases o.cut (not_first a (slot_cut o.cut) (slots_in o.arrived) (not_first a (slot_cut o.cut ++ slots_in o.arrived) (all_of (arrays_round around)) none))
-      (none_cut place first n frames around h.2 a (not_second a (slot_cut o.cut ++ slots_in o.arrived) (all_of (arrays_round around)) none))
+  none_cut place first n frames (Block o ∷ around) h a none = cases o.cut (not_in_first a (slot_cut o.cut) (slots_in o.arrived) (not_in_first a (slot_cut o.cut ++ slots_in o.arrived) (all_of (arrays_round around)) none))
+      (none_cut place first n frames around h.2 a (not_in_second a (slot_cut o.cut ++ slots_in o.arrived) (all_of (arrays_round around)) none))
     where
       cases : (c : Option Halves) → IsNotAmong a (slot_cut c) → is_cut_among (first + a) first (cut_cells ok.outer first frames around) ≡ false → is_cut_among (first + a) first (cut_cell ok.outer (length around) first c ++ cut_cells ok.outer first frames around) ≡ false
       cases None apart more = more
@@ -217,13 +204,13 @@ module _ (v : Verified) (ok : Ok v) (m : Memory) where
       cases (Some g) zero cut more e = own (nat_le ok.outer (length around)) refl
         where
           same : g.array ≡ a
-          same = some_same g.array a e
+          same = same_Some g.array a e
 
           own : (t : Bool) → nat_le ok.outer (length around) ≡ t
               → (is_cut_among (first + a) first (cut_cell ok.outer (length around) first (Some g) ++ cut_cells ok.outer first frames around) ≡ true) ⊎ ((view m.views (first + a)).len ≡ 0)
           own true q = inl (ap (λ l. is_cut_among (first + a) first (l ++ cut_cells ok.outer first frames around)) (taken (nat_le ok.outer (length around)) ((first + g.array) ∷ []) [] q)
               ∙ ap (λ i. is_cut_among (first + a) first ((first + i) ∷ cut_cells ok.outer first frames around)) same ∙ found_cut (first + a) first (cut_cells ok.outer first frames around) (omega arith))
-          own false q = inr (ap (λ i. (view m.views (first + i)).len) (sym same) ∙ (cut.stays (more_of ok.outer (length around) q)).bare)
+          own false q = inr (ap (λ i. (view m.views (first + i)).len) (sym same) ∙ (cut.stays (not_le_of ok.outer (length around) q)).bare)
 
 slots_both : (xs ys : Results (List ℤ)) → slots_in (xs ++ ys) ≡ slots_in xs ++ slots_in ys
 slots_both [] ys = refl
@@ -241,9 +228,6 @@ empties (x ∷ all) = (slot_taken x, []) ∷ empties all
 pub empties_slots : (all : List Taken) → slots_in (empties all) ≡ map slot_taken all
 empties_slots [] = refl
 empties_slots (x ∷ all) = ap (λ l. slot_taken x ∷ l) (empties_slots all)
-
-same_state : (s s' : State) → On s ≡ On s' → s ≡ s'
-same_state s s' e = cc
 
 stuck : (s : State) → Stuck ≡ On s → ⊥
 stuck s e = cc
@@ -354,7 +338,7 @@ module _ (v : Verified) (ok : Ok v) (m : Machine) (s : State) (w : Waiting) (aro
       cases false q = ⊎_elim
           (λ none. ⊎_elim
           (λ more.
-          let full = full_value (slice_get w.arrays a) (rests.full a lt (both a (passed ++ slots_in w.arrived) (all_of (arrays_round around)) (both a passed (slots_in w.arrived) (among_not a passed q) none) more)) in
+          let full = full_value (slice_get w.arrays a) (rests.full a lt (not_in_both a (passed ++ slots_in w.arrived) (all_of (arrays_round around)) (not_in_both a passed (slots_in w.arrived) (among_not a passed q) none) more)) in
           (full.0, stands_on.has a full.0 full.1))
           (λ has. has)
           (round_or v ok memory w.place waiting_frame.first_array (length w.arrays) frames_beyond around beyond a (sym (stays_cut a q) ∙ e) some))
@@ -365,8 +349,8 @@ module _ (v : Verified) (ok : Ok v) (m : Machine) (s : State) (w : Waiting) (aro
   pub full_goes : (a : ℕ) (xs : List ℤ) → slice_get w.arrays a ≡ Some (Some xs) → stays_here m.cuts.items waiting_frame.first_array passed a ≡ false
   full_goes a xs e =
       let apart = rests.apart a (ap is_full e) in
-      let none = not_among a passed (not_first a passed (slots_in w.arrived) (not_first a (passed ++ slots_in w.arrived) (all_of (arrays_round around)) apart)) in
-      stays_cut a none ∙ none_cut v ok memory w.place waiting_frame.first_array (length w.arrays) frames_beyond around beyond a (not_second a (passed ++ slots_in w.arrived) (all_of (arrays_round around)) apart)
+      let none = not_among a passed (not_in_first a passed (slots_in w.arrived) (not_in_first a (passed ++ slots_in w.arrived) (all_of (arrays_round around)) apart)) in
+      stays_cut a none ∙ none_cut v ok memory w.place waiting_frame.first_array (length w.arrays) frames_beyond around beyond a (not_in_second a (passed ++ slots_in w.arrived) (all_of (arrays_round around)) apart)
 
   -- nothing is lent of an array that the spawn took, or that an open cut has
   pub passed_stays : (k a : ℕ) → slice_get passed k ≡ Some a → lent_count (stays_here m.cuts.items waiting_frame.first_array passed a) (view m.views.items (waiting_frame.first_array + a)).len ≡ 0

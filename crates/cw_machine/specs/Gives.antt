@@ -8,6 +8,8 @@ use Rattle.cw_code.specs.Code.{code_view}
 use Rattle.cw_code.specs.Run.{Slots, Results, Around, Caller, Block, State, is_full, settled}
 use Rattle.cw_code.specs.Frozen.{AreBlocks}
 use Rattle.cw_code.specs.Good.{IsNotAmong, slots_in, Seat, GoodState}
+use Rattle.cw_code.specs.declared.code.Loan.{Loan}
+use Rattle.cw_code.specs.Fits.{slots_lent}
 use Rattle.cw_strand_laws.specs.Jobs.{Standing}
 use Rattle.cw_runnable.specs.declared.verified.Verified.{Verified}
 use Rattle.cw_jobs.specs.declared.call.Rest.{Rest}
@@ -94,6 +96,13 @@ LaysHomes m slots lent back replaced m' =
     (v : Verified) (ok : Ok v) (o : Out) (s : State) → ComesBack v ok o m s back replaced → o.slots ≡ slots
     → o.lent ≡ lent → Shows v ok m' (record s { arrays = homed s.arrays back replaced slots })
 
+-- the same, by what was lent
+abbrev pub MayLayHomes : Machine → (slots : ℕ) → List Loan → List Placed → List (Option Placed) → Type 0
+MayLayHomes m slots lent back replaced = MayHome m slots (slots_lent lent) back replaced
+
+abbrev pub Homes : Machine → (slots : ℕ) → List Loan → List Placed → List (Option Placed) → Machine → Type 0
+Homes m slots lent back replaced m' = LaysHomes m slots (slots_lent lent) back replaced m'
+
 -- a slot of the call that runs may have a new array: no cut has its part there, no call that waits its array, and the
 -- run was given no share for it
 pub record IsFree (v : Verified) (ok : Ok v) (s : State) (a : ℕ) : Type 0 where
@@ -155,12 +164,18 @@ pub record HasCell (first k : ℕ) (x : ℤ) (target : Option ℕ) (old new : Li
   pub kept : target ≡ Some k → new ≡ old
   pub laid : Some k ≢ target → new ≡ slice_set old (first + k) x
 
+abbrev pub LaysCell : Machine → (k : ℕ) → ℤ → (target : Option ℕ) → Machine → Type 0
+LaysCell m k x target m' = HasCell m.first k x target m.cells.items m'.cells.items
+
 -- the cells of a call have the values that came back, but for the slot that has the result of its call already
 pub record HasFilled (first : ℕ) (back : List ℤ) (target : Option ℕ) (old new : List ℤ) : Type 0 where
   pub as_many : length new ≡ length old
   pub below : (k : ℕ) → k < first → cell new k ≡ cell old k
   pub kept : (a : ℕ) → target ≡ Some a → cell new (first + a) ≡ cell old (first + a)
   pub laid : (a : ℕ) → a < length back → first + a < length old → Some a ≢ target → cell new (first + a) ≡ cell back a
+
+abbrev pub LaysCells : Machine → (back : List ℤ) → (target : Option ℕ) → Machine → Type 0
+LaysCells m back target m' = HasFilled m.first back target m.cells.items m'.cells.items
 
 -- what waits for the join of a block: the newest came of its own spawns, and the others waited before its run began
 pub record Waits (s : State) : Type 0 where
@@ -247,3 +262,10 @@ pub record MayGive (m : Machine) (back : Rest) (replaced : List (Option Placed))
   pub frame : Standing
   pub waits : Waits state
   pub gives : IsGiving code ok out m state frame waits back replaced slots lent target
+
+-- the same, by what was lent
+abbrev pub MayGiveRest : Machine → Rest → List (Option Placed) → (slots : ℕ) → List Loan → Option ℕ → Type 0
+MayGiveRest m back replaced slots lent target = MayGive m back replaced slots (slots_lent lent) target
+
+abbrev pub Brings : Machine → Rest → List (Option Placed) → (slots : ℕ) → List Loan → Option ℕ → Machine → Type 0
+Brings m back replaced slots lent target m' = Gives m back replaced slots (slots_lent lent) target m'

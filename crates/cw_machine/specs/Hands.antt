@@ -23,6 +23,7 @@ use Rattle.cw_machine.specs.declared.machine.View.{View}
 use Rattle.cw_machine.specs.Arrays.{Out, Ok, AllAbove, is_among, shares_slice, view, block, lent_before, KeepsLent}
 use Rattle.cw_machine.specs.Shows.{cell, Comes, Shows, SharesFrozen, StaysBut}
 use Rattle.cw_machine.specs.Rests.{lending, AreBare}
+use Rattle.cw_machine.specs.declared.hands.Lender.{Lender}
 
 -- a cell is among those of arrays that are cut, the newest first, before the first one below another cell: the newest
 -- are those of the call that waits nearest, and those of the calls below it lie below its first cell
@@ -209,11 +210,21 @@ pub record HandsArrays (m : Machine) (first : ℕ) (passed : List ℕ) (lent : L
       → length slices ≡ length w.arrays + length w.readers
       → Shows v (lending ok (out_of (length around) first m.first_array slots (slots_lent lent) slices)) m' s
 
+-- the same, of this call
+abbrev pub MayHandAll : Machine → Lender → List ℕ → List Loan → List Placed → Type 0
+MayHandAll m lender passed lent slices = MayHandArrays m lender.first passed lent lender.slots (length slices)
+
+abbrev pub HandsAll : Machine → Lender → List ℕ → List Loan → Machine → List Placed → Type 0
+HandsAll m lender passed lent m' slices = HandsArrays m lender.first passed lent lender.slots m' slices
+
 -- whatever state of this code it held, it holds it while the call is out
 abbrev pub HandsOut : Verified → Machine → List ℕ → List Loan → (first slots : ℕ) → Machine → Rest → Type 0
 HandsOut v m passed lent first slots m' r =
     (ok : Ok v) (s : State) (w : Waiting) (around : List Around)
     → Hands v ok m s w around passed lent → HandedOut v ok m s w around passed lent first slots m' r
+
+abbrev pub Lends : Verified → Machine → List ℕ → List Loan → Machine → Rest → Lender → Type 0
+Lends v m passed lent m' r lender = HandsOut v m passed lent lender.first lender.slots m' r
 
 -- more slices, which have no numbers
 abbrev pub HasMoreBare : List Placed → List Placed → Type 0

@@ -4,6 +4,8 @@ use Rattle.std.specs.Prelude.{replicate, Some, slice_get, slice_set}
 use Rattle.cw_slices.specs.Placed.{Placed, after, shared_after}
 use Rattle.cw_slices.specs.Blocks.{Lodged, ins, patched, AreOut, AreHalved, Have}
 use Rattle.cw_code.specs.Run.{State}
+use Rattle.cw_code.specs.declared.code.Loan.{Loan}
+use Rattle.cw_code.specs.Fits.{slots_lent}
 use Rattle.cw_runnable.specs.declared.verified.Verified.{Verified}
 use Rattle.cw_machine.specs.declared.machine.Machine.{Machine}
 use Rattle.cw_machine.specs.declared.machine.View.{View}
@@ -50,6 +52,10 @@ pub record MayTake (m : Machine) (slots : ℕ) (lent : List ℕ) (slices : List 
 abbrev pub TakesBack : Machine → (slots : ℕ) → (lent : List ℕ) → List Placed → Machine → Type 0
 TakesBack m slots lent slices m' =
     (v : Verified) (ok : Ok v) (o : Out) (s : State) → IsLending v ok o m s slots lent slices → Shows v ok m' s
+
+-- the same, by what was lent
+abbrev pub TakesHome : Machine → (slots : ℕ) → List Loan → List Placed → Machine → Type 0
+TakesHome m slots lent slices m' = TakesBack m slots (slots_lent lent) slices m'
 
 -- slices without numbers
 abbrev pub AreBare : List Placed → Type 0

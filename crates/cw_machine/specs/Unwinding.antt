@@ -2,6 +2,8 @@
 use Rattle.std.specs.Prelude.{◌≡◌, ℕ, ◌+◌, ◌≤◌, ◌<◌, ◌⊎◌, List, [], ◌∷◌, length, Option, Some, slice_get}
 use Rattle.cw_slices.specs.Placed.{Placed}
 use Rattle.cw_code.specs.Run.{Around, Caller, Block, State}
+use Rattle.cw_code.specs.declared.code.Loan.{Loan}
+use Rattle.cw_code.specs.Fits.{slots_lent}
 use Rattle.cw_runnable.specs.declared.verified.Verified.{Verified}
 use Rattle.cw_jobs.specs.Jobs.{KeepsHomes}
 use Rattle.cw_machine.specs.declared.machine.Machine.{Machine}
@@ -9,6 +11,7 @@ use Rattle.cw_machine.specs.Arrays.{Out, Ok}
 use Rattle.cw_machine.specs.Shows.{Shows, Remains}
 use Rattle.cw_machine.specs.Rests.{lending}
 use Rattle.cw_machine.specs.JobRuns.{KeepsGiven, MayGiveUp}
+use Rattle.cw_machine.specs.declared.hands.Lender.{Lender}
 
 -- what is out is of cells below this one
 abbrev pub LieBelow : List Out → (first : ℕ) → Type 0
@@ -62,3 +65,10 @@ abbrev pub ComesHome : Machine → (cell slots : ℕ) → (lent : List ℕ) → 
     → Type 0
 ComesHome m cell slots lent back replaced m' =
     (v : Verified) (ok : Ok v) (o : Out) → ComesTo v ok o m cell slots lent back replaced → Remains v ok m'
+
+-- the same, to a call that is out, by what was lent
+abbrev pub MayReturn : Machine → Lender → List Loan → List Placed → List (Option Placed) → Type 0
+MayReturn m lender lent back replaced = MayComeHome m lender.first lender.slots (slots_lent lent) back replaced
+
+abbrev pub Returns : Machine → Lender → List Loan → List Placed → List (Option Placed) → Machine → Type 0
+Returns m lender lent back replaced m' = ComesHome m lender.first lender.slots (slots_lent lent) back replaced m'

@@ -27,7 +27,8 @@ use std::alloc::Global;
 pub fn answer(alloc: Global, code: &Verified, effect: Effect) -> Result<Ended, Fault>
     requires whole { ∥ IsOfWhole code.now effect ∥₁ }
     ensures tells { IsAnswerOf effect result }
-    ensures as_code { (args : List ℤ) (n : ℕ) (burden : Burden) (root : jobs.Job) → IsRoot code.now args n burden root.parts.value
+    ensures as_code { (args : List ℤ) (n : ℕ) (burden : Burden) (root : jobs.Job)
+        → IsRoot code.now args n burden root.parts.value
         → IsMeaningOf root effect → RunsAsCode (code_view code.now.code) args n burden result }
 {
     the_root_answers_what_the_code_gives();
@@ -62,7 +63,8 @@ pub fn answer(alloc: Global, code: &Verified, effect: Effect) -> Result<Ended, F
 /// answers. The errors are those of `answer`.
 pub fn values_of(effect: Effect) -> Result<Values, Fault>
     requires { ∥ IsOfRun effect ∥₁ }
-    ensures { (v : verified.Verified) (args : List ℤ) (n : ℕ) (burden : Burden) (d : details.Detail) (root : jobs.Job)
+    ensures { (v : verified.Verified) (args : List ℤ) (n : ℕ) (burden : Burden) (d : details.Detail)
+        (root : jobs.Job)
         → IsRootOf v args n burden d root.parts.value → IsMeaningOf root effect → GivesAsCode (code_view v.code) args n burden result }
 {
     the_root_answers_what_the_code_gives();

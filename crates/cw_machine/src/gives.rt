@@ -3,11 +3,10 @@
 ghost use Rattle.std.specs.Prelude.{◌≡◌, ◌≢◌, ℕ, ◌+◌, ◌<◌, ◌≤◌, length, Some, slice_get, MatchBool};
 ghost use Rattle.std.specs.Option.{option_flatten};
 ghost use Rattle.cw_slices.specs.Placed.{IsOwn};
-ghost use Rattle.cw_code.specs.Fits.{slots_lent};
 ghost use Rattle.cw_jobs.specs.Jobs as jobs;
 ghost use Rattle.cw_machine.specs.Shows.{Stays, StaysBut};
 ghost use Rattle.cw_machine.specs.Rests.{AreBare};
-ghost use Rattle.cw_machine.specs.Gives.{IsTaken, IsExchanged, AreMade, MayTakeNew, HasNew, HasCell, HasFilled, MayHome, LaysHomes, MayMake, LaysMade, MayGive, Gives};
+ghost use Rattle.cw_machine.specs.Gives.{IsTaken, IsExchanged, AreMade, MayTakeNew, HasNew, LaysCell, LaysCells, MayLayHomes, Homes, MayMake, LaysMade, MayGiveRest, Brings};
 
 use crate::hands::is_shared;
 use crate::machine::{Machine, View};
@@ -91,8 +90,8 @@ impl Machine {
         slots: usize,
         lent: &[Loan],
     )
-        requires { ∥ MayHome self.old slots (slots_lent lent.now) slices.old.items replaced.old.items ∥₁ }
-        ensures shows { LaysHomes self.old slots (slots_lent lent.now) slices.old.items replaced.old.items self.new }
+        requires { ∥ MayLayHomes self.old slots lent.now slices.old.items replaced.old.items ∥₁ }
+        ensures shows { Homes self.old slots lent.now slices.old.items replaced.old.items self.new }
         ensures rest { StaysBut self.old self.new }
         ensures made { AreMade slices.old.items replaced.old.items replaced.new.items }
         ensures bare { AreBare slices.new.items }
@@ -121,7 +120,7 @@ impl Machine {
     // The value of a slot or operand, but for the slot that has the result of the call already.
     fn lay_cell(&mut self, k: usize, v: i64, target: Option<u32>)
         requires { self.old.first ≤ length self.old.cells.items }
-        ensures cells { HasCell self.old.first k v target self.old.cells.items self.new.cells.items }
+        ensures cells { LaysCell self.old k v target self.new }
         ensures place { self.new.place ≡ self.old.place }
         ensures rest { Stays self.old self.new }
     {
@@ -135,7 +134,7 @@ impl Machine {
     // The values of slots and operands, as many as there is room for.
     fn lay_cells(&mut self, cells: &Vec<i64>, target: Option<u32>)
         requires { self.old.first ≤ length self.old.cells.items }
-        ensures cells { HasFilled self.old.first cells.now.items target self.old.cells.items self.new.cells.items }
+        ensures cells { LaysCells self.old cells.now.items target self.new }
         ensures place { self.new.place ≡ self.old.place }
         ensures rest { Stays self.old self.new }
     {
@@ -157,8 +156,8 @@ impl Machine {
         lent: &[Loan],
         target: Option<u32>,
     )
-        requires { ∥ MayGive self.old back.old replaced.old.items slots (slots_lent lent.now) target ∥₁ }
-        ensures shows { Gives self.old back.old replaced.old.items slots (slots_lent lent.now) target self.new }
+        requires { ∥ MayGiveRest self.old back.old replaced.old.items slots lent.now target ∥₁ }
+        ensures shows { Brings self.old back.old replaced.old.items slots lent.now target self.new }
         ensures bare { AreBare back.new.slices.items }
         ensures as_many { length back.new.slices.items ≡ length back.old.slices.items }
     {

@@ -5,7 +5,7 @@ ghost use Rattle.cw_machine.specs.Shows.{StaysBut};
 ghost use Rattle.cw_code.specs.Fits.{slots_lent};
 ghost use Rattle.cw_machine.specs.Arrays as arrays;
 ghost use Rattle.cw_machine.specs.Hands as hands;
-ghost use Rattle.cw_machine.specs.Hands.{stays_here, IsLast, MayLend, HasLentOut, MayShare, HasShared, MayHandOne, HasHanded, MayHand, MayHandArrays, HandsArrays, HandsOut, HasMoreBare, HasGrown};
+ghost use Rattle.cw_machine.specs.Hands.{stays_here, IsLast, MayLend, HasLentOut, MayShare, HasShared, MayHandOne, HasHanded, MayHand, MayHandAll, HandsAll, Lends, HasMoreBare, HasGrown};
 
 use crate::machine::{Frame, Machine};
 use cw_code::code::Loan;
@@ -192,8 +192,8 @@ impl Machine {
     // those that it reads into the slices behind these.
     #[inline(never)]
     fn hand_each(&mut self, lender: Lender, passed: &[u32], lent: &[Loan], slices: &mut Vec<Slice>)
-        requires { ∥ MayHandArrays self.old lender.first passed.now lent.now lender.slots (length slices.old.items) ∥₁ }
-        ensures out { HandsArrays self.old lender.first passed.now lent.now lender.slots self.new slices.new.items }
+        requires { ∥ MayHandAll self.old lender passed.now lent.now slices.old.items ∥₁ }
+        ensures out { HandsAll self.old lender passed.now lent.now self.new slices.new.items }
         ensures as_many { length slices.new.items ≡ length slices.old.items }
     {
         for a in 0..slices.len() {
@@ -211,8 +211,8 @@ impl Machine {
         lent: &[Loan],
         slices: &mut Vec<Slice>,
     )
-        requires { ∥ MayHandArrays self.old lender.first passed.now lent.now lender.slots (length slices.old.items) ∥₁ }
-        ensures out { HandsArrays self.old lender.first passed.now lent.now lender.slots self.new slices.new.items }
+        requires { ∥ MayHandAll self.old lender passed.now lent.now slices.old.items ∥₁ }
+        ensures out { HandsAll self.old lender passed.now lent.now self.new slices.new.items }
         ensures as_many { length slices.new.items ≡ length slices.old.items }
     {
         if slices.is_empty() {
@@ -238,7 +238,7 @@ impl Machine {
         rest: &mut Rest,
     ) -> Result<Lender, AllocError>
         requires { ∥ MayHand code.now self.old passed.now lent.now ∥₁ }
-        ensures out { IfOk result (λ l. HandsOut code.now self.old passed.now lent.now l.first l.slots self.new rest.new) }
+        ensures out { IfOk result (Lends code.now self.old passed.now lent.now self.new rest.new) }
         ensures rest { OnOk result (StaysBut self.old self.new) }
         ensures same { OnErr result (self.new ≡ self.old) }
         ensures left { OnErr result (HasGrown rest.old rest.new) }

@@ -1,7 +1,7 @@
 //! Arrays of a call that are out while it waits, and come home.
 
 ghost use Rattle.std.specs.Prelude.{◌≡◌, ◌+◌, length};
-ghost use Rattle.cw_machine.specs.Rests.{MayTake, TakesBack, AreBare, MayLay, HasLaid};
+ghost use Rattle.cw_machine.specs.Rests.{MayTake, TakesHome, AreBare, MayLay, HasLaid};
 ghost use Rattle.cw_code.specs.Fits.{slots_lent};
 
 use crate::hands::is_shared;
@@ -34,7 +34,7 @@ impl Machine {
     #[inline(never)]
     fn lay_each(&mut self, rest: &mut Rest, slots: usize, lent: &[Loan])
         requires { ∥ MayTake self.old slots (slots_lent lent.now) rest.old.slices.items ∥₁ }
-        ensures shows { TakesBack self.old slots (slots_lent lent.now) rest.old.slices.items self.new }
+        ensures shows { TakesHome self.old slots lent.now rest.old.slices.items self.new }
         ensures bare { AreBare rest.new.slices.items }
         ensures as_many { length rest.new.slices.items ≡ length rest.old.slices.items }
         ensures cells { rest.new.cells.items ≡ rest.old.cells.items }
@@ -56,7 +56,7 @@ impl Machine {
     #[inline(always)]
     pub fn take_back(&mut self, rest: &mut Rest, slots: usize, lent: &[Loan])
         requires { ∥ MayTake self.old slots (slots_lent lent.now) rest.old.slices.items ∥₁ }
-        ensures shows { TakesBack self.old slots (slots_lent lent.now) rest.old.slices.items self.new }
+        ensures shows { TakesHome self.old slots lent.now rest.old.slices.items self.new }
         ensures bare { AreBare rest.new.slices.items }
         ensures as_many { length rest.new.slices.items ≡ length rest.old.slices.items }
         ensures cells { rest.new.cells.items ≡ rest.old.cells.items }

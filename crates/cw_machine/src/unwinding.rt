@@ -1,10 +1,9 @@
 //! Arrays that are out come home into a machine that stopped, one call after another, the newest first.
 
 ghost use Rattle.std.specs.Prelude.{◌≡◌, length};
-ghost use Rattle.cw_code.specs.Fits.{slots_lent};
 ghost use Rattle.cw_machine.specs.Rests.{AreBare};
 ghost use Rattle.cw_machine.specs.Shows.{StaysBut};
-ghost use Rattle.cw_machine.specs.Unwinding.{ComesHome, MayComeHome};
+ghost use Rattle.cw_machine.specs.Unwinding.{MayReturn, Returns};
 
 use crate::gives::take_home;
 use crate::hands::{Lender, is_shared};
@@ -24,9 +23,8 @@ impl Machine {
         slices: &mut Vec<Slice>,
         replaced: &mut Vec<Option<Slice>>,
     )
-        requires { ∥ MayComeHome self.old lender.first lender.slots (slots_lent lent.now) slices.old.items
-            replaced.old.items ∥₁ }
-        ensures remains { ComesHome self.old lender.first lender.slots (slots_lent lent.now) slices.old.items
+        requires { ∥ MayReturn self.old lender lent.now slices.old.items replaced.old.items ∥₁ }
+        ensures remains { Returns self.old lender lent.now slices.old.items
             replaced.old.items self.new }
         ensures rest { StaysBut self.old self.new }
         ensures bare { AreBare slices.new.items }

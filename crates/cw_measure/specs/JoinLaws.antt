@@ -5,10 +5,10 @@ use Rattle.cw_measure.specs.Measured.{Measured, most, most_burdened, nothing, jo
 use Rattle.cw_measure.specs.SumLaws.{up_to_is}
 use Rattle.cw_measure.specs.CounterLaws.{onward-assoc, onward-fresh_first, onward-fresh_last}
 
-abbrev record_of : ℕ → Counters → Counters → Measured
+abbrev pub record_of : ℕ → Counters → Counters → Measured
 record_of w p b = record { work = w; plain = p; burdened = b }
 
-same_parts : {w w' : ℕ} {p p' b b' : Counters} → w ≡ w' → p ≡ p' → b ≡ b' → record_of w p b ≡ record_of w' p' b'
+pub same_parts : {w w' : ℕ} {p p' b b' : Counters} → w ≡ w' → p ≡ p' → b ≡ b' → record_of w p b ≡ record_of w' p' b'
 same_parts e f g = cc
 
 pub joined-first : (x : Measured) → joined nothing x ≡ x

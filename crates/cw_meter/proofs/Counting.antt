@@ -1,8 +1,9 @@
 -- The numbers of a run, and that they fit their types.
-use Rattle.std.specs.Prelude.{◌≡◌, ℕ, ◌+◌, ◌*◌, ◌≤◌, Bool, true, false, List, [], ◌∷◌, ◌++◌, length, Option}
-use Rattle.std.proofs.Common.{add-one, ap, ◌∙◌, arith}
+use Rattle.std.specs.Prelude.{◌≡◌, ℕ, ◌+◌, ◌≤◌, Bool, true, false, List, [], ◌∷◌, ◌++◌, length, Option}
+use Rattle.std.proofs.Common.{arith}
 use Rattle.std.proofs.lemmas.Nat.{mul-le}
-use Rattle.std.proofs.Math.Nat.{add-mul, suc-mul}
+use Rattle.std.proofs.Math.Nat.{add-mul}
+use Rattle.cw_facts.specs.Integers.{one_more_time}
 use Rattle.cw_model.specs.declared.burden.Burden.{Burden}
 use Rattle.cw_model.specs.declared.limits.TheConstants.{MOST_LIMIT, MOST_BURDEN}
 use Rattle.cw_model.specs.Trees.{Mark, Event, Work, Series, Fork, Join, tree_of}
@@ -42,9 +43,6 @@ burdened_ticked_in burden (o ∷ os) es k = let i = burdened_ticked burden es k 
 burdened_joined_in : (burden : Burden) (os : List Open) (es : List Event) → burdened_work_in burden os (es ++ Join ∷ []) ≡ burdened_work_in burden os es
 burdened_joined_in burden [] es = burdened_joined burden es
 burdened_joined_in burden (o ∷ os) es = let i = burdened_joined burden es in omega arith
-
-one_more_time : (count times : ℕ) → (count + 1) * times ≡ count * times + times
-one_more_time count times = ap (λ (x : ℕ). x * times) (add-one count) ∙ suc-mul count times
 
 burden_at_most : (spawned : Bool) (burden : Burden) → charge_if spawned burden ≤ burden.charge
 burden_at_most true burden = omega arith

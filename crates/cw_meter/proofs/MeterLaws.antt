@@ -1,7 +1,7 @@
 -- What each call on a meter does to what it tells.
 use Rattle.std.specs.Prelude.{◌≡◌, ℕ, ◌+◌, ◌≤◌, ◌<◌, Bool, false, List, [], ◌∷◌, ◌++◌, length, reverse, Option, Some, refl}
 use Rattle.std.proofs.Common.{sym, ◌∙◌, ap, subst, arith}
-use Rattle.std.proofs.lemmas.List.{reverse-append}
+use Rattle.cw_facts.specs.Lists.{reverse_pushed}
 use Rattle.cw_model.specs.declared.burden.Burden.{Burden}
 use Rattle.cw_model.specs.declared.limits.TheConstants.{MOST_LIMIT, MOST_BURDEN}
 use Rattle.cw_model.specs.Trees.{Mark, Invocation, Execution, Event, Work, Join}
@@ -64,18 +64,14 @@ ticks m count burden tags from os es h = record {
   parts = h.parts;
 }
 
--- the parts kept, the innermost last
-pub reverse_push : (parts : List Part) (p : Part) → reverse (parts ++ p ∷ []) ≡ p ∷ reverse parts
-reverse_push parts p = reverse-append parts (p ∷ [])
-
 pub parts_pushed : (from : Origin) (tags : Tags) (o : Open) (os : List Open) (p : Part) (old new : List Part) → new ≡ old ++ p ∷ [] → IsPart from tags o os p → AreParts from tags os (reverse old) → AreParts from tags (o ∷ os) (reverse new)
 parts_pushed from tags o os p old new e is h =
-    let P : List Part → Type 0 = λ x. AreParts from tags (o ∷ os) x in subst P (sym (ap (λ (x : List Part). reverse x) e ∙ reverse_push old p)) (is, h)
+    let P : List Part → Type 0 = λ x. AreParts from tags (o ∷ os) x in subst P (sym (ap (λ (x : List Part). reverse x) e ∙ reverse_pushed old p)) (is, h)
 
 pub parts_popped : (from : Origin) (tags : Tags) (o : Open) (os : List Open) (p : Part) (old new : List Part) → old ≡ new ++ p ∷ [] → AreParts from tags (o ∷ os) (reverse old) → IsPart from tags o os p × AreParts from tags os (reverse new)
 parts_popped from tags o os p old new e h =
     let P : List Part → Type 0 = λ x. AreParts from tags (o ∷ os) x in
-    let a = subst P (ap (λ (x : List Part). reverse x) e ∙ reverse_push new p) h in (a.0, a.1)
+    let a = subst P (ap (λ (x : List Part). reverse x) e ∙ reverse_pushed new p) h in (a.0, a.1)
 
 no_parts : (from : Origin) (tags : Tags) (o : Open) (os : List Open) (parts : List Part) → parts ≡ [] → AreParts from tags (o ∷ os) (reverse parts) → ⊥
 no_parts from tags o os parts e h = let P : List Part → Type 0 = λ x. AreParts from tags (o ∷ os) (reverse x) in subst P e h

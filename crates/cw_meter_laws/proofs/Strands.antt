@@ -1,7 +1,7 @@
 -- Whatever a strand hands out, gets back or is given, its meter tells of the serial run so far.
 use Rattle.std.proofs.Common.{◌≡◌, ℕ, zero, suc, ◌+◌, ◌≤◌, ◌<◌, ℤ, Bool, true, false, nat_lt, if◌then◌else◌, Option, Some, List, [], ◌∷◌, length, refl, sym, ap, ◌∙◌, subst, inl, inr, arith}
-use Rattle.std.specs.Prelude.{◌&&◌, slice_get}
-use Rattle.std.proofs.lemmas.Bool.Decides.{nat_tests}
+use Rattle.std.specs.Prelude.{slice_get}
+use Rattle.cw_facts.specs.Tests.{not_below}
 use Rattle.cw_model.specs.declared.burden.Burden.{Burden}
 use Rattle.cw_model.specs.declared.limits.TheConstants.{MOST_LIMIT}
 use Rattle.cw_model.specs.Frames.{no_frame}
@@ -20,24 +20,21 @@ use Rattle.cw_meter.specs.declared.meter.Measures.{Measures}
 use Rattle.cw_meter.specs.Origins.{Origin, Main, Rest, first_open}
 use Rattle.cw_meter.specs.Meters.{Meters, InstructionsNeedNoCall, Rests}
 use Rattle.cw_meter.specs.Whole.{Reads}
-use Rattle.cw_strand_laws.specs.Jobs.{Extent, WholeCall, ToJoin, joins, is_first, has_come, Standing, standing, Came, Arrives, Returns, Falls, Beyond, Lost, moved, travel, course, IsOf, Same, Passed, Short, Job, job_start, root_job, Effect, Ended, Joined, OverLimit, JobMeaning}
+use Rattle.cw_strand_laws.specs.Jobs.{Extent, WholeCall, ToJoin, joins, has_come, Standing, standing, Came, Arrives, Returns, Falls, Beyond, Lost, moved, travel, course, IsOf, Same, Passed, Short, Job, job_start, root_job, Effect, Ended, Joined, OverLimit, JobMeaning}
 use Rattle.cw_strand_laws.specs.Strands.{Strand, Going, Waits, Halted, Turn, Goes, HandsOut, ComesBack, turn, goes_on, resumed}
 use Rattle.cw_strand_laws.specs.Promises.{IsStrandOf}
 use Rattle.cw_strand_laws.specs.RestLaws.{RootsAreSerial}
-use Rattle.cw_strand_laws.specs.Steps.{AdvanceKeeps, CallsKeep, advance, finished, turned, went_on, give, given_to}
+use Rattle.cw_strand_laws.specs.Steps.{AdvanceKeeps, CallsKeep, advance, finished, turned, went_on}
 use Rattle.cw_strand_laws.specs.Steps as steps
+use Rattle.cw_strand_laws.specs.lemmas.First.{first_is}
 use Rattle.cw_meter_laws.specs.Opens.{opens_round, whole, Gauge, IsToldOf}
 use Rattle.cw_meter_laws.specs.Strands.{site_at, StartsFrom, Metered, Started, Ran, TakenBack, Given, TellsStrand, TellsAll, MeansMeasured, MetersKeep, CallsKeepMeters, StrandsTell, MetersTellStrands, IsMeasured, RootsAreMeasured, RestsHaveNoJoins}
-use Rattle.cw_meter_laws.proofs.Joinless.{Joinless, grown, stays_joinless}
+use Rattle.cw_meter_laws.proofs.Joinless.{Joinless, stays_joinless}
 use Rattle.cw_meter_laws.proofs.Joinless as joinless
 use Rattle.cw_meter_laws.proofs.Told.{After}
 use Rattle.cw_meter_laws.proofs.Telling.{Telling, acts_told}
 
 -- Up to the join nothing joins.
-first_is : (around : List Around) (b : Bool) → is_first around && b ≡ true → around ≡ []
-first_is [] b h = refl
-first_is (a ∷ around) b h = cc
-
 at_bottom : (around : List Around) (es : List Event) → around ≡ [] → Joinless around es → no_joins es ≡ true
 at_bottom around es e h = let P : List Around → Type 0 = λ x. Joinless x es in subst P e h
 
@@ -89,9 +86,6 @@ goes_told g from Goes s s' limit before count outs m h = h
 goes_told g from (HandsOut target taken) s s' limit before count outs m h = h
 goes_told g from ComesBack s s' limit before count outs m h = h
 
-not_over : (limit n : ℕ) → n ≤ limit → nat_lt limit n ≡ false
-not_over limit n le = grind (arith, nat_tests)
-
 kept_on : (code : Code) (job : Job) (old : Strand) (t : Turn) (s s' : State) (limit before count : ℕ) (outs : List Job) → AdvanceKeeps code job old (turned t s s' limit before count outs) → IsStrandOf code job (goes_on t s s' limit before count outs)
 kept_on code job old Goes s s' limit before count outs h = h.0
 kept_on code job old (HandsOut target taken) s s' limit before count outs h = h.0
@@ -101,7 +95,7 @@ module _ (quiet : InstructionsNeedNoCall) (code : Code) (keep : CallsKeep code) 
   steps_to : (job : Job) (s : State) (count : ℕ) (outs : List Job) (w : Transition) → has_come job.extent code s ≡ false → step code s ≡ w → job.before + (count + 1) ≤ job.limit → advance code job (Going s count outs) ≡ went_on (turn code s) s w job.limit job.before (count + 1) outs
   steps_to job s count outs w come e le =
       ap (λ b. if b then finished outs (Joined (standing s) s.trace count) else (if nat_lt job.limit (job.before + (count + 1)) then steps.Ran (Halted OverLimit outs) else went_on (turn code s) s (step code s) job.limit job.before (count + 1) outs)) come
-      ∙ ap (λ b. if b then steps.Ran (Halted OverLimit outs) else went_on (turn code s) s (step code s) job.limit job.before (count + 1) outs) (not_over job.limit (job.before + (count + 1)) le)
+      ∙ ap (λ b. if b then steps.Ran (Halted OverLimit outs) else went_on (turn code s) s (step code s) job.limit job.before (count + 1) outs) (not_below job.limit (job.before + (count + 1)) le)
       ∙ ap (λ x. went_on (turn code s) s x job.limit job.before (count + 1) outs) e
 
   ran : (job : Job) (s s' : State) (count : ℕ) (outs : List Job) → has_come job.extent code s ≡ false → step code s ≡ On s' → job.before + (count + 1) ≤ job.limit → IsStrandOf code job (Going s count outs) → IsStrandOf code job (goes_on (turn code s) s s' job.limit job.before (count + 1) outs)
@@ -118,7 +112,7 @@ module _ (quiet : InstructionsNeedNoCall) (code : Code) (keep : CallsKeep code) 
   given : (job out : Job) (s : State) (count : ℕ) (outs : List Job) (frame : Standing) (t : Trace) (cost : ℕ) → job.before + (count + cost) ≤ job.limit → IsStrandOf code job (Waits s count (out ∷ outs)) → JobMeaning code out (Joined frame t cost) → IsStrandOf code job (Going (resumed s frame t) (count + cost) outs)
   given job out s count outs frame t cost le h m =
       subst (IsStrandOf code job)
-      (ap (λ b. if b then Halted OverLimit outs else Going (resumed s frame t) (count + cost) outs) (not_over job.limit (job.before + (count + cost)) le))
+      (ap (λ b. if b then Halted OverLimit outs else Going (resumed s frame t) (count + cost) outs) (not_below job.limit (job.before + (count + cost)) le))
       (keep.giving job (Waits s count (out ∷ outs)) out outs (Joined frame t cost) h refl m).0
 
   out_here : (job out : Job) (s : State) (count : ℕ) (outs : List Job) → IsStrandOf code job (Waits s count (out ∷ outs)) → out.extent ≡ ToJoin

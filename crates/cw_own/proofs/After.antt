@@ -1,7 +1,8 @@
 -- What is taken after a statement and after a block, by names and by slots.
-use Rattle.std.proofs.Common.{◌≡◌, ℕ, pos, ◌+◌, ◌≤◌, ◌==◌, nat_lt, Bool, true, false, not, ◌&&◌, ◌||◌, if◌then◌else◌, List, [], ◌∷◌, ◌++◌, length, map, Option, Some, None, option_map, ◌⊎◌, inl, inr, ⊎_elim, subst, refl, sym, ap, ◌∙◌, arith}
+use Rattle.std.proofs.Common.{◌≡◌, ℕ, pos, ◌+◌, ◌≤◌, ◌==◌, nat_lt, Bool, true, false, not, ◌&&◌, ◌||◌, if◌then◌else◌, List, [], ◌∷◌, ◌++◌, length, map, Option, Some, None, option_map, ◌⊎◌, inl, inr, ⊎_elim, subst, refl, sym, ap, ◌∙◌}
 use Rattle.std.specs.List.{list_all}
-use Rattle.std.proofs.lemmas.Bool.Decides.{nat_tests}
+use Rattle.std.proofs.Math.Bool.{and-false}
+use Rattle.cw_facts.specs.Tests.{neither_first, neither_second, not_lt_of}
 use Rattle.cw_model.specs.declared.syntax.CallKind.TheVariants.{Plain, Spawned}
 use Rattle.cw_model.specs.declared.syntax.NameKind.{NameKind}
 use Rattle.cw_model.specs.declared.syntax.NameKind.TheVariants as name_kind
@@ -17,9 +18,10 @@ use Rattle.cw_model.specs.lemmas.Kept.{both_left, both_right, left_none, right_n
 use Rattle.cw_tree.specs.Resolved.{Locals, Lists, slot_of, use_of, resolved_expr, resolved_argument, resolved_arguments}
 use Rattle.cw_tree.specs.Resolved as spec
 use Rattle.cw_tree.specs.lemmas.NamedSlots.{turned}
+use Rattle.cw_tree.specs.lemmas.Names.{called_is}
 use Rattle.cw_own.specs.Sets.{Slots, with_slot, Row, no_local, either_row, both_rows}
 use Rattle.cw_own.specs.Taken.{Held, none_held, taking_int, taking_array, freezing, either_held, held_within, with_target, with_arrays, known_after, after, after_all, gain, cuts_after, cuts_after_all}
-use Rattle.cw_own.proofs.Words.{and_none, or_turn}
+use Rattle.cw_own.proofs.Words.{or_turn}
 use Rattle.cw_own.proofs.Keeping.{same_rows, same_held, turn_law, cuts_stay, no_more, no_more_all}
 use Rattle.cw_own.proofs.Holding.{held, held_without}
 use Rattle.cw_own.proofs.Holding as holding
@@ -64,15 +66,6 @@ frozen_later (spec.Array u ∷ es) slot row = frozen_later es slot (taking_array
 frozen_later (spec.Shared u ∷ es) slot row =
     ap (with_arrays es) (same_held (freezing u.slot (freezing slot row)) (freezing slot (freezing u.slot row)) (λ k. refl) (λ k. refl) (λ k. swap_or (k == u.slot) (k == slot) (row.frozen k)))
     ∙ frozen_later es slot (freezing u.slot row)
-
--- the first function of a name
-pub called_is : (f : Name) (fs : List Function) (g : Function) → called f fs ≡ Some g → function_named f fs ≡ g
-called_is f [] g h = cc
-called_is f (e ∷ fs) g h = by (same_name f e.name) h (called_is f fs g)
-  where
-    by : (b : Bool) → (if b then Some e else called f fs) ≡ Some g → (called f fs ≡ Some g → function_named f fs ≡ g) → (if b then e else function_named f fs) ≡ g
-    by true i j = cc
-    by false i j = j i
 
 -- an integer's name alone is no array
 pub int_argument : (known : Known) (locals : Locals) (ps : List Param) (e : Expr) → Knows known locals → is_fine known e ≡ true → resolved_argument locals ps e ≡ spec.Int (resolved_expr locals e)
@@ -170,30 +163,19 @@ holds_call known locals depth outside fs target f es taken here cuts k h held = 
         (sym (called_is f fs g e))
         (into g target (both_left (is_target known g target) (are_arguments known g.params es) two) (both_right (is_target known g target) (are_arguments known g.params es) two))
 
-left_false : (a b : Bool) → (a || b) ≡ false → a ≡ false
-left_false true b h = cc
-left_false false b h = refl
-
-right_false : (a b : Bool) → (a || b) ≡ false → b ≡ false
-right_false true b h = cc
-right_false false b h = h
-
 pub still_none : (a b : Bool) → (a ≡ true → b ≡ true) → b ≡ false → a ≡ false
 still_none true b f h = let g = f refl in cc
 still_none false b f h = refl
-
-beyond_end : (k n : ℕ) → nat_lt k n ≡ false → n ≤ k
-beyond_end k n h = grind (arith, nat_tests, h)
 
 masked_ints : (k n : ℕ) (r q h : Bool) → (n ≤ k → r ≡ false) → (nat_lt k n && (r || (q && h))) ≡ (r || (q && (nat_lt k n && h)))
 masked_ints k n r q h free = by (nat_lt k n) refl
   where
     by : (b : Bool) → nat_lt k n ≡ b → (b && (r || (q && h))) ≡ (r || (q && (b && h)))
     by true e = refl
-    by false e = sym (ap (λ r. r || (q && false)) (free (beyond_end k n e)) ∙ and_none q)
+    by false e = sym (ap (λ r. r || (q && false)) (free (not_lt_of k n e)) ∙ and-false q)
 
 pub all_none : (q d c : Bool) → (((q && false) || (d && false)) || (c && false)) ≡ false
-all_none q d c = ap (λ x. (x || (d && false)) || (c && false)) (and_none q) ∙ ap (λ x. x || (c && false)) (and_none d) ∙ and_none c
+all_none q d c = ap (λ x. (x || (d && false)) || (c && false)) (and-false q) ∙ ap (λ x. x || (c && false)) (and-false d) ∙ and-false c
 
 masked_arrays : (k n : ℕ) (r q h d f c u : Bool) → (n ≤ k → r ≡ false) → (n ≤ k → u ≡ false) →
     (nat_lt k n && (r || (((q && h) || (d && f)) || (c && u)))) ≡ (r || (((q && (nat_lt k n && h)) || (d && (nat_lt k n && f))) || (c && u)))
@@ -201,7 +183,7 @@ masked_arrays k n r q h d f c u free none = by (nat_lt k n) refl
   where
     by : (b : Bool) → nat_lt k n ≡ b → (b && (r || (((q && h) || (d && f)) || (c && u)))) ≡ (r || (((q && (b && h)) || (d && (b && f))) || (c && u)))
     by true e = refl
-    by false e = sym (ap (λ r. r || (((q && false) || (d && false)) || (c && u))) (free (beyond_end k n e)) ∙ ap (λ u. ((q && false) || (d && false)) || (c && u)) (none (beyond_end k n e)) ∙ all_none q d c)
+    by false e = sym (ap (λ r. r || (((q && false) || (d && false)) || (c && u))) (free (not_lt_of k n e)) ∙ ap (λ u. ((q && false) || (d && false)) || (c && u)) (none (not_lt_of k n e)) ∙ all_none q d c)
 
 -- the names of a block end with it
 pub holds_end : (program : Program) (returns : Returns) (known : Known) (locals : Locals) (depth : ℕ) (outside : Outside) (b : Block) (before : Taken) (here : Held) (cuts : Slots) (taken : Taken) (row : Held) (less : Slots) →
@@ -211,10 +193,10 @@ holds_end program returns known locals depth outside b before here cuts taken ro
     shows_as locals (λ x. not (is_among x (own_names b)) && held p taken x) (held p (without (own_names b) taken)) _ (held_without (own_names b) p taken)
     (shows_row locals (λ x. not (is_among x (own_names b)) && held p taken x) (both_rows (known_row locals) (all_of p depth outside row less)) (all_of p depth outside (held_within (known_row locals) row) less)
     (same_rows (both_rows (known_row locals) (all_of p depth outside row less)) (all_of p depth outside (held_within (known_row locals) row) less)
-    (λ k. masked_ints k (length locals.ints) ((outside p).ints k) (p (SpawnIn depth)) (row.ints k) (λ le. left_false ((outside p).ints k) _ ((entry p).ints_end k le)))
+    (λ k. masked_ints k (length locals.ints) ((outside p).ints k) (p (SpawnIn depth)) (row.ints k) (λ le. neither_first ((outside p).ints k) _ ((entry p).ints_end k le)))
     (λ k. masked_arrays k (length locals.arrays) ((outside p).arrays k) (p (SpawnIn depth)) (row.arrays k) (p (ReaderIn depth)) (row.frozen k) (p CutOf) (less k)
-    (λ le. left_false ((outside p).arrays k) _ ((entry p).arrays_end k le))
-    (λ le. still_none (less k) (cuts k) (fewer k) (right_false ((outside holding.is_cut).arrays k) (cuts k) ((entry holding.is_cut).arrays_end k le)))))
+    (λ le. neither_first ((outside p).arrays k) _ ((entry p).arrays_end k le))
+    (λ le. still_none (less k) (cuts k) (fewer k) (neither_second ((outside holding.is_cut).arrays k) (cuts k) ((entry holding.is_cut).arrays_end k le)))))
     (drop_block program returns known locals b (held p taken) (all_of p depth outside row less) k fine (last p)))
 
 -- what goes on after a branch
@@ -225,10 +207,10 @@ pub holds_goes : (program : Program) (lists : Lists) (returns : Returns) (known 
 holds_goes program lists returns known locals depth outside b here cuts taken top fine last = by (block_returns b) refl
   where
     none_and : (q d n c : Bool) → (((q && (n && false)) || (d && (n && false))) || (c && false)) ≡ false
-    none_and q d n c = ap (λ x. ((q && x) || (d && x)) || (c && false)) (and_none n) ∙ all_none q d c
+    none_and q d n c = ap (λ x. ((q && x) || (d && x)) || (c && false)) (and-false n) ∙ all_none q d c
 
     none_ints : (q n : Bool) → (q && (n && false)) ≡ false
-    none_ints q n = ap (λ x. q && x) (and_none n) ∙ and_none q
+    none_ints q n = ap (λ x. q && x) (and-false n) ∙ and-false q
 
     nothing : block_returns b ≡ true → ((p : Holder → Bool) → outside p ≡ no_local) × ((k : ℕ) → cuts k ≡ false) →
         Holds locals depth outside [] (held_within (known_row locals) (after_all (known_row locals) (spec.resolved_block lists locals b) here)) (cuts_after_all (spec.resolved_block lists locals b) cuts)

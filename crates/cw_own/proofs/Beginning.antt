@@ -2,6 +2,10 @@
 use Rattle.std.proofs.Common.{◌≡◌, ℕ, ◌+◌, nat_lt, Bool, true, false, not, ◌||◌, if◌then◌else◌, cond, List, [], ◌∷◌, ◌++◌, length, map, filter, subst, refl, sym, ap, ◌∙◌, arith, length-append}
 use Rattle.std.proofs.lemmas.Bool.Decides.{nat_tests}
 use Rattle.std.proofs.lemmas.Slice.Eq.{bytes_eq-Decides}
+use Rattle.std.proofs.lemmas.List.{append_assoc, append-nil}
+use Rattle.std.proofs.lemmas.Bool.{or_from}
+use Rattle.std.proofs.Math.Bool.{or-false}
+use Rattle.cw_facts.specs.Tests.{not_true, below, not_below}
 use Rattle.cw_model.specs.Syntax.{Name, Param}
 use Rattle.cw_model.specs.Names.{same_name, is_among, differ}
 use Rattle.cw_model.specs.Typing.{Known, known_of}
@@ -9,12 +13,13 @@ use Rattle.cw_model.specs.lemmas.Kept.{both_left, both_right}
 use Rattle.cw_tree.specs.Resolved.{Locals, slot_of, locals_of}
 use Rattle.cw_tree.specs.Resolved as spec
 use Rattle.cw_tree.specs.lemmas.NamedSlots.{among_push, slot_in, slot_out}
+use Rattle.cw_tree.specs.lemmas.Names.{among_append}
 use Rattle.cw_own.specs.Sets.{no_local, with_int, with_array}
 use Rattle.cw_own.specs.Taken.{with_params}
-use Rattle.cw_own.proofs.Words.{if_or, or_none, or_all, or_turn}
+use Rattle.cw_own.proofs.Words.{if_or, or_all, or_turn}
 use Rattle.cw_own.proofs.Keeping.{same_rows}
 use Rattle.cw_own.proofs.Showing.{Shows, known_row}
-use Rattle.cw_own.proofs.Knowing.{Knows, Fresh, knows_int, knows_array, knows_const, known_int, known_array, below_is, above_is}
+use Rattle.cw_own.proofs.Knowing.{Knows, Fresh, knows_int, knows_array, knows_const, known_int, known_array}
 use Rattle.cw_model.specs.declared.syntax.NameKind.{NameKind}
 use Rattle.cw_model.specs.declared.syntax.NameKind.TheVariants as name_kind
 use Rattle.cw_model.specs.Syntax.{wants_array, is_array_kind}
@@ -29,18 +34,10 @@ abbrev pub AreFresh : Locals → List Param → Type 0
 AreFresh locals [] = Unit {0}
 AreFresh locals (p ∷ ps) = Fresh p.name locals × AreFresh (if wants_array p then spec.with_array p.name locals else spec.with_int p.name locals) ps
 
-appended : {A : Type 0} (xs ys zs : List A) → (xs ++ ys) ++ zs ≡ xs ++ (ys ++ zs)
-appended [] ys zs = refl
-appended (x ∷ xs) ys zs = ap (λ r. x ∷ r) (appended xs ys zs)
-
-none_more : {A : Type 0} (xs : List A) → xs ++ [] ≡ xs
-none_more [] = refl
-none_more (x ∷ xs) = ap (λ r. x ∷ r) (none_more xs)
-
 params_known : (ps : List Param) (known : Known) (locals : Locals) → AreFresh locals ps → Knows known locals → Knows (known_of ps ++ known) (params_after locals ps)
 params_known [] known locals f k = k
 params_known (p ∷ ps) known locals f k =
-    subst (λ ks. Knows ks (params_after locals (p ∷ ps))) (sym (appended (known_of ps) ((p.name, p.kind) ∷ []) known)) (by p.kind f.1 (params_known ps))
+    subst (λ ks. Knows ks (params_after locals (p ∷ ps))) (sym (append_assoc (known_of ps) ((p.name, p.kind) ∷ []) known)) (by p.kind f.1 (params_known ps))
   where
     by : (kind : NameKind) → AreFresh (if is_array_kind kind then spec.with_array p.name locals else spec.with_int p.name locals) ps →
         ((known : Known) (locals : Locals) → AreFresh locals ps → Knows known locals → Knows (known_of ps ++ known) (params_after locals ps)) →
@@ -53,13 +50,13 @@ abbrev joined : Locals → Locals → Locals
 joined a b = record { ints = a.ints ++ b.ints; arrays = a.arrays ++ b.arrays }
 
 params_joined : (ps : List Param) (locals : Locals) → params_after locals ps ≡ joined locals (locals_of ps)
-params_joined [] locals = λ i. record { ints = sym (none_more locals.ints) i; arrays = sym (none_more locals.arrays) i }
+params_joined [] locals = λ i. record { ints = sym (append-nil locals.ints) i; arrays = sym (append-nil locals.arrays) i }
 params_joined (p ∷ ps) locals = by (wants_array p) (params_joined ps)
   where
     by : (b : Bool) → ((locals : Locals) → params_after locals ps ≡ joined locals (locals_of ps)) → params_after (if b then spec.with_array p.name locals else spec.with_int p.name locals) ps
         ≡ (let l : Locals = record { ints = locals.ints ++ map (λ p. p.name) (cond (not b) (p ∷ filter (λ p. not (wants_array p)) ps) (filter (λ p. not (wants_array p)) ps)); arrays = locals.arrays ++ map (λ p. p.name) (cond b (p ∷ filter (λ p. wants_array p) ps) (filter (λ p. wants_array p) ps)) } in l)
-    by true more = more (spec.with_array p.name locals) ∙ (λ i. record { ints = locals.ints ++ (locals_of ps).ints; arrays = appended locals.arrays (p.name ∷ []) (locals_of ps).arrays i })
-    by false more = more (spec.with_int p.name locals) ∙ (λ i. record { ints = appended locals.ints (p.name ∷ []) (locals_of ps).ints i; arrays = locals.arrays ++ (locals_of ps).arrays })
+    by true more = more (spec.with_array p.name locals) ∙ (λ i. record { ints = locals.ints ++ (locals_of ps).ints; arrays = append_assoc locals.arrays (p.name ∷ []) (locals_of ps).arrays i })
+    by false more = more (spec.with_int p.name locals) ∙ (λ i. record { ints = append_assoc locals.ints (p.name ∷ []) (locals_of ps).ints i; arrays = locals.arrays ++ (locals_of ps).arrays })
 
 params_row : (ps : List Param) (locals : Locals) → with_params (length locals.ints) (length locals.arrays) ps (known_row locals) ≡ known_row (params_after locals ps)
 params_row [] locals = refl
@@ -87,15 +84,6 @@ head_row ps =
     none : (k : ℕ) → false ≡ nat_lt k 0
     none k = grind (arith, nat_tests)
 
--- parameters that differ are new, one after another
-not_is : (a : Bool) → not a ≡ true → a ≡ false
-not_is true h = cc
-not_is false h = refl
-
-neither : (a b : Bool) → a ≡ false → b ≡ false → (a || b) ≡ false
-neither true b e f = cc
-neither false b e f = f
-
 abbrev names_of : List Param → List Name
 names_of ps = map (λ p. p.name) ps
 
@@ -107,7 +95,7 @@ apart_all : (x : Name) (locals : Locals) (ps : List Param) → is_among x (names
 apart_all x locals ps out f p there =
     let old = f p there in
     let apart : same_name p x ≡ false = differs (same_name p x) refl in
-    ((among_push p locals.ints x ∙ neither (is_among p locals.ints) (same_name p x) old.0 apart, old.1), (old.0, among_push p locals.arrays x ∙ neither (is_among p locals.arrays) (same_name p x) old.1 apart))
+    ((among_push p locals.ints x ∙ or_from (is_among p locals.ints) (same_name p x) old.0 apart, old.1), (old.0, among_push p locals.arrays x ∙ or_from (is_among p locals.arrays) (same_name p x) old.1 apart))
   where
     differs : (b : Bool) → same_name p x ≡ b → same_name p x ≡ false
     differs false e = e
@@ -116,7 +104,7 @@ apart_all x locals ps out f p there =
 fresh_params : (ps : List Param) (locals : Locals) → differ (names_of ps) ≡ true → ((p : Name) → is_among p (names_of ps) ≡ true → NotIn locals p) → AreFresh locals ps
 fresh_params [] locals d f = tt
 fresh_params (p ∷ ps) locals d f =
-    let out = not_is (is_among p.name (names_of ps)) (both_left (not (is_among p.name (names_of ps))) (differ (names_of ps)) d) in
+    let out = not_true (is_among p.name (names_of ps)) (both_left (not (is_among p.name (names_of ps))) (differ (names_of ps)) d) in
     let here = f p.name (ap (λ b. if b then true else is_among p.name (names_of ps)) ((bytes_eq-Decides p.name p.name).1 refl)) in
     let later = apart_all p.name locals ps out (λ q there. f q (if_or (same_name q p.name) (is_among q (names_of ps)) ∙ ap (λ b. same_name q p.name || b) there ∙ or_all (same_name q p.name))) in
     (record { no_int = here.0; no_array = here.1 }, by (wants_array p) later (λ l. fresh_params ps l (both_right (not (is_among p.name (names_of ps))) (differ (names_of ps)) d)))
@@ -133,16 +121,8 @@ nothing_known = record { ints = λ x h. cc; arrays = λ x h. cc; apart = λ x h.
 pub head_known : (ps : List Param) → differ (names_of ps) ≡ true → Knows (known_of ps) (locals_of ps)
 head_known ps d =
     subst (λ l. Knows (known_of ps) l) (params_joined ps (record { ints = []; arrays = [] }))
-    (subst (λ ks. Knows ks (params_after (record { ints = []; arrays = [] }) ps)) (none_more (known_of ps))
+    (subst (λ ks. Knows ks (params_after (record { ints = []; arrays = [] }) ps)) (append-nil (known_of ps))
     (params_known ps [] (record { ints = []; arrays = [] }) (fresh_params ps (record { ints = []; arrays = [] }) d (λ p there. (refl, refl))) nothing_known))
-
-among_append : (x : Name) (xs ys : List Name) → is_among x (xs ++ ys) ≡ (is_among x xs || is_among x ys)
-among_append x [] ys = refl
-among_append x (y ∷ xs) ys = by (same_name x y) (among_append x xs ys)
-  where
-    by : (b : Bool) → is_among x (xs ++ ys) ≡ (is_among x xs || is_among x ys) → (if b then true else is_among x (xs ++ ys)) ≡ ((if b then true else is_among x xs) || is_among x ys)
-    by true h = refl
-    by false h = h
 
 map_append : (xs ys : Known) → map (λ k. k.0) (xs ++ ys) ≡ map (λ k. k.0) xs ++ map (λ k. k.0) ys
 map_append [] ys = refl
@@ -154,7 +134,7 @@ names_known x (p ∷ ps) =
     ap (is_among x) (map_append (known_of ps) ((p.name, p.kind) ∷ []))
     ∙ among_append x (map (λ k. k.0) (known_of ps)) (p.name ∷ [])
     ∙ ap (λ b. b || is_among x (p.name ∷ [])) (names_known x ps)
-    ∙ ap (λ b. is_among x (names_of ps) || b) (if_or (same_name x p.name) false ∙ or_none (same_name x p.name))
+    ∙ ap (λ b. is_among x (names_of ps) || b) (if_or (same_name x p.name) false ∙ or-false (same_name x p.name))
     ∙ or_turn (is_among x (names_of ps)) (same_name x p.name)
     ∙ sym (if_or (same_name x p.name) (is_among x (names_of ps)))
 
@@ -162,8 +142,8 @@ in_row : (x : Name) (names : List Name) → is_among x names ≡ nat_lt (slot_of
 in_row x names = by (is_among x names) refl
   where
     by : (b : Bool) → is_among x names ≡ b → is_among x names ≡ nat_lt (slot_of x names) (length names)
-    by true e = e ∙ sym (below_is (slot_of x names) (length names) (slot_in x names e))
-    by false e = let end = slot_out x names e in e ∙ sym (above_is (slot_of x names) (length names) (omega (arith, end)))
+    by true e = e ∙ sym (below (slot_of x names) (length names) (slot_in x names e))
+    by false e = let end = slot_out x names e in e ∙ sym (not_below (slot_of x names) (length names) (omega (arith, end)))
 
 pub head_names : (ps : List Param) → differ (names_of ps) ≡ true → Shows (locals_of ps) (λ x. is_among x (names_of ps)) (known_row (locals_of ps))
 head_names ps d = record {
@@ -171,6 +151,6 @@ head_names ps d = record {
       sym (names_known x ps) ∙ (head_known ps d).names x
       ∙ ap (λ b. b || is_among x (locals_of ps).arrays) (in_row x (locals_of ps).ints)
       ∙ ap (λ b. nat_lt (slot_of x (locals_of ps).ints) (length (locals_of ps).ints) || b) (in_row x (locals_of ps).arrays);
-  ints_end = λ k h. above_is k (length (locals_of ps).ints) h;
-  arrays_end = λ k h. above_is k (length (locals_of ps).arrays) h;
+  ints_end = λ k h. not_below k (length (locals_of ps).ints) h;
+  arrays_end = λ k h. not_below k (length (locals_of ps).arrays) h;
 }

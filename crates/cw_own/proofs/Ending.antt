@@ -1,6 +1,7 @@
 -- The end of a block, by names and by slots.
 use Rattle.std.proofs.Common.{◌≡◌, ℕ, ◌≤◌, nat_lt, Bool, true, false, not, ◌&&◌, ◌||◌, if◌then◌else◌, [], ◌∷◌, ◌++◌, length, refl, sym, arith, length-append}
 use Rattle.std.proofs.lemmas.Bool.Decides.{nat_tests}
+use Rattle.cw_facts.specs.Tests.{not_lt_of}
 use Rattle.cw_model.specs.declared.syntax.NameKind.TheVariants as name_kind
 use Rattle.cw_model.specs.Syntax.{Name, Program, Declare, DeclareArray, Assign, AssignElement, Reduce, Call, Start, Begin, Sync, If, IfElse, While, For, Scope, Cut, Region, Print, Return, Block, End, Then}
 use Rattle.cw_model.specs.Lines.{unless}
@@ -20,15 +21,12 @@ abbrev pub all_locals : Locals → Block → Locals
 all_locals locals End = locals
 all_locals locals (Then line s b) = all_locals (spec.locals_after locals s) b
 
-beyond : (k n : ℕ) → nat_lt k n ≡ false → n ≤ k
-beyond k n h = grind (arith, nat_tests, h)
-
 inside_mask : (k n : ℕ) (r : Bool) → (n ≤ k → r ≡ false) → (nat_lt k n && r) ≡ r
 inside_mask k n r free = by (nat_lt k n) refl
   where
     by : (b : Bool) → nat_lt k n ≡ b → (b && r) ≡ r
     by true e = refl
-    by false e = sym (free (beyond k n e))
+    by false e = sym (free (not_lt_of k n e))
 
 mask_twice : (k n m : ℕ) (r : Bool) → n ≤ m → (nat_lt k n && (nat_lt k m && r)) ≡ (nat_lt k n && r)
 mask_twice k n m r le = by (nat_lt k n) (nat_lt k m) refl refl

@@ -1,7 +1,8 @@
 -- In a tree that fits, each slot that is declared, taken or listed is small.
-use Rattle.std.proofs.Common.{◌≡◌, ℕ, ◌≤◌, nat_lt, nat_le, Bool, true, false, ◌&&◌, List, [], ◌∷◌, length, map, flat_map, Option, Some, None, refl, arith}
+use Rattle.std.proofs.Common.{◌≡◌, ℕ, ◌≤◌, nat_lt, nat_le, true, ◌&&◌, List, [], ◌∷◌, length, map, flat_map, Option, Some, None, refl, arith}
 use Rattle.std.specs.List.{list_all}
 use Rattle.std.proofs.lemmas.Bool.Decides.{nat_tests}
+use Rattle.cw_facts.specs.Tests.{both_true, le_of}
 use Rattle.cw_model.specs.declared.limits.TheConstants.{MOST_DECLARED, MOST_PARAMETERS, MOST_FUNCTIONS, MOST_REDUCERS}
 use Rattle.cw_model.specs.Lines.{unless}
 use Rattle.cw_model.specs.Syntax as model
@@ -16,10 +17,6 @@ record Few (n : Counts) : Type 0 where
   pub ints : n.ints ≤ MOST_DECLARED
   pub arrays : n.arrays ≤ MOST_DECLARED
 
-both : (a b : Bool) → a ≡ true → b ≡ true → (a && b) ≡ true
-both true b h g = g
-both false b h g = cc
-
 less : (k n m : ℕ) → n ≤ m → nat_lt k n ≡ true → nat_lt k m ≡ true
 less k n m le h = grind (arith, nat_tests, h)
 
@@ -33,16 +30,16 @@ arguments_small : (n : Counts) (es : List Argument) → Few n → list_all (fits
 arguments_small n [] few h = refl
 arguments_small n (Int e ∷ es) few h = arguments_small n es few (both_right (fits_expr n e) (list_all (fits_argument n) es) h)
 arguments_small n (Array u ∷ es) few h =
-    both (is_small u) (list_all small_argument es) (array_small n u few (both_left (is_below n.arrays u) (list_all (fits_argument n) es) h))
+    both_true (is_small u) (list_all small_argument es) (array_small n u few (both_left (is_below n.arrays u) (list_all (fits_argument n) es) h))
     (arguments_small n es few (both_right (is_below n.arrays u) (list_all (fits_argument n) es) h))
 arguments_small n (Shared u ∷ es) few h =
-    both (is_small u) (list_all small_argument es) (array_small n u few (both_left (is_below n.arrays u) (list_all (fits_argument n) es) h))
+    both_true (is_small u) (list_all small_argument es) (array_small n u few (both_left (is_below n.arrays u) (list_all (fits_argument n) es) h))
     (arguments_small n es few (both_right (is_below n.arrays u) (list_all (fits_argument n) es) h))
 
 over_small : (n : Counts) (us : List Use) → Few n → list_all (is_below n.arrays) us ≡ true → list_all is_small us ≡ true
 over_small n [] few h = refl
 over_small n (u ∷ us) few h =
-    both (is_small u) (list_all is_small us) (array_small n u few (both_left (is_below n.arrays u) (list_all (is_below n.arrays) us) h))
+    both_true (is_small u) (list_all is_small us) (array_small n u few (both_left (is_below n.arrays u) (list_all (is_below n.arrays) us) h))
     (over_small n us few (both_right (is_below n.arrays u) (list_all (is_below n.arrays) us) h))
 
 target_small : (n : Counts) (target : Option Use) → Few n → fits_target n target ≡ true → small_target target ≡ true
@@ -57,32 +54,32 @@ mutual
   stmt_small n (AssignElement u i e) few h = refl
   stmt_small n (Reduce how s e) few h = refl
   stmt_small n (Call kind site target f es) few h =
-      both (small_target target) (list_all small_argument es)
+      both_true (small_target target) (list_all small_argument es)
       (target_small n target few (both_left (fits_target n target) (nat_lt f.index n.functions) (both_left (fits_target n target && nat_lt f.index n.functions) (list_all (fits_argument n) es) h)))
       (arguments_small n es few (both_right (fits_target n target && nat_lt f.index n.functions) (list_all (fits_argument n) es) h))
   stmt_small n Sync few h = refl
   stmt_small n (If e b) few h = block_small n b few (both_right (fits_expr n e) (fits_block n b) h)
   stmt_small n (IfElse e b c) few h =
-      both (small_block b) (small_block c)
+      both_true (small_block b) (small_block c)
       (block_small n b few (both_right (fits_expr n e) (fits_block n b) (both_left (fits_expr n e && fits_block n b) (fits_block n c) h)))
       (block_small n c few (both_right (fits_expr n e && fits_block n b) (fits_block n c) h))
   stmt_small n (While e b) few h = block_small n b few (both_right (fits_expr n e) (fits_block n b) h)
   stmt_small n (For head b) few h =
       let head_fits = both_left (fits_head n head) (fits_block n b) h in
-      both (is_small head.variable) (list_all is_small head.over && small_block b)
+      both_true (is_small head.variable) (list_all is_small head.over && small_block b)
       (int_small n head.variable few (both_left _ _ (both_left _ _ (both_left _ _ (both_left _ (list_all (is_below n.arrays) head.over) head_fits)))))
-      (both (list_all is_small head.over) (small_block b)
+      (both_true (list_all is_small head.over) (small_block b)
       (over_small n head.over few (both_right (is_below n.ints head.variable && fits_expr n head.from && fits_expr n head.to && list_all (is_below n.ints) head.captured) (list_all (is_below n.arrays) head.over) head_fits))
       (block_small n b few (both_right (fits_head n head) (fits_block n b) h)))
   stmt_small n (Scope b) few h = block_small n b few h
   stmt_small n (Cut parts b) few h =
       let fits = both_left (fits_parts n parts) (fits_block n b) h in
       let three = both_left (is_below n.arrays parts.array && fits_expr n parts.at && is_below n.arrays parts.left) (is_below n.arrays parts.right) fits in
-      both (is_small parts.array) (is_small parts.left && (is_small parts.right && small_block b))
+      both_true (is_small parts.array) (is_small parts.left && (is_small parts.right && small_block b))
       (array_small n parts.array few (both_left (is_below n.arrays parts.array) (fits_expr n parts.at) (both_left (is_below n.arrays parts.array && fits_expr n parts.at) (is_below n.arrays parts.left) three)))
-      (both (is_small parts.left) (is_small parts.right && small_block b)
+      (both_true (is_small parts.left) (is_small parts.right && small_block b)
       (array_small n parts.left few (both_right (is_below n.arrays parts.array && fits_expr n parts.at) (is_below n.arrays parts.left) three))
-      (both (is_small parts.right) (small_block b)
+      (both_true (is_small parts.right) (small_block b)
       (array_small n parts.right few (both_right (is_below n.arrays parts.array && fits_expr n parts.at && is_below n.arrays parts.left) (is_below n.arrays parts.right) fits))
       (block_small n b few (both_right (fits_parts n parts) (fits_block n b) h))))
   stmt_small n (Region tag b) few h = block_small n b few (both_right (nat_lt tag.index n.tags) (fits_block n b) h)
@@ -92,27 +89,24 @@ mutual
   block_small : (n : Counts) (b : Block) → Few n → fits_block n b ≡ true → small_block b ≡ true
   block_small n End few h = refl
   block_small n (Then line s b) few h =
-      both (small_stmt s) (small_block b) (stmt_small n s few (both_left (fits_stmt n s) (fits_block n b) h)) (block_small n b few (both_right (fits_stmt n s) (fits_block n b) h))
-
-at_most : (k n : ℕ) → nat_le k n ≡ true → k ≤ n
-at_most k n h = grind (arith, nat_tests, h)
+      both_true (small_stmt s) (small_block b) (stmt_small n s few (both_left (fits_stmt n s) (fits_block n b) h)) (block_small n b few (both_right (fits_stmt n s) (fits_block n b) h))
 
 function_small : (tree : Resolved) (f : Function) → fits_function tree f ≡ true → function_limits (plain_function f) ≡ [] → small_function f ≡ true
 function_small tree f fits few =
     let counts = both_left (nat_le f.ints MOST_DECLARED && nat_le f.arrays MOST_DECLARED) (fits_block (counts_of tree f) f.body) fits in
-    both (nat_le (length f.params) MOST_PARAMETERS) (small_block f.body)
+    both_true (nat_le (length f.params) MOST_PARAMETERS) (small_block f.body)
     (kept (nat_le (length f.params) MOST_PARAMETERS) f.line (left_none (unless (nat_le (length f.params) MOST_PARAMETERS) f.line) _ few))
     (block_small (counts_of tree f) f.body
     (record {
-      ints = at_most f.ints MOST_DECLARED (both_left (nat_le f.ints MOST_DECLARED) (nat_le f.arrays MOST_DECLARED) counts);
-      arrays = at_most f.arrays MOST_DECLARED (both_right (nat_le f.ints MOST_DECLARED) (nat_le f.arrays MOST_DECLARED) counts);
+      ints = le_of f.ints MOST_DECLARED (both_left (nat_le f.ints MOST_DECLARED) (nat_le f.arrays MOST_DECLARED) counts);
+      arrays = le_of f.arrays MOST_DECLARED (both_right (nat_le f.ints MOST_DECLARED) (nat_le f.arrays MOST_DECLARED) counts);
     })
     (both_right (nat_le f.ints MOST_DECLARED && nat_le f.arrays MOST_DECLARED) (fits_block (counts_of tree f) f.body) fits))
 
 functions_small : (tree : Resolved) (fs : List Function) → list_all (fits_function tree) fs ≡ true → flat_map function_limits (map plain_function fs) ≡ [] → list_all small_function fs ≡ true
 functions_small tree [] fits few = refl
 functions_small tree (f ∷ fs) fits few =
-    both (small_function f) (list_all small_function fs)
+    both_true (small_function f) (list_all small_function fs)
     (function_small tree f (both_left (fits_function tree f) (list_all (fits_function tree) fs) fits) (left_none (function_limits (plain_function f)) (flat_map function_limits (map plain_function fs)) few))
     (functions_small tree fs (both_right (fits_function tree f) (list_all (fits_function tree) fs) fits) (right_none (function_limits (plain_function f)) (flat_map function_limits (map plain_function fs)) few))
 

@@ -1,6 +1,7 @@
 -- What is taken, by names and holders, is what the rows hold.
 use Rattle.std.proofs.Common.{◌≡◌, ℕ, ◌+◌, ◌≤◌, ◌==◌, Bool, true, false, not, ◌&&◌, ◌||◌, ◌∷◌, ◌++◌, refl, sym, ap, ◌∙◌, arith}
 use Rattle.std.proofs.lemmas.Bool.Decides.{nat_tests}
+use Rattle.std.proofs.Math.Bool.{or-false, and-false, or_assoc}
 use Rattle.cw_model.specs.Syntax.{Name}
 use Rattle.cw_model.specs.Names.{same_name, is_among}
 use Rattle.cw_model.specs.Ownership.{Holder, SpawnIn, ReaderIn, CutOf, Taken, freed, cut_ended}
@@ -9,7 +10,7 @@ use Rattle.cw_tree.specs.Resolved as spec
 use Rattle.cw_tree.specs.lemmas.NamedSlots.{turned, one_slot}
 use Rattle.cw_own.specs.Sets.{Slots, with_slot, without_slot, either, Row, with_int, with_array, either_row}
 use Rattle.cw_own.specs.Taken.{Held, none_held, taking_int, taking_array, freezing, either_held}
-use Rattle.cw_own.proofs.Words.{or_none, and_all, and_none, or_group, four_or}
+use Rattle.cw_own.proofs.Words.{and_all, four_or}
 use Rattle.cw_own.proofs.Keeping.{same_rows}
 use Rattle.cw_own.proofs.Holding.{held, is_cut, but_spawn, but_cut, held_append, held_freed, uncut_test, held_uncut, held_same}
 use Rattle.cw_own.proofs.Showing.{Shows, shows_as, shows_row, shows_either, shows_int, shows_array, shows_push_int, shows_push_array}
@@ -250,11 +251,11 @@ steady_inside depth outside here s = record {
 }
 
 entered_ints : (r q a n : Bool) → (r || (q && a)) ≡ ((r || (q && a)) || (n && false))
-entered_ints r q a n = sym (ap (λ b. (r || (q && a)) || b) (and_none n) ∙ or_none (r || (q && a)))
+entered_ints r q a n = sym (ap (λ b. (r || (q && a)) || b) (and-false n) ∙ or-false (r || (q && a)))
 
 entered_arrays : (r x n m c : Bool) → (r || (x || c)) ≡ ((r || x) || (((n && false) || (m && false)) || c))
 entered_arrays r x n m c =
-    sym (or_group r x c) ∙ ap (λ b. (r || x) || (b || c)) (sym (ap (λ a. a || (m && false)) (and_none n) ∙ and_none m))
+    sym (or_assoc r x c) ∙ ap (λ b. (r || x) || (b || c)) (sym (ap (λ a. a || (m && false)) (and-false n) ∙ and-false m))
 
 -- a sync block begins
 pub holds_inside : (locals : Locals) (depth : ℕ) (outside : (Holder → Bool) → Row) (taken : Taken) (here : Held) (cuts : Slots) →
@@ -271,16 +272,16 @@ left_ints : (r q a m b n : Bool) → n ≡ true → ((r || ((q && true) && a)) |
 left_ints r q a m b n e =
     ap (λ n. (r || ((q && true) && a)) || ((m && not n) && b)) e
     ∙ ap (λ x. (r || (x && a)) || ((m && false) && b)) (and_all q)
-    ∙ ap (λ x. (r || (q && a)) || x) (off m b ∙ and_none m)
-    ∙ or_none (r || (q && a))
+    ∙ ap (λ x. (r || (q && a)) || x) (off m b ∙ and-false m)
+    ∙ or-false (r || (q && a))
 
 left_arrays : (r x m b d f c u n : Bool) → n ≡ true → ((r || x) || ((((m && not n) && b) || ((d && not n) && f)) || ((c && true) && u))) ≡ (r || (x || (c && u)))
 left_arrays r x m b d f c u n e =
     ap (λ n. (r || x) || ((((m && not n) && b) || ((d && not n) && f)) || ((c && true) && u))) e
-    ∙ ap (λ y. (r || x) || ((y || ((d && false) && f)) || ((c && true) && u))) (off m b ∙ and_none m)
-    ∙ ap (λ y. (r || x) || (y || ((c && true) && u))) (off d f ∙ and_none d)
+    ∙ ap (λ y. (r || x) || ((y || ((d && false) && f)) || ((c && true) && u))) (off m b ∙ and-false m)
+    ∙ ap (λ y. (r || x) || (y || ((c && true) && u))) (off d f ∙ and-false d)
     ∙ ap (λ y. (r || x) || (y && u)) (and_all c)
-    ∙ or_group r x (c && u)
+    ∙ or_assoc r x (c && u)
 
 pub holds_left : (locals : Locals) (depth : ℕ) (outside : (Holder → Bool) → Row) (here : Held) (taken : Taken) (inner : Held) (cuts : Slots) → Steady depth outside →
     Holds locals (depth + 1) (entered outside depth here) taken inner cuts → Holds locals depth outside (freed (depth + 1) taken) here cuts

@@ -1,10 +1,11 @@
 -- What holds a name, by a test of holders.
 use Rattle.std.proofs.Common.{◌≡◌, ℕ, Bool, true, false, not, ◌&&◌, ◌||◌, cond, filter, map, List, [], ◌∷◌, ◌++◌, refl, sym, ap, ◌∙◌}
 use Rattle.std.proofs.lemmas.Slice.Eq.{bytes_eq-Decides}
+use Rattle.std.proofs.Math.Bool.{and-false, or_assoc}
 use Rattle.cw_model.specs.Syntax.{Name}
 use Rattle.cw_model.specs.Names.{same_name, is_among}
 use Rattle.cw_model.specs.Ownership.{Holder, SpawnIn, ReaderIn, CutOf, Taken, is_reader, is_taken, is_held, is_spawn_in, freed, is_cut_of, cut_ended, without}
-use Rattle.cw_own.proofs.Words.{if_or, or_group, and_all, and_none}
+use Rattle.cw_own.proofs.Words.{if_or, and_all}
 
 -- a holder of this kind holds the name
 abbrev pub held : (Holder → Bool) → Taken → Name → Bool
@@ -51,13 +52,13 @@ taken_is (t ∷ taken) x = by (not (is_reader t.1)) refl (taken_is taken x)
         ∙ ap (λ b. (same_name x t.0 && not (is_reader t.1)) || b) h
     by false e h =
         h
-        ∙ sym (ap (λ b. (same_name x t.0 && b) || held no_reader taken x) e ∙ ap (λ b. b || held no_reader taken x) (and_none (same_name x t.0)))
+        ∙ sym (ap (λ b. (same_name x t.0 && b) || held no_reader taken x) e ∙ ap (λ b. b || held no_reader taken x) (and-false (same_name x t.0)))
 
 pub held_append : (p : Holder → Bool) (xs ys : Taken) (x : Name) → held p (xs ++ ys) x ≡ (held p xs x || held p ys x)
 held_append p [] ys x = refl
 held_append p (t ∷ xs) ys x =
     ap (λ b. (same_name x t.0 && p t.1) || b) (held_append p xs ys x)
-    ∙ sym (or_group (same_name x t.0 && p t.1) (held p xs x) (held p ys x))
+    ∙ sym (or_assoc (same_name x t.0 && p t.1) (held p xs x) (held p ys x))
 
 pub held_freed : (depth : ℕ) (p : Holder → Bool) (taken : Taken) (x : Name) → held p (freed depth taken) x ≡ held (but_spawn depth p) taken x
 held_freed depth p [] x = refl

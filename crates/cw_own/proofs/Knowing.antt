@@ -1,15 +1,17 @@
 -- What the typing of a program knows of its locals.
-use Rattle.std.proofs.Common.{◌≡◌, ℕ, ◌+◌, ◌<◌, ◌≤◌, ◌==◌, nat_lt, Bool, true, false, not, ◌&&◌, ◌||◌, if◌then◌else◌, [], ◌∷◌, ◌++◌, length, map, refl, sym, ap, ◌∙◌, arith, length-append}
+use Rattle.std.proofs.Common.{◌≡◌, ℕ, ◌+◌, ◌==◌, nat_lt, Bool, true, false, not, ◌&&◌, ◌||◌, if◌then◌else◌, [], ◌∷◌, ◌++◌, length, map, refl, sym, ap, ◌∙◌, arith, length-append}
 use Rattle.std.proofs.lemmas.Bool.Decides.{nat_tests}
-use Rattle.std.proofs.lemmas.Slice.Eq.{bytes_eq-Decides}
+use Rattle.std.proofs.Math.Bool.{or-false}
+use Rattle.cw_facts.specs.Tests.{neither_first, neither_second, below, not_below}
 use Rattle.cw_model.specs.Syntax.{Name, Program}
 use Rattle.cw_model.specs.Names.{same_name, is_among}
 use Rattle.cw_model.specs.Typing.{Known, is_int, is_array, is_new, globals}
 use Rattle.cw_tree.specs.Resolved.{Locals, slot_of}
 use Rattle.cw_tree.specs.Resolved as spec
 use Rattle.cw_tree.specs.lemmas.NamedSlots.{among_push, slot_in, slot_out}
+use Rattle.cw_tree.specs.lemmas.Names.{same_are}
 use Rattle.cw_own.specs.Sets.{Row, with_int, with_array, both_rows}
-use Rattle.cw_own.proofs.Words.{or_none, or_all}
+use Rattle.cw_own.proofs.Words.{or_all}
 use Rattle.cw_own.proofs.Keeping.{same_rows}
 use Rattle.cw_own.proofs.Showing.{known_row, Shows, slot_kept}
 use Rattle.cw_model.specs.declared.syntax.NameKind.TheVariants as name_kind
@@ -30,20 +32,12 @@ neither : (a b : Bool) → not (a || b) ≡ true → a ≡ false
 neither true b h = cc
 neither false b h = refl
 
-left_false : (a b : Bool) → (a || b) ≡ false → a ≡ false
-left_false true b h = cc
-left_false false b h = refl
-
-right_false : (a b : Bool) → (a || b) ≡ false → b ≡ false
-right_false true b h = cc
-right_false false b h = h
-
 pub fresh_name : (program : Program) (known : Known) (locals : Locals) (y : Name) → Knows known locals → is_new program known y ≡ true → Fresh y locals
 fresh_name program known locals y k h =
     let none = sym (k.names y) ∙ neither (is_among y (map (λ e. e.0) known)) (is_among y (globals program)) h in
     record {
-      no_int = left_false (is_among y locals.ints) (is_among y locals.arrays) none;
-      no_array = right_false (is_among y locals.ints) (is_among y locals.arrays) none;
+      no_int = neither_first (is_among y locals.ints) (is_among y locals.arrays) none;
+      no_array = neither_second (is_among y locals.ints) (is_among y locals.arrays) none;
     }
 
 pub array_apart : (known : Known) (locals : Locals) (x : Name) → Knows known locals → is_among x locals.arrays ≡ true → is_among x locals.ints ≡ false
@@ -52,9 +46,6 @@ array_apart known locals x k h = by (is_among x locals.ints) refl
     by : (b : Bool) → is_among x locals.ints ≡ b → is_among x locals.ints ≡ false
     by true e = let f = k.apart x e in cc
     by false e = e
-
-same_is : (x y : Name) → same_name x y ≡ true → x ≡ y
-same_is x y h = (bytes_eq-Decides x y).0 h
 
 pub knows_int : (known : Known) (locals : Locals) (y : Name) → Fresh y locals → Knows known locals → Knows ((y, name_kind.Integer) ∷ known) (spec.with_int y locals)
 knows_int known locals y f k = record {
@@ -74,12 +65,12 @@ knows_int known locals y f k = record {
 
     apart_by : (x : Name) (b : Bool) → is_among x locals.ints ≡ b → (is_among x locals.ints || same_name x y) ≡ true → is_among x locals.arrays ≡ false
     apart_by x true e h = k.apart x e
-    apart_by x false e h = ap (λ n. is_among n locals.arrays) (same_is x y (sym (ap (λ b. b || same_name x y) e) ∙ h)) ∙ f.no_array
+    apart_by x false e h = ap (λ n. is_among n locals.arrays) (same_are x y (sym (ap (λ b. b || same_name x y) e) ∙ h)) ∙ f.no_array
 
     names_by : (x : Name) (b : Bool) → same_name x y ≡ b → (if b then true else is_among x (map (λ e. e.0) known)) ≡ (is_among x (locals.ints ++ y ∷ []) || is_among x locals.arrays)
     names_by x true e = sym (ap (λ b. b || is_among x locals.arrays) (among_push x locals.ints y ∙ ap (λ b. is_among x locals.ints || b) e ∙ or_all (is_among x locals.ints)))
     names_by x false e =
-        k.names x ∙ sym (ap (λ b. b || is_among x locals.arrays) (among_push x locals.ints y ∙ ap (λ b. is_among x locals.ints || b) e ∙ or_none (is_among x locals.ints)))
+        k.names x ∙ sym (ap (λ b. b || is_among x locals.arrays) (among_push x locals.ints y ∙ ap (λ b. is_among x locals.ints || b) e ∙ or-false (is_among x locals.ints)))
 
 pub knows_array : (known : Known) (locals : Locals) (y : Name) → Fresh y locals → Knows known locals → Knows ((y, name_kind.Array) ∷ known) (spec.with_array y locals)
 knows_array known locals y f k = record {
@@ -99,13 +90,13 @@ knows_array known locals y f k = record {
 
     apart_by : (x : Name) (b : Bool) → same_name x y ≡ b → is_among x locals.ints ≡ true → (is_among x locals.arrays || same_name x y) ≡ false
     apart_by x true e h =
-        let g : is_among x locals.ints ≡ false = ap (λ n. is_among n locals.ints) (same_is x y e) ∙ f.no_int in cc
-    apart_by x false e h = ap (λ b. is_among x locals.arrays || b) e ∙ or_none (is_among x locals.arrays) ∙ k.apart x h
+        let g : is_among x locals.ints ≡ false = ap (λ n. is_among n locals.ints) (same_are x y e) ∙ f.no_int in cc
+    apart_by x false e h = ap (λ b. is_among x locals.arrays || b) e ∙ or-false (is_among x locals.arrays) ∙ k.apart x h
 
     names_by : (x : Name) (b : Bool) → same_name x y ≡ b → (if b then true else is_among x (map (λ e. e.0) known)) ≡ (is_among x locals.ints || is_among x (locals.arrays ++ y ∷ []))
     names_by x true e = sym (ap (λ b. is_among x locals.ints || b) (among_push x locals.arrays y ∙ ap (λ b. is_among x locals.arrays || b) e ∙ or_all (is_among x locals.arrays)) ∙ or_all (is_among x locals.ints))
     names_by x false e =
-        k.names x ∙ sym (ap (λ b. is_among x locals.ints || b) (among_push x locals.arrays y ∙ ap (λ b. is_among x locals.arrays || b) e ∙ or_none (is_among x locals.arrays)))
+        k.names x ∙ sym (ap (λ b. is_among x locals.ints || b) (among_push x locals.arrays y ∙ ap (λ b. is_among x locals.arrays || b) e ∙ or-false (is_among x locals.arrays)))
 
 -- typing knows an array so, whether it may be written or is only read
 pub knows_const : (known : Known) (locals : Locals) (y : Name) → Knows ((y, name_kind.Array) ∷ known) locals → Knows ((y, name_kind.Const) ∷ known) locals
@@ -126,12 +117,6 @@ known_array locals y =
     same_rows (known_row (spec.with_array y locals)) (with_array (length locals.arrays) (known_row locals))
     (λ k. refl) (λ k. one_below k (length locals.arrays) (length (locals.arrays ++ y ∷ [])) (omega (arith, count)))
 
-pub below_is : (k n : ℕ) → k < n → nat_lt k n ≡ true
-below_is k n h = grind (arith, nat_tests, h)
-
-pub above_is : (k n : ℕ) → n ≤ k → nat_lt k n ≡ false
-above_is k n h = grind (arith, nat_tests, h)
-
 -- within what is known before, without a name that was declared since
 pub shows_drop_int : (locals : Locals) (y : Name) (P : Name → Bool) (row : Row) → Fresh y locals → Shows (spec.with_int y locals) P row →
     Shows locals (λ x. not (same_name x y) && P x) (both_rows (known_row locals) row)
@@ -139,39 +124,39 @@ shows_drop_int locals y P row f s = record {
   same = λ x.
       ap (λ b. not (same_name x y) && b) (s.same x)
       ∙ by x (same_name x y) (is_among x locals.ints) (is_among x locals.arrays) refl refl refl;
-  ints_end = λ k h. ap (λ b. b && row.ints k) (above_is k (length locals.ints) h);
-  arrays_end = λ k h. ap (λ b. b && row.arrays k) (above_is k (length locals.arrays) h);
+  ints_end = λ k h. ap (λ b. b && row.ints k) (not_below k (length locals.ints) h);
+  arrays_end = λ k h. ap (λ b. b && row.arrays k) (not_below k (length locals.arrays) h);
 }
   where
     arrays_part : (x : Name) (a : Bool) → is_among x locals.arrays ≡ a →
         row.arrays (slot_of x locals.arrays) ≡ (nat_lt (slot_of x locals.arrays) (length locals.arrays) && row.arrays (slot_of x locals.arrays))
-    arrays_part x true e = sym (ap (λ b. b && row.arrays (slot_of x locals.arrays)) (below_is (slot_of x locals.arrays) (length locals.arrays) (slot_in x locals.arrays e)))
+    arrays_part x true e = sym (ap (λ b. b && row.arrays (slot_of x locals.arrays)) (below (slot_of x locals.arrays) (length locals.arrays) (slot_in x locals.arrays e)))
     arrays_part x false e =
         let end = slot_out x locals.arrays e in
         s.arrays_end (slot_of x locals.arrays) (omega (arith, end))
-        ∙ sym (ap (λ b. b && row.arrays (slot_of x locals.arrays)) (above_is (slot_of x locals.arrays) (length locals.arrays) (omega (arith, end))))
+        ∙ sym (ap (λ b. b && row.arrays (slot_of x locals.arrays)) (not_below (slot_of x locals.arrays) (length locals.arrays) (omega (arith, end))))
 
     ints_part : (x : Name) (a : Bool) → same_name x y ≡ false → is_among x locals.ints ≡ a →
         row.ints (slot_of x (locals.ints ++ y ∷ [])) ≡ (nat_lt (slot_of x locals.ints) (length locals.ints) && row.ints (slot_of x locals.ints))
     ints_part x true d e =
         ap row.ints (slot_kept x locals.ints y e)
-        ∙ sym (ap (λ b. b && row.ints (slot_of x locals.ints)) (below_is (slot_of x locals.ints) (length locals.ints) (slot_in x locals.ints e)))
+        ∙ sym (ap (λ b. b && row.ints (slot_of x locals.ints)) (below (slot_of x locals.ints) (length locals.ints) (slot_in x locals.ints e)))
     ints_part x false d e =
         let end = slot_out x locals.ints e in
         let out : is_among x (locals.ints ++ y ∷ []) ≡ false = among_push x locals.ints y ∙ ap (λ b. b || same_name x y) e ∙ d in
         let far = slot_out x (locals.ints ++ y ∷ []) out in
         s.ints_end (slot_of x (locals.ints ++ y ∷ [])) (omega (arith, far))
-        ∙ sym (ap (λ b. b && row.ints (slot_of x locals.ints)) (above_is (slot_of x locals.ints) (length locals.ints) (omega (arith, end))))
+        ∙ sym (ap (λ b. b && row.ints (slot_of x locals.ints)) (not_below (slot_of x locals.ints) (length locals.ints) (omega (arith, end))))
 
     by : (x : Name) (d i a : Bool) → same_name x y ≡ d → is_among x locals.ints ≡ i → is_among x locals.arrays ≡ a →
         (not (same_name x y) && (row.ints (slot_of x (locals.ints ++ y ∷ [])) || row.arrays (slot_of x locals.arrays)))
         ≡ ((nat_lt (slot_of x locals.ints) (length locals.ints) && row.ints (slot_of x locals.ints)) || (nat_lt (slot_of x locals.arrays) (length locals.arrays) && row.arrays (slot_of x locals.arrays)))
     by x true i a d ei ea =
-        let ints = slot_out x locals.ints (ap (λ n. is_among n locals.ints) (same_is x y d) ∙ f.no_int) in
-        let arrays = slot_out x locals.arrays (ap (λ n. is_among n locals.arrays) (same_is x y d) ∙ f.no_array) in
+        let ints = slot_out x locals.ints (ap (λ n. is_among n locals.ints) (same_are x y d) ∙ f.no_int) in
+        let arrays = slot_out x locals.arrays (ap (λ n. is_among n locals.arrays) (same_are x y d) ∙ f.no_array) in
         ap (λ b. not b && (row.ints (slot_of x (locals.ints ++ y ∷ [])) || row.arrays (slot_of x locals.arrays))) d
-        ∙ sym (ap (λ b. (b && row.ints (slot_of x locals.ints)) || (nat_lt (slot_of x locals.arrays) (length locals.arrays) && row.arrays (slot_of x locals.arrays))) (above_is (slot_of x locals.ints) (length locals.ints) (omega (arith, ints)))
-        ∙ ap (λ b. b && row.arrays (slot_of x locals.arrays)) (above_is (slot_of x locals.arrays) (length locals.arrays) (omega (arith, arrays))))
+        ∙ sym (ap (λ b. (b && row.ints (slot_of x locals.ints)) || (nat_lt (slot_of x locals.arrays) (length locals.arrays) && row.arrays (slot_of x locals.arrays))) (not_below (slot_of x locals.ints) (length locals.ints) (omega (arith, ints)))
+        ∙ ap (λ b. b && row.arrays (slot_of x locals.arrays)) (not_below (slot_of x locals.arrays) (length locals.arrays) (omega (arith, arrays))))
     by x false i a d ei ea =
         ap (λ b. not b && (row.ints (slot_of x (locals.ints ++ y ∷ [])) || row.arrays (slot_of x locals.arrays))) d
         ∙ ap (λ b. b || row.arrays (slot_of x locals.arrays)) (ints_part x i d ei)
@@ -184,39 +169,39 @@ shows_drop_array locals y P row f s = record {
   same = λ x.
       ap (λ b. not (same_name x y) && b) (s.same x)
       ∙ by x (same_name x y) (is_among x locals.ints) (is_among x locals.arrays) refl refl refl;
-  ints_end = λ k h. ap (λ b. b && row.ints k) (above_is k (length locals.ints) h);
-  arrays_end = λ k h. ap (λ b. b && row.arrays k) (above_is k (length locals.arrays) h);
+  ints_end = λ k h. ap (λ b. b && row.ints k) (not_below k (length locals.ints) h);
+  arrays_end = λ k h. ap (λ b. b && row.arrays k) (not_below k (length locals.arrays) h);
 }
   where
     ints_part : (x : Name) (a : Bool) → is_among x locals.ints ≡ a →
         row.ints (slot_of x locals.ints) ≡ (nat_lt (slot_of x locals.ints) (length locals.ints) && row.ints (slot_of x locals.ints))
-    ints_part x true e = sym (ap (λ b. b && row.ints (slot_of x locals.ints)) (below_is (slot_of x locals.ints) (length locals.ints) (slot_in x locals.ints e)))
+    ints_part x true e = sym (ap (λ b. b && row.ints (slot_of x locals.ints)) (below (slot_of x locals.ints) (length locals.ints) (slot_in x locals.ints e)))
     ints_part x false e =
         let end = slot_out x locals.ints e in
         s.ints_end (slot_of x locals.ints) (omega (arith, end))
-        ∙ sym (ap (λ b. b && row.ints (slot_of x locals.ints)) (above_is (slot_of x locals.ints) (length locals.ints) (omega (arith, end))))
+        ∙ sym (ap (λ b. b && row.ints (slot_of x locals.ints)) (not_below (slot_of x locals.ints) (length locals.ints) (omega (arith, end))))
 
     arrays_part : (x : Name) (a : Bool) → same_name x y ≡ false → is_among x locals.arrays ≡ a →
         row.arrays (slot_of x (locals.arrays ++ y ∷ [])) ≡ (nat_lt (slot_of x locals.arrays) (length locals.arrays) && row.arrays (slot_of x locals.arrays))
     arrays_part x true d e =
         ap row.arrays (slot_kept x locals.arrays y e)
-        ∙ sym (ap (λ b. b && row.arrays (slot_of x locals.arrays)) (below_is (slot_of x locals.arrays) (length locals.arrays) (slot_in x locals.arrays e)))
+        ∙ sym (ap (λ b. b && row.arrays (slot_of x locals.arrays)) (below (slot_of x locals.arrays) (length locals.arrays) (slot_in x locals.arrays e)))
     arrays_part x false d e =
         let end = slot_out x locals.arrays e in
         let out : is_among x (locals.arrays ++ y ∷ []) ≡ false = among_push x locals.arrays y ∙ ap (λ b. b || same_name x y) e ∙ d in
         let far = slot_out x (locals.arrays ++ y ∷ []) out in
         s.arrays_end (slot_of x (locals.arrays ++ y ∷ [])) (omega (arith, far))
-        ∙ sym (ap (λ b. b && row.arrays (slot_of x locals.arrays)) (above_is (slot_of x locals.arrays) (length locals.arrays) (omega (arith, end))))
+        ∙ sym (ap (λ b. b && row.arrays (slot_of x locals.arrays)) (not_below (slot_of x locals.arrays) (length locals.arrays) (omega (arith, end))))
 
     by : (x : Name) (d i a : Bool) → same_name x y ≡ d → is_among x locals.ints ≡ i → is_among x locals.arrays ≡ a →
         (not (same_name x y) && (row.ints (slot_of x locals.ints) || row.arrays (slot_of x (locals.arrays ++ y ∷ []))))
         ≡ ((nat_lt (slot_of x locals.ints) (length locals.ints) && row.ints (slot_of x locals.ints)) || (nat_lt (slot_of x locals.arrays) (length locals.arrays) && row.arrays (slot_of x locals.arrays)))
     by x true i a d ei ea =
-        let ints = slot_out x locals.ints (ap (λ n. is_among n locals.ints) (same_is x y d) ∙ f.no_int) in
-        let arrays = slot_out x locals.arrays (ap (λ n. is_among n locals.arrays) (same_is x y d) ∙ f.no_array) in
+        let ints = slot_out x locals.ints (ap (λ n. is_among n locals.ints) (same_are x y d) ∙ f.no_int) in
+        let arrays = slot_out x locals.arrays (ap (λ n. is_among n locals.arrays) (same_are x y d) ∙ f.no_array) in
         ap (λ b. not b && (row.ints (slot_of x locals.ints) || row.arrays (slot_of x (locals.arrays ++ y ∷ [])))) d
-        ∙ sym (ap (λ b. (b && row.ints (slot_of x locals.ints)) || (nat_lt (slot_of x locals.arrays) (length locals.arrays) && row.arrays (slot_of x locals.arrays))) (above_is (slot_of x locals.ints) (length locals.ints) (omega (arith, ints)))
-        ∙ ap (λ b. b && row.arrays (slot_of x locals.arrays)) (above_is (slot_of x locals.arrays) (length locals.arrays) (omega (arith, arrays))))
+        ∙ sym (ap (λ b. (b && row.ints (slot_of x locals.ints)) || (nat_lt (slot_of x locals.arrays) (length locals.arrays) && row.arrays (slot_of x locals.arrays))) (not_below (slot_of x locals.ints) (length locals.ints) (omega (arith, ints)))
+        ∙ ap (λ b. b && row.arrays (slot_of x locals.arrays)) (not_below (slot_of x locals.arrays) (length locals.arrays) (omega (arith, arrays))))
     by x false i a d ei ea =
         ap (λ b. not b && (row.ints (slot_of x locals.ints) || row.arrays (slot_of x (locals.arrays ++ y ∷ [])))) d
         ∙ ap (λ b. b || row.arrays (slot_of x (locals.arrays ++ y ∷ []))) (ints_part x i ei)

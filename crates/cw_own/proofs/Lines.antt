@@ -1,7 +1,7 @@
 -- The lines that break a rule, by names and by slots.
 use Rattle.std.proofs.Common.{◌≡◌, ℕ, suc, ◌+◌, nat_le, Bool, true, false, not, ◌&&◌, ◌||◌, if◌then◌else◌, List, [], ◌∷◌, ◌++◌, length, map, Option, Some, None, inl, subst, refl, sym, ap, ◌∙◌}
 use Rattle.std.specs.List.{list_all}
-use Rattle.std.proofs.lemmas.Slice.Eq.{bytes_eq-Decides}
+use Rattle.std.proofs.Math.Bool.{or-false}
 use Rattle.cw_model.specs.declared.limits.TheConstants.{MOST_GRAIN}
 use Rattle.cw_model.specs.declared.syntax.NameKind.TheVariants as name_kind
 use Rattle.cw_model.specs.lemmas.Fits.{writable_array, writable_arrays}
@@ -17,12 +17,13 @@ use Rattle.cw_model.specs.lemmas.Kept.{both_left, both_right, left_none, right_n
 use Rattle.cw_tree.specs.Resolved.{Locals, Lists, slot_of, use_of}
 use Rattle.cw_tree.specs.Resolved as spec
 use Rattle.cw_tree.specs.lemmas.NamedSlots.{among_push}
+use Rattle.cw_tree.specs.lemmas.Names.{same_itself, among_more}
 use Rattle.cw_own.specs.Sets.{Slots, no_slot, with_slot, Row, with_int, with_array}
 use Rattle.cw_own.specs.Taken as rows
 use Rattle.cw_own.specs.Taken.{Held, none_held, either_held, int_taken, array_held, known_after, after, after_all, cuts_after, cuts_after_all, gain}
 use Rattle.cw_own.specs.Rules as rules
 use Rattle.cw_own.specs.Rules.{Loop, with_uses, keeps, left_line, left_lines, left_at_end, seen_by, lines_within, lines_in}
-use Rattle.cw_own.proofs.Words.{if_or, or_none, or_all, four_or}
+use Rattle.cw_own.proofs.Words.{if_or, or_all, four_or}
 use Rattle.cw_own.proofs.Keeping.{same_rows, no_more}
 use Rattle.cw_own.proofs.Holding.{held, any_holder, no_reader, taken_is, held_is}
 use Rattle.cw_own.proofs.Showing.{Shows, shows_as, shows_row, shows_none, shows_int, shows_array, shows_push_int, shows_push_array, int_shown, array_shown, known_row, slot_kept}
@@ -69,9 +70,6 @@ slot_new x (y ∷ names) h e = by (same_name x y) h (λ g. slot_new x names g e)
     by true h f = cc
     by false h f = ap suc (f h)
 
-itself : (x : Name) → same_name x x ≡ true
-itself x = (bytes_eq-Decides x x).1 refl
-
 -- a name that is known stays where it is
 pub record Stays (x : Name) (before after : List Name) : Type 0 where
   pub there : is_among x after ≡ true
@@ -80,12 +78,9 @@ pub record Stays (x : Name) (before after : List Name) : Type 0 where
 stays_more : (x y : Name) (before after : List Name) → is_among x before ≡ true → Stays x (before ++ y ∷ []) after → Stays x before after
 stays_more x y before after h s = record { there = s.there; slot = s.slot ∙ slot_kept x before y h }
 
-in_push : (x y : Name) (names : List Name) → is_among x names ≡ true → is_among x (names ++ y ∷ []) ≡ true
-in_push x y names h = among_push x names y ∙ ap (λ b. b || same_name x y) h
-
 int_stays : (x : Name) (locals : Locals) (b : Block) → is_among x locals.ints ≡ true → Stays x locals.ints (all_locals locals b).ints
 int_stays x locals End h = record { there = h; slot = refl }
-int_stays x locals (Then line (Declare y e) b) h = stays_more x y locals.ints (all_locals (spec.with_int y locals) b).ints h (int_stays x (spec.with_int y locals) b (in_push x y locals.ints h))
+int_stays x locals (Then line (Declare y e) b) h = stays_more x y locals.ints (all_locals (spec.with_int y locals) b).ints h (int_stays x (spec.with_int y locals) b (among_more x y locals.ints h))
 int_stays x locals (Then line (DeclareArray y e) b) h = int_stays x (spec.with_array y locals) b h
 int_stays x locals (Then line (Assign v e) b) h = int_stays x locals b h
 int_stays x locals (Then line (AssignElement v i e) b) h = int_stays x locals b h
@@ -107,7 +102,7 @@ int_stays x locals (Then line (Return e) b) h = int_stays x locals b h
 array_stays : (x : Name) (locals : Locals) (b : Block) → is_among x locals.arrays ≡ true → Stays x locals.arrays (all_locals locals b).arrays
 array_stays x locals End h = record { there = h; slot = refl }
 array_stays x locals (Then line (Declare y e) b) h = array_stays x (spec.with_int y locals) b h
-array_stays x locals (Then line (DeclareArray y e) b) h = stays_more x y locals.arrays (all_locals (spec.with_array y locals) b).arrays h (array_stays x (spec.with_array y locals) b (in_push x y locals.arrays h))
+array_stays x locals (Then line (DeclareArray y e) b) h = stays_more x y locals.arrays (all_locals (spec.with_array y locals) b).arrays h (array_stays x (spec.with_array y locals) b (among_more x y locals.arrays h))
 array_stays x locals (Then line (Assign v e) b) h = array_stays x locals b h
 array_stays x locals (Then line (AssignElement v i e) b) h = array_stays x locals b h
 array_stays x locals (Then line (Reduce how v e) b) h = array_stays x locals b h
@@ -143,18 +138,18 @@ Names locals known = Shows locals (λ x. is_among x known) (known_row locals)
 
 names_int : (locals : Locals) (x : Name) (known : List Name) → Fresh x locals → Names locals known → Shows (spec.with_int x locals) (λ y. is_among y (x ∷ known)) (with_int (length locals.ints) (known_row locals))
 names_int locals x known f n =
-    let there = among_push x locals.ints x ∙ ap (λ b. is_among x locals.ints || b) (itself x) ∙ or_all (is_among x locals.ints) in
+    let there = among_push x locals.ints x ∙ ap (λ b. is_among x locals.ints || b) (same_itself x) ∙ or_all (is_among x locals.ints) in
     shows_as (spec.with_int x locals) (λ y. same_name y x || is_among y known) (λ y. is_among y (x ∷ known)) _ (λ y. if_or (same_name y x) (is_among y known))
     (shows_row (spec.with_int x locals) (λ y. same_name y x || is_among y known) (with_int (slot_of x (locals.ints ++ x ∷ [])) (known_row locals)) (with_int (length locals.ints) (known_row locals))
-    (ap (λ k. with_int k (known_row locals)) (slot_new x locals.ints f.no_int (itself x)))
+    (ap (λ k. with_int k (known_row locals)) (slot_new x locals.ints f.no_int (same_itself x)))
     (shows_int (spec.with_int x locals) x (λ y. is_among y known) (known_row locals) there (shows_push_int locals x (λ y. is_among y known) (known_row locals) n)))
 
 names_array : (locals : Locals) (x : Name) (known : List Name) → Fresh x locals → Names locals known → Shows (spec.with_array x locals) (λ y. is_among y (x ∷ known)) (with_array (length locals.arrays) (known_row locals))
 names_array locals x known f n =
-    let there = among_push x locals.arrays x ∙ ap (λ b. is_among x locals.arrays || b) (itself x) ∙ or_all (is_among x locals.arrays) in
+    let there = among_push x locals.arrays x ∙ ap (λ b. is_among x locals.arrays || b) (same_itself x) ∙ or_all (is_among x locals.arrays) in
     shows_as (spec.with_array x locals) (λ y. same_name y x || is_among y known) (λ y. is_among y (x ∷ known)) _ (λ y. if_or (same_name y x) (is_among y known))
     (shows_row (spec.with_array x locals) (λ y. same_name y x || is_among y known) (with_array (slot_of x (locals.arrays ++ x ∷ [])) (known_row locals)) (with_array (length locals.arrays) (known_row locals))
-    (ap (λ k. with_array k (known_row locals)) (slot_new x locals.arrays f.no_array (itself x)))
+    (ap (λ k. with_array k (known_row locals)) (slot_new x locals.arrays f.no_array (same_itself x)))
     (shows_array (spec.with_array x locals) x (λ y. is_among y known) (known_row locals) there (shows_push_array locals x (λ y. is_among y known) (known_row locals) n)))
 
 pub names_with_int : (locals : Locals) (x : Name) (known : List Name) → Fresh x locals → Names locals known → Names (spec.with_int x locals) (x ∷ known)
@@ -227,7 +222,7 @@ uses_shown known locals (x ∷ xs) P set k h s =
 
 pub over_shown : (known : Known) (locals : Locals) (xs : List Name) → Knows known locals → list_all (λ a. is_array known a) xs ≡ true → Shows locals (λ y. is_among y xs) (arrays_of (with_uses (map (use_of locals.arrays) xs) no_slot))
 over_shown known locals xs k h =
-    shows_as locals (λ y. is_among y xs || false) (λ y. is_among y xs) _ (λ y. sym (or_none (is_among y xs))) (uses_shown known locals xs (λ y. false) no_slot k h (shows_none locals))
+    shows_as locals (λ y. is_among y xs || false) (λ y. is_among y xs) _ (λ y. sym (or-false (is_among y xs))) (uses_shown known locals xs (λ y. false) no_slot k h (shows_none locals))
 
 -- what the rows have as held
 abbrev pub taken_rows : Held → Held → Slots → rows.Taken
@@ -244,7 +239,7 @@ stands_inside depth outside outer here s = record {
   steady = steady_inside depth outside here s.steady;
   taken = same_rows (entered outside depth here no_reader) (record { ints = (either_held outer here).ints; arrays = (either_held outer here).arrays })
       (λ k. ap (λ (r : Row). r.ints k || here.ints k) s.taken)
-      (λ k. ap (λ (r : Row). r.arrays k || (here.arrays k || false)) s.taken ∙ ap (λ b. outer.arrays k || b) (or_none (here.arrays k)));
+      (λ k. ap (λ (r : Row). r.arrays k || (here.arrays k || false)) s.taken ∙ ap (λ b. outer.arrays k || b) (or-false (here.arrays k)));
   held = same_rows (entered outside depth here any_holder) (record { ints = (either_held outer here).ints; arrays = λ k. (either_held outer here).arrays k || (either_held outer here).frozen k })
       (λ k. ap (λ (r : Row). r.ints k || here.ints k) s.held)
       (λ k. ap (λ (r : Row). r.arrays k || (here.arrays k || here.frozen k)) s.held ∙ four_or (outer.arrays k) (outer.frozen k) (here.arrays k) (here.frozen k));
@@ -268,7 +263,7 @@ sees locals depth outside outer taken here cuts s h = record {
       (shows_row locals (held no_reader taken) (all_of no_reader depth outside here cuts) (row_of_taken (taken_rows outer here cuts))
       (same_rows (all_of no_reader depth outside here cuts) (row_of_taken (taken_rows outer here cuts))
       (λ k. ap (λ (r : Row). r.ints k || here.ints k) s.taken)
-      (λ k. ap (λ (r : Row). r.arrays k || ((here.arrays k || false) || cuts k)) s.taken ∙ ap (λ b. outer.arrays k || (b || cuts k)) (or_none (here.arrays k))))
+      (λ k. ap (λ (r : Row). r.arrays k || ((here.arrays k || false) || cuts k)) s.taken ∙ ap (λ b. outer.arrays k || (b || cuts k)) (or-false (here.arrays k))))
       (h no_reader));
   held_so =
       shows_as locals (held any_holder taken) (is_held taken) (row_of_held (taken_rows outer here cuts)) (held_is taken)
@@ -301,14 +296,14 @@ left_same : (program : Program) (lists : Lists) (returns : Returns) (known : Kno
     left_taken (declared_by line s declared) taken ≡ left_line t line (spec.resolved_stmt lists locals s) ++ left_taken declared taken
 left_same program lists returns known locals line (Declare x e) b taken t declared k fine e' s =
     let f = fresh_at program known locals x e line k fine in
-    let there = among_push x locals.ints x ∙ ap (λ b. is_among x locals.ints || b) (itself x) ∙ or_all (is_among x locals.ints) in
+    let there = among_push x locals.ints x ∙ ap (λ b. is_among x locals.ints || b) (same_itself x) ∙ or_all (is_among x locals.ints) in
     let stays = int_stays x (spec.with_int x locals) b there in
-    ap (λ ls. ls ++ left_taken declared taken) (left_int x (length locals.ints) (all_locals (spec.with_int x locals) b) taken t line (e'.knows.apart x stays.there) (stays.slot ∙ slot_new x locals.ints f.no_int (itself x)) s)
+    ap (λ ls. ls ++ left_taken declared taken) (left_int x (length locals.ints) (all_locals (spec.with_int x locals) b) taken t line (e'.knows.apart x stays.there) (stays.slot ∙ slot_new x locals.ints f.no_int (same_itself x)) s)
 left_same program lists returns known locals line (DeclareArray x e) b taken t declared k fine e' s =
     let f = fresh_at program known locals x e line k fine in
-    let there = among_push x locals.arrays x ∙ ap (λ b. is_among x locals.arrays || b) (itself x) ∙ or_all (is_among x locals.arrays) in
+    let there = among_push x locals.arrays x ∙ ap (λ b. is_among x locals.arrays || b) (same_itself x) ∙ or_all (is_among x locals.arrays) in
     let stays = array_stays x (spec.with_array x locals) b there in
-    ap (λ ls. ls ++ left_taken declared taken) (left_array x (length locals.arrays) (all_locals (spec.with_array x locals) b) taken t line (array_apart e'.known (all_locals (spec.with_array x locals) b) x e'.knows stays.there) (stays.slot ∙ slot_new x locals.arrays f.no_array (itself x)) s)
+    ap (λ ls. ls ++ left_taken declared taken) (left_array x (length locals.arrays) (all_locals (spec.with_array x locals) b) taken t line (array_apart e'.known (all_locals (spec.with_array x locals) b) x e'.knows stays.there) (stays.slot ∙ slot_new x locals.arrays f.no_array (same_itself x)) s)
 left_same program lists returns known locals line (Assign x v) b taken t declared k fine e' s = refl
 left_same program lists returns known locals line (AssignElement x i v) b taken t declared k fine e' s = refl
 left_same program lists returns known locals line (Reduce how x v) b taken t declared k fine e' s = refl
@@ -495,13 +490,13 @@ mutual
       let s = sees locals depth outside outer taken here cuts steady h in
       let t = taken_rows outer here cuts in
       let f = fresh_name program known locals x k head.variable in
-      let there = among_push x locals.ints x ∙ ap (λ b. is_among x locals.ints || b) (itself x) ∙ or_all (is_among x locals.ints) in
+      let there = among_push x locals.ints x ∙ ap (λ b. is_among x locals.ints || b) (same_itself x) ∙ or_all (is_among x locals.ints) in
       let inner = holds_inside locals depth outside taken here cuts h in
       let loop : Loop = record { outer = with_int (length locals.ints) (known_row locals); variable = length locals.ints; over = with_uses (map (use_of locals.arrays) over) no_slot } in
       let rounds : Inner (spec.with_int x locals) (x ∷ names) x over loop = record {
         outside = names_int locals x names f n;
         known = there;
-        slot = sym (slot_new x locals.ints f.no_int (itself x));
+        slot = sym (slot_new x locals.ints f.no_int (same_itself x));
         arrays = shows_push_int locals x (λ y. is_among y over) (arrays_of (with_uses (map (use_of locals.arrays) over) no_slot)) (over_shown known locals over k head.over);
       } in
       rule_and _ _ line _ _

@@ -1,6 +1,7 @@
 -- Calls and heads of loops, by names and by slots.
 use Rattle.std.proofs.Common.{◌≡◌, Bool, true, false, not, ◌&&◌, ◌||◌, if◌then◌else◌, List, [], ◌∷◌, ◌++◌, map, Option, Some, None, option_map, subst, refl, sym, ap, ◌∙◌}
 use Rattle.std.specs.List.{list_all, list_any}
+use Rattle.std.proofs.Math.Bool.{or-false, and-false}
 use Rattle.cw_model.specs.declared.syntax.NameKind.{NameKind}
 use Rattle.cw_model.specs.declared.syntax.NameKind.TheVariants as name_kind
 use Rattle.cw_model.specs.lemmas.Fits.{writable_array}
@@ -14,14 +15,15 @@ use Rattle.cw_model.specs.lemmas.Kept.{both_left, both_right}
 use Rattle.cw_tree.specs.Resolved.{Locals, slot_of, use_of, resolved_argument, resolved_arguments}
 use Rattle.cw_tree.specs.Resolved as spec
 use Rattle.cw_tree.specs.lemmas.NamedSlots.{turned}
+use Rattle.cw_tree.specs.lemmas.Names.{called_is}
 use Rattle.cw_own.specs.Sets.{Slots, no_slot, with_slot, Row}
 use Rattle.cw_own.specs.Taken as rows
 use Rattle.cw_own.specs.Rules as rules
 use Rattle.cw_own.specs.Rules.{Loop, passed_once, given_away, none_read, named_once}
-use Rattle.cw_own.proofs.Words.{if_or, or_none, and_all, and_none, and_group}
+use Rattle.cw_own.proofs.Words.{if_or, and_all, and_group}
 use Rattle.cw_own.proofs.Showing.{Shows, shows_as, shows_row, shows_none, shows_array, array_shown}
 use Rattle.cw_own.proofs.Knowing.{Knows, array_apart}
-use Rattle.cw_own.proofs.After.{param, int_argument, array_argument, called_is}
+use Rattle.cw_own.proofs.After.{param, int_argument, array_argument}
 use Rattle.cw_own.proofs.Wording.{Sees, Rounds, read_same, write_same, pass_same, lend_same, held_too}
 
 -- names that are written or passed, one after another
@@ -147,7 +149,7 @@ args_same known locals around l taken t (p ∷ ps) (e ∷ es) k h r s =
     lent_words : (a b c d e : Bool) → (((a && b) && c) && (d && e)) ≡ ((a && d) && ((b && c) && e))
     lent_words false b c d e = refl
     lent_words true b c true e = refl
-    lent_words true b c false e = and_none (b && c)
+    lent_words true b c false e = and-false (b && c)
 
     absorbed : (t g o : Bool) → (g ≡ false → t ≡ false) → ((not (t || false) && true) && (not (g || false) && not (o || false))) ≡ (not (g || false) && not (o || false))
     absorbed true true o f = refl
@@ -365,7 +367,7 @@ call_same known locals around l taken t fs target f es k h r s = by (called f fs
         (differ_is away ∙ passed_is known locals ps es [] no_slot k a (shows_none locals))
         ∙ ap (λ b. ((list_all (rules.may_give l t) slots && rules.may_target l t (option_map (use_of locals.ints) target)) && passed_once no_slot slots) && b)
         (read_is known locals ps es away (given_away slots no_slot) k a
-        (shows_as locals (λ y. is_among y away || false) (λ y. is_among y away) _ (λ y. sym (or_none (is_among y away))) (away_shown known locals ps es (λ y. false) no_slot k a (shows_none locals))))
+        (shows_as locals (λ y. is_among y away || false) (λ y. is_among y away) _ (λ y. sym (or-false (is_among y away))) (away_shown known locals ps es (λ y. false) no_slot k a (shows_none locals))))
 
     by : (g : Option Function) → called f fs ≡ g → is_call known target g es ≡ true →
         model_call around taken (function_named f fs).params target es ≡ slot_call locals l t (function_named f fs).params target es

@@ -1,5 +1,7 @@
 -- What surely returns leaves nothing taken, and stands in no sync block inside a function.
-use Rattle.std.proofs.Common.{◌≡◌, ℕ, Bool, true, false, not, ◌&&◌, ◌||◌, [], Some, None, refl, ap, ◌∙◌}
+use Rattle.std.proofs.Common.{◌≡◌, ℕ, true, false, not, ◌||◌, [], Some, None, refl, ap, ◌∙◌}
+use Rattle.std.proofs.Math.Bool.{and-false}
+use Rattle.cw_facts.specs.Tests.{first_false}
 use Rattle.cw_model.specs.Syntax.{Program, Stmt, Declare, DeclareArray, Assign, AssignElement, Reduce, Call, Start, Begin, Sync, If, IfElse, While, For, Scope, Cut, Region, Print, Return, Block, End, Then}
 use Rattle.cw_model.specs.Lines.{unless}
 use Rattle.cw_model.specs.Typing.{Known, Nowhere, is_fine, declares, surely_returns, block_returns, ends_block, faults_in, faults_in_block}
@@ -8,11 +10,10 @@ use Rattle.cw_tree.specs.Resolved.{Locals, Lists}
 use Rattle.cw_tree.specs.Resolved as spec
 use Rattle.cw_own.specs.Sets.{Row}
 use Rattle.cw_own.specs.Taken.{Held, none_held, either_held, held_within, after, after_all, known_after}
-use Rattle.cw_own.proofs.Words.{and_none}
 use Rattle.cw_own.proofs.Keeping.{same_held}
 
 pub none_known : (known : Row) → held_within known none_held ≡ none_held
-none_known known = same_held (held_within known none_held) none_held (λ k. and_none (known.ints k)) (λ k. and_none (known.arrays k)) (λ k. and_none (known.arrays k))
+none_known known = same_held (held_within known none_held) none_held (λ k. and-false (known.ints k)) (λ k. and-false (known.arrays k)) (λ k. and-false (known.arrays k))
 
 mutual
   pub none_after : (lists : Lists) (locals : Locals) (known : Row) (here : Held) (s : Stmt) → surely_returns s ≡ true → after known (spec.resolved_stmt lists locals s) here ≡ none_held
@@ -44,16 +45,12 @@ mutual
   none_after_all lists locals known here (Then line s (Then line' s' b)) h =
       none_after_all lists (spec.locals_after locals s) (known_after known (spec.resolved_stmt lists locals s)) (after known (spec.resolved_stmt lists locals s) here) (Then line' s' b) h
 
-and_left : (a b : Bool) → a ≡ false → (a && b) ≡ false
-and_left true b h = cc
-and_left false b h = refl
-
 mutual
   pub not_returning : (program : Program) (known : Known) (line : ℕ) (s : Stmt) → faults_in program Nowhere known line s ≡ [] → surely_returns s ≡ false
   not_returning program known line (Return None) h = cc
   not_returning program known line (Return (Some e)) h = cc
   not_returning program known line (IfElse e b c) h =
-      and_left (block_returns b) (block_returns c)
+      first_false (block_returns b) (block_returns c)
       (no_return program known b (left_none (faults_in_block program Nowhere known b) (faults_in_block program Nowhere known c) (right_none (unless (is_fine known e) line) _ h)))
   not_returning program known line (Declare x e) h = refl
   not_returning program known line (DeclareArray x e) h = refl

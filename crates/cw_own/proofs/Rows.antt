@@ -1,9 +1,10 @@
 -- Rows of bits as sets of slots.
-use Rattle.std.proofs.Common.{◌≡◌, ◌≢◌, ℕ, zero, suc, ◌*◌, ◌/◌, ◌%◌, ◌^◌, ◌<◌, ◌==◌, false, ◌||◌, List, [], ◌∷◌, length, slice_index, slice_set, bit_or, bit_and, ◌&&◌, not, min, max, w64, refl, sym, ap, ◌∙◌, arith, inl, inr, get_or-set_same, get_or-set_other}
+use Rattle.std.proofs.Common.{◌≡◌, ◌≢◌, ℕ, zero, suc, ◌*◌, ◌/◌, ◌%◌, ◌^◌, ◌<◌, ◌==◌, ◌||◌, List, [], ◌∷◌, length, slice_index, slice_set, bit_or, bit_and, ◌&&◌, not, min, max, w64, refl, sym, ap, ◌∙◌, arith, inl, inr, get_or-set_same, get_or-set_other}
 use Rattle.std.specs.Int.{bit_at, bit_not}
 use Rattle.std.proofs.lemmas.Nat.Bits.{bit_at-lt, bit_at_or, bit_at_and, bit_at_set_same, bit_at_set_other, bit_at_clear_same, bit_at_clear_other}
 use Rattle.std.proofs.lemmas.Bool.{eq-eqb}
 use Rattle.std.proofs.lemmas.Bool.Decides.{eqb_tells}
+use Rattle.cw_facts.specs.Tests.{not_equal}
 use Rattle.cw_model.specs.declared.limits.TheConstants.{MOST_DECLARED}
 use Rattle.cw_own.specs.Sets.{Slots, with_slot, without_slot, either, both, slots_of}
 
@@ -12,9 +13,6 @@ same_sets s t h = λ i. λ slot. h slot i
 
 abbrev row_with : ℕ → ℕ → ℕ
 row_with row place = bit_or row (1 * 2 ^ place % 2 ^ 64)
-
-differ_by : (k new : ℕ) → k ≢ new → (k == new) ≡ false
-differ_by k new h = elim (eqb_tells k new) [ inl e ↦ absurd (h e.1) | inr e ↦ e.0 ]
 
 from_parts : (k new : ℕ) → k / 64 ≡ new / 64 → k % 64 ≡ new % 64 → k ≡ new
 from_parts k new p q = omega (arith, p, q)
@@ -37,7 +35,7 @@ same_row rows new k inside small same =
       | inr e ↦
           let other : bit_at (row_with row (new % 64)) (k % 64) ≡ bit_at row (k % 64) = bit_at_set_other w64 row (new % 64) small (k % 64) e.1 in
           ap (λ b. b == 1) (other ∙ ap (λ i. bit_at (slice_index rows i) (k % 64)) (sym same))
-          ∙ sym (ap (λ b. b || slots_of rows k) (differ_by k new (λ h. e.1 (ap (λ x. x % 64) h))))
+          ∙ sym (ap (λ b. b || slots_of rows k) (not_equal k new (λ h. e.1 (ap (λ x. x % 64) h))))
     ]
 
 -- in another row
@@ -45,7 +43,7 @@ other_row : (rows : List ℕ) (new k : ℕ) → k / 64 ≢ new / 64 →
     slots_of (slice_set rows (new / 64) (row_with (slice_index rows (new / 64)) (new % 64))) k ≡ with_slot new (slots_of rows) k
 other_row rows new k apart =
     ap (λ r. bit_at r (k % 64) == 1) (get_or-set_other rows (new / 64) (k / 64) (row_with (slice_index rows (new / 64)) (new % 64)) 0 apart)
-    ∙ sym (ap (λ b. b || slots_of rows k) (differ_by k new (λ h. apart (ap (λ x. x / 64) h))))
+    ∙ sym (ap (λ b. b || slots_of rows k) (not_equal k new (λ h. apart (ap (λ x. x / 64) h))))
 
 pub one_taken : (rows : List ℕ) (new : ℕ) → length rows ≡ 4 → new < MOST_DECLARED →
     slots_of (slice_set rows (new / 64) (row_with (slice_index rows (new / 64)) (new % 64))) ≡ with_slot new (slots_of rows)
@@ -79,7 +77,7 @@ same_row_less rows old k inside small small' same =
       | inr e ↦
           let other : bit_at (row_without row (old % 64)) (k % 64) ≡ bit_at row (k % 64) = bit_at_clear_other w64 row (old % 64) small (k % 64) small' e.1 in
           ap (λ b. b == 1) (other ∙ ap (λ i. bit_at (slice_index rows i) (k % 64)) (sym same))
-          ∙ sym (ap (λ b. not b && slots_of rows k) (differ_by k old (λ h. e.1 (ap (λ x. x % 64) h))))
+          ∙ sym (ap (λ b. not b && slots_of rows k) (not_equal k old (λ h. e.1 (ap (λ x. x % 64) h))))
     ]
 
 -- in another row
@@ -87,7 +85,7 @@ other_row_less : (rows : List ℕ) (old k : ℕ) → k / 64 ≢ old / 64 →
     slots_of (slice_set rows (old / 64) (row_without (slice_index rows (old / 64)) (old % 64))) k ≡ without_slot old (slots_of rows) k
 other_row_less rows old k apart =
     ap (λ r. bit_at r (k % 64) == 1) (get_or-set_other rows (old / 64) (k / 64) (row_without (slice_index rows (old / 64)) (old % 64)) 0 apart)
-    ∙ sym (ap (λ b. not b && slots_of rows k) (differ_by k old (λ h. apart (ap (λ x. x / 64) h))))
+    ∙ sym (ap (λ b. not b && slots_of rows k) (not_equal k old (λ h. apart (ap (λ x. x / 64) h))))
 
 pub one_removed : (rows : List ℕ) (old : ℕ) → length rows ≡ 4 → old < MOST_DECLARED →
     slots_of (slice_set rows (old / 64) (row_without (slice_index rows (old / 64)) (old % 64))) ≡ without_slot old (slots_of rows)

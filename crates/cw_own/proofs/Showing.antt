@@ -1,13 +1,14 @@
 -- Sets of names, shown by rows of slots.
 use Rattle.std.proofs.Common.{◌≡◌, ℕ, suc, ◌<◌, ◌≤◌, ◌==◌, nat_lt, Bool, true, false, ◌||◌, if◌then◌else◌, List, [], ◌∷◌, ◌++◌, length, refl, sym, ap, ◌∙◌, arith, length-append}
 use Rattle.std.proofs.lemmas.Bool.Decides.{nat_tests}
+use Rattle.std.proofs.Math.Bool.{or-false, or_assoc}
 use Rattle.cw_model.specs.Syntax.{Name}
 use Rattle.cw_model.specs.Names.{same_name, is_among}
 use Rattle.cw_tree.specs.Resolved.{Locals, slot_of}
 use Rattle.cw_tree.specs.Resolved as spec
 use Rattle.cw_tree.specs.lemmas.NamedSlots.{one_slot, slot_in, slot_out}
 use Rattle.cw_own.specs.Sets.{Slots, Row, no_local, with_int, with_array, either_row}
-use Rattle.cw_own.proofs.Words.{or_none, four_or, or_group}
+use Rattle.cw_own.proofs.Words.{four_or}
 
 -- a known name keeps its slot
 pub slot_kept : (x : Name) (names : List Name) (y : Name) → is_among x names ≡ true → slot_of x (names ++ y ∷ []) ≡ slot_of x names
@@ -91,7 +92,7 @@ shows_int locals x P row there s = record {
   same = λ z.
       ap (λ b. same_name z x || b) (s.same z)
       ∙ ap (λ b. b || (row.ints (slot_of z locals.ints) || row.arrays (slot_of z locals.arrays))) (sym (one_slot z x locals.ints there))
-      ∙ sym (or_group (slot_of z locals.ints == slot_of x locals.ints) (row.ints (slot_of z locals.ints)) (row.arrays (slot_of z locals.arrays)));
+      ∙ sym (or_assoc (slot_of z locals.ints == slot_of x locals.ints) (row.ints (slot_of z locals.ints)) (row.arrays (slot_of z locals.arrays)));
   ints_end = λ k h. ap (λ b. b || row.ints k) (beyond_not (slot_of x locals.ints) (length locals.ints) k (slot_in x locals.ints there) h) ∙ s.ints_end k h;
   arrays_end = s.arrays_end;
 }
@@ -118,7 +119,7 @@ pub int_shown : (locals : Locals) (P : Name → Bool) (row : Row) (x : Name) →
     P x ≡ row.ints (slot_of x locals.ints)
 int_shown locals P row x apart s =
     let end : row.arrays (slot_of x locals.arrays) ≡ false = let e = slot_out x locals.arrays apart in s.arrays_end (slot_of x locals.arrays) (omega (arith, e)) in
-    s.same x ∙ ap (λ b. row.ints (slot_of x locals.ints) || b) end ∙ or_none (row.ints (slot_of x locals.ints))
+    s.same x ∙ ap (λ b. row.ints (slot_of x locals.ints) || b) end ∙ or-false (row.ints (slot_of x locals.ints))
 
 pub array_shown : (locals : Locals) (P : Name → Bool) (row : Row) (x : Name) → is_among x locals.ints ≡ false → Shows locals P row →
     P x ≡ row.arrays (slot_of x locals.arrays)

@@ -67,9 +67,9 @@ holder_none taken slot =
     neither true b = refl
     neither false b = refl
 
-index_none : (around : Option Turn) (u : Use) (e : Expr) → is_none (why_index around u e) ≡ rule.may_index (loops around) u.slot e
-index_none None u e = refl
-index_none (Some t) u e = by _ (named t u.slot && rule.is_variable t.variable.slot e) (t.outer.arrays u.slot)
+index_none : (around : Option Turn) (how : Touch) (u : Use) (e : Expr) → is_none (why_index around how u e) ≡ rule.may_index (loops around) u.slot e
+index_none None how u e = refl
+index_none (Some t) how u e = by _ (named t u.slot && rule.is_variable t.variable.slot e) (t.outer.arrays u.slot)
   where
     by : (x : Reason) → (a b : Bool) → is_none (if a || not b then None else Some x) ≡ (not b || a)
     by x true true = refl
@@ -77,9 +77,9 @@ index_none (Some t) u e = by _ (named t u.slot && rule.is_variable t.variable.sl
     by x false true = refl
     by x false false = refl
 
-outer_none : (around : Option Turn) (u : Use) → is_none (why_outer_array around u) ≡ not (rule.is_outer_array (loops around) u.slot)
-outer_none None u = refl
-outer_none (Some t) u = given_none (t.outer.arrays u.slot) _
+outer_none : (around : Option Turn) (how : Touch) (u : Use) → is_none (why_outer_array around how u) ≡ not (rule.is_outer_array (loops around) u.slot)
+outer_none None how u = refl
+outer_none (Some t) how u = given_none (t.outer.arrays u.slot) _
 
 int_outer_none : (around : Option Turn) (u : Use) → is_none (why_outer_int around u) ≡ not (rule.is_outer_int (loops around) u.slot)
 int_outer_none None u = refl
@@ -87,15 +87,15 @@ int_outer_none (Some t) u = given_none (t.outer.ints u.slot) _
 
 lend_none : (around : Option Turn) (taken : Taken) (u : Use) → is_none (why_lend around taken u) ≡ rule.may_lend (loops around) taken u.slot
 lend_none around taken u =
-    both_none (why_taken taken u) (why_outer_array around u) _ _ (held_none u touch.Read (array_taker taken u.slot) ∙ taker_none taken u.slot) (outer_none around u)
+    both_none (why_taken taken u) (why_outer_array around touch.Read u) _ _ (held_none u touch.Read (array_taker taken u.slot) ∙ taker_none taken u.slot) (outer_none around touch.Read u)
 
 read_none : (around : Option Turn) (taken : Taken) (e : Expr) → is_none (why_read around taken e) ≡ rule.may_read (loops around) taken e
 read_none around taken (Number n) = refl
 read_none around taken (Variable u) = held_none u touch.Read (int_holder taken u.slot) ∙ int_none taken u.slot
 read_none around taken (Element u e) =
-    both_none (option_or (why_taken taken u) (why_read around taken e)) (why_index around u e) _ _
+    both_none (option_or (why_taken taken u) (why_read around taken e)) (why_index around touch.Read u e) _ _
     (both_none (why_taken taken u) (why_read around taken e) _ _ (held_none u touch.Read (array_taker taken u.slot) ∙ taker_none taken u.slot) (read_none around taken e))
-    (index_none around u e)
+    (index_none around touch.Read u e)
     ∙ swap (not (array_taken taken u.slot)) (rule.may_read (loops around) taken e) (rule.may_index (loops around) u.slot e)
   where
     swap : (a b c : Bool) → ((a && b) && c) ≡ ((a && c) && b)
@@ -115,7 +115,7 @@ write_none around taken u =
 
 whole_none : (around : Option Turn) (taken : Taken) (how : Touch) (u : Use) → is_none (why_whole around taken how u) ≡ rule.may_pass (loops around) taken u.slot
 whole_none around taken how u =
-    both_none (held_by u how (array_holder taken u.slot)) (why_outer_array around u) _ _ (held_none u how (array_holder taken u.slot) ∙ holder_none taken u.slot) (outer_none around u)
+    both_none (held_by u how (array_holder taken u.slot)) (why_outer_array around how u) _ _ (held_none u how (array_holder taken u.slot) ∙ holder_none taken u.slot) (outer_none around how u)
 
 target_none : (around : Option Turn) (taken : Taken) (target : Option Use) → is_none (why_target around taken target) ≡ rule.may_target (loops around) taken target
 target_none around taken None = refl
@@ -195,11 +195,29 @@ cut_none around taken parts =
 element_none : (around : Option Turn) (taken : Taken) (u : Use) (i e : Expr) →
     is_none (why_element around taken u i e) ≡ (rule.may_read (loops around) taken i && rule.may_read (loops around) taken e && not (array_held taken u.slot) && rule.may_index (loops around) u.slot i)
 element_none around taken u i e =
-    both_none (option_or (option_or (why_read around taken i) (why_read around taken e)) (held_by u touch.Written (array_holder taken u.slot))) (why_index around u i) _ _
-    (both_none (option_or (why_read around taken i) (why_read around taken e)) (held_by u touch.Written (array_holder taken u.slot)) _ _
-    (both_none (why_read around taken i) (why_read around taken e) _ _ (read_none around taken i) (read_none around taken e))
-    (held_none u touch.Written (array_holder taken u.slot) ∙ holder_none taken u.slot))
-    (index_none around u i)
+    both_none (option_or (option_or written other) (why_read around taken i)) (why_read around taken e) _ _
+    (both_none (option_or written other) (why_read around taken i) _ _
+    (both_none written other _ _ (held_none u touch.Written (array_holder taken u.slot) ∙ holder_none taken u.slot) (index_none around touch.Written u i))
+    (read_none around taken i))
+    (read_none around taken e)
+    ∙ turned (not (array_held taken u.slot)) (rule.may_index (loops around) u.slot i) (rule.may_read (loops around) taken i) (rule.may_read (loops around) taken e)
+  where
+    written : Option Reason
+    written = held_by u touch.Written (array_holder taken u.slot)
+
+    other : Option Reason
+    other = why_index around touch.Written u i
+
+    turned : (h x i e : Bool) → (((h && x) && i) && e) ≡ (((i && e) && h) && x)
+    turned true true true true = refl
+    turned true true true false = refl
+    turned true true false e = refl
+    turned true false true true = refl
+    turned true false true false = refl
+    turned true false false e = refl
+    turned false x true true = refl
+    turned false x true false = refl
+    turned false x false e = refl
 
 -- a reason is told just where a rule is broken
 pub why_none : (around : Option Turn) (taken : Taken) (s : Stmt) → is_none (why around taken s) ≡ rule.keeps (loops around) taken s

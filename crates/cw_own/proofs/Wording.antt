@@ -1,6 +1,7 @@
 -- What may be read, written and passed, by names and by slots.
 use Rattle.std.proofs.Common.{◌≡◌, ◌==◌, Bool, true, false, not, ◌&&◌, ◌||◌, List, [], ◌∷◌, ◌++◌, Option, Some, None, refl, sym, ap, ◌∙◌}
 use Rattle.std.specs.List.{list_any}
+use Rattle.std.proofs.Math.Bool.{or-false, or_assoc}
 use Rattle.cw_model.specs.Syntax.{Name, Expr, Number, Variable, Element, Length, Negative, Not, Binary}
 use Rattle.cw_model.specs.Names.{same_name, is_among}
 use Rattle.cw_model.specs.Typing.{Known, is_int, is_array, is_fine}
@@ -14,7 +15,6 @@ use Rattle.cw_own.specs.Taken as rows
 use Rattle.cw_own.specs.Taken.{int_taken, array_taken, array_held}
 use Rattle.cw_own.specs.Rules as rules
 use Rattle.cw_own.specs.Rules.{Loop, is_outer_int, is_outer_array}
-use Rattle.cw_own.proofs.Words.{or_none, or_group}
 use Rattle.cw_own.proofs.Showing.{slot_kept, Shows, shows_none, shows_push_int, shows_push_array, int_shown, array_shown}
 use Rattle.cw_own.proofs.Knowing.{Knows, array_apart}
 use Rattle.cw_own.proofs.Holding.{held, any_holder, no_reader, held_is, taken_is}
@@ -134,7 +134,7 @@ one_word false = refl
 
 pub any_append : {A : Type 0} (p : A → Bool) (xs ys : List A) → list_any p (xs ++ ys) ≡ (list_any p xs || list_any p ys)
 any_append p [] ys = refl
-any_append p (x ∷ xs) ys = ap (λ b. p x || b) (any_append p xs ys) ∙ sym (or_group (p x) (list_any p xs) (list_any p ys))
+any_append p (x ∷ xs) ys = ap (λ b. p x || b) (any_append p xs ys) ∙ sym (or_assoc (p x) (list_any p xs) (list_any p ys))
 
 element_words : (t n m l : Bool) → (not (t || n) && (m && l)) ≡ ((not t && m) && (not n && l))
 element_words true n m l = refl
@@ -158,7 +158,7 @@ read_same known locals around l taken t (Element a e) k f r s =
     ∙ ap (λ b. (not (array_taken t (slot_of a locals.arrays)) && b) && (not (list_any (λ x. is_taken taken x) (names_in e)) && keeps_loop around e)) (index_same known locals around l a e k array index r)
     ∙ ap (λ b. (not (array_taken t (slot_of a locals.arrays)) && rules.may_index l (slot_of a locals.arrays) (resolved_expr locals e)) && b) (read_same known locals around l taken t e k index r s)
 read_same known locals around l taken t (Length a) k f r s =
-    ap (λ b. not b && not (is_outer around a)) (or_none (is_taken taken a) ∙ array_free known locals taken t a k f s)
+    ap (λ b. not b && not (is_outer around a)) (or-false (is_taken taken a) ∙ array_free known locals taken t a k f s)
     ∙ ap (λ b. not (array_taken t (slot_of a locals.arrays)) && not b) (outer_array known locals around l a k f r)
 read_same known locals around l taken t (Negative e) k f r s = read_same known locals around l taken t e k f r s
 read_same known locals around l taken t (Not e) k f r s = read_same known locals around l taken t e k f r s
@@ -196,7 +196,7 @@ lend_same known locals around l taken t x k h r s =
 
 pub loose_same : (known : Known) (locals : Locals) (taken : Taken) (t : rows.Taken) (x : Name) → Knows known locals → is_array known x ≡ true → Sees locals taken t →
     are_loose taken (x ∷ []) ≡ not (array_held t (slot_of x locals.arrays))
-loose_same known locals taken t x k h s = ap not (or_none (is_held taken x) ∙ array_loose known locals taken t x k h s)
+loose_same known locals taken t x k h s = ap not (or-false (is_held taken x) ∙ array_loose known locals taken t x k h s)
 
 -- what is taken is held
 pub held_too : (taken : Taken) (x : Name) → is_held taken x ≡ false → is_taken taken x ≡ false

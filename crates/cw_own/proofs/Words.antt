@@ -5,17 +5,9 @@ pub if_or : (a b : Bool) → (if a then true else b) ≡ (a || b)
 if_or true b = refl
 if_or false b = refl
 
-pub or_none : (a : Bool) → (a || false) ≡ a
-or_none true = refl
-or_none false = refl
-
 pub and_all : (a : Bool) → (a && true) ≡ a
 and_all true = refl
 and_all false = refl
-
-pub and_none : (a : Bool) → (a && false) ≡ false
-and_none true = refl
-and_none false = refl
 
 pub or_all : (a : Bool) → (a || true) ≡ true
 or_all true = refl
@@ -27,10 +19,6 @@ or_turn true false = refl
 or_turn false true = refl
 or_turn false false = refl
 
-pub or_group : (a b c : Bool) → ((a || b) || c) ≡ (a || (b || c))
-or_group true b c = refl
-or_group false b c = refl
-
 pub and_group : (a b c : Bool) → ((a && b) && c) ≡ (a && (b && c))
 and_group true b c = refl
 and_group false b c = refl
@@ -41,12 +29,6 @@ four_or true b c d = refl
 four_or false true true d = refl
 four_or false true false d = refl
 four_or false false c d = refl
-
-pub four_and : (a b c d : Bool) → ((a && b) && (c && d)) ≡ ((a && c) && (b && d))
-four_and false b c d = refl
-four_and true false true d = refl
-four_and true false false d = refl
-four_and true true c d = refl
 
 -- what is taken after two steps is what is taken after the second alone, and what of the first it keeps
 pub two_steps : (a b h k l : Bool) → (a || ((b || (h && k)) && l)) ≡ ((a || (b && l)) || (h && (k && l)))

@@ -29,11 +29,11 @@ pub data Reason : Type 0 where
   GivenAndRead : Use → (callee : Listed) → Reason
   -- a loop is over one array twice
   OverTwice : Use → Reason
-  -- a loop's body writes an integer from outside, or names an array from outside that is none of the loop's, or one
+  -- a loop's body writes an integer from outside, or touches an array from outside that is none of the loop's, or one
   -- that is, in another way than at the loop's variable
   OuterWritten : Use → (head : ℕ) → Reason
-  OuterArray : Use → (head : ℕ) → Reason
-  OtherElement : Use → (variable : Use) → (head : ℕ) → Reason
+  OuterArray : Use → Touch → (head : ℕ) → Reason
+  OtherElement : Use → Touch → (variable : Use) → (head : ℕ) → Reason
 
 -- a turn of a loop in which something is done: the locals from outside its body and its variable, that variable, the
 -- arrays of the loop, which the head of a further loop may not name, and the line of the loop's head
@@ -91,20 +91,20 @@ held_by u how None = None
 held_by u how (Some h) = Some (Held u how h)
 
 -- an array from outside the loop is named in another way than it may be
-abbrev pub outside : Turn → Use → Reason
-outside t u = if t.over u.slot then OtherElement u t.variable t.head else OuterArray u t.head
+abbrev pub outside : Turn → Touch → Use → Reason
+outside t how u = if t.over u.slot then OtherElement u how t.variable t.head else OuterArray u how t.head
 
 -- an array is indexed: one from outside may be where the loop is over it, by the loop's variable
-abbrev pub why_index : Option Turn → Use → Expr → Option Reason
-why_index None u e = None
-why_index (Some t) u e =
+abbrev pub why_index : Option Turn → Touch → Use → Expr → Option Reason
+why_index None how u e = None
+why_index (Some t) how u e =
     if (named t u.slot && is_variable t.variable.slot e) || not (t.outer.arrays u.slot) then None
-    else Some (outside t u)
+    else Some (outside t how u)
 
 -- an array from outside the loop is named as a whole
-abbrev pub why_outer_array : Option Turn → Use → Option Reason
-why_outer_array None u = None
-why_outer_array (Some t) u = if t.outer.arrays u.slot then Some (outside t u) else None
+abbrev pub why_outer_array : Option Turn → Touch → Use → Option Reason
+why_outer_array None how u = None
+why_outer_array (Some t) how u = if t.outer.arrays u.slot then Some (outside t how u) else None
 
 -- an integer from outside the loop is written
 abbrev pub why_outer_int : Option Turn → Use → Option Reason
@@ -121,14 +121,14 @@ why_taken taken u = held_by u touch.Read (array_taker taken u.slot)
 
 -- an array is read as a whole
 abbrev pub why_lend : Option Turn → Taken → Use → Option Reason
-why_lend around taken u = option_or (why_taken taken u) (why_outer_array around u)
+why_lend around taken u = option_or (why_taken taken u) (why_outer_array around touch.Read u)
 
 -- an expression is read
 abbrev pub why_read : Option Turn → Taken → Expr → Option Reason
 why_read around taken (Number n) = None
 why_read around taken (Variable u) = why_int taken touch.Read u
 why_read around taken (Element u e) =
-    option_or (option_or (why_taken taken u) (why_read around taken e)) (why_index around u e)
+    option_or (option_or (why_taken taken u) (why_read around taken e)) (why_index around touch.Read u e)
 why_read around taken (Length u) = why_lend around taken u
 why_read around taken (Negative e) = why_read around taken e
 why_read around taken (Not e) = why_read around taken e
@@ -141,7 +141,7 @@ why_write around taken u = option_or (why_int taken touch.Written u) (why_outer_
 -- an array is given away, cut or named in over
 abbrev pub why_whole : Option Turn → Taken → Touch → Use → Option Reason
 why_whole around taken how u =
-    option_or (held_by u how (array_holder taken u.slot)) (why_outer_array around u)
+    option_or (held_by u how (array_holder taken u.slot)) (why_outer_array around how u)
 
 -- the integer that a result goes to is written, if there is one
 abbrev pub why_target : Option Turn → Taken → Option Use → Option Reason
@@ -215,13 +215,13 @@ abbrev pub why_cut : Option Turn → Taken → Parts → Option Reason
 why_cut around taken parts =
     option_or (why_read around taken parts.at) (why_whole around taken touch.Cut parts.array)
 
--- an element is written
+-- an element is written: first by what is written, then by what is read
 abbrev pub why_element : Option Turn → Taken → Use → (index value : Expr) → Option Reason
 why_element around taken u i e =
     option_or
-    (option_or (option_or (why_read around taken i) (why_read around taken e))
-    (held_by u touch.Written (array_holder taken u.slot)))
-    (why_index around u i)
+    (option_or (option_or (held_by u touch.Written (array_holder taken u.slot)) (why_index around touch.Written u i))
+    (why_read around taken i))
+    (why_read around taken e)
 
 -- the first rule that a statement breaks, but for what stands in its blocks
 abbrev pub why : Option Turn → Taken → Stmt → Option Reason

@@ -51,8 +51,8 @@ reason_of (reason.GivenTwice u callee) = GivenTwice (use_of u.now) (listed_of ca
 reason_of (reason.GivenAndRead u callee) = GivenAndRead (use_of u.now) (listed_of callee.now)
 reason_of (reason.OverTwice u) = OverTwice (use_of u.now)
 reason_of (reason.OuterWritten u line) = OuterWritten (use_of u.now) line
-reason_of (reason.OuterArray u line) = OuterArray (use_of u.now) line
-reason_of (reason.OtherElement u variable line) = OtherElement (use_of u.now) (use_of variable.now) line
+reason_of (reason.OuterArray u how line) = OuterArray (use_of u.now) how line
+reason_of (reason.OtherElement u how variable line) = OtherElement (use_of u.now) how (use_of variable.now) line
 
 -- one, if it tells one
 abbrev pub told_of : Option code_reason.Disowned → Option Reason

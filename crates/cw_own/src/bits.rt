@@ -6,7 +6,7 @@ ghost use Rattle.cw_own.specs.Sets.{no_slot, with_slot, without_slot, either, bo
 ghost use Rattle.cw_own.specs.Views.{set_of};
 
 /// A set of slots, each below 256, the most names that a function declares: slot `s` is bit `s % 64` of word `s / 64`.
-#[derive(Clone, Copy, Debug)]
+#[derive(Clone, Copy)]
 pub struct Bits {
     pub words: [u64; 4],
 }

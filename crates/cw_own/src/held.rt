@@ -10,7 +10,7 @@ use crate::row::Row;
 use crate::told::Watch;
 
 /// Since which line the local that is watched is taken, and frozen.
-#[derive(Clone, Copy, Debug)]
+#[derive(Clone, Copy)]
 pub struct Since {
     pub taken: Option<u32>,
     pub frozen: Option<u32>,
@@ -18,7 +18,7 @@ pub struct Since {
 
 /// What spawns hold: the locals that they took, and beside them the arrays that they froze, which are only read until the
 /// join; and since which line they hold the local that is watched.
-#[derive(Clone, Copy, Debug)]
+#[derive(Clone, Copy)]
 pub struct Held {
     pub taken: Row,
     pub frozen: Bits,

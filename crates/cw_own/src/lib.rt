@@ -17,4 +17,4 @@ mod told;
 
 pub use owned::Owned;
 pub use owning::{disowned, own};
-pub use reason::{Disowned, Holder, Touch};
+pub use reason::{Disowned, Holder, Start, Touch};

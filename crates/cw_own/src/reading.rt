@@ -87,45 +87,53 @@ fn is_variable(slot: u32, e: &Expr) -> bool
 
 // An array from outside the loop is named in another way than it may be.
 #[inline(never)]
-fn of_outside<'a>(outer: &Loop<'a>, used: &'a Use, first: &mut Option<Disowned<'a>>)
-    ensures { Finds first.old first.new (Some (outside (turn_of outer.now) (use_of used.now))) }
+fn of_outside<'a>(outer: &Loop<'a>, used: &'a Use, touch: Touch, first: &mut Option<Disowned<'a>>)
+    ensures { Finds first.old first.new
+        (Some (outside (turn_of outer.now) touch (use_of used.now))) }
 {
     if outer.over.has(used.slot) {
         keep(
-            Disowned::OtherElement(used, outer.variable, outer.line),
+            Disowned::OtherElement(used, touch, outer.variable, outer.line),
             first,
         );
     } else {
-        keep(Disowned::OuterArray(used, outer.line), first);
+        keep(Disowned::OuterArray(used, touch, outer.line), first);
     }
 }
 
 // An array is indexed: one from outside may be where the loop is over it, by the loop's variable.
 fn of_index<'a>(
     around: &Option<Loop<'a>>,
+    touch: Touch,
     used: &'a Use,
     e: &Expr,
     first: &mut Option<Disowned<'a>>,
 )
     ensures { Finds first.old first.new
-        (why_index (around_of around.now) (use_of used.now) (expr_of e.now)) }
+        (why_index (around_of around.now) touch (use_of used.now) (expr_of e.now)) }
 {
     if let Some(outer) = around {
         let own = outer.may_name(used.slot) && is_variable(outer.variable.slot, e);
         if own || !outer.outer.arrays.has(used.slot) {
             return;
         }
-        of_outside(outer, used, first);
+        of_outside(outer, used, touch, first);
     }
 }
 
 // An array from outside the loop is named as a whole.
-fn of_outer_array<'a>(around: &Option<Loop<'a>>, used: &'a Use, first: &mut Option<Disowned<'a>>)
-    ensures { Finds first.old first.new (why_outer_array (around_of around.now) (use_of used.now)) }
+fn of_outer_array<'a>(
+    around: &Option<Loop<'a>>,
+    touch: Touch,
+    used: &'a Use,
+    first: &mut Option<Disowned<'a>>,
+)
+    ensures { Finds first.old first.new
+        (why_outer_array (around_of around.now) touch (use_of used.now)) }
 {
     if let Some(outer) = around {
         if outer.outer.arrays.has(used.slot) {
-            of_outside(outer, used, first);
+            of_outside(outer, used, touch, first);
         }
     }
 }
@@ -156,7 +164,7 @@ fn of_expr<'a>(
         Expr::Element(used, e) => {
             of_taken(taken, used, first);
             of_expr(around, taken, e, first);
-            of_index(around, used, e, first);
+            of_index(around, Touch::Read, used, e, first);
         }
         Expr::Length(used) => of_lent(around, taken, used, first),
         Expr::Negative(e) => of_expr(around, taken, e, first),
@@ -170,7 +178,8 @@ fn of_expr<'a>(
 
 // An integer that is read is taken.
 fn of_read<'a>(taken: &Taken, used: &'a Use, first: &mut Option<Disowned<'a>>)
-    ensures { Finds first.old first.new (why_int (taken_of taken.now) touch.Read (use_of used.now)) }
+    ensures { Finds first.old first.new
+        (why_int (taken_of taken.now) touch.Read (use_of used.now)) }
 {
     of_holder(taken, used, Touch::Read, taken.int_holder(used.slot), first);
 }
@@ -198,7 +207,7 @@ fn of_lent<'a>(
     ensures { Finds first.old first.new (why_here why_lend around.now taken.now (use_of used.now)) }
 {
     of_taken(taken, used, first);
-    of_outer_array(around, used, first);
+    of_outer_array(around, Touch::Read, used, first);
 }
 
 // An integer that is written is taken, or from outside the loop.
@@ -208,7 +217,8 @@ fn of_write<'a>(
     used: &'a Use,
     first: &mut Option<Disowned<'a>>,
 )
-    ensures { Finds first.old first.new (why_here why_write around.now taken.now (use_of used.now)) }
+    ensures { Finds first.old first.new
+        (why_here why_write around.now taken.now (use_of used.now)) }
 {
     of_holder(
         taken,
@@ -232,7 +242,7 @@ fn of_whole<'a>(
         (why_whole (around_of around.now) (taken_of taken.now) touch (use_of used.now)) }
 {
     of_holder(taken, used, touch, taken.array_holder(used.slot), first);
-    of_outer_array(around, used, first);
+    of_outer_array(around, touch, used, first);
 }
 
 // The integer that a result goes to may not be written, if there is one.
@@ -400,7 +410,8 @@ fn of_head<'a>(
     first: &mut Option<Disowned<'a>>,
 )
     requires { list_all is_small (map use_of head.now.over.items) ≡ true }
-    ensures { Finds first.old first.new (why_here why_head around.now taken.now (head_of head.now)) }
+    ensures { Finds first.old first.new
+        (why_here why_head around.now taken.now (head_of head.now)) }
 {
     let inner = for_head(around);
     of_expr(&inner, taken, &head.from, first);
@@ -422,7 +433,7 @@ fn of_cut<'a>(
     of_whole(around, taken, Touch::Cut, &cut.array, first);
 }
 
-// An assignment to an element breaks a rule.
+// An assignment to an element breaks a rule: first by what is written, then by what is read.
 fn of_element<'a>(
     around: &Option<Loop<'a>>,
     taken: &Taken,
@@ -435,8 +446,6 @@ fn of_element<'a>(
         (why_here why_element around.now taken.now
         (use_of used.now) (expr_of i.now) (expr_of e.now)) }
 {
-    of_expr(around, taken, i, first);
-    of_expr(around, taken, e, first);
     of_holder(
         taken,
         used,
@@ -444,7 +453,9 @@ fn of_element<'a>(
         taken.array_holder(used.slot),
         first,
     );
-    of_index(around, used, i, first);
+    of_index(around, Touch::Written, used, i, first);
+    of_expr(around, taken, i, first);
+    of_expr(around, taken, e, first);
 }
 
 /// The first rule that a statement breaks, but for what stands in its blocks, where none was broken before.

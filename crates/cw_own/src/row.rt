@@ -7,7 +7,7 @@ ghost use Rattle.cw_own.specs.Sets.{no_local, with_int, with_array, either_row, 
 use crate::bits::Bits;
 
 /// A set of locals, by the slots of its integers and of its arrays: eight words of 64 bits.
-#[derive(Clone, Copy, Debug)]
+#[derive(Clone, Copy)]
 pub struct Row {
     pub ints: Bits,
     pub arrays: Bits,

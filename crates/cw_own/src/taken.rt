@@ -8,7 +8,7 @@ ghost use Rattle.cw_own.specs.Reasons.{int_holder, array_taker, array_reader, ar
 
 use crate::bits::Bits;
 use crate::held::Held;
-use crate::reason::Holder;
+use crate::reason::{Holder, Start};
 use crate::row::Row;
 use crate::told::Watch;
 
@@ -17,13 +17,20 @@ use crate::told::Watch;
 ///
 /// A join frees only what the spawns of its own sync block hold, so that inside a sync block the first part stays as it
 /// is, and behind it the parts are again those of before.
-#[derive(Clone, Copy, Debug)]
+#[derive(Clone, Copy)]
 pub struct Taken {
     pub outer: Held,
     pub here: Held,
     pub cuts: Bits,
     /// Since which line the local that is watched is cut.
     pub cut_since: Option<u32>,
+}
+
+// Since which line something is held, by spawns of sync blocks around the innermost one, or else by what is in that.
+fn since(outer: Option<u32>, here: Option<u32>) -> Option<Start> {
+    let line = outer.or(here)?;
+    let is_around = outer.is_some();
+    Some(Start { line, is_around })
 }
 
 impl Taken {
@@ -80,11 +87,13 @@ impl Taken {
     }
 
     /// Since which line this holds the local that is watched.
-    pub fn since(&self, holder: Holder) -> Option<u32> {
+    pub fn since(&self, holder: Holder) -> Option<Start> {
         match holder {
-            Holder::Result | Holder::Argument => self.outer.since.taken.or(self.here.since.taken),
-            Holder::Reader => self.outer.since.frozen.or(self.here.since.frozen),
-            Holder::Cut => self.cut_since,
+            Holder::Result | Holder::Argument => {
+                since(self.outer.since.taken, self.here.since.taken)
+            }
+            Holder::Reader => since(self.outer.since.frozen, self.here.since.frozen),
+            Holder::Cut => since(None, self.cut_since),
         }
     }
 

@@ -5,19 +5,19 @@ ghost use Rattle.cw_reasons.specs.Told.{no_place};
 ghost use Rattle.cw_own.specs.Reasons.{reasons_at};
 ghost use Rattle.cw_own.specs.Views.{Noted, places_told, reason_of, told_of};
 
-use crate::reason::{Disowned, Holder};
+use crate::reason::{Disowned, Holder, Start};
 use crate::row::Row;
 use cw_reasons::Reasons;
 
 /// A local, of which it is asked since which line it is held.
-#[derive(Clone, Copy, Debug)]
+#[derive(Clone, Copy)]
 pub enum Local {
     Int(u32),
     Array(u32),
 }
 
 /// The local that is watched, if one is, and the line of the statement that is looked at.
-#[derive(Clone, Copy, Debug)]
+#[derive(Clone, Copy)]
 pub struct Watch {
     pub local: Option<Local>,
     pub line: u32,
@@ -46,7 +46,7 @@ impl Watch {
     }
 
     // Since which line the local of a slot is held, where it is watched.
-    fn since(&self, slot: u32, holder: Holder, since: Option<u32>) -> Option<u32> {
+    fn since(&self, slot: u32, holder: Holder, since: Option<Start>) -> Option<Start> {
         let is_watched = match holder {
             Holder::Result => self.is_int(slot),
             Holder::Argument | Holder::Reader | Holder::Cut => self.is_array(slot),

@@ -1,5 +1,5 @@
 -- Items by their numbers, in pages.
-use Rattle.std.specs.Prelude.{◌≡◌, ℕ, ◌/◌, ◌%◌, ◌≤◌, ◌==◌, List, [], map, slice_index_or, if◌then◌else◌, nat_lt}
+use Rattle.std.specs.Prelude.{◌≡◌, ℕ, ◌/◌, ◌%◌, ◌<◌, ◌≤◌, ◌==◌, List, [], map, slice_index_or, if◌then◌else◌, nat_lt}
 use Rattle.std.specs.Global.{Vec}
 use Rattle.cw_pages.specs.declared.pages.Pages.{Pages}
 use Rattle.cw_pages.specs.declared.table.Table.{Table}
@@ -53,3 +53,14 @@ entry none table k = if nat_lt k 256 then item_in none table.firsts.items k else
 -- a number is given its item, and the others have those that they had
 abbrev pub Enters : {T : Type 0} → (none : T) → Table T → Table T → (number : ℕ) → T → Type 0
 Enters none old new number value = (k : ℕ) → entry none new k ≡ (if number == k then value else entry none old k)
+
+-- no number of a page has another item than before
+abbrev pub SameIn : {T : Type 0} → (none : T) → (old new : List T) → Type 0
+SameIn none old new = (k : ℕ) → item_in none new k ≡ item_in none old k
+
+-- on a shelf no number of these has an item: of the pages from one on, of a page
+abbrev pub IsFreeFrom : {T : Type 0} → List (Vec T) → (page : ℕ) → Type 0
+IsFreeFrom {T} shelf page = (none : T) (k : ℕ) → k < 2048 → page ≤ k / 64 → item_on none shelf k ≡ none
+
+abbrev pub IsFreeOn : {T : Type 0} → List (Vec T) → (page : ℕ) → Type 0
+IsFreeOn {T} shelf page = (none : T) (k : ℕ) → k / 64 ≡ page → item_on none shelf k ≡ none

@@ -1,7 +1,7 @@
 //! Pages of items, on shelves.
 
 ghost use Rattle.std.specs.Prelude.{◌≡◌, ℕ, ◌/◌, ◌<◌, ◌≤◌, false, length, OnOk};
-ghost use Rattle.cw_pages.specs.Items.{item, item_in, item_on, Gives, GivesIn, GivesOn, HasNoPage, HasNoPageFrom, HasNoShelfFrom, ReadTheSame};
+ghost use Rattle.cw_pages.specs.Items.{item, item_in, item_on, Gives, GivesIn, GivesOn, HasNoPage, HasNoPageFrom, HasNoShelfFrom, IsFreeFrom, IsFreeOn, ReadTheSame, SameIn};
 
 use std::alloc::{AllocError, Global};
 
@@ -182,7 +182,7 @@ fn set_in<T: Copy>(page: &mut Vec<T>, number: usize, value: T, none: T) -> Resul
 #[inline(never)]
 pub(crate) fn fill<T: Copy>(list: &mut Vec<T>, count: usize, none: T) -> Result<(), AllocError>
     requires { length list.old.items ≤ count }
-    ensures same { OnOk result ((k : ℕ) → item_in none list.new.items k ≡ item_in none list.old.items k) }
+    ensures same { OnOk result (SameIn none list.old.items list.new.items) }
     ensures full { OnOk result (length list.new.items ≡ count) }
 {
     list.resize(count, none)?;
@@ -192,14 +192,14 @@ pub(crate) fn fill<T: Copy>(list: &mut Vec<T>, count: usize, none: T) -> Result<
 // How many pages lie on this shelf.
 fn count_on<T>(shelf: &Vec<Vec<T>>) -> usize
     ensures within { result ≤ 32 }
-    ensures free { (none : T) (k : ℕ) → k < 2048 → result ≤ k / 64 → item_on none shelf.now.items k ≡ none }
+    ensures free { IsFreeFrom shelf.now.items result }
 {
     shelf.len().min(ON_SHELF)
 }
 
 // Whether a page of this shelf has items.
 fn is_on<T>(shelf: &Vec<Vec<T>>, page: usize) -> bool
-    ensures { result ≡ false → (none : T) (k : ℕ) → k / 64 ≡ page → item_on none shelf.now.items k ≡ none }
+    ensures { result ≡ false → IsFreeOn shelf.now.items page }
 {
     if page < shelf.len() {
         return shelf[page].len() > 0;

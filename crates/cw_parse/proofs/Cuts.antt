@@ -1,13 +1,9 @@
 -- A text has no more tokens than bytes.
 use Rattle.std.proofs.Common.{ℕ, ◌+◌, ◌≤◌, List, [], ◌∷◌, length, arith}
 use Rattle.cw_model.specs.declared.token.Token.{Token}
-use Rattle.cw_model.specs.Tokens.{IsGap, AreTokens}
+use Rattle.cw_model.specs.Tokens.{AreTokens}
 use Rattle.cw_model.specs.Tokens as tokens
-
-gap_rises : {text : List ℕ} {at to : ℕ} → IsGap text at to → at ≤ to
-gap_rises tokens.none = omega arith
-gap_rises (tokens.separator lt is g) = let h = gap_rises g in omega arith
-gap_rises (tokens.comment len longest is g) = let h = gap_rises g in omega arith
+use Rattle.cw_lex.specs.lemmas.Gaps.{gap_rises}
 
 pub fewer_tokens : (text : List ℕ) (from : ℕ) (ts : List Token) (to : ℕ) → AreTokens text from ts to → from + length ts ≤ to
 fewer_tokens text from [] to g = let h = gap_rises g in omega arith

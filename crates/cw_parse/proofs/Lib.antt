@@ -17,3 +17,4 @@ pub mod Turns
 pub mod Wholes
 pub mod Cuts
 pub mod Nested
+pub mod TokenLimits

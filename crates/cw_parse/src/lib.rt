@@ -15,4 +15,5 @@ mod simple;
 mod stmt;
 mod stop;
 
+pub use nesting::{TooNested, passed_by_tokens};
 pub use parser::{first_refused, parse};

@@ -1,40 +1,86 @@
 //! The limits on brackets that are open at once and on tokens in a row.
 
-ghost use Rattle.std.specs.Prelude.{◌≡◌, ◌+◌, ◌<◌, ◌≤◌, ◌^◌, None, MatchResult};
-ghost use Rattle.cw_model.specs.Lines.{lowest};
+ghost use Rattle.std.specs.Prelude.{◌≡◌, ◌+◌, ◌<◌, ◌≤◌, ◌^◌, None, MatchOption, MatchResult};
 ghost use Rattle.cw_model.specs.Sizes as spec;
-ghost use Rattle.cw_parse.specs.Nesting.{IsTooNested};
+ghost use Rattle.cw_parse.specs.Nesting.{IsFirstPassed, IsRefused, first_passed, noted};
 ghost use Rattle.cw_parse.specs.Parsed.{IsShort};
 
 use cw_model::limits::{MOST_OPEN_BRACKETS, MOST_TOKENS_IN_A_ROW};
 use cw_model::token::{Kind, Token};
-use cw_text::{Fault, LeastLine, Place};
+use cw_reasons::At;
+use cw_text::{Fault, Place};
+
+/// A limit of tokens.
+#[derive(Clone, Copy)]
+pub enum TooNested {
+    /// Too many brackets are open at once.
+    Brackets,
+    /// Too many tokens stand in a row.
+    Row,
+}
 
 /// Answers `Size` at the least line of a token at which too many brackets are open or which
 /// stands too far in a row, if there is one.
 pub fn test_nesting(tokens: &[Token]) -> Result<(), Fault>
-    ensures { MatchResult result (λ _. IsShort tokens.now) (IsTooNested tokens.now) }
+    ensures { MatchResult result (λ _. IsShort tokens.now) (IsRefused tokens.now) }
 {
-    match least_fault(tokens).line {
+    match passed_by_tokens(tokens) {
         None => Ok(()),
-        Some(line) => Err(Fault::Size(Place { line })),
+        Some(at) => Err(Fault::Size(Place { line: at.line })),
     }
 }
 
-// The least line of a token that passes a limit.
-fn least_fault(tokens: &[Token]) -> LeastLine
-    ensures { result.line ≡ lowest None (spec.token_faults 0 0 tokens.now) }
+/// The least line of a token that passes a limit, with a limit that is passed there, if there is such a line.
+pub fn passed_by_tokens(tokens: &[Token]) -> Option<At<TooNested>>
+    ensures { MatchOption result (IsShort tokens.now) (IsFirstPassed tokens.now) }
 {
-    let mut least = LeastLine::new();
+    first_passed(tokens).first
+}
+
+// The least line so far of a token that passes a limit, with the limit that was noted for it first.
+#[derive(Clone, Copy)]
+struct Passed {
+    first: Option<At<TooNested>>,
+}
+
+impl Passed {
+    // One line more, unless the limit is kept.
+    #[inline(always)]
+    fn note(&mut self, kept: bool, reason: TooNested, line: u32)
+        ensures { self.new.first ≡ noted kept reason line self.old.first }
+    {
+        if kept {
+            return;
+        }
+        match self.first {
+            None => self.first = Some(At { line, reason }),
+            Some(at) => {
+                if line < at.line {
+                    self.first = Some(At { line, reason });
+                }
+            }
+        }
+    }
+}
+
+// The least line of a token that passes a limit, with the limit that was noted for it first.
+fn first_passed(tokens: &[Token]) -> Passed
+    ensures { result.first ≡ first_passed None 0 0 tokens.now }
+{
+    let mut passed = Passed { first: None };
     let mut brackets = 0usize;
     let mut row = 0usize;
     for token in tokens {
         brackets = open_after(brackets, token.kind);
         row = row_after(row, token.kind);
-        least.note(brackets <= MOST_OPEN_BRACKETS, token.line);
-        least.note(row <= MOST_TOKENS_IN_A_ROW, token.line);
+        passed.note(
+            brackets <= MOST_OPEN_BRACKETS,
+            TooNested::Brackets,
+            token.line,
+        );
+        passed.note(row <= MOST_TOKENS_IN_A_ROW, TooNested::Row, token.line);
     }
-    least
+    passed
 }
 
 // Brackets that are open after a token.

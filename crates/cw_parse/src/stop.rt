@@ -6,7 +6,7 @@ ghost use Rattle.cw_parse.specs.declared.stop.Stop.TheVariants.{Memory};
 use std::alloc::{AllocError, AllocFailed};
 
 /// Why reading stopped.
-#[derive(Clone, Copy, Debug, PartialEq, Eq)]
+#[derive(Clone, Copy)]
 pub enum Stop {
     /// No memory was left.
     Memory,

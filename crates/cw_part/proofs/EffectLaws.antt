@@ -1,10 +1,10 @@
 -- Effects of pieces show, count and follow one another as parts do.
 use Rattle.std.specs.Prelude.{◌≡◌, ℕ, suc, ℤ, ◌+◌, min, Bool, true, false, if◌then◌else◌, List, [], ◌∷◌, ◌++◌, length, map, Option, Some, None, slice_get, refl}
 use Rattle.std.proofs.Common.{sym, ◌∙◌, ap, subst, arith}
-use Rattle.std.specs.Int.{int_max, int_wrap, w128}
+use Rattle.std.specs.Int.{int_wrap, w128}
 use lib.IntN.{◌+ℤ◌}
-use Rattle.std.proofs.Math.IntN.{+ℤ_assoc, +ℤ_idl}
-use Rattle.std.proofs.lemmas.Int.{clamps, ints, int_wrap-add_left, int_wrap-add_right, SFits-int_wrap}
+use Rattle.std.proofs.lemmas.Int.{int_wrap-add_left, int_wrap-add_right, SFits-int_wrap}
+use Rattle.cw_facts.specs.Integers.{max_regroup}
 use Rattle.cw_model.specs.declared.syntax.Reduction.{Reduction}
 use Rattle.cw_model.specs.declared.syntax.Reduction.TheVariants.{Sum, Max}
 use Rattle.cw_model.specs.declared.total.Total.{Total}
@@ -25,28 +25,17 @@ use Rattle.cw_reduce.specs.Greatest.{greater}
 use Rattle.cw_reduce.specs.Shown.{totals_joined}
 use Rattle.cw_reduce.specs.Shown as views
 use Rattle.cw_reduce.specs.SumsOfIntegers.{SumsHoldIntegers}
+use Rattle.cw_reduce.specs.ShownLaws.{same_shown}
 use Rattle.cw_strand_laws.specs.Jobs.{Standing, Effect, Ended, Joined, TrapIn, OverLimit}
 use Rattle.cw_strand_laws.specs.Jobs as jobs
 use Rattle.cw_strand_laws.specs.Strands.{HasStopped, resumed, stopped_after, dropped}
 use Rattle.cw_jobs.specs.Totals.{kept, HoldsTotals}
+use Rattle.cw_jobs.specs.lemmas.Totals.{sum_append}
 use Rattle.cw_part.specs.declared.read.Read.{Read}
 use Rattle.cw_part.specs.Parts.{Came, Completed, Trapped, Over, Memory, followed}
 use Rattle.cw_part.specs.Read.{read_joined, readings}
 use Rattle.cw_part.specs.Effects.{EffectsShowViews, RunsReadAsMeasures, HasRead, IsOutcome, EffectsFollow}
 use Rattle.cw_part.proofs.ElisionLaws.{NormalsReadTheSame, reads_normal}
-
--- what a reducer was told in two pieces
-sum_append : (name : Name) (a b : List (Name × ℤ)) → sum_to name (a ++ b) ≡ sum_to name a +ℤ sum_to name b
-sum_append name [] b = sym (+ℤ_idl (sum_to name b))
-sum_append name (x ∷ a) b = by_test (same_name name x.0) (sum_append name a b)
-  where
-    by_test : (c : Bool) → sum_to name (a ++ b) ≡ sum_to name a +ℤ sum_to name b
-        → (if c then x.1 +ℤ sum_to name (a ++ b) else sum_to name (a ++ b)) ≡ (if c then x.1 +ℤ sum_to name a else sum_to name a) +ℤ sum_to name b
-    by_test true h = ap (λ (z : ℤ). x.1 +ℤ z) h ∙ sym (+ℤ_assoc x.1 (sum_to name a) (sum_to name b))
-    by_test false h = h
-
-max_regroup : (v w u : ℤ) → int_max (int_max v w) u ≡ int_max v (int_max w u)
-max_regroup v w u = omega (arith, ints, clamps)
 
 greater_after : (v : ℤ) (x y : Option ℤ) → greater (Some (or_greater v x)) y ≡ Some (or_greater v (greater x y))
 greater_after v None y = refl
@@ -106,9 +95,6 @@ totals_known code totals updates h = known_all (λ r. kept (total_to r.how r.nam
 
 abbrev shown_with : List Held → List ℤ → views.Shown
 shown_with s l = record { totals = s; lines = l }
-
-same_shown : {s s' : List Held} {l l' : List ℤ} → s ≡ s' → l ≡ l' → shown_with s l ≡ shown_with s' l'
-same_shown e f = cc
 
 pub effects_show_views : SumsHoldIntegers → EffectsShowViews
 effects_show_views law code a b both t u m n k h i j =

@@ -4,6 +4,7 @@ use Rattle.std.proofs.Common.{sym, ◌∙◌, ap, subst, inl, inr, ⊎_elim, ari
 use Rattle.std.specs.Int.{cast_signed, int_wrap, w128}
 use Rattle.std.specs.Int.RustNames.{FitsSigned}
 use Rattle.std.proofs.lemmas.Int.{int_wrap_fits, int_wrap-add_right, SFits-int_wrap}
+use Rattle.cw_facts.specs.Tests.{below}
 use Rattle.cw_model.specs.Burdens.{no_burden}
 use Rattle.cw_model.specs.declared.burden.Burden.{Burden}
 use Rattle.cw_model.specs.declared.syntax.Reduction.{Reduction}
@@ -25,7 +26,6 @@ use Rattle.cw_reduce.specs.Held.{Held, Summed, Raised, held_joined, as_total}
 use Rattle.cw_reduce.specs.SumsOfIntegers.{SumsHoldIntegers}
 use Rattle.cw_part.specs.declared.read.Read.{Read}
 use Rattle.cw_part.specs.Parts.{Came, Completed, Trapped, Over, over_if, within}
-use Rattle.cw_part.specs.PartLaws.{below}
 use Rattle.cw_part.specs.Runs.{Run, Numbering, cost, traces, serial, told_so, TellsTrace, TellsCame, RanAlike, TrappedAlike, OverAlike}
 use Rattle.cw_part.specs.PieceRuns.{OfCall, Exit, IsRunOf}
 use Rattle.cw_part.specs.Elision.{elision, TellsAnswer, EndedSo, TrappedSo, OverSo, ElisionIsARun, RunGivesTheAnswers, PiecesAreTheElision, AllFit, UpdatesAreTotals, wrapped}

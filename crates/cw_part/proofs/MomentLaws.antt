@@ -3,11 +3,12 @@ use Rattle.std.specs.Prelude.{◌≡◌, ℕ, ◌+◌, ◌-◌, ◌==◌, ◌<�
 use Rattle.std.proofs.Common.{sym, ◌∙◌, ap, arith}
 use Rattle.std.proofs.lemmas.Bool.Decides.{nat_tests}
 use borrow.Author.Tests.{eqb-true}
+use Rattle.cw_facts.specs.Tests.{equal}
 use Rattle.cw_model.specs.Trees.{Mark, Event, Join, work}
 use Rattle.cw_model.specs.Rows.{is_site, is_tag, outermost, calls_of, leaves, weight_of_site}
-use Rattle.cw_measure.specs.OpenParts.{Open, closed, has_spawned, work_in}
+use Rattle.cw_measure.specs.OpenParts.{Open, closed, work_in}
 use Rattle.cw_measure.specs.Outermost.{is_counted, one_if, Tally, ended_at, ended, Counts}
-use Rattle.cw_measure.specs.lemmas.OpenParts.{spawned_append, work_more, left_work}
+use Rattle.cw_measure.specs.lemmas.OpenParts.{work_more, left_work, spawned_joined}
 use Rattle.cw_measure.specs.lemmas.Outermost.{counts_join, counts_other_left, counts_ended, counts_read}
 use Rattle.cw_measure.specs.lemmas.StrandWeights.{work_meters}
 use Rattle.cw_sites.specs.SiteRows as sites
@@ -16,9 +17,6 @@ use Rattle.cw_sites.specs.OpenPaths.{here_in}
 use Rattle.cw_sites.specs.lemmas.SiteRows.{calls_more, own_more, own_nothing, left_calls, left_own}
 use Rattle.cw_regions.specs.RegionRows as regions
 use Rattle.cw_part.specs.Moments.{tree_here, summed_here, SitesAreRead, RegionsAreRead}
-
-joined_is : (es : List Event) → has_spawned (es ++ Join ∷ []) ≡ false
-joined_is es = spawned_append false es (Join ∷ [])
 
 -- a join does no work, and closing a part neither
 work_here : (o : Open) (os : List Open) (es : List Event) → work_in os (closed o (es ++ Join ∷ [])) ≡ work_in (o ∷ os) es
@@ -40,10 +38,6 @@ own_here site (o ∷ os) es =
     let z = own_nothing site (here_in 0 (o ∷ os)) in
     let c = own_here site os (closed o (es ++ Join ∷ [])) in omega arith
 
--- a tally is read alike before and after the end of a part
-idle_is : (n : ℕ) → n ≡ 0 → (n == 0) ≡ true
-idle_is n e = grind (arith, nat_tests)
-
 open_is : (n : ℕ) → 0 < n → (n == 0) ≡ false
 open_is n h = grind (arith, nat_tests)
 
@@ -51,7 +45,7 @@ more_open : (n : ℕ) → (n == 1) ≡ false → 0 < n → 0 < n - 1
 more_open n e h = grind (arith, nat_tests)
 
 none_open : (reading : ℕ) (t : Tally) → t.active ≡ 0 → summed_here reading t ≡ t.sum
-none_open reading t e = ap (λ (b : Bool). if b then t.sum else t.sum + (reading - t.began)) (idle_is t.active e)
+none_open reading t e = ap (λ (b : Bool). if b then t.sum else t.sum + (reading - t.began)) (equal t.active 0 e)
 
 some_open : (reading : ℕ) (t : Tally) → 0 < t.active → summed_here reading t ≡ t.sum + (reading - t.began)
 some_open reading t h = ap (λ (b : Bool). if b then t.sum else t.sum + (reading - t.began)) (open_is t.active h)
@@ -85,7 +79,7 @@ part_summed picks busy o os es t sum more h = by_test (is_counted picks o.mark) 
         let same : work_in (o ∷ os) es ≡ reading = let a = work_more (o ∷ os) es Join in omega arith in
         ap (λ (n : ℕ). summed_here n t) same ∙ sym (ended_alike (t.active == 1) reading t refl active)
         ∙ ap (λ (n : ℕ). summed_here n (ended reading t)) (sym (left_work o os fs))
-        ∙ more (ended reading t) (counts_ended work work_in picks busy work_meters o os fs t e (joined_is es) joined)
+        ∙ more (ended reading t) (counts_ended work work_in picks busy work_meters o os fs t e (spawned_joined es) joined)
 
 work_summed : (picks : Mark → Bool) (busy : ℕ) (os : List Open) (es : List Event) (t : Tally) → busy ≡ 0
     → Counts work work_in picks busy os es t

@@ -1,6 +1,7 @@
 -- Each call of the model is a run of a frame, whatever the limit. The runs are found step by step, so that they compute.
 use Rattle.std.specs.Prelude.{◌≡◌, ℕ, zero, suc, ℤ, pos, ◌-◌, ◌/◌, ◌<◌, ◌≤◌, ◌+ℤ◌, nat_lt, nat_le, if◌then◌else◌, Bool, true, false, List, [], ◌∷◌, length, Option, Some, None, refl}
 use Rattle.std.proofs.Common.{sym, ap, subst, arith}
+use Rattle.cw_facts.specs.Tests.{not_lt_of}
 use Rattle.cw_model.specs.declared.trap.Trap.{Trap}
 use Rattle.cw_model.specs.declared.syntax.CallKind.{CallKind}
 use Rattle.cw_model.specs.declared.syntax.CallKind.TheVariants.{Plain, Spawned}
@@ -11,7 +12,7 @@ use Rattle.cw_model.specs.Syntax.{Expr, Stmt, Declare, DeclareArray, Assign, Ass
 use Rattle.cw_model.specs.Trees.{Mark, Invocation, Execution, Join, works}
 use Rattle.cw_model.specs.Frames.{Frame, no_frame, leave, inside_loop, new_array, new_int}
 use Rattle.cw_model.specs.Expressions.{Evaluated, Gives, Traps, evaluate}
-use Rattle.cw_model.specs.Outcome.{Trace, quiet, shows, Outcome, Done, Piece, ◌>>=◌, then_do, gives, show, pay, pay_for, as_one}
+use Rattle.cw_model.specs.Outcome.{Trace, shows, Outcome, Done, Piece, ◌>>=◌, then_do, gives, show, pay, pay_for, as_one}
 use Rattle.cw_model.specs.Outcome as model
 use Rattle.cw_model.specs.Loops.{turn_start, turn_end, leaf_start, leaf_end, node_start, node_call, node_end, leaf_turns, halves}
 use Rattle.cw_model.specs.Meaning.{Completion, Normal, ByReturn, onward, frame_of, scoped, Returned, Entry, Deeper, SameDepth, Calls, function_named, given_array, arguments, call_event, start_event, turns, run, run_all, end_of_call, call, depth_of}
@@ -19,7 +20,6 @@ use Rattle.cw_measure.specs.OpenParts.{marked, part_of}
 use Rattle.cw_part.specs.Parts.{Came}
 use Rattle.cw_part.specs.Runs.{Run, cost}
 use Rattle.cw_part.specs.PieceRuns.{Kind, OfNothing, OfInt, OfFrame, OfStatement, OfCall, Given, Exit, IsRunOf, Nothing, Free, Paid, Valued, Failed, AtOnce, CutOff, Nested, Further, Stopped, Turns, HasRun, CallsAreRuns}
-use Rattle.cw_part.proofs.RunLaws.{not_above}
 use Rattle.cw_part.proofs.PieceTellingLaws.{tested, Comes, Ending, Trapping, Passing, run_comes}
 
 -- whatever the limit, the piece is a run
@@ -107,7 +107,7 @@ leaves_tested {A} n k a t P f = by_test (nat_lt n k) refl
   where
     by_test : (b : Bool) → nat_lt n k ≡ b → Leaves {A = A} P (if b then model.Over else Done a (n - k) t)
     by_test true e = tt
-    by_test false e = f (not_above n k e)
+    by_test false e = f (not_lt_of n k e)
 
 pub leaves_trap : (A : Type 0) (b : Bool) (trap : Trap) (line : ℕ) (lines : List ℤ) (P : ℕ → Type 0) → Leaves {A = A} P (if b then model.Over else model.Trapped trap line lines)
 leaves_trap A true trap line lines P = tt

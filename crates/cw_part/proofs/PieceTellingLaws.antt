@@ -1,16 +1,17 @@
 -- A piece of the model comes to what its run does, within each budget that the limit allows.
 use Rattle.std.specs.Prelude.{◌≡◌, ℕ, zero, suc, ℤ, ◌+◌, ◌-◌, ◌<◌, ◌≤◌, nat_lt, if◌then◌else◌, Bool, true, false, List, [], ◌∷◌, Option, Some, None, refl}
 use Rattle.std.proofs.Common.{sym, ◌∙◌, ap, subst, arith}
+use Rattle.cw_facts.specs.Tests.{not_lt_of, below, lt_of}
 use Rattle.cw_model.specs.declared.trap.Trap.{Trap}
 use Rattle.cw_model.specs.Trees.{Mark, Work, works}
 use Rattle.cw_model.specs.Outcome.{Trace, quiet, joined, shows, Outcome, Done, Piece, ◌>>=◌, after, then_do, joined_up, as_one}
 use Rattle.cw_model.specs.Outcome as model
+use Rattle.cw_code.specs.lemmas.Runs.{joined_quiet}
 use Rattle.cw_measure.specs.OpenParts.{marked, part_of}
 use Rattle.cw_part.specs.Parts.{Came, Completed, Trapped, Over, Memory, followed, seen, over_if, within}
-use Rattle.cw_part.specs.PartLaws.{below, is_below}
 use Rattle.cw_part.specs.Runs.{Run, cost, traces, as_event}
 use Rattle.cw_part.specs.PieceRuns.{Kind, OfNothing, OfInt, Given, Exit, exit_of, instructions, IsRunOf, Nothing, Free, Paid, Valued, Failed, AtOnce, CutOff, Nested, Further, Stopped, Turns, outcome_with, RunsTellOfPieces}
-use Rattle.cw_part.proofs.RunLaws.{cost_both, cost_inside, traces_are_lawful, meaning, not_above, serial_is, meaning_both}
+use Rattle.cw_part.proofs.RunLaws.{cost_both, cost_inside, meaning, serial_is, meaning_both}
 
 -- an outcome at this cost, within what is left
 abbrev pub tested : {A : Type 0} (left cost : ℕ) → (ℕ → Outcome A) → Outcome A
@@ -31,7 +32,7 @@ tested_free : {A : Type 0} (n k : ℕ) (o : ℕ → Outcome A) → k ≡ 0 → t
 tested_free n k o e = by_test (nat_lt n k) refl
   where
     by_test : (b : Bool) → nat_lt n k ≡ b → (if b then model.Over else o (n - k)) ≡ o n
-    by_test true h = let x = is_below n k h in absurd (omega arith)
+    by_test true h = let x = lt_of n k h in absurd (omega arith)
     by_test false h = ap o (omega arith)
 
 same_tested : {A : Type 0} (n k : ℕ) (o u : ℕ → Outcome A) → (k ≤ n → o (n - k) ≡ u (n - k)) → tested n k o ≡ tested n k u
@@ -39,7 +40,7 @@ same_tested n k o u f = by_test (nat_lt n k) refl
   where
     by_test : (b : Bool) → nat_lt n k ≡ b → (if b then model.Over else o (n - k)) ≡ (if b then model.Over else u (n - k))
     by_test true h = refl
-    by_test false h = f (not_above n k h)
+    by_test false h = f (not_lt_of n k h)
 
 tested_over : {A : Type 0} (b : Bool) (o : Outcome A) → o ≡ model.Over → (if b then model.Over else o) ≡ model.Over
 tested_over true o e = refl
@@ -51,10 +52,10 @@ tested_twice n k j o = by_tests (nat_lt n k) (nat_lt (n - k) j) (nat_lt n (k + j
     by_tests : (p q r : Bool) → nat_lt n k ≡ p → nat_lt (n - k) j ≡ q → nat_lt n (k + j) ≡ r
         → (if p then model.Over else (if q then model.Over else o (n - k - j))) ≡ (if r then model.Over else o (n - (k + j)))
     by_tests true q true e f g = refl
-    by_tests true q false e f g = let x = is_below n k e in let z = not_above n (k + j) g in absurd (omega arith)
+    by_tests true q false e f g = let x = lt_of n k e in let z = not_lt_of n (k + j) g in absurd (omega arith)
     by_tests false true true e f g = refl
-    by_tests false true false e f g = let x = not_above n k e in let y = is_below (n - k) j f in let z = not_above n (k + j) g in absurd (omega arith)
-    by_tests false false true e f g = let x = not_above n k e in let y = not_above (n - k) j f in let z = is_below n (k + j) g in absurd (omega arith)
+    by_tests false true false e f g = let x = not_lt_of n k e in let y = lt_of (n - k) j f in let z = not_lt_of n (k + j) g in absurd (omega arith)
+    by_tests false false true e f g = let x = not_lt_of n k e in let y = not_lt_of (n - k) j f in let z = lt_of n (k + j) g in absurd (omega arith)
     by_tests false false false e f g = ap o (omega arith)
 
 -- a piece that is done, and what goes on from there
@@ -113,9 +114,6 @@ stopped_comes kind later limit piece next (Trapping trap line t f) =
 stopped_comes kind later limit piece next (Passing t d f) = Passing t d (λ n l. ap (λ o. then_do o next) (f n l))
 
 -- a part inside
-quiet_last : (t : Trace) → joined t quiet ≡ t
-quiet_last t = traces_are_lawful.none_last t
-
 inside_done : {A : Type 0} (b : Bool) (k : ℕ) (a : A) (spawned : Bool) (mark : Option Mark) (t : Trace)
     → joined_up (λ tree. part_of spawned (marked mark tree)) (if b then model.Over else Done a k t) ≡ (if b then model.Over else Done a k (as_event spawned mark t))
 inside_done true k a spawned mark t = refl
@@ -145,7 +143,7 @@ inside_comes kind limit spawned mark piece (Passing t d f) =
 
 -- nothing after it
 nothing_after : (x : Came Trace) → followed traces x (Completed quiet) ≡ x
-nothing_after (Completed t) = ap Completed (quiet_last t)
+nothing_after (Completed t) = ap Completed (joined_quiet t)
 nothing_after (Trapped trap line t) = refl
 nothing_after Over = refl
 nothing_after Memory = refl
@@ -164,12 +162,12 @@ paid_comes kind limit k a = by_test (nat_lt limit k) refl
   where
     by_test : (b : Bool) → nat_lt limit k ≡ b → Comes kind limit (λ left. tested left k (λ m. Done a m (shows (works k)))) (if b then None else Some (a, limit - k)) (Completed (shows (works k)))
     by_test true e =
-        let x = is_below limit k e in
+        let x = lt_of limit k e in
         let c = cost_works k in
         Passing (shows (works k)) (omega arith)
         (λ n l. ap (λ (b : Bool). if b then model.Over else Done a (n - k) (shows (works k))) (below n k (omega arith)))
     by_test false e =
-        let x = not_above limit k e in
+        let x = not_lt_of limit k e in
         let c = cost_works k in
         Ending a (limit - k) (shows (works k)) (omega arith) (λ n l. ap (λ j. tested n j (λ m. Done a m (shows (works k)))) (sym c))
 

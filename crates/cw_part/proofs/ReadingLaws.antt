@@ -2,6 +2,7 @@
 use Rattle.std.specs.Prelude.{◌≡◌, ℕ, zero, suc, ℤ, ◌-◌, ◌≤◌, ◌==◌, min, Bool, true, false, if◌then◌else◌, List, [], ◌∷◌, refl}
 use Rattle.std.proofs.Common.{sym, ◌∙◌, ap, arith}
 use Rattle.std.proofs.lemmas.Bool.Decides.{nat_tests}
+use Rattle.cw_facts.specs.Tests.{eq_of, not_lt_of, not_below}
 use Rattle.cw_model.specs.declared.burden.Burden.{Burden}
 use Rattle.cw_model.specs.Syntax.{Name}
 use Rattle.cw_model.specs.declared.limits.TheConstants.{MOST_LIMIT}
@@ -12,12 +13,11 @@ use Rattle.cw_reduce.specs.HeldLaws.{held-first}
 use Rattle.cw_reduce.specs.Shown.{held_of, totals_joined}
 use Rattle.cw_part.specs.declared.read.Read.{Read}
 use Rattle.cw_part.specs.Parts.{Came, Completed, Trapped, Over, Memory, seen, is_above}
-use Rattle.cw_part.specs.PartLaws.{not_below}
 use Rattle.cw_part.specs.Read.{readings}
 use Rattle.cw_part.specs.RunParts.{RunPart}
 use Rattle.cw_part.specs.Runs.{Run, Numbering, cost, traces, serial, told, TellsTrace, TellsTrap, TellsCame, RanAlike, TrappedAlike, OverAlike, Alone}
 use Rattle.cw_part.specs.RunsHaveParts.{RunsHaveParts}
-use Rattle.cw_part.proofs.RunLaws.{IsNoMemory, not_above}
+use Rattle.cw_part.proofs.RunLaws.{IsNoMemory}
 use Rattle.cw_part.proofs.TellingLaws.{held_both}
 use Rattle.cw_part.proofs.StandingLaws.{none_met, serial_tested}
 
@@ -56,9 +56,6 @@ none_read : (q : ℕ) → held_of [] q ≡ none_held
 none_read zero = refl
 none_read (suc q) = refl
 
-same_number : (k q : ℕ) → (k == q) ≡ true → k ≡ q
-same_number k q e = grind (arith, nat_tests)
-
 -- an update at its number, by how the reducer that is asked for reduces
 update_read : (numbering : Numbering) (x : Name × ℤ) (q : ℕ) → held_of (one_update numbering x) q ≡ (if numbering.number x.0 == q then one_held (numbering.how q) x.1 else none_held)
 update_read numbering x q = one_read k q (one_held (numbering.how k) x.1) ∙ by_test (k == q) refl
@@ -67,7 +64,7 @@ update_read numbering x q = one_read k q (one_held (numbering.how k) x.1) ∙ by
     k = numbering.number x.0
 
     by_test : (b : Bool) → (k == q) ≡ b → (if b then one_held (numbering.how k) x.1 else none_held) ≡ (if b then one_held (numbering.how q) x.1 else none_held)
-    by_test true e = ap (λ (n : ℕ). one_held (numbering.how n) x.1) (same_number k q e)
+    by_test true e = ap (λ (n : ℕ). one_held (numbering.how n) x.1) (eq_of k q e)
     by_test false e = refl
 
 totals_read : (numbering : Numbering) (q : ℕ) (xs : List (Name × ℤ)) → held_of (totals_of numbering xs) q ≡ told numbering q xs
@@ -100,8 +97,8 @@ all_told burden numbering Memory h = absurd h
 
 -- it is within the limit where the run is
 all_tested : (burden : Burden) (numbering : Numbering) (n left : ℕ) (x : Came Trace) → left ≤ n → is_above traces left x ≡ false → is_above readings n (seen (read_of burden numbering) x) ≡ false
-all_tested burden numbering n left (Completed t) l e = let c = not_above left (cost t) e in not_below n (min most (cost t)) (omega arith)
-all_tested burden numbering n left (Trapped trap line t) l e = let c = not_above left (cost t) e in not_below n (min most (cost t)) (omega arith)
+all_tested burden numbering n left (Completed t) l e = let c = not_lt_of left (cost t) e in not_below n (min most (cost t)) (omega arith)
+all_tested burden numbering n left (Trapped trap line t) l e = let c = not_lt_of left (cost t) e in not_below n (min most (cost t)) (omega arith)
 all_tested burden numbering n left Over l e = refl
 all_tested burden numbering n left Memory l e = refl
 

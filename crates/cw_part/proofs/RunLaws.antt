@@ -1,25 +1,18 @@
 -- The serial run within a limit is the whole run, tested against the limit, and so the runs of pieces join to it.
-use Rattle.std.specs.Prelude.{◌≡◌, ℕ, ℤ, ◌+◌, ◌-◌, ◌≤◌, nat_lt, Bool, true, false, List, [], ◌∷◌, ◌++◌, Option, Some, None, refl}
+use Rattle.std.specs.Prelude.{◌≡◌, ℕ, ℤ, ◌+◌, ◌-◌, nat_lt, Bool, true, false, List, [], ◌∷◌, ◌++◌, Option, Some, None, refl}
 use Rattle.std.proofs.Common.{sym, ◌∙◌, ap, arith}
-use Rattle.std.proofs.lemmas.Bool.Decides.{nat_tests}
+use Rattle.std.proofs.lemmas.List.{append-nil, append_assoc}
+use Rattle.cw_facts.specs.Tests.{not_lt_of, lt_of, not_below}
 use Rattle.cw_model.specs.declared.trap.Trap.{Trap}
 use Rattle.cw_model.specs.Syntax.{Name}
 use Rattle.cw_model.specs.Trees.{Mark, Event, Work, Series, Fork, Join, tree_of, work}
 use Rattle.cw_model.specs.Outcome.{Trace, quiet, joined}
 use Rattle.cw_part.specs.Parts.{IsLawful, Came, Completed, Trapped, Over, Memory, followed, seen, over_if, within}
 use Rattle.cw_part.specs.PartFacts.{tested_stays}
-use Rattle.cw_part.specs.PartLaws.{is_below, not_below, followed-assoc, none_followed, tested_first, tested_second}
+use Rattle.cw_part.specs.PartLaws.{followed-assoc, none_followed, tested_first, tested_second}
 use Rattle.cw_part.specs.Runs.{Run, Ends, Shows, Traps, Inside, then_run, cost, traces, as_event, goes_on, serial}
 
 -- the cost of two traces is that of both, and a part inside costs what its events do
-append_all : {A : Type 0} (xs : List A) → xs ++ [] ≡ xs
-append_all [] = refl
-append_all (x ∷ xs) = ap (λ l. x ∷ l) (append_all xs)
-
-append_further : {A : Type 0} (xs ys zs : List A) → (xs ++ ys) ++ zs ≡ xs ++ (ys ++ zs)
-append_further [] ys zs = refl
-append_further (x ∷ xs) ys zs = ap (λ l. x ∷ l) (append_further xs ys zs)
-
 work_both : (es fs : List Event) → work (tree_of (es ++ fs)) ≡ work (tree_of es) + work (tree_of fs)
 work_both [] fs = omega arith
 work_both (Work k ∷ es) fs = let m = work_both es fs in omega arith
@@ -46,10 +39,10 @@ same_trace h i j = cc
 pub traces_are_lawful : IsLawful Trace traces
 traces_are_lawful = record {
   none_first = λ a. refl;
-  none_last = λ a. same_trace (append_all a.lines) (append_all a.updates) (append_all a.events);
+  none_last = λ a. same_trace (append-nil a.lines) (append-nil a.updates) (append-nil a.events);
   regroup = λ a b c.
-      same_trace (append_further a.lines b.lines c.lines)
-      (append_further a.updates b.updates c.updates) (append_further a.events b.events c.events);
+      same_trace (append_assoc a.lines b.lines c.lines)
+      (append_assoc a.updates b.updates c.updates) (append_assoc a.events b.events c.events);
   no_work = refl;
   above_first = λ a b. let e = cost_both a b in omega arith;
   above_second = λ a b. let e = cost_both a b in omega arith;
@@ -116,19 +109,16 @@ over_over : (b : Bool) → over_if b beyond ≡ beyond
 over_over true = refl
 over_over false = refl
 
-pub not_above : (n k : ℕ) → nat_lt n k ≡ false → k ≤ n
-not_above n k h = grind (arith, nat_tests)
-
 -- to test the first trace and then the second against what is left is to test both
 both_tested : (left a b : ℕ) (t : Trace) (second both : Came Trace) → followed traces (Completed t) second ≡ both → over_if (nat_lt left a) (followed traces (Completed t) (over_if (nat_lt (left - a) b) second)) ≡ over_if (nat_lt left (a + b)) both
 both_tested left a b t second both e = by_tests (nat_lt left a) (nat_lt (left - a) b) (nat_lt left (a + b)) refl refl refl
   where
     by_tests : (p q r : Bool) → nat_lt left a ≡ p → nat_lt (left - a) b ≡ q → nat_lt left (a + b) ≡ r → over_if p (followed traces (Completed t) (over_if q second)) ≡ over_if r both
     by_tests true q true h k l = refl
-    by_tests true q false h k l = let x = is_below left a h in let z = not_above left (a + b) l in absurd (omega arith)
+    by_tests true q false h k l = let x = lt_of left a h in let z = not_lt_of left (a + b) l in absurd (omega arith)
     by_tests false true true h k l = refl
-    by_tests false true false h k l = let x = not_above left a h in let y = is_below (left - a) b k in let z = not_above left (a + b) l in absurd (omega arith)
-    by_tests false false true h k l = let x = not_above left a h in let y = not_above (left - a) b k in let z = is_below left (a + b) l in absurd (omega arith)
+    by_tests false true false h k l = let x = not_lt_of left a h in let y = lt_of (left - a) b k in let z = not_lt_of left (a + b) l in absurd (omega arith)
+    by_tests false false true h k l = let x = not_lt_of left a h in let y = not_lt_of (left - a) b k in let z = lt_of left (a + b) l in absurd (omega arith)
     by_tests false false false h k l = e
 
 spent : (left : ℕ) (t : Trace) (x : Came Trace) → IsNoMemory x → over_if (nat_lt left (cost t)) (followed traces (Completed t) (within traces (left - cost t) x)) ≡ within traces left (followed traces (Completed t) x)

@@ -1,6 +1,7 @@
 -- A part stands for a run, wherever its pieces stopped, and so joined pieces tell of the serial run.
 use Rattle.std.specs.Prelude.{◌≡◌, ℕ, ◌+◌, ◌<◌, ◌≤◌, ◌^◌, nat_lt, min, Bool, true, false, Option, ◌⊎◌, refl}
 use Rattle.std.proofs.Common.{sym, ◌∙◌, ap, subst, inl, inr, arith}
+use Rattle.cw_facts.specs.Tests.{not_lt_of, lt_of, not_below}
 use Rattle.cw_model.specs.declared.burden.Burden.{Burden}
 use Rattle.cw_model.specs.Trees.{Mark}
 use Rattle.cw_model.specs.declared.limits.TheConstants.{MOST_LIMIT}
@@ -9,12 +10,10 @@ use Rattle.cw_measure.specs.Measured.{MeasuresReadTrees}
 use Rattle.cw_part.specs.declared.read.Read.{Read}
 use Rattle.cw_part.specs.Parts.{Came, Completed, Trapped, Over, Memory, followed, seen, over_if, is_above, within}
 use Rattle.cw_part.specs.PartFacts.{is_tested}
-use Rattle.cw_part.specs.PartLaws.{is_below, not_below}
 use Rattle.cw_part.specs.Read.{readings}
 use Rattle.cw_part.specs.RunParts.{RunPart, as_child, as_call}
-use Rattle.cw_part.specs.RunPartLaws.{is_limit}
 use Rattle.cw_part.specs.Runs.{Run, Numbering, Inside, then_run, cost, traces, as_event, serial, TellsCame, RanAlike, TrappedAlike, OverAlike, IsCountedAfter, IsJoinedOf, Alone, Refused, Cut, Apart, Called, PiecesAreTheRun}
-use Rattle.cw_part.proofs.RunLaws.{cost_both, cost_inside, IsNoMemory, meaning, none_meant, trap_stays, over_stays, not_above, serial_is, runs_join, children_join}
+use Rattle.cw_part.proofs.RunLaws.{cost_both, cost_inside, IsNoMemory, meaning, none_meant, trap_stays, over_stays, serial_is, runs_join, children_join}
 use Rattle.cw_part.proofs.TellingLaws.{came_both, came_tested, part_read, came_inside}
 
 -- a run passes the limit, with this cost before it
@@ -143,13 +142,13 @@ stands_alone : (burden : Burden) (numbering : Numbering) (n d left : ℕ) (m : C
 stands_alone burden numbering n d left (Completed t) a k l g h = by_test (nat_lt left (cost t)) refl
   where
     by_test : (b : Bool) → nat_lt left (cost t) ≡ b → Stands burden numbering n d (within traces n (Completed t)) a
-    by_test true e = let x = is_below left (cost t) e in stopped burden numbering n d left (Completed t) a e (omega arith) h
-    by_test false e = let x = not_above left (cost t) e in unstopped burden numbering n d left (Completed t) a e (not_below n (cost t) (omega arith)) h
+    by_test true e = let x = lt_of left (cost t) e in stopped burden numbering n d left (Completed t) a e (omega arith) h
+    by_test false e = let x = not_lt_of left (cost t) e in unstopped burden numbering n d left (Completed t) a e (not_below n (cost t) (omega arith)) h
 stands_alone burden numbering n d left (Trapped trap line t) a k l g h = by_test (nat_lt left (cost t)) refl
   where
     by_test : (b : Bool) → nat_lt left (cost t) ≡ b → Stands burden numbering n d (within traces n (Trapped trap line t)) a
-    by_test true e = let x = is_below left (cost t) e in stopped burden numbering n d left (Trapped trap line t) a e (omega arith) h
-    by_test false e = let x = not_above left (cost t) e in unstopped burden numbering n d left (Trapped trap line t) a e (not_below n (cost t) (omega arith)) h
+    by_test true e = let x = lt_of left (cost t) e in stopped burden numbering n d left (Trapped trap line t) a e (omega arith) h
+    by_test false e = let x = not_lt_of left (cost t) e in unstopped burden numbering n d left (Trapped trap line t) a e (not_below n (cost t) (omega arith)) h
 stands_alone burden numbering n d left Over a k l g h = Same h
 stands_alone burden numbering n d left Memory a k l g h = absurd k
 
@@ -182,7 +181,7 @@ parts_stand : MeasuresReadTrees → (burden : Burden) (numbering : Numbering) (l
 parts_stand law burden numbering limit d e x y whole p q w m c f g h k =
     let n = min p.limit q.limit in
     let same : n ≡ limit = omega arith in
-    let l = is_limit MOST_LIMIT p.limit p.limited in
+    let l = not_lt_of MOST_LIMIT p.limit p.limited in
     let P : Came Trace → Type 0 = λ z. Stands burden numbering limit d z (within readings n (followed readings p.came q.came)) in
     let Q : ℕ → Type 0 = λ j. Stands burden numbering limit d (within traces limit (followed traces x y)) (within readings j (followed readings p.came q.came)) in
     (same, subst P w (subst Q (sym same) (stands_both law burden numbering limit d e x y p.came q.came (omega arith) m c h k)))
@@ -210,8 +209,8 @@ pieces_stand law burden numbering limit b (Called before between mark inner rest
 
 -- with nothing before it a run that passes the limit is over
 over_at_once : (n : ℕ) (z : Came Trace) → is_above traces n z ≡ false → IsBeyond n 0 z → z ≡ Over
-over_at_once n (Completed t) e p = let x = not_above n (cost t) e in absurd (omega arith)
-over_at_once n (Trapped trap line t) e p = let x = not_above n (cost t) e in absurd (omega arith)
+over_at_once n (Completed t) e p = let x = not_lt_of n (cost t) e in absurd (omega arith)
+over_at_once n (Trapped trap line t) e p = let x = not_lt_of n (cost t) e in absurd (omega arith)
 over_at_once n Over e p = refl
 over_at_once n Memory e p = absurd p
 

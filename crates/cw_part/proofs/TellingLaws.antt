@@ -1,24 +1,27 @@
 -- What is read of pieces tells of the run that they are joined to.
-use Rattle.std.specs.Prelude.{◌≡◌, ℕ, zero, suc, ℤ, ◌+◌, ◌<◌, ◌≤◌, ◌^◌, ◌==◌, nat_lt, max, min, Bool, true, false, if◌then◌else◌, List, [], ◌∷◌, ◌++◌, Option, Some, None, refl}
+use Rattle.std.specs.Prelude.{◌≡◌, ℕ, zero, suc, ℤ, ◌+◌, ◌<◌, ◌≤◌, ◌^◌, ◌==◌, nat_lt, max, min, Bool, true, false, if◌then◌else◌, List, [], ◌∷◌, ◌++◌, Option, refl}
 use Rattle.std.proofs.Common.{sym, ◌∙◌, ap, subst, arith}
+use Rattle.cw_facts.specs.Tests.{below, lt_of}
 use Rattle.cw_model.specs.Burdens.{at_child, at_rest, no_burden}
 use Rattle.cw_model.specs.declared.burden.Burden.{Burden}
 use Rattle.cw_model.specs.declared.syntax.Reduction.{Reduction}
 use Rattle.cw_model.specs.Syntax.{Name}
-use Rattle.cw_model.specs.Trees.{Mark, Tree, Fork, tree_of, work, span, burdened_span, Series}
+use Rattle.cw_model.specs.Trees.{Mark, Fork, tree_of, work, span, burdened_span, Series}
 use Rattle.cw_model.specs.declared.limits.TheConstants.{MOST_LIMIT}
 use Rattle.cw_model.specs.Outcome.{Trace, joined}
-use Rattle.cw_measure.specs.Counters.{Counters, Unsynced, up_to, later, onward, exactly, fresh, forked, ticked, held}
+use Rattle.cw_measure.specs.Counters.{Unsynced, up_to, later, onward, exactly, fresh, forked, ticked, held}
 use Rattle.cw_measure.specs.Measured.{Measured, most, most_burdened, measure_of, nothing, after_child, after_part, span_read, burdened_read, ReadsTree, MeasuresReadTrees}
 use Rattle.cw_measure.specs.Measured as measured
 use Rattle.cw_measure.specs.OpenParts.{marked}
 use Rattle.cw_measure.specs.lemmas.BlockWeights.{child_charge}
+use Rattle.cw_measure.specs.JoinLaws.{same_parts}
+use Rattle.cw_measure.specs.lemmas.StrandWeights.{span_marked}
+use Rattle.cw_measure.specs.lemmas.OpenParts.{work_marked}
 use Rattle.cw_reduce.specs.Held.{Held, one_held, held_joined}
 use Rattle.cw_reduce.specs.HeldLaws.{held-first, held-last, held-assoc}
 use Rattle.cw_reduce.specs.Shown.{held_of, totals_joined}
 use Rattle.cw_part.specs.declared.read.Read.{Read}
 use Rattle.cw_part.specs.Parts.{Came, Completed, Trapped, followed, seen, over_if, within}
-use Rattle.cw_part.specs.PartLaws.{below, is_below}
 use Rattle.cw_part.specs.Read.{readings, read_joined, child_read, call_read}
 use Rattle.cw_part.specs.Runs.{Numbering, cost, traces, as_event, told, told_so, TellsTrace, TellsTrap, TellsCame, RanAlike, TrappedAlike, OverAlike}
 use Rattle.cw_part.proofs.RunLaws.{cost_both, cost_inside}
@@ -81,11 +84,11 @@ same_test : (n c w : ℕ) → n ≤ MOST_LIMIT → w ≡ min most c → nat_lt n
 same_test n c w l e = by_test (nat_lt n c) refl
   where
     by_test : (b : Bool) → nat_lt n c ≡ b → b ≡ nat_lt n w
-    by_test true h = let x = is_below n c h in sym (below n w (omega arith))
+    by_test true h = let x = lt_of n c h in sym (below n w (omega arith))
     by_test false h = by_other (nat_lt n w) refl
       where
         by_other : (b : Bool) → nat_lt n w ≡ b → false ≡ b
-        by_other true k = let x = is_below n w k in sym h ∙ below n c (omega arith)
+        by_other true k = let x = lt_of n w k in sym h ∙ below n c (omega arith)
         by_other false k = refl
 
 over_alike : (burden : Burden) (numbering : Numbering) (x : Came Trace) (a : Came Read) (b : Bool) → TellsCame burden numbering x a → TellsCame burden numbering (over_if b x) (over_if b a)
@@ -103,14 +106,6 @@ came_tested burden numbering n l (TrappedAlike trap line t a h) = alike_if burde
 came_tested burden numbering n l OverAlike = OverAlike
 
 -- a child's measure, as a piece of the block round it, is that of the child as an event
-span_marked : (burden : Burden) (mark : Option Mark) (t : Tree) → burdened_span burden (marked mark t) ≡ burdened_span burden t
-span_marked burden None t = refl
-span_marked burden (Some mark) t = refl
-
-work_marked : (mark : Option Mark) (t : Tree) → work (marked mark t) ≡ work t
-work_marked None t = refl
-work_marked (Some mark) t = refl
-
 after_none : (g c : ℕ) → c ≤ g → later (up_to g) 0 c ≡ c
 after_none g zero h = refl
 after_none g (suc c) h = omega arith
@@ -124,12 +119,6 @@ one_child g burden c s h k e =
     let x = after_none g child (omega arith) in
     same_unsynced (max 0 (later (up_to g) 0 child)) (min g (max (at_child burden + s) 0)) (up_to g 0 (at_rest burden)) (min g (at_rest burden + 0)) (omega arith) (omega arith)
 
-abbrev measured_with : ℕ → Counters → Counters → Measured
-measured_with w p b = record { work = w; plain = p; burdened = b }
-
-same_measured : {w w' : ℕ} {p p' b b' : Counters} → w ≡ w' → p ≡ p' → b ≡ b' → measured_with w p b ≡ measured_with w' p' b'
-same_measured e f g = cc
-
 measure_child : MeasuresReadTrees → (burden : Burden) (mark : Option Mark) (m : Measured) (t : Trace) → burden.charge < 2 ^ 64 → m ≡ measure_of burden t.events → after_child burden m nothing ≡ measure_of burden (Fork (marked mark (tree_of t.events)) ∷ [])
 measure_child law burden mark m t h e =
     let tree = tree_of t.events in
@@ -139,7 +128,7 @@ measure_child law burden mark m t h e =
     let v = work_marked mark tree in
     let more : up_to most 0 m.work ≡ min most ((work (marked mark tree) + 0) + 0) = omega arith in
     let light = child_charge burden in
-    same_measured more
+    same_parts more
     (one_child most no_burden (span_read m) (span (marked mark tree)) (omega arith) (omega arith) (r.span_is ∙ ap (min most) (sym (span_marked no_burden mark tree))))
     (one_child most_burdened burden (burdened_read m) (burdened_span burden (marked mark tree)) (omega arith) (omega arith) (r.burdened_is ∙ ap (min most_burdened) (sym (span_marked burden mark tree))))
 
@@ -154,7 +143,7 @@ measure_call law burden mark m t e =
     let w = r.work_is in
     let v = work_marked mark tree in
     let more : up_to most 0 m.work ≡ min most ((work (marked mark tree) + 0) + 0) = omega arith in
-    same_measured more
+    same_parts more
     (one_call most (span_read m) (span (marked mark tree)) (r.span_is ∙ ap (min most) (sym (span_marked no_burden mark tree))))
     (one_call most_burdened (burdened_read m) (burdened_span burden (marked mark tree)) (r.burdened_is ∙ ap (min most_burdened) (sym (span_marked burden mark tree))))
 

@@ -1,20 +1,11 @@
 -- Parts make a monoid, whatever their readings are.
 use Rattle.std.specs.Prelude.{◌≡◌, ℕ, ◌≤◌, ◌<◌, nat_lt, min, Bool, true, false, refl}
 use Rattle.std.proofs.Common.{sym, ◌∙◌, ap, arith}
-use Rattle.std.proofs.lemmas.Bool.Decides.{nat_tests}
+use Rattle.cw_facts.specs.Tests.{below, lt_of, not_below}
 use Rattle.cw_model.specs.declared.limits.TheConstants.{MOST_LIMIT}
 use Rattle.cw_model.specs.declared.trap.Trap.{Trap}
 use Rattle.cw_part.specs.Parts.{Readings, IsLawful, Came, Completed, Trapped, Over, Memory, followed, over_if, within}
 use Rattle.cw_part.specs.Parts.{Part, part_joined, nothing_ran, IsPart, PartsJoin}
-
-pub below : (n k : ℕ) → n < k → nat_lt n k ≡ true
-below n k h = grind (arith, nat_tests)
-
-pub is_below : (n k : ℕ) → nat_lt n k ≡ true → n < k
-is_below n k h = grind (arith, nat_tests)
-
-pub not_below : (n k : ℕ) → k ≤ n → nat_lt n k ≡ false
-not_below n k h = grind (arith, nat_tests)
 
 over_by : {M : Type 0} (n k : ℕ) (x : Came M) → n < k → over_if (nat_lt n k) x ≡ Over
 over_by n k x h = ap (λ (b : Bool). over_if b x) (below n k h)
@@ -86,13 +77,13 @@ tested_first R L n m (Completed a) y h = by_test (nat_lt m (R.work a)) refl
   where
     by_test : (b : Bool) → nat_lt m (R.work a) ≡ b
         → within R n (followed R (over_if b (Completed a)) y) ≡ within R n (followed R (Completed a) y)
-    by_test true e = let k = is_below m (R.work a) e in over_first R L n a y (omega arith)
+    by_test true e = let k = lt_of m (R.work a) e in over_first R L n a y (omega arith)
     by_test false e = refl
 tested_first R L n m (Trapped t l a) y h = by_test (nat_lt m (R.work a)) refl
   where
     by_test : (b : Bool) → nat_lt m (R.work a) ≡ b
         → within R n (followed R (over_if b (Trapped t l a)) y) ≡ within R n (followed R (Trapped t l a) y)
-    by_test true e = let k = is_below m (R.work a) e in over_trap R n t l a y (omega arith)
+    by_test true e = let k = lt_of m (R.work a) e in over_trap R n t l a y (omega arith)
     by_test false e = refl
 tested_first R L n m Over y h = refl
 tested_first R L n m Memory y h = refl
@@ -119,13 +110,13 @@ tested_second R L n m x (Completed b) h = by_test (nat_lt m (R.work b)) refl
   where
     by_test : (t : Bool) → nat_lt m (R.work b) ≡ t
         → within R n (followed R x (over_if t (Completed b))) ≡ within R n (followed R x (Completed b))
-    by_test true e = let k = is_below m (R.work b) e in over_second R L n x b (omega arith)
+    by_test true e = let k = lt_of m (R.work b) e in over_second R L n x b (omega arith)
     by_test false e = refl
 tested_second R L n m x (Trapped trap line b) h = by_test (nat_lt m (R.work b)) refl
   where
     by_test : (t : Bool) → nat_lt m (R.work b) ≡ t
         → within R n (followed R x (over_if t (Trapped trap line b))) ≡ within R n (followed R x (Trapped trap line b))
-    by_test true e = let k = is_below m (R.work b) e in over_second_trap R L n x trap line b (omega arith)
+    by_test true e = let k = lt_of m (R.work b) e in over_second_trap R L n x trap line b (omega arith)
     by_test false e = refl
 tested_second R L n m x Over h = refl
 tested_second R L n m x Memory h = refl

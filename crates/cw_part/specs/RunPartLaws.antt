@@ -1,9 +1,9 @@
 -- Parts of runs join.
+use Rattle.cw_facts.specs.Tests.{not_lt_of}
 use Rattle.cw_model.specs.declared.limits.TheConstants.{MOST_LIMIT}
-use Rattle.std.specs.Prelude.{◌≡◌, ℕ, ◌≤◌, nat_lt, false}
+use Rattle.std.specs.Prelude.{◌≡◌, ℕ, nat_lt, false}
 use Rattle.std.proofs.Common.{◌∙◌, ap, subst, arith}
 use Rattle.std.proofs.Math.Bool.{Bool-set}
-use Rattle.std.proofs.lemmas.Bool.Decides.{nat_tests}
 use Rattle.cw_part.specs.declared.read.Read.{Read}
 use Rattle.cw_part.specs.Parts.{Came, IsLawful, is_above, Part, IsPart}
 use Rattle.cw_part.specs.PartFacts.{tested_stays}
@@ -53,12 +53,9 @@ same_run p q e f = same_with p.limit q.limit p.came q.came e f p.limited q.limit
 same_part : (p q : RunPart) → part_of p ≡ part_of q → p ≡ q
 same_part p q e = same_run p q (ap (λ (r : Part Read). r.limit) e) (ap (λ (r : Part Read). r.came) e)
 
-pub is_limit : (most n : ℕ) → nat_lt most n ≡ false → n ≤ most
-is_limit most n h = grind (arith, nat_tests)
-
 pub is_part : (p : RunPart) → IsPart Read readings (part_of p)
 is_part p =
-    record { limited = is_limit MOST_LIMIT p.limit p.limited; tested = tested_stays readings p.limit p.came p.tested }
+    record { limited = not_lt_of MOST_LIMIT p.limit p.limited; tested = tested_stays readings p.limit p.came p.tested }
 
 pub run-first : (p : RunPart) → run_joined nothing_part p ≡ p
 run-first p = same_part (run_joined nothing_part p) p (parts_of_runs_join.first (part_of p) (is_part p))

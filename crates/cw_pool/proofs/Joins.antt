@@ -1,7 +1,9 @@
 -- A post's jobs as its newest one comes and goes.
-use Rattle.std.proofs.Common.{◌≡◌, ◌∙◌, ◌++◌, List, [], ◌∷◌, Option, Some, None, refl, sym, ap, subst, reverse, Vec, Global}
+use Rattle.std.proofs.Common.{◌≡◌, ◌∙◌, ◌++◌, List, [], ◌∷◌, Option, Some, refl, sym, ap, subst, reverse, Vec, Global}
 use Rattle.std.specs.Prelude.{map}
 use Rattle.std.proofs.lemmas.List.{reverse-append, reverse-reverse}
+use Rattle.std.proofs.lemmas.Option.{same_Some}
+use Rattle.cw_facts.specs.Lists.{each_init}
 use Rattle.cw_jobs.specs.declared.job.Job.{Job}
 use Rattle.cw_strand.specs.declared.strand.Strand.{Strand}
 use Rattle.cw_strand.specs.Holds.{outs, IsRunning}
@@ -26,12 +28,8 @@ abbrev pub IsCons : {A : Type 0} → List A → Type 0
 IsCons [] = ⊥
 IsCons (x ∷ xs) = Unit {0}
 
-abbrev un : {A : Type 0} → A → Option A → A
-un d None = d
-un d (Some x) = x
-
 pub same_job : (a b : Job) → Some a ≡ Some b → b ≡ a
-same_job a b e = ap (un b) (sym e)
+same_job a b e = sym (same_Some a b e)
 
 pub record Newest (o : Option Job) (l : List (Option Job)) (js : List Job) : Type 0 where
   pub job : Job
@@ -68,10 +66,6 @@ after_back y p o new ks rest lacks same running is = after y p o new ks lacks sa
 
 pub last_first : {A : Type 0} (xs ys : List A) (x : A) → xs ≡ ys ++ x ∷ [] → reverse xs ≡ x ∷ reverse ys
 last_first xs ys x e = ap reverse e ∙ reverse-append ys (x ∷ [])
-
-pub each_init : {A : Type 0} (P : A → Type 0) (xs : List A) (x : A) → Each P (xs ++ x ∷ []) → Each P xs × P x
-each_init P [] x h = (tt, h.0)
-each_init P (y ∷ ys) x h = let r = each_init P ys x h.1 in ((h.0, r.0), r.1)
 
 pub popped : (y : Yard) (p : Post) (ks : Vec Kept Global) (k : Kept) → Works y p → p.kept.items ≡ ks.items ++ k ∷ [] → Lacks y (post p.strand ks) (kept_job k) × IsKeptOf y k
 popped y p ks k w e =

@@ -53,7 +53,8 @@ pub(crate) fn ended_by(
     n: u64,
     burden: Burden,
 ) -> Result<Ended, Fault>
-    requires { IsEffectOf outcome.code.value args.now n burden (details.Measures burden) outcome.effect }
+    requires { IsEffectOf outcome.code.value args.now n burden (details.Measures burden)
+        outcome.effect }
     ensures as_code { RunsAsCode (code_view outcome.code.value.code) args.now n burden result }
     ensures tells { IsKnown outcome → IsAnswerOf outcome.effect result }
 {

@@ -26,7 +26,7 @@ const QUANTUM: u64 = 262_144;
 const FIRST: u64 = 8_192;
 
 /// So many are no longer few.
-const FEW: usize = 24;
+const FEW: usize = 16;
 
 /// Else, with so many jobs in its worker's deque, it hands nothing out: it goes on with its spawns in place.
 const ENOUGH: usize = 3;
@@ -166,13 +166,13 @@ impl Post {
         }
     }
 
-    /// Stops where the run is given up.
+    /// Stops where the run is given up, but where it waits for a job: that one ends in any case, and may tell the answer.
     #[inline(always)]
     pub(crate) fn heed(&mut self, tally: &Tally)
         ensures of { self.new.strand.of ≡ self.old.strand.of }
         ensures works { (y : Yard) → Works y self.old → Works y self.new }
     {
-        if tally.is_up() {
+        if tally.is_up() && !self.strand.is_paused() {
             self.strand.give_up();
         }
     }

@@ -187,9 +187,9 @@ fn outcome_of<
 /// ended.
 ///
 /// As soon as a strand has trapped or passed the limit, or all workers together have done more than `n` instructions, the
-/// run is given up: no worker begins a job any more, each stops at its next spawn, join or end, or after 262,144
-/// instructions, and where the answer is not known by then the caller's thread runs the code alone, of which the gate is
-/// told nothing.
+/// run is given up: no worker begins a job any more, each stops at its next spawn or end, by the job that it waits for
+/// at a join, or after 262,144 instructions, and where the answer is not known by then the caller's thread runs the code
+/// alone, of which the gate is told nothing.
 ///
 /// The error is `Arguments` exactly where the crew has more than 63 bodies, before anything is made, or as `run_alone`
 /// has it; otherwise that of `run_alone`: `Memory` where memory runs out, in any worker.

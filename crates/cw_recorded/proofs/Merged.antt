@@ -1,6 +1,7 @@
 -- Codes that are the same once merged.
 use Rattle.std.specs.Prelude.{ℕ, zero, suc, ◌+◌, ◌≡◌, true, false, List, [], ◌∷◌, ◌++◌, refl}
 use Rattle.std.proofs.Common.{arith, ap, sym, ◌∙◌}
+use Rattle.std.proofs.lemmas.List.{append_assoc}
 use Rattle.cw_model.specs.Trees.{Event, Work, Series, Join, parts_of, tree_of}
 use Rattle.cw_model.specs.Trees as e
 use Rattle.cw_greedy.specs.declared.code.Code.{Code}
@@ -71,10 +72,6 @@ behind a xs ys zs ws h =
     ∙ ap (onto a) (sym (onto-append xs ys later) ∙ h later ∙ onto-append zs ws later)
     ∙ sym (onto-append a zs (onto ws later)) ∙ sym (onto-append (a ++ zs) ws later)
 
-pub append-regroup : (a b c : List Code) → (a ++ b) ++ c ≡ a ++ (b ++ c)
-append-regroup [] b c = refl
-append-regroup (x ∷ a) b c = ap (λ (l : List Code). x ∷ l) (append-regroup a b c)
-
 mutual
   of_free : (es : List Event) → Same (record_of false es ++ to_join (out_after false es)) (codes_of InSeries (parts_of es).0 ++ codes_of InSeries (parts_of es).1)
   of_free [] = λ later. refl
@@ -86,7 +83,7 @@ mutual
       let more = codes_of InSeries (parts_of es).1 in
       λ later. ap (λ (l : List Code). Spawned true ∷ l)
       (behind child (Ended ∷ record_of true es) (to_join (out_after true es)) (Ended ∷ (rest ++ Joined ∷ [])) more
-      (λ later. ap (λ (l : List Code). Ended ∷ l) (of_out es later ∙ ap (λ l. onto l later) (sym (append-regroup rest (Joined ∷ []) more)))) later)
+      (λ later. ap (λ (l : List Code). Ended ∷ l) (of_out es later ∙ ap (λ l. onto l later) (sym (append_assoc rest (Joined ∷ []) more)))) later)
   of_free (Join ∷ es) = λ later. of_free es later
 
   of_out : (es : List Event) → Same (record_of true es ++ to_join (out_after true es)) (codes_of AsRest (parts_of es).0 ++ Joined ∷ codes_of InSeries (parts_of es).1)

@@ -1,10 +1,12 @@
 -- What each call on a recorder does.
 use Rattle.std.specs.Prelude.{ℕ, ◌+◌, ◌-◌, ◌≡◌, ◌≤◌, ◌<◌, Bool, true, false, not, Option, Some, None, IsSome, List, [], ◌∷◌, ◌++◌, reverse, refl}
 use Rattle.std.proofs.Common.{arith, ap, sym, ◌∙◌, subst}
-use Rattle.std.proofs.lemmas.List.{reverse-append}
+use Rattle.std.proofs.lemmas.List.{append_assoc}
+use Rattle.cw_facts.specs.Lists.{reverse_pushed}
 use Rattle.cw_model.specs.declared.limits.TheConstants.{MOST_LIMIT}
 use Rattle.cw_model.specs.Trees.{Tree, Marked, Mark, Invocation, Execution, Event, Work, normal, tree_of}
 use Rattle.cw_measure.specs.OpenParts.{Open, has_spawned, spawned_after, marked, part_of, closed}
+use Rattle.cw_measure.specs.lemmas.OpenParts.{spawned_append}
 use Rattle.cw_meter.specs.Meters.{ticked, synced, begun}
 use Rattle.cw_greedy.specs.declared.code.Code.{Code}
 use Rattle.cw_greedy.specs.declared.code.Code.TheVariants.{Instructions, Spawned, Ended, Joined, Called}
@@ -18,9 +20,9 @@ use Rattle.cw_recorded.specs.declared.recorder.Recorder.{Recorder}
 use Rattle.cw_recorded.specs.Merging.{onto, Same, to_join}
 use Rattle.cw_recorded.specs.Normal.{StandApart, AreApart, IsChild}
 use Rattle.cw_recorded.specs.Recording.{opening, ending, ending_in, codes_in, IsOfKind, out_behind, AreParts, Keeps, IsFromMain, RecordsIn, IsOpen, IsQuiet, BeginsChild, BeginsCall, BeginsQuiet, Ends, Returns, Syncs, InstructionsNeedNoCall, Notes, Stacks, Joins, Closes, IsKept, Reads}
-use Rattle.cw_recorded.proofs.Merged.{onto-append, append-regroup, same_merged, nothing_behind}
+use Rattle.cw_recorded.proofs.Merged.{onto-append, same_merged, nothing_behind}
 use Rattle.cw_recorded.proofs.Normals.{ticked_apart, synced_apart, call_apart, block_apart, tree_followed, marked_child}
-use Rattle.cw_recorded.proofs.Recordings.{same_cuts, keeps_as, keeps_later, keeps_cut, keeps_noted, spawned_more, codes_ticked, spawned_ticked, spawned_synced, codes_begun, codes_synced, codes_ended, codes_returned}
+use Rattle.cw_recorded.proofs.Recordings.{same_cuts, keeps_as, keeps_later, keeps_cut, keeps_noted, codes_ticked, spawned_ticked, spawned_synced, codes_begun, codes_synced, codes_ended, codes_returned}
 
 pub never : true ≡ false → ⊥
 never e = cc
@@ -55,7 +57,7 @@ noted_cut old mid new count code s k n o p = record {
       let i = Instructions (count - from) in
       subst (Keeps 0 (before ++ i ∷ code ∷ [])) (sym k)
       (keeps_as 0 ((before ++ i ∷ []) ++ code ∷ []) (before ++ i ∷ code ∷ []) (followed mid.kept (Some (code ∷ [])))
-      (λ l. ap (λ (x : List Code). onto x l) (append-regroup before (i ∷ []) (code ∷ [])))
+      (λ l. ap (λ (x : List Code). onto x l) (append_assoc before (i ∷ []) (code ∷ [])))
       (keeps_cut (before ++ i ∷ []) code mid.kept (s.keeps from before lo hi h)));
   out = o ∙ s.out;
   parts = p ∙ s.parts;
@@ -110,14 +112,10 @@ pub joined_not : (old : Recorder) (count : ℕ) → old.out ≡ false → Joins 
 joined_not old count out codes le h =
     (le, subst (λ (b : Bool). Keeps (count - old.noted) (codes ++ to_join b) old.kept) (sym out) (subst (λ (l : List Code). Keeps (count - old.noted) l old.kept) (sym (nothing_more codes)) h))
 
--- the parts kept, the innermost last
-reverse_push : (parts : List Part) (p : Part) → reverse (parts ++ p ∷ []) ≡ p ∷ reverse parts
-reverse_push parts p = reverse-append parts (p ∷ [])
-
 pub parts_pushed : (o : Open) (os : List Open) (p : Part) (old new : List Part) → IsOpen os → new ≡ old ++ p ∷ [] → IsOfKind o p.kind → p.out ≡ out_behind o.spawned (has_spawned o.outer) → AreParts os (reverse old) → AreParts (o ∷ os) (reverse new)
 parts_pushed o [] p old new open_ e k out h = absurd open_
 parts_pushed o (q ∷ os) p old new open_ e k out h =
-    subst (λ (x : List Part). AreParts (o ∷ q ∷ os) x) (sym (ap (λ (x : List Part). reverse x) e ∙ reverse_push old p)) (k, out, h)
+    subst (λ (x : List Part). AreParts (o ∷ q ∷ os) x) (sym (ap (λ (x : List Part). reverse x) e ∙ reverse_pushed old p)) (k, out, h)
 
 -- the outermost part
 main_round : (o : Open) (os : List Open) → IsFromMain (o ∷ os) → IsFromMain os
@@ -235,7 +233,7 @@ block_joins old new count joins out same some os es small open_ h =
     let a = codes_in os es in
     let j = joins a h.goes_on h.keeps in
     let later = one_later new.noted count (a ++ to_join old.out) new.kept j.0 j.1 in
-    let codes = codes_synced os es open_ ∙ ap (λ (b : Bool). a ++ (to_join b ++ Instructions 1 ∷ [])) (sym p.out) ∙ sym (append-regroup a (to_join old.out) (Instructions 1 ∷ [])) in
+    let codes = codes_synced os es open_ ∙ ap (λ (b : Bool). a ++ (to_join b ++ Instructions 1 ∷ [])) (sym p.out) ∙ sym (append_assoc a (to_join old.out) (Instructions 1 ∷ [])) in
     record {
       goes_on = omega (arith, j.0);
       keeps = subst (λ (l : List Code). Keeps (count + 1 - new.noted) l new.kept) (sym codes) later;
@@ -255,7 +253,7 @@ block_ends old mid new count joins out same closes some o os es quiet small open
     let d = ending_in o os in
     let i = Instructions 1 ∷ [] in
     let regroup : ((a ++ to_join old.out) ++ d) ++ i ≡ a ++ (to_join (has_spawned es) ++ (d ++ i)) =
-    append-regroup (a ++ to_join old.out) d i ∙ append-regroup a (to_join old.out) (d ++ i) ∙ ap (λ (b : Bool). a ++ (to_join b ++ (d ++ i))) p.out in
+    append_assoc (a ++ to_join old.out) d i ∙ append_assoc a (to_join old.out) (d ++ i) ∙ ap (λ (b : Bool). a ++ (to_join b ++ (d ++ i))) p.out in
     record {
       goes_on = omega (arith, c.0);
       keeps = keeps_as (count + 1 - new.noted) (a ++ (to_join (has_spawned es) ++ (d ++ i))) (codes_in os (ticked (closed o es))) new.kept (codes_ended o os es h.from_main)
@@ -276,7 +274,7 @@ call_ends old mid new count next joins out same ends some sat o os es small open
     let i = Instructions 1 ∷ [] in
     let c = closes ((a ++ to_join old.out) ++ i) o os (synced es) h.from_main out (subst (λ (l : List Part). AreParts (o ∷ os) (reverse l)) (sym same) p.parts) (omega (arith, j.0)) later in
     let regroup : ((a ++ to_join old.out) ++ i) ++ d ≡ a ++ (to_join (has_spawned es) ++ Instructions 1 ∷ d) =
-    append-regroup (a ++ to_join old.out) i d ∙ append-regroup a (to_join old.out) (Instructions 1 ∷ d) ∙ ap (λ (b : Bool). a ++ (to_join b ++ Instructions 1 ∷ d)) p.out in
+    append_assoc (a ++ to_join old.out) i d ∙ append_assoc a (to_join old.out) (Instructions 1 ∷ d) ∙ ap (λ (b : Bool). a ++ (to_join b ++ Instructions 1 ∷ d)) p.out in
     record {
       goes_on = c.0;
       keeps = keeps_as (count + 1 - new.noted) (a ++ (to_join (has_spawned es) ++ Instructions 1 ∷ d)) (codes_in os (closed o (synced es))) new.kept (codes_returned o os es h.from_main)
@@ -294,7 +292,7 @@ record Popped (o : Open) (os : List Open) (part : Part) (left : List Part) : Typ
   parts : AreParts os (reverse left)
 
 popped : (o : Open) (os : List Open) (part : Part) (old left : List Part) → old ≡ left ++ part ∷ [] → AreParts (o ∷ os) (reverse old) → Popped o os part left
-popped o os part old left e h = at os (subst (λ (x : List Part). AreParts (o ∷ os) x) (ap (λ (x : List Part). reverse x) e ∙ reverse_push left part) h)
+popped o os part old left e h = at os (subst (λ (x : List Part). AreParts (o ∷ os) x) (ap (λ (x : List Part). reverse x) e ∙ reverse_pushed left part) h)
   where
     at : (os : List Open) → AreParts (o ∷ os) (part ∷ reverse left) → Popped o os part left
     at [] h = absurd h
@@ -307,7 +305,7 @@ behind_is false out t = refl
 spawned_closed : (o : Open) (es : List Event) → has_spawned (closed o es) ≡ out_behind o.spawned (has_spawned o.outer)
 spawned_closed o es =
     let t = marked o.mark (tree_of es) in
-    spawned_more false o.outer (part_of o.spawned t ∷ []) ∙ behind_is o.spawned (has_spawned o.outer) t
+    spawned_append false o.outer (part_of o.spawned t ∷ []) ∙ behind_is o.spawned (has_spawned o.outer) t
 
 ending_child : (o : Open) (os : List Open) → IsOpen os → o.spawned ≡ true → ending_in o os ≡ Ended ∷ []
 ending_child o [] open_ e = absurd open_

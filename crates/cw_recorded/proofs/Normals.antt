@@ -1,6 +1,7 @@
 -- The codes of normal forms.
 use Rattle.std.specs.Prelude.{ℕ, zero, suc, ◌+◌, ◌≡◌, Bool, true, false, Option, Some, None, List, [], ◌∷◌, ◌++◌, refl}
 use Rattle.std.proofs.Common.{arith, ap, sym, ◌∙◌, subst}
+use Rattle.std.proofs.lemmas.List.{append_assoc}
 use Rattle.cw_model.specs.Trees.{Tree, Leaf, Seq, Par, Marked, Mark, Invocation, Execution, Event, Work, Series, Join, leaf_before, part_before, before, normal, parts_of, tree_of}
 use Rattle.cw_model.specs.Trees as e
 use Rattle.cw_measure.specs.OpenParts.{Open, marked, part_of, closed}
@@ -11,7 +12,7 @@ use Rattle.cw_greedy.specs.Records.{instructions_before}
 use Rattle.cw_greedy.specs.Blocks.{Stands, InSeries, AsChild, AsRest, last_stands, call_codes, fork_codes, codes_of}
 use Rattle.cw_recorded.specs.Merging.{onto, Same}
 use Rattle.cw_recorded.specs.Normal.{stands, IsMore, Enough, Holds, IsApart, IsFollowed, StandsBefore, IsChild, StandApart}
-use Rattle.cw_recorded.proofs.Merged.{instructions_twice, same_after, same_before, same_both, nothing_behind, append-regroup}
+use Rattle.cw_recorded.proofs.Merged.{instructions_twice, same_after, same_before, same_both, nothing_behind}
 
 stays : (rest : Bool) → last_stands (stands rest) ≡ stands rest
 stays true = refl
@@ -82,7 +83,7 @@ series_holds rest t u later h k =
     let a = codes_of InSeries t in
     let b = codes_of InSeries u in
     let c = codes_of (stands rest) later in
-    λ l. h l ∙ same_after a (codes_of (stands rest) (before u later)) (b ++ c) k l ∙ ap (λ (x : List Code). onto x l) (sym (append-regroup a b c))
+    λ l. h l ∙ same_after a (codes_of (stands rest) (before u later)) (b ++ c) k l ∙ ap (λ (x : List Code). onto x l) (sym (append_assoc a b c))
 
 -- forks of the same codes
 rest_same : (a b c d : List Code) → Same a b → Same c d → Same (a ++ Ended ∷ c) (b ++ Ended ∷ d)

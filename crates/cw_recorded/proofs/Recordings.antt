@@ -1,9 +1,11 @@
 -- What is kept of a run's codes, and what each move adds to them.
 use Rattle.std.specs.Prelude.{ℕ, zero, suc, ◌+◌, ◌≡◌, ◌≤◌, ◌<◌, Bool, true, false, Option, Some, None, List, [], ◌∷◌, ◌++◌, refl}
 use Rattle.std.proofs.Common.{arith, ap, sym, ◌∙◌}
-use Rattle.cw_model.specs.Trees.{Tree, Seq, Marked, Mark, Invocation, Execution, Event, Work, Series, Join, parts_of, tree_of}
+use Rattle.std.proofs.lemmas.List.{append_assoc}
+use Rattle.cw_model.specs.Trees.{Tree, Seq, Mark, Invocation, Execution, Event, Work, Series, Join, parts_of, tree_of}
 use Rattle.cw_model.specs.Trees as e
-use Rattle.cw_measure.specs.OpenParts.{Open, spawned_after, has_spawned_from, has_spawned, marked, part_of, closed}
+use Rattle.cw_measure.specs.OpenParts.{Open, has_spawned_from, has_spawned, marked, part_of, closed}
+use Rattle.cw_measure.specs.lemmas.OpenParts.{spawned_append}
 use Rattle.cw_meter.specs.Meters.{ticked, synced, begun}
 use Rattle.cw_greedy.specs.declared.code.Code.{Code}
 use Rattle.cw_greedy.specs.declared.code.Code.TheVariants.{Instructions, Spawned, Ended, Joined, Called}
@@ -14,7 +16,7 @@ use Rattle.cw_greedy.specs.Records.{instructions_before}
 use Rattle.cw_greedy.specs.Blocks.{InSeries, AsChild, codes_of, record_of, out_after}
 use Rattle.cw_recorded.specs.Merging.{onto, Same, to_join}
 use Rattle.cw_recorded.specs.Recording.{opening, ending, of_whole, codes_in, ending_in, Keeps, IsFromMain, IsOpen}
-use Rattle.cw_recorded.proofs.Merged.{onto-append, instructions_twice, same_before, same_through, nothing_behind, append-regroup, of_tree}
+use Rattle.cw_recorded.proofs.Merged.{onto-append, instructions_twice, same_before, same_through, nothing_behind, of_tree}
 
 -- merging keeps the cuts
 cuts_before : (n : ℕ) (codes : List Code) → cuts (instructions_before n codes) ≡ cuts codes
@@ -92,11 +94,6 @@ keeps_noted since a (Some kept) h =
     (λ few. (few, same_through ((kept ++ Instructions since ∷ []) ++ Instructions 0 ∷ []) (kept ++ Instructions since ∷ []) a (nothing_behind (kept ++ Instructions since ∷ [])) h.1))
     (λ many. absurd (omega (arith, c, many, h.0)))
 
--- events and more events
-pub spawned_more : (b : Bool) (es fs : List Event) → has_spawned_from b (es ++ fs) ≡ has_spawned_from (has_spawned_from b es) fs
-spawned_more b [] fs = refl
-spawned_more b (x ∷ es) fs = spawned_more (spawned_after b x) es fs
-
 out_is : (b : Bool) (es : List Event) → out_after b es ≡ has_spawned_from b es
 out_is b [] = refl
 out_is b (Work k ∷ es) = out_is b es
@@ -107,13 +104,13 @@ out_is b (Join ∷ es) = out_is false es
 record_more : (b : Bool) (es fs : List Event) → record_of b (es ++ fs) ≡ record_of b es ++ record_of (has_spawned_from b es) fs
 record_more b [] fs = refl
 record_more b (Work k ∷ es) fs = ap (λ (l : List Code). Instructions k ∷ l) (record_more b es fs)
-record_more b (Series t ∷ es) fs = ap (λ l. codes_of InSeries t ++ l) (record_more b es fs) ∙ sym (append-regroup (codes_of InSeries t) (record_of b es) (record_of (has_spawned_from b es) fs))
+record_more b (Series t ∷ es) fs = ap (λ l. codes_of InSeries t ++ l) (record_more b es fs) ∙ sym (append_assoc (codes_of InSeries t) (record_of b es) (record_of (has_spawned_from b es) fs))
 record_more true (e.Fork t ∷ es) fs =
     ap (λ (l : List Code). Spawned false ∷ (codes_of AsChild t ++ Ended ∷ l)) (record_more true es fs)
-    ∙ ap (λ (l : List Code). Spawned false ∷ l) (sym (append-regroup (codes_of AsChild t) (Ended ∷ record_of true es) (record_of (has_spawned_from true es) fs)))
+    ∙ ap (λ (l : List Code). Spawned false ∷ l) (sym (append_assoc (codes_of AsChild t) (Ended ∷ record_of true es) (record_of (has_spawned_from true es) fs)))
 record_more false (e.Fork t ∷ es) fs =
     ap (λ (l : List Code). Spawned true ∷ (codes_of AsChild t ++ Ended ∷ l)) (record_more true es fs)
-    ∙ ap (λ (l : List Code). Spawned true ∷ l) (sym (append-regroup (codes_of AsChild t) (Ended ∷ record_of true es) (record_of (has_spawned_from true es) fs)))
+    ∙ ap (λ (l : List Code). Spawned true ∷ l) (sym (append_assoc (codes_of AsChild t) (Ended ∷ record_of true es) (record_of (has_spawned_from true es) fs)))
 record_more true (Join ∷ es) fs = ap (λ (l : List Code). Joined ∷ l) (record_more false es fs)
 record_more false (Join ∷ es) fs = record_more false es fs
 
@@ -124,7 +121,7 @@ codes_more o (p ∷ os) es fs =
     let b = opening o.spawned o.mark (has_spawned o.outer) in
     let c = record_of false es in
     let d = record_of (has_spawned es) fs in
-    ap (λ (l : List Code). a ++ (b ++ l)) (record_more false es fs) ∙ ap (λ (l : List Code). a ++ l) (sym (append-regroup b c d)) ∙ sym (append-regroup a (b ++ c) d)
+    ap (λ (l : List Code). a ++ (b ++ l)) (record_more false es fs) ∙ ap (λ (l : List Code). a ++ l) (sym (append_assoc b c d)) ∙ sym (append_assoc a (b ++ c) d)
 
 nothing_more : (a : List Code) → a ++ [] ≡ a
 nothing_more [] = refl
@@ -133,7 +130,7 @@ nothing_more (x ∷ a) = ap (λ (l : List Code). x ∷ l) (nothing_more a)
 -- an instruction
 whole_ticked : (es : List Event) → of_whole (ticked es) ≡ of_whole es ++ Instructions 1 ∷ []
 whole_ticked [] = refl
-whole_ticked (Series t ∷ es) = ap (λ l. codes_of AsChild t ++ l) (record_more false es (Work 1 ∷ [])) ∙ sym (append-regroup (codes_of AsChild t) (record_of false es) (Instructions 1 ∷ []))
+whole_ticked (Series t ∷ es) = ap (λ l. codes_of AsChild t ++ l) (record_more false es (Work 1 ∷ [])) ∙ sym (append_assoc (codes_of AsChild t) (record_of false es) (Instructions 1 ∷ []))
 whole_ticked (Work k ∷ es) = record_more false (Work k ∷ es) (Work 1 ∷ [])
 whole_ticked (e.Fork t ∷ es) = record_more false (e.Fork t ∷ es) (Work 1 ∷ [])
 whole_ticked (Join ∷ es) = record_more false es (Work 1 ∷ [])
@@ -143,10 +140,10 @@ codes_ticked [] es = whole_ticked es
 codes_ticked (o ∷ os) es = codes_more o os es (Work 1 ∷ [])
 
 pub spawned_ticked : (es : List Event) → has_spawned (ticked es) ≡ has_spawned es
-spawned_ticked es = spawned_more false es (Work 1 ∷ [])
+spawned_ticked es = spawned_append false es (Work 1 ∷ [])
 
 pub spawned_synced : (es : List Event) → has_spawned (synced es) ≡ false
-spawned_synced es = spawned_more false es (Join ∷ Work 1 ∷ [])
+spawned_synced es = spawned_append false es (Join ∷ Work 1 ∷ [])
 
 -- a part begins
 pub codes_begun : (spawned : Bool) (mark : Option Mark) (os : List Open) (es : List Event) → IsOpen os → codes_in (begun spawned mark es os) [] ≡ codes_in os es ++ Instructions 1 ∷ opening spawned mark (has_spawned es)
@@ -157,7 +154,7 @@ codes_begun spawned mark (o ∷ os) es open_ =
     ap (λ (l : List Code). l ++ (opening spawned mark (has_spawned (ticked es)) ++ [])) (codes_ticked (o ∷ os) es)
     ∙ ap (λ (x : Bool). (a ++ Instructions 1 ∷ []) ++ (opening spawned mark x ++ [])) (spawned_ticked es)
     ∙ ap (λ (l : List Code). (a ++ Instructions 1 ∷ []) ++ l) (nothing_more b)
-    ∙ append-regroup a (Instructions 1 ∷ []) b
+    ∙ append_assoc a (Instructions 1 ∷ []) b
 
 -- the block that runs joins
 join_record : (b : Bool) → record_of b (Join ∷ Work 1 ∷ []) ≡ to_join b ++ Instructions 1 ∷ []
@@ -217,8 +214,8 @@ codes_ended o os es main = λ l.
     let a = codes_in (o ∷ os) es in
     let j = to_join (has_spawned es) in
     let d = ending_in o os in
-    ap (λ (x : List Code). onto (a ++ x) l) (sym (append-regroup j d (Instructions 1 ∷ [])))
-    ∙ ap (λ (x : List Code). onto x l) (sym (append-regroup a (j ++ d) (Instructions 1 ∷ [])))
+    ap (λ (x : List Code). onto (a ++ x) l) (sym (append_assoc j d (Instructions 1 ∷ [])))
+    ∙ ap (λ (x : List Code). onto x l) (sym (append_assoc a (j ++ d) (Instructions 1 ∷ [])))
     ∙ same_before (a ++ (j ++ d)) (codes_in os (closed o es)) (Instructions 1 ∷ []) (codes_closed o os es main) l
     ∙ ap (λ (x : List Code). onto x l) (sym (codes_ticked os (closed o es)))
 
@@ -228,8 +225,8 @@ codes_returned o os es main = λ l.
     let a = codes_in (o ∷ os) es in
     let j = to_join (has_spawned es) in
     let d = ending_in o os in
-    ap (λ (x : List Code). onto (a ++ x) l) (sym (append-regroup j (Instructions 1 ∷ []) d))
-    ∙ ap (λ (x : List Code). onto x l) (sym (append-regroup a (j ++ Instructions 1 ∷ []) d))
+    ap (λ (x : List Code). onto (a ++ x) l) (sym (append_assoc j (Instructions 1 ∷ []) d))
+    ∙ ap (λ (x : List Code). onto x l) (sym (append_assoc a (j ++ Instructions 1 ∷ []) d))
     ∙ ap (λ (x : List Code). onto (x ++ d) l) (sym (codes_synced (o ∷ os) es tt))
     ∙ ap (λ (b : Bool). onto (codes_in (o ∷ os) (synced es) ++ (to_join b ++ d)) l) (sym (spawned_synced es))
     ∙ codes_closed o os (synced es) main l

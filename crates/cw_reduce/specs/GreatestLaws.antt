@@ -3,10 +3,8 @@ use Rattle.std.specs.Prelude.{◌≡◌, ℤ, Option, Some, None, refl}
 use Rattle.std.proofs.Common.{ap, arith}
 use Rattle.std.specs.Int.{int_max}
 use Rattle.std.proofs.lemmas.Int.{ints, clamps}
+use Rattle.cw_facts.specs.Integers.{max_regroup}
 use Rattle.cw_reduce.specs.Greatest.{greater}
-
-max_regroup : (v w u : ℤ) → int_max (int_max v w) u ≡ int_max v (int_max w u)
-max_regroup v w u = omega (arith, ints, clamps)
 
 max_turned : (v w : ℤ) → int_max v w ≡ int_max w v
 max_turned v w = omega (arith, ints, clamps)

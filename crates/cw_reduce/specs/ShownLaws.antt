@@ -9,7 +9,7 @@ use Rattle.cw_reduce.specs.Shown.{Shown, totals_joined, nothing_shown, shown_joi
 abbrev shown_with : List Held → List ℤ → Shown
 shown_with s l = record { totals = s; lines = l }
 
-same_shown : {s s' : List Held} {l l' : List ℤ} → s ≡ s' → l ≡ l' → shown_with s l ≡ shown_with s' l'
+pub same_shown : {s s' : List Held} {l l' : List ℤ} → s ≡ s' → l ≡ l' → shown_with s l ≡ shown_with s' l'
 same_shown e f = cc
 
 totals-last : (a : List Held) → totals_joined a [] ≡ a

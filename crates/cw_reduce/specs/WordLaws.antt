@@ -1,9 +1,9 @@
 -- Words make a monoid.
-use Rattle.std.specs.Prelude.{◌≡◌, ℕ, ◌+◌, ◌^◌, ◌%◌, ◌<◌, nat_lt, true}
+use Rattle.std.specs.Prelude.{◌≡◌, ℕ, ◌+◌, ◌^◌, ◌%◌, nat_lt, true}
 use Rattle.std.proofs.Common.{sym, ◌∙◌, ap, subst, arith}
 use Rattle.std.proofs.Math.Nat.{add-mod-mod, mod-eq_of_lt}
-use Rattle.std.proofs.lemmas.Bool.Decides.{nat_tests}
 use Rattle.std.proofs.Math.Bool.{Bool-set}
+use Rattle.cw_facts.specs.Tests.{lt_of}
 use Rattle.cw_reduce.specs.Words.{Word, word, nothing, plus}
 
 abbrev word_with : (n : ℕ) → nat_lt n (2 ^ 128) ≡ true → Word
@@ -18,11 +18,8 @@ same_bits m n e p q =
 pub same_word : (a b : Word) → a.bits ≡ b.bits → a ≡ b
 same_word a b e = same_bits a.bits b.bits e a.within b.within
 
-less_by : (m n : ℕ) → nat_lt m n ≡ true → m < n
-less_by m n h = grind (arith, nat_tests)
-
 word_is : (a : Word) → word a.bits ≡ a
-word_is a = same_word (word a.bits) a (mod-eq_of_lt (less_by a.bits (2 ^ 128) a.within))
+word_is a = same_word (word a.bits) a (mod-eq_of_lt (lt_of a.bits (2 ^ 128) a.within))
 
 pub plus-first : (a : Word) → plus nothing a ≡ a
 plus-first a = let z : 0 % 2 ^ 128 + a.bits ≡ a.bits = omega arith in ap word z ∙ word_is a

@@ -1,8 +1,8 @@
 //! What a run gives beside its value.
 
 ghost use Rattle.std.specs.Prelude.{◌≡◌, ◌≤◌, ◌++◌, ◌∷◌, ◌<◌, [], length, map, IfOk, OnOk};
-ghost use Rattle.cw_reduce.specs.Held.{as_total, held, one_held};
-ghost use Rattle.cw_reduce.specs.Shown.{nothing_shown, shown_joined, held_of, total_of, totals_joined, SameTotals, Tells, TellsTotals};
+ghost use Rattle.cw_reduce.specs.Held.{as_total, held};
+ghost use Rattle.cw_reduce.specs.Shown.{nothing_shown, shown_joined, held_of, total_of, AreJoined, SameTotals, TellsTotals, TellsValue};
 
 use crate::lines::Lines;
 use crate::totals::{joined, one_told, read_as};
@@ -43,7 +43,7 @@ impl Views {
 
     /// A reducer that reduces so is told a value.
     pub fn tell(&mut self, reducer: u32, how: Reduction, value: i64) -> Result<(), AllocError>
-        ensures totals { OnOk result (Tells self.old.totals self.new.totals reducer (one_held how value)) }
+        ensures totals { OnOk result (TellsValue self.old self.new reducer how value) }
         ensures lines { OnOk result (self.new.lines ≡ self.old.lines) }
     {
         tell_total(&mut self.totals, reducer, one_told(how, value))?;
@@ -111,7 +111,7 @@ fn reach(totals: &mut Vec<Total>, reducer: u32) -> Result<(), AllocError>
 
 // The totals of both, the fewer joined to the more.
 fn join_totals(left: Vec<Total>, right: Vec<Total>) -> Vec<Total>
-    ensures { map held result.items ≡ totals_joined (map held left.items) (map held right.items) }
+    ensures { AreJoined left.items right.items result.items }
 {
     if left.len() <= right.len() {
         join_all(right, &left)
@@ -123,7 +123,7 @@ fn join_totals(left: Vec<Total>, right: Vec<Total>) -> Vec<Total>
 // Joins totals to as many or more.
 fn join_all(into: Vec<Total>, from: &Vec<Total>) -> Vec<Total>
     requires { length from.now.items ≤ length into.items }
-    ensures { map held result.items ≡ totals_joined (map held from.now.items) (map held into.items) }
+    ensures { AreJoined from.now.items into.items result.items }
 {
     let mut into = into;
     for i in 0..from.len() {

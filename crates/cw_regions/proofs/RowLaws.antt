@@ -4,6 +4,7 @@ use Rattle.std.proofs.lemmas.Bool.{cases_lt}
 use Rattle.std.proofs.lemmas.Bool.Decides.{nat_tests}
 use Rattle.std.proofs.lemmas.List.{get_or_past}
 use borrow.Author.Tests.{eqb-true}
+use Rattle.cw_facts.specs.Tests.{less_differs, less_where_it_differs}
 use Rattle.cw_measure.specs.Outermost.{unless_at}
 use Rattle.cw_regions.specs.declared.rows.Rows.{Rows}
 use Rattle.cw_regions.specs.declared.rows.Row.{Row}
@@ -11,12 +12,6 @@ use Rattle.cw_regions.specs.RegionRows.{row_of, zero_row, summed, under, FitsRow
 
 same_number : (n : ℕ) → (n == n) ≡ true
 same_number n = grind (arith, nat_tests)
-
-other_number : (n q : ℕ) → n < q → (n == q) ≡ false
-other_number n q h = grind (arith, nat_tests)
-
-below_other : (n q : ℕ) → q < n + 1 → (n == q) ≡ false → q < n
-below_other n q h e = grind (arith, nat_tests)
 
 -- the rows below a place have been added, and the others not yet
 pub record Added (add : Row → Row → Row) (old shorter now : Rows) (place : ℕ) : Type 0 where
@@ -37,7 +32,7 @@ pub one_added : (add : Row → Row → Row) (old shorter now new : Rows) (place 
 one_added add old shorter now new place current row sum c r s g l h = record {
   as_long = l ∙ h.as_long;
   below = λ q less fits. by_place q less fits (place == q) refl;
-  beyond = λ q more. given_other now new place q sum g (other_number place q (omega arith)) ∙ h.beyond q (omega arith);
+  beyond = λ q more. given_other now new place q sum g (less_differs place q (omega arith)) ∙ h.beyond q (omega arith);
 }
   where
     by_place : (q : ℕ) → q < place + 1 → FitsRow (add (row_of old q) (row_of shorter q)) → (b : Bool) → (place == q) ≡ b → row_of new q ≡ add (row_of old q) (row_of shorter q)
@@ -49,7 +44,7 @@ one_added add old shorter now new place current row sum c r s g l h = record {
         let C : Row → Type 0 = λ x. FitsRow (add x row) → sum ≡ add x row in
         let S : Row → Type 0 = λ x. FitsRow (add (row_of old q) x) → sum ≡ add (row_of old q) x in
         subst N same (given_here now new place sum g) ∙ (subst S there (subst C here s)) fits
-    by_place q less fits false e = given_other now new place q sum g e ∙ h.below q (below_other place q less e) fits
+    by_place q less fits false e = given_other now new place q sum g e ∙ h.below q (less_where_it_differs place q less e) fits
 
 pub each_added : (add : Row → Row → Row) (old shorter now : Rows) (place : ℕ) → place ≡ length shorter.by_tag.items → Added add old shorter now place → AddsEach add old shorter now
 each_added add old shorter now place e h = record {

@@ -2,7 +2,6 @@
 use Rattle.std.proofs.Common.{◌≡◌, ◌≢◌, ◌∙◌, ◌++◌, ◌≤◌, ◌==◌, ◌||◌, ◌∷◌, [], ℕ, List, Bool, true, false, length, inl, inr}
 use Rattle.std.proofs.Common.{Option, Some, None, Result, Ok, Err, OnOk, refl, sym, ap, subst, append_assoc, arith}
 use Rattle.std.proofs.lemmas.Bool.{cases_Bool}
-use Rattle.std.proofs.lemmas.Bool.Decides.{nat_tests}
 use Rattle.std.proofs.lemmas.List.{append-nil}
 use Rattle.std.specs.Global.{Vec}
 use Rattle.std.specs.Io.KnownBytes.{Appends}
@@ -13,6 +12,7 @@ use Rattle.csv.specs.Writing.{default_writer, escaped, field_text, fields_text, 
 use Rattle.csv.specs.Writing.{writer_setup, fields_written, has_written, text_written}
 use Rattle.csv.specs.declared.writer.QuoteStyle.TheVariants as style
 use Rattle.csv.specs.declared.writer.Writer.{Writer}
+use Rattle.cw_facts.specs.Tests.{eq_of}
 use Rattle.cw_model.specs.Report.{asks_for_quotes, between_quotes, csv_field, csv_line, end_of_line}
 use Rattle.cw_report.specs.declared.table.Table.{Table}
 use Rattle.cw_report.specs.Tables.{Adds, Holds, contents}
@@ -33,14 +33,11 @@ some_asks : (field : List ℕ) → list_any (needs_byte default_writer) field �
 some_asks [] = refl
 some_asks (c ∷ cs) = rw (asks c, some_asks cs) refl
 
-is_same : (a b : ℕ) → (a == b) ≡ true → a ≡ b
-is_same a b h = grind (arith, nat_tests)
-
 doubled : (field : List ℕ) → escaped default_writer field ≡ between_quotes field
 unfolding escaped
 doubled [] = refl
 doubled (c ∷ cs) = elim (cases_Bool (c == 34)) [
-  | inl quote ↦ rw (is_same c 34 quote, doubled cs) refl
+  | inl quote ↦ rw (eq_of c 34 quote, doubled cs) refl
   | inr other ↦ rw (other, doubled cs) refl
 ]
 

@@ -147,7 +147,8 @@ fn tell<W: Sink>(made: Result<Vec<u8>, Fault>, to: &mut W) -> Result<(), Fault>
     requires out { (W.seen to.old).failures < 2 ^ 64 - 1 }
     requires why { IfErr made (λ e. e ≡ Fault.Memory) }
     ensures idle { Makes [] made → to.new ≡ to.old }
-    ensures answers { (text : List ℕ) → Makes text made → AnswersText W.seen to.old to.new text result }
+    ensures answers { (text : List ℕ) → Makes text made
+        → AnswersText W.seen to.old to.new text result }
 {
     match made {
         Ok(text) => write_text(to, text.as_slice()),

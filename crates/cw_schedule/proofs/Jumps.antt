@@ -21,11 +21,11 @@ room_first_least p n xs e = room_within p n xs (subst (HasRoom n) (sym e) own)
     own : n ≤ n
     own = omega arith
 
-zero_left : (a : Option ℕ) → lesser (Some 0) a ≡ Some 0
+pub zero_left : (a : Option ℕ) → lesser (Some 0) a ≡ Some 0
 zero_left None = refl
 zero_left (Some n) = let e : min 0 n ≡ 0 = omega arith in ap Some e
 
-zero_right : (k : ℕ) → lesser (Some k) (Some 0) ≡ Some 0
+pub zero_right : (k : ℕ) → lesser (Some k) (Some 0) ≡ Some 0
 zero_right k = let e : min k 0 ≡ 0 = omega arith in ap Some e
 
 in_some : (m n : ℕ) → Some m ≡ Some n → m ≡ n

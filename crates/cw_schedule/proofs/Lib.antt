@@ -6,5 +6,6 @@ pub mod Weighing
 pub mod Jumps
 pub mod Slots
 pub mod Halves
+pub mod Lines
 pub mod Told
 pub mod Within

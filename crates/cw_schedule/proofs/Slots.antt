@@ -3,8 +3,8 @@ use Rattle.std.proofs.Common.{◌≡◌, ℕ, zero, suc, ◌+◌, ◌-◌, ◌�
 use Rattle.std.proofs.Math.ListN.{replicate}
 use Rattle.std.proofs.Math.Seq.{take-append_seam}
 use Rattle.std.specs.Prelude.{min}
-use Rattle.cw_greedy.specs.Greedy.{if_done}
 use Rattle.cw_greedy.specs.Slots.{Slots, nones, ready_slots, run_slots, RoomFor}
+use Rattle.cw_greedy.specs.lemmas.Slots.{run-append}
 use Rattle.cw_schedule.specs.Boards.{lowered, minus, lesser, least_slot, least_first, HasRoom, IsOwed}
 
 pub lowered-append : (by : ℕ) (xs ys : Slots) → lowered by (xs ++ ys) ≡ lowered by xs ++ lowered by ys
@@ -64,11 +64,6 @@ least-append [] ys = refl
 least-append (None ∷ xs) ys = least-append xs ys
 least-append (Some k ∷ xs) ys = ap (lesser (Some k)) (least-append xs ys) ∙ sym (lesser-regroup (Some k) (least_slot xs) (least_slot ys))
 
-pub ready-append : (xs ys : Slots) → ready_slots (xs ++ ys) ≡ ready_slots xs + ready_slots ys
-ready-append [] ys = omega arith
-ready-append (None ∷ xs) ys = ready-append xs ys
-ready-append (Some k ∷ xs) ys = omega (arith, ready-append xs ys)
-
 pub first-none : (xs : Slots) → least_first 0 xs ≡ None
 first-none [] = refl
 first-none (None ∷ xs) = first-none xs
@@ -106,13 +101,6 @@ run-none n (Some k ∷ xs) =
     let e : 0 - 1 ≡ 0 = omega arith in
     ap (λ q. Some k ∷ run_slots q n xs) e ∙ ap (λ (zs : Slots). Some k ∷ zs) (run-none n xs)
 
-pub run-append : (p n : ℕ) (xs ys : Slots) → run_slots p n (xs ++ ys) ≡ run_slots p n xs ++ run_slots (p - ready_slots xs) n ys
-run-append p n [] ys = let e : p ≡ p - 0 = omega arith in ap (λ q. run_slots q n ys) e
-run-append p n (None ∷ xs) ys = ap (λ (zs : Slots). None ∷ zs) (run-append p n xs ys)
-run-append p n (Some k ∷ xs) ys =
-    let e : (p - 1) - ready_slots xs ≡ p - (1 + ready_slots xs) = omega arith in
-    ap (λ (zs : Slots). Some (if_done p k (k - n)) ∷ zs) (run-append (p - 1) n xs ys ∙ ap (λ q. run_slots (p - 1) n xs ++ run_slots q n ys) e)
-
 -- the second half does not run where the first has enough
 pub run_first : (p n : ℕ) (xs ys : Slots) → p ≤ ready_slots xs → run_slots p n (xs ++ ys) ≡ run_slots p n xs ++ ys
 run_first p n xs ys h =
@@ -124,19 +112,6 @@ first_first p xs ys h =
     let e : p - ready_slots xs ≡ 0 = omega (arith, h) in
     first-append p xs ys ∙ ap (λ q. lesser (least_first p xs) (least_first q ys)) e ∙ ap (lesser (least_first p xs)) (first-none ys)
     ∙ lesser-none (least_first p xs)
-
--- what runs in both halves has room in each
-pub room_first : (p n : ℕ) (xs ys : Slots) → RoomFor p n (xs ++ ys) → RoomFor p n xs
-room_first p n [] ys h = tt
-room_first p n (None ∷ xs) ys h = room_first p n xs ys h
-room_first p n (Some k ∷ xs) ys h = (h.0, room_first (p - 1) n xs ys h.1)
-
-pub room_second : (p n : ℕ) (xs ys : Slots) → RoomFor p n (xs ++ ys) → RoomFor (p - ready_slots xs) n ys
-room_second p n [] ys h = let e : p ≡ p - 0 = omega arith in subst (λ q. RoomFor q n ys) e h
-room_second p n (None ∷ xs) ys h = room_second p n xs ys h
-room_second p n (Some k ∷ xs) ys h =
-    let e : (p - 1) - ready_slots xs ≡ p - (1 + ready_slots xs) = omega arith in
-    subst (λ q. RoomFor q n ys) e (room_second (p - 1) n xs ys h.1)
 
 room_lesser : (n k : ℕ) (a : Option ℕ) → n ≤ k → HasRoom n a → HasRoom n (lesser (Some k) a)
 room_lesser n k None h h' = h
@@ -212,10 +187,6 @@ length-run p n [] = refl
 length-run p n (None ∷ xs) = omega (arith, length-run p n xs)
 length-run p n (Some k ∷ xs) = omega (arith, length-run (p - 1) n xs)
 
-pub ready-nones : (n : ℕ) → ready_slots (nones n) ≡ 0
-ready-nones zero = refl
-ready-nones (suc n) = ready-nones n
-
 pub least-nones : (n : ℕ) → least_slot (nones n) ≡ None
 least-nones zero = refl
 least-nones (suc n) = least-nones n
@@ -226,7 +197,7 @@ ready-run p n [] = refl
 ready-run p n (None ∷ xs) = ready-run p n xs
 ready-run p n (Some k ∷ xs) = ap (λ m. 1 + m) (ready-run (p - 1) n xs)
 
-lesser-swap : (a b : Option ℕ) → lesser a b ≡ lesser b a
+pub lesser-swap : (a b : Option ℕ) → lesser a b ≡ lesser b a
 lesser-swap None None = refl
 lesser-swap None (Some b) = refl
 lesser-swap (Some a) None = refl

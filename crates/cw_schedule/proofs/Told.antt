@@ -1,12 +1,10 @@
 -- What is told of a run by what keeps its strands.
-use Rattle.std.proofs.Common.{◌≡◌, ◌≤◌, ◌<◌, ℕ, ℤ, Bool, true, false, ◌&&◌, Some, None, List, refl, sym, ap, ◌∙◌, subst, arith}
-use Rattle.std.specs.Prelude.{IsErrAnd, IsSome, MatchResult, Ok, Err, Result, nat_le, nat_eq, length}
-use Rattle.std.proofs.lemmas.Bool.Decides.{nat_tests}
+use Rattle.std.proofs.Common.{◌≡◌, ◌≤◌, ℕ, ℤ, Bool, true, false, ◌&&◌, Some, None, List, ap, ◌∙◌, arith}
+use Rattle.std.specs.Prelude.{IsSome, nat_le, nat_eq, length}
+use Rattle.cw_facts.specs.Tests.{first_true, second_true, le_of}
 use Rattle.cw_model.specs.declared.limits.TheConstants.{MOST_LIMIT, MOST_BURDEN}
-use Rattle.cw_model.specs.declared.total.Total.{Total}
 use Rattle.cw_model.specs.Burdens.{no_burden}
 use Rattle.cw_model.specs.Trees.{Tree}
-use Rattle.cw_model.specs.Answers.{Ended}
 use Rattle.cw_text.specs.declared.fault.Fault.{Fault}
 use Rattle.cw_text.specs.declared.fault.Fault.TheVariants as fault
 use Rattle.cw_model.specs.declared.limits.TheConstants.{MOST_STRANDS}
@@ -18,24 +16,7 @@ use Rattle.cw_code.specs.Fits.{main_params}
 use Rattle.cw_machine.specs.Runs.{is_request, IsFailure}
 use Rattle.cw_recorded.specs.Recording.{IsKept}
 use Rattle.cw_machine.specs.Recorded.{Records}
-use Rattle.cw_model.specs.declared.limits.TheConstants.{MOST_PROCESSORS}
 use Rattle.cw_schedule.specs.Schedules.{is_counted, is_asked, Ends, IsNotScheduled}
-
-first_true : (a b : Bool) → (a && b) ≡ true → a ≡ true
-first_true true b h = cc
-first_true false b h = cc
-
-second_true : (a b : Bool) → (a && b) ≡ true → b ≡ true
-second_true true b h = h
-second_true false b h = cc
-
-le_of : (a b : ℕ) → nat_le a b ≡ true → a ≤ b
-le_of a b h = grind (arith, nat_tests)
-
--- a fault that is handed on
-pub handed_on : {A : Type 0} (Q : A → Type 0) (P : Fault → Type 0) (e : Fault) (r : Result A Fault) → P e → IsErrAnd r (λ x. x ≡ e) → MatchResult r Q P
-handed_on Q P e (Ok x) p h = absurd h
-handed_on Q P e (Err x) p h = subst P (sym h) p
 
 -- where a schedule is asked for the limit is in its range
 pub at_most : (code : Code) (args : List ℤ) (n processors k : ℕ) → is_asked code args n processors ≡ true → k ≤ n → k ≤ MOST_LIMIT

@@ -1,15 +1,15 @@
 -- The paths behind a block that codes are read as weigh what it does, and that is the span of its tree.
-use Rattle.std.proofs.Common.{◌≡◌, ℕ, zero, suc, ◌+◌, ◌-◌, ◌≤◌, ◌<◌, Bool, true, false, List, [], ◌∷◌, ◌++◌, Option, Some, None, length, length-append, arith, refl, ap, ap₂, sym, ◌∙◌, subst, drop, get_or}
-use Rattle.std.specs.Prelude.{max, min, ◌^◌}
+use Rattle.std.proofs.Common.{◌≡◌, ℕ, ◌+◌, ◌≤◌, ◌<◌, Bool, true, false, List, [], ◌∷◌, ◌++◌, Some, None, length, length-append, arith, refl, ap, ap₂, sym, ◌∙◌, subst, drop, get_or}
+use Rattle.std.specs.Prelude.{max}
 use Rattle.std.proofs.lemmas.List.{drop_more}
 use Rattle.cw_model.specs.Trees.{Tree, Leaf, Seq, Par, Marked, work, span}
 use Rattle.cw_greedy.specs.declared.code.Code.{Code}
-use Rattle.cw_greedy.specs.declared.code.Code.TheVariants.{Instructions, Spawned, Ended, Joined, Called}
+use Rattle.cw_greedy.specs.declared.code.Code.TheVariants.{Instructions, Spawned, Ended, Joined}
 use Rattle.cw_greedy.specs.Blocks.{add_before, put_before, block_of}
 use Rattle.cw_greedy.specs.Jumping.{Block, Last, Fork}
 use Rattle.cw_schedule.specs.declared.weights.Spawn.{Spawn}
 use Rattle.cw_schedule.specs.declared.weights.Ways.{Ways}
-use Rattle.cw_schedule.specs.Reading.{Frame, InChild, InRest, add_at_end, fork_at_end, joined, after_join, read}
+use Rattle.cw_schedule.specs.Reading.{Frame, InChild, InRest, add_at_end, fork_at_end, joined, read}
 use Rattle.cw_schedule.specs.Weighed.{path_of, counted, spawn, spawn_of, spawns_of, Weighs, WillWeigh, WillJoin}
 use Rattle.cw_schedule.proofs.Plans.{snoc_same, read_joined}
 

@@ -1,9 +1,7 @@
 -- A run that ends does no more work than its limit.
-use Rattle.std.proofs.Common.{◌≡◌, ◌≤◌, ℕ, zero, suc, ◌-◌, ℤ, Bool, true, false, if◌then◌else◌, Option, Some, None, List, [], arith, refl, sym, ap, subst, ◌∙◌}
+use Rattle.std.proofs.Common.{◌≡◌, ◌≤◌, ℕ, zero, suc, ◌-◌, ℤ, Bool, true, false, if◌then◌else◌, Option, Some, None, List, [], arith, refl, sym, subst}
 use Rattle.std.specs.Prelude.{◌&&◌, nat_eq, nat_le, length, option_map, slice_get}
-use Rattle.cw_model.specs.declared.limits.TheConstants.{MOST_LIMIT}
 use Rattle.cw_model.specs.declared.total.Total.{Total}
-use Rattle.cw_model.specs.Frames.{no_frame}
 use Rattle.cw_model.specs.Trees.{Tree, Marked, Invocation, work, tree_of, normal}
 use Rattle.cw_model.specs.TreeLaws.{ReadSame}
 use Rattle.cw_model.specs.Outcome.{Trace, Done, Trapped, Over}

@@ -81,3 +81,7 @@ pub data Advances (processors steps : ℕ) (slots slots' : Slots) : Type 0 where
   stays : steps ≡ 0 → slots' ≡ slots → Advances processors steps slots slots'
   runs : EachLeft slots → RoomFor processors steps slots → slots' ≡ run_slots processors steps slots
       → Advances processors steps slots slots'
+
+-- what is left in two halves, of which as much is owed as is told
+abbrev pub left_in : Told → (first second : Slots) → Slots
+left_in told first second = lowered told.owed (first ++ second)

@@ -5,4 +5,5 @@ pub mod State
 pub mod Weighed
 pub mod Boards
 pub mod Falls
+pub mod Lines
 pub mod Schedules

@@ -100,3 +100,7 @@ instructions_of (Spawned first) = 0
 instructions_of Ended = 0
 instructions_of Joined = 0
 instructions_of Called = 0
+
+-- the strands of a planning, with the one that has begun
+abbrev pub all_begun : Planning → List Strand
+all_begun p = p.strands.items ++ p.last ∷ []

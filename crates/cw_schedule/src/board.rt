@@ -2,7 +2,7 @@
 
 ghost use Rattle.std.specs.Prelude.{◌≡◌, ◌↔◌, ◌+◌, ◌<◌, ◌≤◌, ◌^◌, ◌++◌, length, Some, None, IfOk, IsTrue, slice_set, slice_get};
 ghost use Rattle.cw_greedy.specs.Slots.{nones, ready_slots, run_slots, RoomFor};
-ghost use Rattle.cw_schedule.specs.Boards.{least_first, least_slot, lowered, minus, owing, Advances, HasRoom, IsOwed, Tells};
+ghost use Rattle.cw_schedule.specs.Boards.{least_first, least_slot, left_in, lowered, minus, owing, Advances, HasRoom, IsOwed, Tells};
 
 use crate::block::{Block, is_zero, lesser_of};
 use std::alloc::{AllocError, Global};
@@ -267,7 +267,8 @@ fn put_in_halves(first: &mut Board, second: &mut Board, told: &mut Told, place: 
     requires told { Tells first.old second.old told.old }
     requires place { place < length first.old + length second.old }
     ensures told { Tells first.new second.new told.new }
-    ensures put { lowered told.new.owed (first.new ++ second.new) ≡ slice_set (lowered told.old.owed (first.old ++ second.old)) place (Some left) }
+    ensures put { left_in told.new first.new second.new
+        ≡ slice_set (left_in told.old first.old second.old) place (Some left) }
 {
     settle(first, second, *told);
     put_in_half(first, second, told.places, place, left);
@@ -294,10 +295,11 @@ fn put_in_half(first: &mut Board, second: &mut Board, places: usize, place: usiz
 #[cycle(take)]
 fn take_of_halves(first: &mut Board, second: &mut Board, told: &mut Told) -> usize
     requires told { Tells first.old second.old told.old }
-    requires least { least_slot (lowered told.old.owed (first.old ++ second.old)) ≡ Some 0 }
+    requires least { least_slot (left_in told.old first.old second.old) ≡ Some 0 }
     ensures told { Tells first.new second.new told.new }
-    ensures place { slice_get (lowered told.old.owed (first.old ++ second.old)) result ≡ Some (Some 0) }
-    ensures taken { lowered told.new.owed (first.new ++ second.new) ≡ slice_set (lowered told.old.owed (first.old ++ second.old)) result None }
+    ensures place { slice_get (left_in told.old first.old second.old) result ≡ Some (Some 0) }
+    ensures taken { left_in told.new first.new second.new
+        ≡ slice_set (left_in told.old first.old second.old) result None }
 {
     settle(first, second, *told);
     let place = take_of_half(first, second, told.places);
@@ -353,9 +355,10 @@ fn least_of_half(first: &Board, second: &Board, processors: u64) -> Option<u64>
 #[cycle(run)]
 fn run_halves(first: &mut Board, second: &mut Board, told: &mut Told, processors: u64, steps: u64)
     requires told { Tells first.old second.old told.old }
-    requires room { RoomFor processors steps (lowered told.old.owed (first.old ++ second.old)) }
+    requires room { RoomFor processors steps (left_in told.old first.old second.old) }
     ensures told { Tells first.new second.new told.new }
-    ensures run { lowered told.new.owed (first.new ++ second.new) ≡ run_slots processors steps (lowered told.old.owed (first.old ++ second.old)) }
+    ensures run { left_in told.new first.new second.new
+        ≡ run_slots processors steps (left_in told.old first.old second.old) }
 {
     settle(first, second, *told);
     run_half(first, second, processors, steps);

@@ -3,7 +3,9 @@
 
 mod block;
 mod board;
+mod line;
 mod plan;
+mod ready;
 pub mod schedule;
 pub mod schedules;
 pub mod weights;

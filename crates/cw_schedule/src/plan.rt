@@ -7,7 +7,7 @@ ghost use Rattle.cw_greedy.specs.Jumping.{Block, Last};
 ghost use Rattle.cw_model.specs.declared.limits.TheConstants.{MOST_LIMIT};
 ghost use Rattle.cw_schedule.specs.declared.plan.Begins.TheVariants.{Child, Continuation, Start, Sync};
 ghost use Rattle.cw_schedule.specs.declared.plan.Open.{Open};
-ghost use Rattle.cw_schedule.specs.Planned.{instructions_of, open_at, patched, strand, strands_of, Continues, HasSpawn, Joins, Makes, Plans};
+ghost use Rattle.cw_schedule.specs.Planned.{all_begun, instructions_of, open_at, patched, strand, strands_of, Continues, HasSpawn, Joins, Makes, Plans};
 ghost use Rattle.cw_schedule.specs.Reading.{instructions, read, Frame};
 
 use cw_greedy::code::Code;
@@ -52,7 +52,7 @@ struct Planning {
 impl Planning {
     // Another strand begins.
     fn begin(&mut self, begins: Begins) -> Result<(), AllocError>
-        ensures strands { OnOk result (self.new.strands.items ≡ self.old.strands.items ++ self.old.last ∷ []) }
+        ensures strands { OnOk result (self.new.strands.items ≡ all_begun self.old) }
         ensures last { OnOk result (self.new.last ≡ strand 0 begins) }
         ensures spawns { OnOk result (self.new.spawns.items ≡ self.old.spawns.items) }
     {
@@ -73,9 +73,10 @@ impl Planning {
 
     // A spawned child begins.
     fn spawned(&mut self, first: bool) -> Result<(), AllocError>
-        ensures strands { OnOk result (self.new.strands.items ≡ self.old.strands.items ++ self.old.last ∷ []) }
+        ensures strands { OnOk result (self.new.strands.items ≡ all_begun self.old) }
         ensures last { OnOk result (self.new.last ≡ strand 0 (Child 0)) }
-        ensures spawns { OnOk result (self.new.spawns.items ≡ self.old.spawns.items ++ open_at (length self.old.strands.items + 1) first ∷ []) }
+        ensures spawns { OnOk result (self.new.spawns.items
+            ≡ self.old.spawns.items ++ open_at (length self.old.strands.items + 1) first ∷ []) }
     {
         self.begin(Begins::Child(0))?;
         let at = self.strands.len();
@@ -106,7 +107,8 @@ impl Planning {
     // The last open spawn is joined.
     fn join_last(&mut self, top: Open) -> Result<(), AllocError>
         requires { top.at ≤ length self.old.strands.items }
-        ensures strands { OnOk result (self.new.strands.items ≡ patched (self.old.strands.items ++ self.old.last ∷ []) top.at (Continuation (length self.old.strands.items + 1 - top.at))) }
+        ensures strands { OnOk result (self.new.strands.items ≡ patched (all_begun self.old) top.at
+            (Continuation (length self.old.strands.items + 1 - top.at))) }
         ensures last { OnOk result (self.new.last ≡ strand 0 Sync) }
         ensures spawns { OnOk result (self.new.spawns.items ≡ self.old.spawns.items) }
     {
@@ -139,7 +141,8 @@ impl Planning {
             × ((later : List Code) × Makes block (code ∷ later) self.old) }
         ensures makes { (block : Block) (later : List Code)
             → Makes block (code ∷ later) self.old → OnOk result (Makes block later self.new) }
-        ensures weight { OnOk result (self.new.last.weight ≤ self.old.last.weight + instructions_of code) }
+        ensures weight { OnOk result (self.new.last.weight
+            ≤ self.old.last.weight + instructions_of code) }
     {
         match code {
             Code::Instructions(count) => {

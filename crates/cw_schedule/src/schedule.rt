@@ -13,15 +13,15 @@ ghost use Rattle.cw_greedy.specs.Records.{IsRecordOf};
 ghost use Rattle.cw_schedule.specs.Boards.{least_slot};
 ghost use Rattle.cw_schedule.specs.State.{flag_at, strand_at, Begun, IsWithin, Puts, Reaches, Stands, Takes};
 
-use crate::board::Board;
 use crate::plan::{Begins, Strand, plan};
+use crate::ready::Ready;
 use crate::weights::weigh;
 use cw_greedy::laws::{greedy_is_bounded, lists_show_boards, rounds_keep_the_length};
 use cw_greedy::strands::Strands;
 use std::alloc::{AllocError, Global};
 
 // One of the two sides before a join is done.
-fn arrive(strands: &[Strand], flags: &mut [bool], board: &mut Board, join: usize)
+fn arrive(strands: &[Strand], flags: &mut [bool], board: &mut Ready, join: usize)
     requires join { join < length strands.now }
     requires flags { length flags.old ≡ length strands.now }
     requires board { length board.old ≡ length strands.now }
@@ -40,7 +40,7 @@ fn arrive(strands: &[Strand], flags: &mut [bool], board: &mut Board, join: usize
 }
 
 // The strand before this one is done: what waited for it alone gets ready.
-fn release(strands: &[Strand], flags: &mut [bool], board: &mut Board, next: usize)
+fn release(strands: &[Strand], flags: &mut [bool], board: &mut Ready, next: usize)
     requires next { next < length strands.now }
     requires reaches { Reaches (strand_at strands.now next).begins next (length strands.now) }
     requires flags { length flags.old ≡ length strands.now }
@@ -59,7 +59,7 @@ fn release(strands: &[Strand], flags: &mut [bool], board: &mut Board, next: usiz
 }
 
 // Takes off a strand of which nothing is left.
-fn take(strands: &[Strand], flags: &mut [bool], board: &mut Board)
+fn take(strands: &[Strand], flags: &mut [bool], board: &mut Ready)
     requires state { (block : Block)
         × ((g : Going) × Stands block g strands.now flags.old board.old) }
     requires done { least_slot board.old ≡ Some 0 }
@@ -74,7 +74,7 @@ fn take(strands: &[Strand], flags: &mut [bool], board: &mut Board)
 }
 
 // The number of steps in which so many processors run the strands of a block, whose first one is on the board.
-fn count_steps(strands: &[Strand], flags: &mut [bool], board: &mut Board, processors: u64) -> u64
+fn count_steps(strands: &[Strand], flags: &mut [bool], board: &mut Ready, processors: u64) -> u64
     requires processors { 1 ≤ processors }
     requires begun { (block : Block) × Begun processors block strands.now flags.old board.old }
     ensures { (block : Block) → Begun processors block strands.now flags.old board.old
@@ -91,7 +91,7 @@ fn count_steps(strands: &[Strand], flags: &mut [bool], board: &mut Board, proces
 }
 
 // The number of steps in which so many processors run the strands of a tree.
-fn count_all(strands: &[Strand], flags: &mut [bool], board: &mut Board, processors: u64) -> u64
+fn count_all(strands: &[Strand], flags: &mut [bool], board: &mut Ready, processors: u64) -> u64
     requires processors { 1 ≤ processors }
     requires tree { (t : Tree)
         × ((strands.now ≡ strands_of Start (block_of t)) × (work t ≤ MOST_LIMIT)) }
@@ -129,7 +129,7 @@ pub fn greedy(alloc: Global, kept: &Strands, processors: u64) -> Result<u64, All
     }
     let strands = plan(alloc, kept.codes())?;
     let mut flags = vec![in alloc; false; strands.len()]?;
-    let mut board = Board::new(alloc, strands.len())?;
+    let mut board = Ready::new(alloc, strands.len(), processors)?;
     let steps = count_all(&strands, &mut flags, &mut board, processors);
     Ok(steps)
 }

@@ -73,7 +73,8 @@ impl Ways {
     fn ended(&mut self) -> Result<(), AllocError>
         ensures work { OnOk result (self.new.work ≡ self.old.work) }
         ensures path { OnOk result (self.new.path ≡ 0) }
-        ensures spawns { (outer : List Spawn) (top : Spawn) → self.old.spawns.items ≡ outer ++ top ∷ []
+        ensures spawns { (outer : List Spawn) (top : Spawn)
+            → self.old.spawns.items ≡ outer ++ top ∷ []
             → OnOk result (self.new.spawns.items
             ≡ outer ++ spawn top.before self.old.path top.first ∷ []) }
     {

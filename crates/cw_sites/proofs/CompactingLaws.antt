@@ -5,6 +5,7 @@ use Rattle.std.proofs.lemmas.Bool.{cases_lt}
 use Rattle.std.proofs.lemmas.Bool.Decides.{nat_tests}
 use Rattle.std.proofs.lemmas.List.{get_or_past, get_or-set_same, get_or-set_other, length-set}
 use borrow.Author.Tests.{eqb-true}
+use Rattle.cw_facts.specs.Tests.{below, not_below}
 use Rattle.cw_sites.specs.declared.steps.Steps.{Steps}
 use Rattle.cw_measure.specs.Outermost.{one_if}
 use Rattle.cw_pages.specs.Items.{entry, Enters}
@@ -62,13 +63,6 @@ one_summed from to steps i s sums sums' le lt at word add longest h = record {
 pub all_summed : (from to : ℕ) (steps : List Steps) (i : ℕ) (sums : List ℕ) → (from ≤ to → to ≤ length steps → i ≡ to) → SummedTo from to steps i sums → from ≤ to → to ≤ length steps → SumsUp from to steps sums
 all_summed from to steps i sums e h o l = λ q fits. let z = e o l in h.each l (omega arith) q fits ∙ ap (λ (n : ℕ). upto q steps n - upto q steps from) z
 
--- numbers that are less, equal and greater
-less_is : (a b : ℕ) → a < b → nat_lt a b ≡ true
-less_is a b h = grind (arith, nat_tests)
-
-not_less : (a b : ℕ) → b ≤ a → nat_lt a b ≡ false
-not_less a b h = grind (arith, nat_tests)
-
 same_number : (n : ℕ) → (n == n) ≡ true
 same_number n = grind (arith, nat_tests)
 
@@ -110,8 +104,8 @@ placed_more to old new site place (suc n) g p t h = elim (cases_lt site n) [
       let k = placed_same to old new site place n g (omega arith) in
       let N : ℕ → Type 0 = λ x. one_if (nat_lt (entry to new x) to) ≡ 1 in
       let O : ℕ → Type 0 = λ x. one_if (nat_lt (entry to old x) to) ≡ 0 in
-      let a = subst N same (ap (λ (x : ℕ). one_if (nat_lt x to)) (given_here to old new site place g) ∙ ap one_if (less_is place to p)) in
-      let b = subst O same (ap one_if (not_less (entry to old site) to t)) in
+      let a = subst N same (ap (λ (x : ℕ). one_if (nat_lt x to)) (given_here to old new site place g) ∙ ap one_if (below place to p)) in
+      let b = subst O same (ap one_if (not_below (entry to old site) to t)) in
       omega arith)
 ]
 
@@ -131,7 +125,7 @@ nothing_gathered from to old places none = record {
   where
     none_placed : (most : ℕ) → placed to places most ≡ 0
     none_placed zero = refl
-    none_placed (suc n) = let k = none_placed n in let e = none n in let f = ap one_if (not_less (entry to places n) to (omega arith)) in omega arith
+    none_placed (suc n) = let k = none_placed n in let e = none n in let f = ap one_if (not_below (entry to places n) to (omega arith)) in omega arith
 
 -- the step at the place `i` is of the list that there was
 next_is : (q i : ℕ) (old now : List Steps) (one : Steps) → i < length now → one ≡ get_or now i one → upto q now (i + 1) + upto q old i ≡ upto q old (i + 1) + upto q now i → upto q old (i + 1) ≡ upto q old i + if_site q one.site one.count

@@ -4,6 +4,7 @@ use Rattle.std.proofs.lemmas.Bool.{cases_lt}
 use Rattle.std.proofs.lemmas.Bool.Decides.{nat_tests}
 use Rattle.std.proofs.lemmas.List.{get_or_past, get_or-set_same, get_or-set_other, get_or_default}
 use borrow.Author.Tests.{eqb-true}
+use Rattle.cw_facts.specs.Tests.{less_differs, less_where_it_differs, taken, not_taken}
 use Rattle.cw_measure.specs.Outermost.{unless_at}
 use Rattle.cw_pages.specs.Items.{item, Gives, HasNoPage, HasNoPageFrom, HasNoShelfFrom}
 use Rattle.cw_pages.specs.declared.pages.Pages.{Pages}
@@ -12,19 +13,6 @@ use Rattle.cw_sites.specs.declared.rows.Rows.{Rows}
 use Rattle.cw_sites.specs.declared.rows.Row.{Row}
 use Rattle.cw_sites.specs.declared.rows.Kept.{Kept}
 use Rattle.cw_sites.specs.SiteRows.{kept_of, further_of, row_of, zero_row, none_kept, summed, under, FitsRow, Becomes, OthersStay, IsReadAs, JoinsBelow, JoinsFurther, JoinsOn, JoinsRows}
-
-other_number : (n q : ℕ) → n < q → (n == q) ≡ false
-other_number n q h = grind (arith, nat_tests)
-
-below_other : (n q : ℕ) → q < n + 1 → (n == q) ≡ false → q < n
-below_other n q h e = grind (arith, nat_tests)
-
--- by a test of numbers
-by_true : {T : Type 0} (b : Bool) (v x : T) → b ≡ true → (if b then v else x) ≡ v
-by_true b v x e = ap (λ (y : Bool). if y then v else x) e
-
-by_false : {T : Type 0} (b : Bool) (v x : T) → b ≡ false → (if b then v else x) ≡ x
-by_false b v x e = ap (λ (y : Bool). if y then v else x) e
 
 -- nothing more, whatever is open
 nothing_at : (b : Bool) → unless_at b 0 ≡ 0
@@ -67,7 +55,7 @@ kept_pushed xs ys x further is at q =
 -- a site has something kept in its page, and among the first ones
 pub kept_in_page : (by_site : List Kept) (old new : Pages Kept) (place : ℕ) (kept : Kept) → length by_site ≤ place → Gives none_kept old new place kept → (q : ℕ) → get_or by_site q (further_of new q) ≡ (if place == q then kept else get_or by_site q (further_of old q))
 kept_in_page by_site old new place kept past g q = elim (cases_lt q (length by_site)) [
-  | inl less ↦ get_or_default by_site q (further_of new q) (further_of old q) less ∙ sym (by_false (place == q) kept (get_or by_site q (further_of old q)) (other q (omega arith)))
+  | inl less ↦ get_or_default by_site q (further_of new q) (further_of old q) less ∙ sym (not_taken (place == q) kept (get_or by_site q (further_of old q)) (other q (omega arith)))
   | inr beyond ↦ get_or_past by_site q (further_of new q) beyond ∙ page_item new q ∙ g q ∙ ap (λ (x : Kept). if place == q then kept else x) (sym (get_or_past by_site q (further_of old q) beyond ∙ page_item old q))
 ]
   where
@@ -76,13 +64,13 @@ kept_in_page by_site old new place kept past g q = elim (cases_lt q (length by_s
 
 pub kept_here : (xs : List Kept) (place : ℕ) (kept : Kept) (others : ℕ → Kept) → place < length xs → (q : ℕ) → get_or (set xs place kept) q (others q) ≡ (if place == q then kept else get_or xs q (others q))
 kept_here xs place kept others less q = elim (cases_lt place q) [
-  | inl l ↦ get_or-set_other xs place q kept (others q) (λ e. absurd (omega arith)) ∙ sym (by_false (place == q) kept (get_or xs q (others q)) (grind (arith, nat_tests)))
+  | inl l ↦ get_or-set_other xs place q kept (others q) (λ e. absurd (omega arith)) ∙ sym (not_taken (place == q) kept (get_or xs q (others q)) (grind (arith, nat_tests)))
   | inr m ↦ elim (cases_lt q place) [
-    | inl l ↦ get_or-set_other xs place q kept (others q) (λ e. absurd (omega arith)) ∙ sym (by_false (place == q) kept (get_or xs q (others q)) (grind (arith, nat_tests)))
+    | inl l ↦ get_or-set_other xs place q kept (others q) (λ e. absurd (omega arith)) ∙ sym (not_taken (place == q) kept (get_or xs q (others q)) (grind (arith, nat_tests)))
     | inr n ↦
         (let same : place ≡ q = omega arith in
         let P : ℕ → Type 0 = λ k. get_or (set xs place kept) k (others k) ≡ (if place == k then kept else get_or xs k (others k)) in
-        subst P same (get_or-set_same xs place kept (others place) less ∙ sym (by_true (place == place) kept (get_or xs place (others place)) (grind (arith, nat_tests)))))
+        subst P same (get_or-set_same xs place kept (others place) less ∙ sym (taken (place == place) kept (get_or xs place (others place)) (grind (arith, nat_tests)))))
   ]
 ]
 
@@ -100,7 +88,7 @@ none_joined piece ours = record { within = λ q less fits. absurd (omega arith);
 pub one_joined : (piece ours now new : Rows) (n : ℕ) (row : Row) → row ≡ row_of piece n → Becomes (under row) now new n → OthersStay now new n → JoinsBelow piece n ours now → JoinsBelow piece (n + 1) ours new
 one_joined piece ours now new n row is own others h = record {
   within = λ q less fits. by_site q less fits (n == q) refl;
-  beyond = λ q more. others q (other_number n q (omega arith)) ∙ h.beyond q (omega arith);
+  beyond = λ q more. others q (less_differs n q (omega arith)) ∙ h.beyond q (omega arith);
 }
   where
     by_site : (q : ℕ) → q < n + 1 → FitsRow (summed (row_of ours q) (row_of piece q)) → (b : Bool) → (n == q) ≡ b → row_of new q ≡ summed (row_of ours q) (row_of piece q)
@@ -110,7 +98,7 @@ one_joined piece ours now new n row is own others h = record {
         let R : Row → Type 0 = λ x. FitsRow (summed x row) → row_of new n ≡ summed x row in
         let P : Row → Type 0 = λ x. FitsRow (summed (row_of ours n) x) → row_of new n ≡ summed (row_of ours n) x in
         subst S same (subst P is (subst R (h.beyond n (omega arith)) own)) fits
-    by_site q less fits false e = others q e ∙ h.within q (below_other n q less e) fits
+    by_site q less fits false e = others q e ∙ h.within q (less_where_it_differs n q less e) fits
 
 -- rows of zeros need not be added
 rows_skipped : (piece ours now : Rows) (a b : ℕ) → a ≤ b → ((q : ℕ) → a ≤ q → q < b → row_of piece q ≡ zero_row) → JoinsBelow piece a ours now → JoinsBelow piece b ours now

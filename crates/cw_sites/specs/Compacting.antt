@@ -1,5 +1,6 @@
 -- What adding up steps does to a list of steps and to the sums of sites.
 use Rattle.std.specs.Prelude.{◌≡◌, ℕ, zero, suc, ◌+◌, ◌-◌, ◌^◌, ◌<◌, ◌≤◌, nat_lt, List, length, get_or}
+use Rattle.std.specs.Global.{Vec}
 use Rattle.cw_measure.specs.Outermost.{one_if}
 use Rattle.cw_pages.specs.Items.{entry}
 use Rattle.cw_pages.specs.declared.table.Table.{Table}
@@ -64,12 +65,22 @@ pub record Gathered (from to : ℕ) (old now : List Steps) (i : ℕ) (places : T
   pub sites : (most : ℕ) → AllBelow most old → end ≡ from + placed to places most
   pub kept : (most : ℕ) → AllBelow most old → AllBelow most now
 
+-- they end no further from where they begin than this
+abbrev pub EndsWithin : (from to limit : ℕ) → List Steps → (end : ℕ) → Type 0
+EndsWithin from to limit old end = to ≤ length old → end ≤ from + limit
+
 -- one step more of them is added
 abbrev pub GathersOne :
     (to : ℕ) → List Steps → Table ℕ → (i end : ℕ) → List Steps → Table ℕ → (next : ℕ) → Type 0
 GathersOne to now places i end new new_places next =
     (from : ℕ) (old : List Steps) → Gathered from to old now i places end
     → Gathered from to old new (i + 1) new_places next
+
+-- the same of vectors
+abbrev pub GathersIn :
+    (to : ℕ) → Vec Steps → Table ℕ → (i end : ℕ) → Vec Steps → Table ℕ → (next : ℕ) → Type 0
+GathersIn to now places i end new new_places next =
+    GathersOne to now.items places i end new.items new_places next
 
 -- the steps from a place up to another are added up, and end at `end`; what lies behind them is as it was
 pub record IsGathered (from to : ℕ) (old new : List Steps) (end : ℕ) : Type 0 where

@@ -1,5 +1,5 @@
 -- What is counted of a site over a run so far.
-use Rattle.std.specs.Prelude.{◌≡◌, ℕ, ◌+◌, ◌-◌, ◌^◌, ◌<◌, ◌≤◌, ◌==◌, Bool, true, false, List, [], ◌∷◌, length}
+use Rattle.std.specs.Prelude.{◌≡◌, ℕ, ◌+◌, ◌-◌, ◌*◌, ◌^◌, ◌<◌, ◌≤◌, ◌==◌, Bool, true, false, List, [], ◌∷◌, length}
 use Rattle.std.specs.Prelude.{if◌then◌else◌, max, slice_index_or}
 use Rattle.cw_model.specs.Trees.{Tree, Event, tree_of, work, span}
 use Rattle.cw_model.specs.Rows.{is_site, leaves, weight_of_site, calls_of}
@@ -181,6 +181,16 @@ abbrev pub JoinsOn : (piece : Rows) → (from to : ℕ) → Rows → Rows → Ty
 JoinsOn piece from to old new =
     (ours : Rows) → JoinsBelow piece (max (length piece.by_site.items) from) ours old
     → JoinsBelow piece (max (length piece.by_site.items) to) ours new
+
+-- of the piece: its first rows are added, those of the pages of a shelf, those of a page
+abbrev pub JoinsFirsts : (piece : Rows) → Rows → Rows → Type 0
+JoinsFirsts piece old new = JoinsBelow piece (length piece.by_site.items) old new
+
+abbrev pub JoinsShelf : (piece : Rows) → (shelf : ℕ) → Rows → Rows → Type 0
+JoinsShelf piece shelf old new = JoinsOn piece (shelf * 2048) (shelf * 2048 + 2048) old new
+
+abbrev pub JoinsPage : (piece : Rows) → (shelf page : ℕ) → Rows → Rows → Type 0
+JoinsPage piece shelf page old new = JoinsOn piece (shelf * 2048 + page * 64) (shelf * 2048 + page * 64 + 64) old new
 
 -- where the piece's first rows were added, all are
 abbrev pub JoinsFurther : (piece : Rows) → Rows → Rows → Type 0

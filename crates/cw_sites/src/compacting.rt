@@ -1,7 +1,7 @@
 //! Steps of the same sites, added up, so that a path has at most as many steps as there are sites.
 
 ghost use Rattle.std.specs.Prelude.{◌≡◌, ◌+◌, ◌≤◌, ◌<◌, ◌^◌, ℕ, length, IfOk, OnOk};
-ghost use Rattle.cw_sites.specs.Compacting.{AddsTo, AddsUpWithin, CountsOn, EndsWithinSites, GathersOne, IsGathered, NoMoreThanSites, StaysWithin, SumsUpWithin};
+ghost use Rattle.cw_sites.specs.Compacting.{AddsTo, AddsUpWithin, CountsOn, EndsWithinSites, GathersIn, IsGathered, NoMoreThanSites, StaysWithin, SumsUpWithin};
 ghost use Rattle.cw_sites.specs.StepSums.{sum_at, StaysBelow};
 
 use crate::steps::{Steps, take_out};
@@ -53,7 +53,7 @@ fn gather_one(
     requires order { end ≤ i }
     requires before { i < to }
     requires within { to ≤ length steps.old.items }
-    ensures { IfOk result (λ next. GathersOne to steps.old.items places.old i end steps.new.items places.new next) }
+    ensures { IfOk result (GathersIn to steps.old places.old i end steps.new places.new) }
 {
     let one = steps[i];
     let at = places.get(one.site as usize, to);

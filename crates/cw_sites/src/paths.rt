@@ -8,9 +8,9 @@
 //! the strand that runs before a step is put to it, and a block's base where it takes a rest in. So each step that is
 //! put pays for its moves and its adding up once, whatever the length of the paths that are joined.
 
-ghost use Rattle.std.specs.Prelude.{◌≡◌, ℕ, ◌+◌, ◌-◌, ◌^◌, ◌<◌, ◌==◌, ◌≤◌, true, length, min, if◌then◌else◌, IfOk, OnOk};
+ghost use Rattle.std.specs.Prelude.{◌≡◌, ℕ, ◌+◌, ◌-◌, ◌^◌, ◌<◌, ◌==◌, true, length, min, if◌then◌else◌, IfOk, OnOk};
 ghost use Rattle.std.specs.Vec.{vec_len, vec_capacity};
-ghost use Rattle.cw_sites.specs.Compacting.{AddsUpWithin, CountsOn};
+ghost use Rattle.cw_sites.specs.Compacting.{AddsUpWithin, CountsOn, EndsWithin};
 ghost use Rattle.cw_sites.specs.PathBounds.{ComesToFit, FitsAt, FitsBeside, GrowsAt, IsTight, JoinsTight, JoinsTightWith, KeepsLimit};
 ghost use Rattle.cw_sites.specs.PathBounds.{StaysShort, StaysTight, StaysTightBeside, StaysTightWith};
 ghost use Rattle.cw_sites.specs.PathCalls.{ReadsOwn, ReadsOwnBySite};
@@ -155,9 +155,9 @@ impl Paths {
     #[cold]
     #[inline(never)]
     fn compact(&mut self, from: usize, to: usize) -> Result<usize, AllocError>
-        ensures all { IfOk result (λ end. AddsUpWithin from to self.old.steps.items self.new.steps.items end) }
-        ensures short { IfOk result (λ end. to ≤ length self.old.steps.items → end ≤ from + self.new.limit) }
-        ensures count { IfOk result (λ end. CountsOn to self.old.steps.items self.new.steps.items end) }
+        ensures all { IfOk result (AddsUpWithin from to self.old.steps.items self.new.steps.items) }
+        ensures short { IfOk result (EndsWithin from to self.new.limit self.old.steps.items) }
+        ensures count { IfOk result (CountsOn to self.old.steps.items self.new.steps.items) }
         ensures kept { OnOk result (StaysBelow self.old.steps.items self.new.steps.items) }
         ensures limit { OnOk result (KeepsLimit self.old self.new) }
         ensures rest { OnOk result (KeepsBlocks self.old self.new) }

@@ -3,7 +3,7 @@
 ghost use Rattle.std.specs.Prelude.{◌≡◌, ℕ, ◌+◌, ◌*◌, ◌^◌, ◌<◌, ◌≤◌, true, false, length, IfOk, OnOk};
 ghost use Rattle.cw_sites.specs.SiteRows as tallies;
 ghost use Rattle.cw_sites.specs.SiteRows.{kept_of, row_of, zero_row, Becomes, IsWhereItFits, OthersStay, SayTheSame};
-ghost use Rattle.cw_sites.specs.SiteRows.{JoinsBelow, JoinsFurther, JoinsOn, JoinsRows, KeepTheSame, Keeps};
+ghost use Rattle.cw_sites.specs.SiteRows.{JoinsFirsts, JoinsFurther, JoinsOn, JoinsPage, JoinsRows, JoinsShelf, KeepTheSame, Keeps};
 
 use cw_pages::{PAGE, Pages, SHELF};
 use std::alloc::{AllocError, Global};
@@ -378,7 +378,7 @@ impl Rows {
 
     // Adds the sums of the piece's first rows.
     fn join_firsts(&mut self, piece: &Rows) -> Result<(), AllocError>
-        ensures { OnOk result (JoinsBelow piece.now (length piece.now.by_site.items) self.old self.new) }
+        ensures { OnOk result (JoinsFirsts piece.now self.old self.new) }
     {
         for place in 0..piece.by_site.len() {
             self.add(place, piece.row_at(place))?;
@@ -398,7 +398,7 @@ impl Rows {
 
     // Adds the sums of the rows of the pages of a shelf.
     fn join_shelf(&mut self, piece: &Rows, shelf: usize) -> Result<(), AllocError>
-        ensures { OnOk result (JoinsOn piece.now (shelf * 2048) (shelf * 2048 + 2048) self.old self.new) }
+        ensures { OnOk result (JoinsShelf piece.now shelf self.old self.new) }
     {
         for page in 0..piece.further.pages(shelf) {
             self.join_page(piece, shelf, page)?;
@@ -409,7 +409,7 @@ impl Rows {
     // Adds the sums of the rows of a page, if it is there.
     fn join_page(&mut self, piece: &Rows, shelf: usize, page: usize) -> Result<(), AllocError>
         requires { page < 32 }
-        ensures { OnOk result (JoinsOn piece.now (shelf * 2048 + page * 64) (shelf * 2048 + page * 64 + 64) self.old self.new) }
+        ensures { OnOk result (JoinsPage piece.now shelf page self.old self.new) }
     {
         if !piece.further.has_page(shelf, page) {
             return Ok(());

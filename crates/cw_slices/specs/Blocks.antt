@@ -3,7 +3,7 @@ use Rattle.std.specs.Prelude.{◌≡◌, ℕ, suc, ◌+◌, ◌-◌, ◌^◌, �
 use Rattle.std.specs.Prelude.{◌++◌, length, take, drop, map, replicate, Option, Some, None, slice_get, refl}
 use Rattle.std.specs.Coded.{Coded, code_by, coded×, coded_list, coded_option, coded_ℕ, coded_ℤ}
 use denote.RawPtr.{Ptr, coded_ptr}
-use Rattle.cw_slices.specs.Placed.{Spot}
+use Rattle.cw_slices.specs.Placed.{Spot, spot_of}
 
 -- a block: each of its numbers that is in, nothing where one is lent out; how often the right to each place was halved,
 -- so that a share of it is out for each time that is more than `halved` of `spot`; and where it lies
@@ -123,3 +123,7 @@ abbrev pub marks : List (Option ℤ) → List Bool
 marks [] = []
 marks (Some x ∷ cells) = true ∷ marks cells
 marks (None ∷ cells) = false ∷ marks cells
+
+-- a block by its words
+abbrev pub lodged_by : (cells : List (Option ℤ)) → (rights : List ℕ) → Ptr → (frees halved : ℕ) → Lodged
+lodged_by cells rights p frees d = record { cells = cells; rights = rights; spot = spot_of p frees d }

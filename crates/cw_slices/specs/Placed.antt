@@ -1,5 +1,5 @@
 -- A slice as contracts see it: its numbers, and where they lie.
-use Rattle.std.specs.Prelude.{◌≡◌, ℕ, ◌*◌, ℤ, List, length, refl}
+use Rattle.std.specs.Prelude.{◌≡◌, ℕ, ◌*◌, ℤ, List, drop, length, refl}
 use Rattle.std.specs.Coded.{Coded, code_by, coded×, coded_list, coded_ℕ, coded_ℤ}
 use denote.RawPtr.{Ptr, coded_ptr, ◌+ₚ◌}
 
@@ -42,3 +42,11 @@ IsOwn s = s.spot.halved ≡ 0
 -- the second begins where the first one ends
 abbrev pub Follows : Placed → Placed → Type 0
 Follows l r = r.spot ≡ after (length l.items) l.spot
+
+-- the numbers of a slice, and where they lie, by its words
+abbrev pub placed_by : List ℤ → Ptr → (frees halved : ℕ) → Placed
+placed_by items p frees d = record { items = items; spot = spot_of p frees d }
+
+-- the numbers from this one on
+abbrev pub cut_at : ℕ → Placed → Placed
+cut_at n s = record { items = drop n s.items; spot = after n s.spot }

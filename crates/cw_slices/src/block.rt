@@ -30,15 +30,14 @@ pub struct Block {
 }
 
 impl Model for Block {
-    ghost use Rattle.cw_slices.specs.Placed.{spot_of};
     ghost use Rattle.cw_slices.specs.Loose.{MayFree, FreesOwn};
-    ghost use Rattle.cw_slices.specs.Blocks.{Lodged, lodged_code, Counts};
+    ghost use Rattle.cw_slices.specs.Blocks.{Lodged, lodged_by, lodged_code, Counts};
 
     ghost Value = { Lodged };
 
     ghost coded = { lodged_code };
 
-    ghost view = { λ b. record { cells = b.kept.cells; rights = b.kept.rights; spot = spot_of b.kept.ptr b.frees b.kept.base } };
+    ghost view = { λ b. lodged_by b.kept.cells b.kept.rights b.kept.ptr b.frees b.kept.base };
 
     ghost invariant = { λ b. Counts b.kept.cells b.kept.rights b.kept.base b.out
         × MayFree b.frees b.kept.ptr b.alloc b.title × FreesOwn b.frees b.kept.base };

@@ -1,7 +1,7 @@
 //! A part of a block of numbers: with one owner, or a share of it, to be read by all who have one.
 ghost use Rattle.std.specs.Prelude.{◌≡◌, ℕ, ◌+◌, ◌*◌, ◌^◌, ◌<◌, ◌≤◌, ℤ, pos, List, [], ◌∷◌, ◌++◌, length, take, drop, replicate, slice_index_or, slice_set, IfOk, true, false};
 ghost use Rattle.core.specs.Mem.Slots.{slots_items, slots_filled, slots_ptr, slots_len, IsFull};
-ghost use Rattle.cw_slices.specs.Placed.{Placed, Spot, after, spot_of, Follows, IsOwn};
+ghost use Rattle.cw_slices.specs.Placed.{Placed, Spot, after, cut_at, spot_of, Follows, IsOwn};
 ghost use Rattle.cw_slices.specs.Loose.{IsRun, MayFree, FreesOwn};
 
 use crate::cells::Cells;
@@ -29,14 +29,14 @@ pub struct Slice {
 
 impl Model for Slice {
     ghost use Rattle.std.specs.Prelude.{◌≡◌, ◌^◌, ◌<◌, ◌≤◌, length, true, replicate};
-    ghost use Rattle.cw_slices.specs.Placed.{Placed, placed_code, spot_of};
+    ghost use Rattle.cw_slices.specs.Placed.{Placed, placed_by, placed_code};
     ghost use Rattle.cw_slices.specs.Loose.{MayFree, FreesOwn};
 
     ghost Value = { Placed };
 
     ghost coded = { placed_code };
 
-    ghost view = { λ s. record { items = s.cells.items; spot = spot_of s.cells.ptr s.frees s.cells.halved } };
+    ghost view = { λ s. placed_by s.cells.items s.cells.ptr s.frees s.cells.halved };
 
     ghost invariant = { λ s. (s.cells.filled ≡ replicate (length s.cells.items) true)
         × (length s.cells.items < 2 ^ 60) × MayFree s.frees s.cells.ptr s.alloc s.title
@@ -162,7 +162,7 @@ impl Slice {
         requires own { IsOwn self }
         requires within { at ≤ length self.items }
         ensures left { result.0 ≡ record { items = take at self.items; spot = self.spot } }
-        ensures right { result.1 ≡ record { items = drop at self.items; spot = after at self.spot } }
+        ensures right { result.1 ≡ cut_at at self }
     {
         let Slice {
             cells,

@@ -1,39 +1,35 @@
 -- The steps of a strand of the definitions, one by one and by stretches.
 use Rattle.std.proofs.Common.{◌≡◌, ◌≢◌, ℕ, suc, ◌+◌, ◌≤◌, ◌<◌, ℤ, Bool, true, false, nat_lt, if◌then◌else◌, Option, List, [], ◌∷◌, refl, sym, ap, ◌∙◌, subst, inl, arith}
-use Rattle.std.proofs.lemmas.Bool.Decides.{nat_tests}
+use Rattle.cw_facts.specs.Tests.{not_below, below}
 use Rattle.cw_model.specs.declared.trap.Trap.{Trap}
 use Rattle.cw_model.specs.Outcome.{Trace}
 use Rattle.cw_code.specs.Code.{Code}
-use Rattle.cw_code.specs.Run.{Slots, Around, State, Transition, On, Ends, Stops, step}
-use Rattle.cw_strand_laws.specs.Jobs.{Extent, ToJoin, WholeCall, joins, is_first, has_come, standing, Job, Effect, Ended, Joined, TrapIn, OverLimit, Memory, JobMeaning}
-use Rattle.std.specs.Prelude.{◌&&◌, slice_get}
+use Rattle.cw_code.specs.Run.{Slots, State, Transition, On, Ends, Stops, step}
+use Rattle.cw_strand_laws.specs.Jobs.{Extent, ToJoin, WholeCall, joins, has_come, standing, Job, Effect, Ended, Joined, TrapIn, OverLimit, Memory, JobMeaning}
+use Rattle.std.specs.Prelude.{slice_get}
 use Rattle.cw_strand_laws.specs.Over.{beneath}
 use Rattle.cw_strand_laws.specs.Strands.{Strand, Going, Waits, Halted, outs_of, spawn_job, Turn, Goes, HandsOut, ComesBack, turn, goes_on}
 use Rattle.cw_strand_laws.specs.Promises.{IsStrandOf}
-use Rattle.cw_strand_laws.specs.Steps.{CallsKeep, AdvanceKeeps, advance, finished, turned, went_on, out_of_memory}
+use Rattle.cw_strand_laws.specs.Steps.{CallsKeep, AdvanceKeeps, advance, finished, turned, went_on}
 use Rattle.cw_strand_laws.specs.Steps as steps
+use Rattle.cw_strand_laws.specs.lemmas.First.{first_is}
 use Rattle.cw_runnable.specs.declared.verified.Verified.{Verified}
 use Rattle.cw_jobs.specs.declared.call.Parts.{Parts}
 use Rattle.cw_machine.specs.Arrays.{Out, IsFit}
 use Rattle.cw_machine.specs.Stretches.{calls_in, Setting, calls_round, GoesBy, Passes, Stretch, Here, Further}
+use Rattle.cw_machine.specs.lemmas.Rounds.{calls_caller}
 use Rattle.cw_strand.specs.declared.strand.Lent.{Lent}
 use Rattle.cw_strand.specs.Levels.{Level, levels_of}
 use Rattle.cw_strand.specs.Holds.{floor_in, Lends, AreOut}
 use Rattle.cw_strand.proofs.Levels.{HasReturned, LevelsAfter, levels_move}
-use Rattle.cw_strand.proofs.WhichOut.{calls_caller, in_place}
-
-not_over : (limit n : ℕ) → n ≤ limit → nat_lt limit n ≡ false
-not_over limit n le = grind (arith, nat_tests)
-
-is_over : (limit n : ℕ) → limit < n → nat_lt limit n ≡ true
-is_over limit n lt = grind (arith, nat_tests)
+use Rattle.cw_strand.proofs.WhichOut.{in_place}
 
 module _ (code : Code) (keep : CallsKeep code) (job : Job) where
   steps_to : (s : State) (count : ℕ) (outs : List Job) (w : Transition) → has_come job.extent code s ≡ false → step code s ≡ w → job.before + (count + 1) ≤ job.limit
       → advance code job (Going s count outs) ≡ went_on (turn code s) s w job.limit job.before (count + 1) outs
   steps_to s count outs w come e le =
       ap (λ b. if b then finished outs (Joined (standing s) s.trace count) else (if nat_lt job.limit (job.before + (count + 1)) then steps.Ran (Halted OverLimit outs) else went_on (turn code s) s (step code s) job.limit job.before (count + 1) outs)) come
-      ∙ ap (λ b. if b then steps.Ran (Halted OverLimit outs) else went_on (turn code s) s (step code s) job.limit job.before (count + 1) outs) (not_over job.limit (job.before + (count + 1)) le)
+      ∙ ap (λ b. if b then steps.Ran (Halted OverLimit outs) else went_on (turn code s) s (step code s) job.limit job.before (count + 1) outs) (not_below job.limit (job.before + (count + 1)) le)
       ∙ ap (λ x. went_on (turn code s) s x job.limit job.before (count + 1) outs) e
 
   kept_on : (old : Strand) (t : Turn) (s s' : State) (count : ℕ) (outs : List Job) → AdvanceKeeps code job old (turned t s s' job.limit job.before count outs) → IsStrandOf code job (goes_on t s s' job.limit job.before count outs)
@@ -61,7 +57,7 @@ module _ (code : Code) (keep : CallsKeep code) (job : Job) where
       let P : steps.Advanced → Type 0 = AdvanceKeeps code job (Going s count outs) in
       (subst P
       (ap (λ b. if b then finished outs (Joined (standing s) s.trace count) else (if nat_lt job.limit (job.before + (count + 1)) then steps.Ran (Halted OverLimit outs) else went_on (turn code s) s (step code s) job.limit job.before (count + 1) outs)) come
-      ∙ ap (λ b. if b then steps.Ran (Halted OverLimit outs) else went_on (turn code s) s (step code s) job.limit job.before (count + 1) outs) (is_over job.limit (job.before + (count + 1)) lt))
+      ∙ ap (λ b. if b then steps.Ran (Halted OverLimit outs) else went_on (turn code s) s (step code s) job.limit job.before (count + 1) outs) (below job.limit (job.before + (count + 1)) lt))
       (keep.advancing job (Going s count outs) h)).0
 
   pub wants : (strand : Strand) → IsStrandOf code job strand → IsStrandOf code job (Halted Memory (outs_of strand))
@@ -129,11 +125,6 @@ module _ (code : Code) (keep : CallsKeep code) (job : Job) where
     pub stretched : (count later : ℕ) (s s1 : State) → Stretch k code (floor_in lent) stops count s later s1 → job.before + later ≤ job.limit → Led s count → Led s1 later
     stretched count _ s _ (Here _ _) le one = one
     stretched count _ s _ (Further _ later _ s1 s2 before pass) le one = one_on s1 s2 later pass le (stretched count later s s1 before (omega (arith, le)) one)
-
--- at the join nothing stands round it
-first_is : (around : List Around) (b : Bool) → is_first around && b ≡ true → around ≡ []
-first_is [] b h = refl
-first_is (a ∷ around) b h = cc
 
 pub come_alone : (code : Code) (x : Extent) (s : State) → has_come x code s ≡ true → s.around ≡ []
 come_alone code WholeCall s e = cc

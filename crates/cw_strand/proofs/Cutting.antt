@@ -1,5 +1,5 @@
 -- The rest of the block that has spawned a call is handed out.
-use Rattle.std.proofs.Common.{◌≡◌, ℕ, suc, ◌+◌, ◌≤◌, List, [], ◌∷◌, length, refl, sym, ap, ◌∙◌, subst, inl, inr, arith}
+use Rattle.std.proofs.Common.{◌≡◌, ℕ, suc, ◌+◌, List, [], ◌∷◌, length, refl, sym, ap, ◌∙◌, subst, inl, inr, arith}
 use Rattle.std.specs.Prelude.{map, reverse}
 use Rattle.std.proofs.Math.Logic.{∥∥₁_elim, ∥∥₁_map}
 use Rattle.cw_meter.specs.Details.{IsLight}
@@ -7,8 +7,8 @@ use Rattle.cw_code.specs.declared.code.Loan.{Loan}
 use Rattle.cw_code.specs.Code.{Code, code_view}
 use Rattle.cw_code.specs.Fits.{slots_lent}
 use Rattle.cw_code.specs.Run.{Taken, Whole, slot_taken, Waiting, Around, Caller, State, passed_by}
+use Rattle.cw_code.specs.lemmas.Slots.{whole_slots}
 use Rattle.cw_strand_laws.specs.Jobs as jobs
-use Rattle.cw_strand_laws.specs.Jobs.{has_come}
 use Rattle.cw_strand_laws.specs.Over.{beneath, under}
 use Rattle.cw_strand_laws.specs.Strands.{rest_of}
 use Rattle.cw_strand_laws.specs.Steps.{CallsKeep}
@@ -64,10 +64,6 @@ over_place b w (a ∷ around) = refl
 over_rest : (b : State) (w : Waiting) (around : List Around) (limit before : ℕ) → rest_of (waiting_over b w around) limit before ≡ rest_of w limit before
 over_rest b w [] limit before = refl
 over_rest b w (a ∷ around) limit before = refl
-
-taken_all : (slots : List ℕ) → map slot_taken (map (λ a. Whole a) slots) ≡ slots
-taken_all [] = refl
-taken_all (a ∷ slots) = ap (λ l. a ∷ l) (taken_all slots)
 
 is_level : (around : List Around) (w : Waiting) (s : List Around) → around ≡ Caller w ∷ s → IsLevel (length s) around
 is_level around w s e = subst (IsLevel (length s)) (sym e) (inl refl)
@@ -125,7 +121,7 @@ module _ (keep : (code : Code) → CallsKeep code) (self : Strand) (limit : ℕ)
     is = round_is;
     spawned = over_kind base w c.state.around ∙ spawned.spawned;
     none = over_operands base w c.state.around ∙ spawned.none;
-    taken = ap (map slot_taken) (over_taken base w c.state.around ∙ spawned.taken_is) ∙ taken_all (passed_by code spawn.passed);
+    taken = ap (map slot_taken) (over_taken base w c.state.around ∙ spawned.taken_is) ∙ whole_slots (passed_by code spawn.passed);
     loans = ap (lent_before code) place_is ∙ c.at.1.lent;
     kept = c.at.1.kept (waiting_over base w c.state.around) above_it round_is;
     above = above;

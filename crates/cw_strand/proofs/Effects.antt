@@ -1,11 +1,11 @@
 -- What an effect that means a job says of it.
-use Rattle.std.proofs.Common.{◌≡◌, ℕ, ◌+◌, ◌<◌, ◌≤◌, true, false, nat_lt, if◌then◌else◌, List, [], ◌∷◌, Option, refl, sym, ap, ◌∙◌, subst, arith}
-use Rattle.std.proofs.lemmas.Bool.Decides.{nat_tests}
+use Rattle.std.proofs.Common.{◌≡◌, ℕ, ◌+◌, ◌<◌, ◌≤◌, true, false, nat_lt, if◌then◌else◌, List, [], ◌∷◌, Option, refl, sym, ap, ◌∙◌, subst}
+use Rattle.cw_facts.specs.Tests.{not_below, below}
 use Rattle.cw_slices.specs.Placed.{Placed}
 use Rattle.cw_code.specs.Code.{Code, code_view}
 use Rattle.cw_code.specs.Run.{State}
 use Rattle.cw_strand_laws.specs.Jobs as jobs
-use Rattle.cw_strand_laws.specs.Jobs.{WholeCall, ToJoin, Standing, JobMeaning}
+use Rattle.cw_strand_laws.specs.Jobs.{WholeCall, ToJoin, JobMeaning}
 use Rattle.cw_strand_laws.specs.Strands.{Waits, Halted, cost_of}
 use Rattle.cw_strand_laws.specs.Promises.{IsStrandOf}
 use Rattle.cw_strand_laws.specs.Steps.{CallsKeep, give, given_to}
@@ -99,19 +99,13 @@ module _ (v : Verified) (is : IsFit v) (q : Parts) (j : jobs.Job) where
   pub never_ends : (value : _) (shown : Shown) → j.extent ≡ ToJoin → MeansIt v is q (effect.Ended value shown) j → ⊥
   never_ends value shown e m = ended_told value shown m.effect e m.tells
 
-not_over : (limit n : ℕ) → n ≤ limit → nat_lt limit n ≡ false
-not_over limit n le = grind (arith, nat_tests)
-
-is_over : (limit n : ℕ) → limit < n → nat_lt limit n ≡ true
-is_over limit n lt = grind (arith, nat_tests)
-
 -- giving, by the definitions
 module _ (code : Code) (keep : CallsKeep code) (j out : jobs.Job) (s : State) (count : ℕ) (outs : List jobs.Job) (is : IsStrandOf code j (Waits s count (out ∷ outs))) where
   gave : (d : jobs.Effect) → JobMeaning code out d → IsStrandOf code j (give j (Waits s count (out ∷ outs)) d)
   gave d m = (keep.giving j (Waits s count (out ∷ outs)) out outs d is refl m).0
 
   pub gave_over : (d : jobs.Effect) → JobMeaning code out d → j.limit < j.before + (count + cost_of d) → IsStrandOf code j (Halted jobs.OverLimit outs)
-  gave_over d m lt = subst (IsStrandOf code j) (ap (λ b. if b then Halted jobs.OverLimit outs else given_to s count outs d) (is_over j.limit (j.before + (count + cost_of d)) lt)) (gave d m)
+  gave_over d m lt = subst (IsStrandOf code j) (ap (λ b. if b then Halted jobs.OverLimit outs else given_to s count outs d) (below j.limit (j.before + (count + cost_of d)) lt)) (gave d m)
 
   pub gave_limit : (d : jobs.Effect) → d ≡ jobs.OverLimit → JobMeaning code out d → IsStrandOf code j (Halted jobs.OverLimit outs)
   gave_limit d e m = at (nat_lt j.limit (j.before + (count + 0))) (subst (λ x. IsStrandOf code j (give j (Waits s count (out ∷ outs)) x)) e (gave d m))
@@ -121,4 +115,4 @@ module _ (code : Code) (keep : CallsKeep code) (j out : jobs.Job) (s : State) (c
       at false h = h
 
   pub gave_within : (d : jobs.Effect) → JobMeaning code out d → j.before + (count + cost_of d) ≤ j.limit → IsStrandOf code j (given_to s count outs d)
-  gave_within d m le = subst (IsStrandOf code j) (ap (λ b. if b then Halted jobs.OverLimit outs else given_to s count outs d) (not_over j.limit (j.before + (count + cost_of d)) le)) (gave d m)
+  gave_within d m le = subst (IsStrandOf code j) (ap (λ b. if b then Halted jobs.OverLimit outs else given_to s count outs d) (not_below j.limit (j.before + (count + cost_of d)) le)) (gave d m)

@@ -1,20 +1,20 @@
 -- What a strand makes of its job means it.
 use Rattle.std.proofs.Common.{◌≡◌, ℕ, ◌≤◌, List, [], ◌∷◌, length, refl, sym, ap, ◌∙◌, subst}
-use Rattle.std.specs.Prelude.{map, reverse, replicate}
-use Rattle.std.specs.Coded.{Coded-set, coded_list, coded_ℕ, le_prop}
+use Rattle.std.specs.Prelude.{map, reverse}
+use Rattle.std.specs.Coded.{le_prop}
 use Rattle.std.proofs.Math.Logic.{∥∥₁_elim, ∥∥₁_map}
 use mathlib.Core.HLevel.{⊥_prop}
 use Rattle.cw_model.specs.declared.trap.Trap.{Trap}
-use Rattle.cw_slices.specs.Blocks.{Lodged, IsWhole as IsUnshared}
 use Rattle.cw_code.specs.Code.{Code, code_view}
 use Rattle.cw_code.specs.Run.{State}
 use Rattle.cw_strand_laws.specs.Jobs as jobs
-use Rattle.cw_strand_laws.specs.Jobs.{ToJoin, has_come, standing, job_start, Memory, Short, JobMeaning}
+use Rattle.cw_strand_laws.specs.Jobs.{Memory, Short}
 use Rattle.cw_strand_laws.specs.Strands as strands
 use Rattle.cw_strand_laws.specs.Strands.{Going, Waits, Halted}
 use Rattle.cw_strand_laws.specs.Promises.{IsStrandOf}
 use Rattle.cw_strand_laws.specs.Steps.{CallsKeep}
 use Rattle.cw_slices.specs.Placed.{Placed}
+use Rattle.cw_slices.specs.lemmas.Rights.{whole_prop}
 use Rattle.cw_runnable.specs.declared.verified.Verified.{Verified}
 use Rattle.cw_jobs.specs.declared.call.Parts.{Parts}
 use Rattle.cw_jobs.specs.declared.job.Job.{Job}
@@ -136,12 +136,9 @@ module _ (m m' : Machine) (same : m'.blocks.items ≡ m.blocks.items) where
     same = λ a lt some. ap (λ l. (block l a).cells) same ∙ k.same a lt some;
   })
 
-unshared_prop : (b : Lodged) → IsProp (IsUnshared b)
-unshared_prop b = λ p q. Coded-set (coded_list coded_ℕ) b.rights (replicate (length b.cells) b.spot.halved) p q
-
 -- as a proposition
 may_up : (m : Machine) (n : ℕ) → ∥ MayGiveUp m n ∥₁ → MayGiveUp m n
-may_up m n h = record { there = ∥∥₁_elim h le_prop (λ x. x.there); all_here = λ a lt. (λ k e. ∥∥₁_elim h ⊥_prop (λ x. (x.all_here a lt).0 k e), ∥∥₁_elim h (unshared_prop (block m.blocks.items a)) (λ x. (x.all_here a lt).1)) }
+may_up m n h = record { there = ∥∥₁_elim h le_prop (λ x. x.there); all_here = λ a lt. (λ k e. ∥∥₁_elim h ⊥_prop (λ x. (x.all_here a lt).0 k e), ∥∥₁_elim h (whole_prop (block m.blocks.items a)) (λ x. (x.all_here a lt).1)) }
 
 module _ (keep : (code : Code) → CallsKeep code) (kept : RestsAreKept) (self : Strand) (running : IsRunning self) (none : outs self ≡ []) where
   abbrev n : ℕ

@@ -1,13 +1,12 @@
 -- The effect of the newest job out was given to a strand.
-use Rattle.std.proofs.Common.{◌≡◌, ◌≢◌, ℕ, ◌+◌, ◌-◌, ◌<◌, ◌≤◌, true, false, nat_lt, Option, Some, List, ◌∷◌, refl, sym, ap, ◌∙◌, subst, arith}
-use Rattle.std.proofs.lemmas.Bool.Decides.{nat_tests}
+use Rattle.std.proofs.Common.{◌≡◌, ◌≢◌, ℕ, ◌+◌, ◌-◌, ◌≤◌, true, false, Option, Some, List, ◌∷◌, refl, sym, ap, ◌∙◌, subst, arith}
 use Rattle.std.specs.Prelude.{reverse, slice_get}
 use Rattle.std.proofs.Math.Logic.{∥∥₁_elim, ∥∥₁_map}
 use mathlib.Core.HLevel.{⊥_prop}
+use Rattle.cw_facts.specs.Tests.{lt_of}
 use Rattle.cw_slices.specs.Placed.{Placed}
 use Rattle.cw_code.specs.Code.{Code, code_view}
 use Rattle.cw_strand_laws.specs.Jobs as jobs
-use Rattle.cw_strand_laws.specs.Jobs.{ToJoin, Standing, JobMeaning}
 use Rattle.cw_strand_laws.specs.Over.{under}
 use Rattle.cw_strand_laws.specs.Strands.{Halted, outs_of, rest_of}
 use Rattle.cw_strand_laws.specs.Promises.{IsStrandOf}
@@ -34,12 +33,6 @@ use Rattle.cw_strand.proofs.Same.{spare_as, Newest}
 use Rattle.cw_strand.proofs.Homes.{rest_slices, newly, may_home, stands_on, stands_in, goes_so, stops_on, came_home}
 use Rattle.cw_strand.proofs.Given.{out, rests, out_is, waits}
 use Rattle.cw_strand.proofs.Effects.{CostsAs, IsOver, meant, homes_in, cost_in, over_in, never_ends, gave_over, gave_limit}
-
-pub passes_is : (room cost : ℕ) → nat_lt room cost ≡ true → room < cost
-passes_is room cost e = grind (arith, nat_tests)
-
-pub keeps_within : (room cost : ℕ) → nat_lt room cost ≡ false → cost ≤ room
-keeps_within room cost e = grind (arith, nat_tests)
 
 module _ (self : Strand) (job : Job) (others : List Job) (newest : Newest self job others) (running : IsRunning self) where
   abbrev v : Verified
@@ -145,7 +138,7 @@ module _ (self : Strand) (job : Job) (others : List Job) (newest : Newest self j
           pub passes_runs : new.mode ≡ mode.Over → (cost : ℕ) → CostsAs e cost → passes_limit self cost ≡ true → IsRunning new
           passes_runs over cost costs passes = over_runs over (λ is j g h m.
               let jo = out self job others newest is j g h in
-              let lt = passes_is ((p.limit - p.before) - self.count) cost passes in
+              let lt = lt_of ((p.limit - p.before) - self.count) cost passes in
               let c = cost_in v is q jo e cost costs m in
               let n = h.waited.runs.counts in
               let jl = g.job.limit in

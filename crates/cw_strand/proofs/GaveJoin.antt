@@ -1,7 +1,8 @@
 -- The effect of a rest that came to its join was given to a strand that waits for it.
-use Rattle.std.proofs.Common.{◌≡◌, ℕ, ◌+◌, ◌-◌, ◌≤◌, false, Option, List, [], ◌∷◌, sym, ap, ap₂, ◌∙◌, subst, arith}
+use Rattle.std.proofs.Common.{◌≡◌, ℕ, ◌+◌, ◌-◌, ◌≤◌, false, Option, List, [], ◌∷◌, sym, ap₂, ◌∙◌, subst, arith}
 use Rattle.std.specs.Prelude.{reverse}
 use Rattle.std.proofs.Math.Logic.{∥∥₁_elim, ∥∥₁_map}
+use Rattle.cw_facts.specs.Tests.{not_lt_of}
 use Rattle.cw_model.specs.declared.limits.TheConstants.{MOST_LIMIT}
 use Rattle.cw_model.specs.Outcome.{Trace}
 use Rattle.cw_slices.specs.Placed.{Placed}
@@ -18,7 +19,7 @@ use Rattle.cw_meter.specs.Details.{IsSite}
 use Rattle.cw_meter.specs.Origins as origins
 use Rattle.cw_meter.specs.Meters.{Meters, Rests}
 use Rattle.cw_strand_laws.specs.Jobs as jobs
-use Rattle.cw_strand_laws.specs.Jobs.{ToJoin, Standing, JobMeaning}
+use Rattle.cw_strand_laws.specs.Jobs.{Standing, JobMeaning}
 use Rattle.cw_strand_laws.specs.Over.{under}
 use Rattle.cw_strand_laws.specs.Strands.{Going, Waits, resumed}
 use Rattle.cw_strand_laws.specs.Staying.{RestsStayInside}
@@ -51,7 +52,7 @@ use Rattle.cw_strand.proofs.Homes.{goes_so}
 use Rattle.cw_strand.proofs.Given.{out, rests, out_is, waits, frozen, reads, giving}
 use Rattle.cw_strand.proofs.Effects.{gave_within}
 use Rattle.cw_strand.proofs.Taken.{shows_joined}
-use Rattle.cw_strand.proofs.Gave.{keeps_within, meant_in}
+use Rattle.cw_strand.proofs.Gave.{meant_in}
 
 -- where the values alone are kept a meter knows no site of a rest, and is asked for none
 at_site : (code : Code) (d : Detail) (a b : ℕ) (frame : Standing) (t : Trace) (cost : ℕ) (m : Meter) → IsSite d a b → CountsEffect code d a (jobs.Joined frame t cost) m → CountsEffect code d b (jobs.Joined frame t cost) m
@@ -211,7 +212,7 @@ module _ (self : Strand) (job : Job) (others : List Job) (newest : Newest self j
   pub join_runs : ((code : Code) → CallsKeep code) → CallsKeepMeters → (r : Run) → HasJoined self.run v self.count back replaced newest.lent.home shown r → passes_limit self shown.cost ≡ false
       → (new : Strand) → reverse new.lent.items ≡ newest.rest → new.run ≡ r → new.count ≡ self.count + shown.cost → new.mode ≡ mode.Going → new.of ≡ self.of → new.parts ≡ self.parts → new.spares ≡ self.spares → IsRunning new
   join_runs keep meters r joined passes new left run_is count_is going of parts spares =
-      let k = keeps_within ((p.limit - p.before) - self.count) shown.cost passes in
+      let k = not_lt_of ((p.limit - p.before) - self.count) shown.cost passes in
       let w = running.keeps.within in
       let le : p.before + (self.count + shown.cost) ≤ p.limit = omega (arith, k, w) in
       goes_so self job others newest running new left (subst (λ n. p.before + n ≤ p.limit) (sym count_is) le)

@@ -2,11 +2,12 @@
 use Rattle.std.proofs.Common.{◌≡◌, ℕ, ◌+◌, ◌-◌, ◌≤◌, ℤ, false, List, [], ◌++◌, refl, sym, ap, ◌∙◌, subst, arith}
 use Rattle.std.specs.Prelude.{reverse}
 use Rattle.std.proofs.Math.Logic.{∥∥₁_map}
+use Rattle.cw_facts.specs.Tests.{not_lt_of}
 use Rattle.cw_model.specs.declared.trap.Trap.{Trap}
 use Rattle.cw_slices.specs.Placed.{Placed}
 use Rattle.cw_code.specs.Code.{Code, code_view}
 use Rattle.cw_strand_laws.specs.Jobs as jobs
-use Rattle.cw_strand_laws.specs.Jobs.{ToJoin, Standing, JobMeaning}
+use Rattle.cw_strand_laws.specs.Jobs.{JobMeaning}
 use Rattle.cw_strand_laws.specs.Strands.{Halted}
 use Rattle.cw_strand_laws.specs.Steps.{CallsKeep}
 use Rattle.cw_runnable.specs.declared.verified.Verified.{Verified}
@@ -31,7 +32,7 @@ use Rattle.cw_strand.proofs.Homes.{stands_on, goes_so}
 use Rattle.cw_strand.proofs.Given.{out, rests, out_is, waits}
 use Rattle.cw_strand.proofs.Effects.{homes_in, gave_within}
 use Rattle.cw_strand.proofs.Taken.{lines_shown}
-use Rattle.cw_strand.proofs.Gave.{keeps_within, meant_in, may_waits, stands_waits}
+use Rattle.cw_strand.proofs.Gave.{meant_in, may_waits, stands_waits}
 
 abbrev pub IsTrap : Effect → Trap → (line : ℕ) → (lines : List ℤ) → (cost : ℕ) → List Placed → Type 0
 IsTrap (effect.Trapped c l ls n b) trap line lines cost back = (c ≡ trap) × (l ≡ line) × (ls.items ≡ lines) × (n ≡ cost) × (b.items ≡ back)
@@ -87,7 +88,7 @@ module _ (self : Strand) (job : Job) (others : List Job) (newest : Newest self j
 
     le : (its_parts self).before + (self.count + cost) ≤ (its_parts self).limit
     le =
-        let k = keeps_within (((its_parts self).limit - (its_parts self).before) - self.count) cost passes in
+        let k = not_lt_of (((its_parts self).limit - (its_parts self).before) - self.count) cost passes in
         let w = running.keeps.within in
         omega (arith, k, w)
 

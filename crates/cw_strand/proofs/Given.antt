@@ -6,11 +6,13 @@ use Rattle.cw_slices.specs.Placed.{Placed}
 use Rattle.cw_code.specs.declared.code.Func.{Func}
 use Rattle.cw_code.specs.Code.{Code, code_view}
 use Rattle.cw_code.specs.Fits.{Fits, Shape, slots_lent}
-use Rattle.cw_code.specs.Run.{Results, Waiting, Around, Caller, Block, State, is_full}
+use Rattle.cw_code.specs.Run.{Results, Waiting, Around, State, is_full}
 use Rattle.cw_code.specs.Good.{IsNotAmong, slots_in, ints_round, all_of, Good, GoodState, FitSettles}
-use Rattle.cw_code.specs.Staying.{SeatsLie, IsInside, outermost}
+use Rattle.cw_code.specs.Staying.{SeatsLie, IsInside}
+use Rattle.cw_code.specs.lemmas.Lying.{outermost_is}
+use Rattle.cw_code.specs.lemmas.Slots.{not_in_first, not_in_second}
 use Rattle.cw_strand_laws.specs.Jobs as jobs
-use Rattle.cw_strand_laws.specs.Jobs.{ToJoin, Standing, Came, Arrives, Returns, Falls, Beyond, Lost, travel, course, IsOf, Same, Passed, Short, job_start, JobMeaning, Joined}
+use Rattle.cw_strand_laws.specs.Jobs.{ToJoin, Standing, Came, Arrives, Returns, Falls, Beyond, Lost, course, IsOf, Same, Passed, Short, job_start, JobMeaning, Joined}
 use Rattle.cw_strand_laws.specs.Over.{beneath, results_under, under}
 use Rattle.cw_strand_laws.specs.Strands.{Waits, rest_of, rest_at, resumed}
 use Rattle.cw_strand_laws.specs.Promises.{IsStrandOf}
@@ -21,7 +23,7 @@ use Rattle.cw_jobs.specs.declared.call.Parts.{Parts}
 use Rattle.cw_jobs.specs.declared.call.Rest.{Rest}
 use Rattle.cw_jobs.specs.declared.job.Job.{Job}
 use Rattle.cw_jobs.specs.Calls.{placed, HasArrays, HoldsFrame}
-use Rattle.cw_jobs.specs.Jobs.{AreBlocks, IsJob, KeepsHomes, KeepsEmpty, KeepsFixed}
+use Rattle.cw_jobs.specs.Jobs.{IsJob, KeepsHomes, KeepsEmpty, KeepsFixed}
 use Rattle.cw_machine.specs.Arrays.{IsFit}
 use Rattle.cw_machine.specs.Calls.{loans_of}
 use Rattle.cw_machine.specs.Shows.{Comes, Shows, SharesFrozen}
@@ -29,10 +31,10 @@ use Rattle.cw_machine.specs.Rests.{lending}
 use Rattle.cw_machine.specs.Gives.{went_on, ComesBut, AreTogether, IsGiving}
 use Rattle.cw_machine.specs.Hands.{ComesRound}
 use Rattle.cw_machine.specs.lemmas.Joins.{waits_under, went_under, comes_back, comes_back_round}
+use Rattle.cw_machine.specs.lemmas.Rounds.{round_many}
 use Rattle.cw_strand.specs.declared.strand.Strand.{Strand}
 use Rattle.cw_strand.specs.Levels.{Level, ResultWaits, waiting_over}
 use Rattle.cw_strand.specs.Holds.{its_parts, its_code, lent_parts, Ground, ok_with}
-use Rattle.cw_strand.proofs.Levels.{round_many}
 use Rattle.cw_strand.proofs.RestReads.{frozen_arrives, same_readers}
 use Rattle.cw_strand.proofs.RunsOn.{IsHeldBack}
 use Rattle.cw_strand.proofs.Same.{Newest}
@@ -82,19 +84,6 @@ over_results b w (a ∷ around) = refl
 under_cons : (b : State) (around : List Around) (r : ℕ × ℤ) (results : Results ℤ) → results_under b around (r ∷ results) ≡ r ∷ results_under b around results
 under_cons b [] r results = refl
 under_cons b (a ∷ around) r results = refl
-
-not_first : (a : ℕ) (xs ys : List ℕ) → IsNotAmong a (xs ++ ys) → IsNotAmong a xs
-not_first a [] ys h = tt
-not_first a (x ∷ xs) ys h = (h.0, not_first a xs ys h.1)
-
-not_second : (a : ℕ) (xs ys : List ℕ) → IsNotAmong a (xs ++ ys) → IsNotAmong a ys
-not_second a [] ys h = h
-not_second a (x ∷ xs) ys h = not_second a xs ys h.1
-
-outermost_is : (place : ℕ) (around : List Around) → AreBlocks around → outermost place around ≡ place
-outermost_is place [] b = refl
-outermost_is place (Caller w ∷ around) b = absurd b
-outermost_is place (Block o ∷ around) b = outermost_is place around b
 
 out_alone : (s : State) (f : Func) (shape : Shape) → s.operands ≡ [] → Good f shape s → Good f shape (under s (job_start (rest_at s 0 0)))
 out_alone s f shape none g =
@@ -264,9 +253,9 @@ module _ (self : Strand) (job : Job) (others : List Job) (newest : Newest self j
               own = λ a e. empty.own a e;
               items = λ a e. empty.slices a e ∙ ap (λ x. (placed x a).items) (sym same);
             };
-            comes = comes_at newest.lent.home.target s.results w (λ a full. not_first a (slots_in (under g.base s).results) (all_of (ints_round (beneath g.base s.around))) (full_apart a full));
+            comes = comes_at newest.lent.home.target s.results w (λ a full. not_in_first a (slots_in (under g.base s).results) (all_of (ints_round (beneath g.base s.around))) (full_apart a full));
             round = comes_back_round newest.lent.home.target s.slots q.rest.cells.items back.cells.items (λ a e. empty.cells a e) (beneath g.base s.around)
-                (λ a full. not_second a (slots_in (under g.base s).results) (all_of (ints_round (beneath g.base s.around))) (full_apart a full)) comes0.1;
+                (λ a full. not_in_second a (slots_in (under g.base s).results) (all_of (ints_round (beneath g.base s.around))) (full_apart a full)) comes0.1;
             awaits = waits_newest newest.lent.home.target w;
           }
         where

@@ -18,6 +18,7 @@ use Rattle.cw_machine.specs.declared.run.Stop.TheVariants as stop
 use Rattle.cw_machine.specs.Arrays.{IsFit}
 use Rattle.cw_machine.specs.Stretches.{calls_in}
 use Rattle.cw_machine.specs.Unwinding.{ShownRemain}
+use Rattle.cw_machine.specs.lemmas.Rounds.{calls_caller}
 use Rattle.cw_strand.specs.declared.strand.Lent.{Lent}
 use Rattle.cw_strand.specs.declared.strand.Mode.{Mode}
 use Rattle.cw_strand.specs.declared.strand.Mode.TheVariants as mode
@@ -27,7 +28,7 @@ use Rattle.cw_strand.specs.Holds.{given_up as up_of}
 use Rattle.cw_strand.specs.Holds.{its_parts, its_code, floor_in, Ground, IsRest, ok_with, Lends, AreOut, AreBack, Stands, HeldIn, Holds, KeepsJob, IsRunning, stops}
 use Rattle.cw_strand.specs.Moves.{CameTo, HasCome, HasSpared}
 use Rattle.cw_strand.proofs.Levels.{HasReturned, LevelsAfter, levels_move}
-use Rattle.cw_strand.proofs.WhichOut.{calls_caller, is_back, NewestOut, newest_out}
+use Rattle.cw_strand.proofs.WhichOut.{is_back, NewestOut, newest_out}
 use Rattle.cw_strand.proofs.Same.{same_strand}
 use Rattle.cw_strand.proofs.Course.{ran, fell, passed, wants}
 

@@ -2,6 +2,8 @@
 use Rattle.std.proofs.Common.{◌≡◌, ℕ, zero, suc, ◌+◌, false, Some, List, [], ◌∷◌, ◌++◌, length, refl, sym, ap, ◌∙◌, subst, inr, arith}
 use Rattle.std.specs.Prelude.{map, reverse, slice_get}
 use Rattle.std.proofs.Math.Logic.{∥∥₁_map}
+use Rattle.std.proofs.lemmas.Option.{same_Some}
+use Rattle.cw_facts.specs.Lists.{reverse_pushed}
 use Rattle.cw_code.specs.Code.{Code, code_view}
 use Rattle.cw_code.specs.Fits.{slots_lent}
 use Rattle.cw_code.specs.Run.{Whole, passed_by}
@@ -24,6 +26,7 @@ use Rattle.cw_machine.specs.Unwinding.{OutsLieApart}
 use Rattle.cw_machine.specs.Calls.{loans_of}
 use Rattle.cw_machine.specs.Stretches.{calls_in}
 use Rattle.cw_machine.specs.Hands.{ComesRound, out_of}
+use Rattle.cw_machine.specs.lemmas.Rounds.{calls_caller}
 use Rattle.cw_strand.specs.declared.strand.Lent.{Lent}
 use Rattle.cw_strand.specs.declared.strand.Mode.TheVariants as mode
 use Rattle.cw_strand.specs.declared.strand.Strand.{Strand}
@@ -31,14 +34,11 @@ use Rattle.cw_strand.specs.Levels.{Level, levels_of, waiting_over}
 use Rattle.cw_strand.specs.Holds.{IsRest, its_parts, its_code, outs, lent_parts, ok_with, IsLent, Lends, rest_in, AreOut, HeldIn, Holds, KeepsJob, AreSpare, IsRunning}
 use Rattle.cw_strand.specs.Moves.{CameTo, HasCome, HasCut}
 use Rattle.cw_strand.proofs.Levels.{HasSpawned}
-use Rattle.cw_strand.proofs.WhichOut.{calls_caller, frames_are}
+use Rattle.cw_strand.proofs.WhichOut.{frames_are}
 use Rattle.cw_strand.proofs.Course.{ran}
 use Rattle.cw_jobs.specs.declared.job.Job.{Job}
-use Rattle.cw_strand.proofs.Same.{spare_as, last_first}
+use Rattle.cw_strand.proofs.Same.{spare_as}
 use Rattle.cw_strand.proofs.Cutting.{over_slots, over_arrays, spawned, handed, rest_job, below}
-
-some_same : {A : Type 0} (x y : A) → Some x ≡ Some y → x ≡ y
-some_same x y e = cc
 
 -- the strand once its job is among those that are out
 module _ (keep : (code : Code) → CallsKeep code) (apart : OutsLieApart) (old mid : Strand) (limit : ℕ) (spawn : Spawn) (x : Lent) (cut : HasCut old mid spawn (lent_parts x) x.home.lender) (loaned : x.home.lent ≡ spawn.lent) (target : x.home.target ≡ spawn.target) (waits : x.home.floor ≡ length old.run.machine.frames.items) (after : List Lent) (are : after ≡ x ∷ reverse old.lent.items) where
@@ -145,7 +145,7 @@ module _ (keep : (code : Code) → CallsKeep code) (apart : OutsLieApart) (old m
   shared h l same k y e = at k (subst (λ z. slice_get z k ≡ Some y) (same ∙ are) e)
     where
       at : (k : ℕ) → slice_get (x ∷ reverse old.lent.items) k ≡ Some y → IsRest (its_code old) y
-      at zero q = subst (IsRest (its_code old)) (some_same x y q) (record { code = cut.code; joins = cut.joins })
+      at zero q = subst (IsRest (its_code old)) (same_Some x y q) (record { code = cut.code; joins = cut.joins })
       at (suc k) q = h.rests k y q
 
   -- it is a strand of its job
@@ -185,7 +185,7 @@ pub lent_step : ((code : Code) → CallsKeep code) → OutsLieApart → (old mid
     → IsRunning new × (outs new ≡ job ∷ outs old)
 lent_step keep apart old mid new limit spawn job l x h cut same at loaned target waits of parts run count spares mode lent =
     let cut' : HasCut old mid spawn (lent_parts x) x.home.lender = subst (λ (b : Job). HasCut old mid spawn b.parts.value x.home.lender) (sym same) (subst (λ k. HasCut old mid spawn job.parts.value k) (sym at) cut) in
-    let are : reverse new.lent.items ≡ x ∷ reverse old.lent.items = ap reverse lent ∙ last_first mid.lent.items x ∙ ap (λ l. x ∷ reverse l) cut.lent in
+    let are : reverse new.lent.items ≡ x ∷ reverse old.lent.items = ap reverse lent ∙ reverse_pushed mid.lent.items x ∙ ap (λ l. x ∷ reverse l) cut.lent in
     let bare : AreSpare (record old { run = mid.run; lent = new.lent; spares = new.spares }) =
     spare_as mid (record old { run = mid.run; lent = new.lent; spares = new.spares }) spares (sym cut.of) cut.spares in (
       goes_as keep apart old mid limit spawn x cut' loaned target (waits ∙ ap length cut.stays.frames) (x ∷ reverse old.lent.items) refl new are bare h new (of ∙ cut.of) (parts ∙ cut.parts) run (count ∙ cut.count) refl refl (mode ∙ cut.mode),

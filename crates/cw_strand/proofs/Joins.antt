@@ -6,15 +6,16 @@ use mathlib.Core.HLevel.{⊥_prop}
 use Rattle.cw_model.specs.Outcome.{Trace}
 use Rattle.cw_code.specs.declared.code.Func.{Func}
 use Rattle.cw_code.specs.Code.{Code, code_view}
-use Rattle.cw_code.specs.Run.{Around, Caller, Block, State}
+use Rattle.cw_code.specs.Run.{Around, State}
 use Rattle.cw_code.specs.Fits.{Fits}
-use Rattle.cw_code.specs.Staying.{SeatsLie, IsInside, outermost}
+use Rattle.cw_code.specs.Staying.{SeatsLie, IsInside}
+use Rattle.cw_code.specs.lemmas.Lying.{outermost_is}
 use Rattle.cw_meter.specs.Meters.{Meters}
 use Rattle.cw_meter.specs.Origins.{Main, Rest}
 use Rattle.cw_meter_laws.specs.Opens.{whole}
 use Rattle.cw_meter_laws.specs.Strands.{CallsKeepMeters, TellsAll}
 use Rattle.cw_strand_laws.specs.Jobs as jobs
-use Rattle.cw_strand_laws.specs.Jobs.{WholeCall, ToJoin, has_come, standing, job_start, JobMeaning}
+use Rattle.cw_strand_laws.specs.Jobs.{WholeCall, ToJoin, has_come, standing, JobMeaning}
 use Rattle.cw_strand_laws.specs.Over.{under}
 use Rattle.cw_strand_laws.specs.Strands.{Going}
 use Rattle.cw_strand_laws.specs.Promises.{IsStrandOf}
@@ -28,7 +29,7 @@ use Rattle.cw_jobs.specs.declared.effect.Effect.{Effect}
 use Rattle.cw_jobs.specs.declared.effect.Effect.TheVariants as effect
 use Rattle.cw_jobs.specs.declared.effect.Shown.{Shown}
 use Rattle.cw_jobs.specs.Totals.{HoldsTotals}
-use Rattle.cw_jobs.specs.Jobs.{extent_of, begins_at, AreBlocks}
+use Rattle.cw_jobs.specs.Jobs.{extent_of, begins_at}
 use Rattle.cw_jobs.specs.Means.{HasShown, MeansIt, IsMeaningOf}
 use Rattle.cw_machine.specs.declared.run.Run.{Run}
 use Rattle.cw_machine.specs.declared.run.Stop.TheVariants as stop
@@ -116,11 +117,6 @@ module _ (keep : (code : Code) → CallsKeep code) (self : Strand) (limit : ℕ)
     end_means e t = λ is j job. ∥∥₁_map (h.comes is j job) (λ c. end_it e t is j c)
 
   -- IT IS AT THE JOIN
-  outermost_is : (place : ℕ) (around : List Around) → AreBlocks around → outermost place around ≡ place
-  outermost_is place [] b = refl
-  outermost_is place (Caller w ∷ around) b = absurd b
-  outermost_is place (Block o ∷ around) b = outermost_is place around b
-
   same_func : (k l : ℕ) (f g : Func) → slice_get code.funcs k ≡ Some f → slice_get code.funcs l ≡ Some g → k ≡ l → f ≡ g
   same_func k l f g e e' same = let q : Some f ≡ Some g = sym e ∙ ap (slice_get code.funcs) same ∙ e' in cc
 

@@ -1,5 +1,5 @@
 -- What stands round a state after an instruction: which spawned calls, and what the one that comes back goes on with.
-use Rattle.std.proofs.Common.{◌≡◌, ℕ, ◌+◌, ℤ, Bool, true, false, if◌then◌else◌, Option, Some, None, List, [], ◌∷◌, ◌++◌, length, refl, sym, ap, ◌∙◌, subst, arith}
+use Rattle.std.proofs.Common.{◌≡◌, ℕ, ◌+◌, ℤ, Bool, true, false, if◌then◌else◌, Option, Some, None, List, [], ◌∷◌, ◌++◌, refl, sym, ap, ◌∙◌, subst}
 use Rattle.std.specs.Prelude.{slice_get, slice_set}
 use Rattle.cw_model.specs.declared.syntax.CallKind.{CallKind}
 use Rattle.cw_model.specs.declared.syntax.CallKind.TheVariants.{Plain, Spawned}
@@ -8,7 +8,6 @@ use Rattle.cw_code.specs.declared.code.Instr.{Instr}
 use Rattle.cw_code.specs.Code.{Code}
 use Rattle.cw_code.specs.Run.{Slots, Results, Taken, Waiting, Around, Caller, Block, State, Transition, On, Ends, Stops, Stuck, is_full, settled, synced, Entering, waiting_at, begun, given_back, going_on, result_of, returns_to, back, act, step}
 use Rattle.cw_strand_laws.specs.Strands.{rest_of, spawn_job, Turn, Goes, HandsOut, ComesBack, turn, turn_back, turn_in, turn_call, turn_of}
-use Rattle.cw_strand_laws.specs.Over.{beneath}
 use Rattle.cw_strand_laws.specs.lemmas.Acts.{acts_by}
 use Rattle.cw_strand.specs.Levels.{Level, level_if, levels_of, ResultWaits, IsBackAt}
 
@@ -119,8 +118,3 @@ levels_move code s s' e = subst (Moved s (turn code s)) e (levels_by s code (sli
 -- where a run ends its call nothing stands round it
 pub ends_alone : (code : Code) (s : State) (v : Option ℤ) (arrays : Slots (List ℤ)) (t : Trace) → step code s ≡ Ends v arrays t → s.around ≡ []
 ends_alone code s v arrays t e = subst (Moved s (turn code s)) e (levels_by s code (slice_get code.instrs s.place))
-
--- so many blocks and calls stand round a state over another
-pub round_many : (b : State) (around : List Around) → length (beneath b around) ≡ length around + length b.around
-round_many b [] = omega arith
-round_many b (a ∷ around) = let n = round_many b around in omega (arith, n)

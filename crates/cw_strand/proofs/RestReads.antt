@@ -2,6 +2,7 @@
 -- read.
 use Rattle.std.proofs.Common.{◌≡◌, ℕ, zero, suc, ◌+◌, ◌-◌, ◌<◌, ◌≤◌, ℤ, Bool, true, false, ◌&&◌, Option, Some, None, List, [], ◌∷◌, length, refl, sym, ap, ◌∙◌, subst, arith}
 use Rattle.std.specs.Prelude.{slice_get}
+use Rattle.std.proofs.lemmas.List.{nil_from_length}
 use Rattle.cw_model.specs.Outcome.{Trace}
 use Rattle.cw_slices.specs.Placed.{Placed}
 use Rattle.cw_code.specs.declared.code.Instr.{Instr}
@@ -19,7 +20,7 @@ use Rattle.cw_strand_laws.specs.lemmas.JobsFit.{Upon, LiftedTransition, lifted_s
 use Rattle.cw_strand_laws.specs.lemmas.Under.{act_under}
 use Rattle.cw_jobs.specs.Calls.{placed, IsShare, HasReaders}
 use Rattle.cw_jobs.specs.Jobs.{own_or, KeepsHomes}
-use Rattle.cw_strand.proofs.Levels.{round_many}
+use Rattle.cw_machine.specs.lemmas.Rounds.{round_many}
 
 -- the code's own word for a join is that of the strands
 joins_as : (i : Instr) → is_join i ≡ true → joins (Some i) ≡ true
@@ -93,11 +94,6 @@ module _ (code : Code) (fits : Fits code) (steps : FitSteps code fits) (settles 
       cases true come more = subst (λ (f : Standing). IsFrozenAt code fits (outermost f.place b.around) depth a) (ap (λ c. frame_in c (standing s)) (sym (come_at ToJoin code (suc n) s come) ∙ e)) (at_join s come h)
       cases false come more = went (step code s) refl come (lifted_step code fits steps settles ToJoin (Upon b) s come h.good) more (sym (go_one ToJoin code n s come) ∙ e)
 
--- a list without elements
-none_of : {A : Type 0} (xs : List A) → length xs ≡ 0 → xs ≡ []
-none_of [] e = refl
-none_of (x ∷ xs) e = absurd (omega (arith, e))
-
 -- two lists of as many, the same by each index
 same_lists : {A : Type 0} (xs ys : List A) → length xs ≡ length ys → ((k : ℕ) (x y : A) → slice_get xs k ≡ Some x → slice_get ys k ≡ Some y → x ≡ y) → xs ≡ ys
 same_lists [] [] e h = refl
@@ -135,7 +131,7 @@ module _ (slices back : List Placed) (replaced : List (Option Placed)) (homes : 
   same_none : length (placed slices k).items ≡ 0 → (placed back k).items ≡ (placed slices k).items
   same_none z =
       let len = (homes.1 k).1 in
-      none_of (placed back k).items (new_none (slice_get replaced k) refl (omega (arith, len, z))) ∙ sym (none_of (placed slices k).items z)
+      nil_from_length (placed back k).items (new_none (slice_get replaced k) refl (omega (arith, len, z))) ∙ sym (nil_from_length (placed slices k).items z)
 
   pub same_read : (placed back k).items ≡ (placed slices k).items
   same_read = at (length (placed slices k).items) refl

@@ -1,7 +1,7 @@
 -- Strands with the same parts, and what is left of a list when its last one is taken.
 use Rattle.std.proofs.Common.{◌≡◌, ℕ, ◌+◌, ◌<◌, Option, Some, None, List, [], ◌∷◌, ◌++◌, length, refl, sym, ap, ◌∙◌, subst, arith}
 use Rattle.std.specs.Prelude.{map, reverse, option_to_list, MatchOption, slice_get}
-use Rattle.std.proofs.lemmas.List.{reverse-append}
+use Rattle.cw_facts.specs.Lists.{reverse_pushed}
 use Rattle.cw_jobs.specs.declared.job.Job.{Job}
 use Rattle.cw_jobs.specs.Jobs.{code_of}
 use Rattle.cw_strand.specs.declared.strand.Lent.{Lent}
@@ -49,10 +49,6 @@ newest_of self job others e =
     let s = split_of (λ l. l.job.value) (reverse self.lent.items) job others e in
     record { lent = s.x; rest = s.xs; are = s.are; job_is = s.here; others_are = s.others }
 
--- with a last one more
-pub last_first : {A : Type 0} (xs : List A) (x : A) → reverse (xs ++ x ∷ []) ≡ x ∷ reverse xs
-last_first xs x = reverse-append xs (x ∷ [])
-
 -- the last one was taken
 pub record Popped {A : Type 0} (new : List A) (r : Option A) (x : A) (xs : List A) : Type 0 where
   pub result : r ≡ Some x
@@ -64,8 +60,8 @@ popped old new None x xs e none are = absurd (never (sym (ap reverse (none refl)
     never : [] ≡ x ∷ xs → ⊥
     never q = cc
 popped old new (Some y) x xs e none are = record {
-  result = ap Some (head (sym (last_first new y) ∙ sym (ap reverse e) ∙ are));
-  left = tail (sym (last_first new y) ∙ sym (ap reverse e) ∙ are);
+  result = ap Some (head (sym (reverse_pushed new y) ∙ sym (ap reverse e) ∙ are));
+  left = tail (sym (reverse_pushed new y) ∙ sym (ap reverse e) ∙ are);
 }
   where
     head : y ∷ reverse new ≡ x ∷ xs → y ≡ x

@@ -1,9 +1,10 @@
 -- A machine that took in what a rest has shown.
-use Rattle.std.proofs.Common.{◌≡◌, ℤ, ◌+ℤ◌, Bool, true, false, if◌then◌else◌, Option, Some, None, List, [], ◌∷◌, ◌++◌, refl, sym, ap, ◌∙◌, subst, append_assoc, arith}
-use Rattle.std.specs.Int.{int_max, w128}
-use Rattle.std.proofs.Math.IntN.{+ℤ_assoc, +ℤ_comm, +ℤ_idl}
-use Rattle.std.proofs.lemmas.Int.{clamps, int_wrap-add_left, ints}
+use Rattle.std.proofs.Common.{◌≡◌, ℤ, ◌+ℤ◌, Bool, true, false, if◌then◌else◌, Option, Some, None, List, [], ◌∷◌, ◌++◌, refl, sym, ap, ◌∙◌, subst, append_assoc}
+use Rattle.std.specs.Int.{w128}
+use Rattle.std.proofs.Math.IntN.{+ℤ_comm}
+use Rattle.std.proofs.lemmas.Int.{int_wrap-add_left, ints}
 use Rattle.std.proofs.lemmas.List.{append-nil}
+use Rattle.cw_facts.specs.Integers.{max_regroup}
 use Rattle.cw_model.specs.Syntax.{Name}
 use Rattle.cw_model.specs.Names.{same_name}
 use Rattle.cw_model.specs.declared.syntax.Reduction.{Reduction}
@@ -19,8 +20,10 @@ use Rattle.cw_code.specs.Fits.{Fits}
 use Rattle.cw_strand_laws.specs.Jobs.{Extent, WholeCall, ToJoin, Standing}
 use Rattle.cw_strand_laws.specs.Over.{trace_under, under}
 use Rattle.cw_strand_laws.specs.Strands.{resumed}
+use Rattle.cw_strand_laws.specs.lemmas.Under.{lines_under}
 use Rattle.cw_runnable.specs.declared.verified.Verified.{Verified}
 use Rattle.cw_jobs.specs.Totals.{greater, joined_total, kept, wrapped, AllFit, HoldsTotals}
+use Rattle.cw_jobs.specs.lemmas.Totals.{sum_append}
 use Rattle.cw_machine.specs.declared.machine.Machine.{Machine}
 use Rattle.cw_machine.specs.Arrays.{Ok}
 use Rattle.cw_machine.specs.Shows.{Shows}
@@ -31,25 +34,14 @@ all_fit : (a b : List (Name × ℤ)) → AllFit a → AllFit b → AllFit (a ++ 
 all_fit [] b h k = k
 all_fit (x ∷ a) b h k = (h.0, all_fit a b h.1 k)
 
-sum_append : (name : Name) (a b : List (Name × ℤ)) → sum_to name (a ++ b) ≡ sum_to name a +ℤ sum_to name b
-sum_append name [] b = sym (+ℤ_idl (sum_to name b))
-sum_append name (x ∷ a) b = at (same_name name x.0) (sum_append name a b)
-  where
-    at : (c : Bool) → sum_to name (a ++ b) ≡ sum_to name a +ℤ sum_to name b → (if c then x.1 +ℤ sum_to name (a ++ b) else sum_to name (a ++ b)) ≡ (if c then x.1 +ℤ sum_to name a else sum_to name a) +ℤ sum_to name b
-    at true h = ap (λ z. x.1 +ℤ z) h ∙ sym (+ℤ_assoc x.1 (sum_to name a) (sum_to name b))
-    at false h = h
-
 wrap_both : (a b : ℤ) → wrapped (wrapped a +ℤ wrapped b) ≡ wrapped (a +ℤ b)
 wrap_both a b =
     int_wrap-add_left w128 a (wrapped b) ∙ ap wrapped (+ℤ_comm a (wrapped b)) ∙ int_wrap-add_left w128 b a ∙ ap wrapped (+ℤ_comm b a)
 
-max_assoc : (v w u : ℤ) → int_max (int_max v w) u ≡ int_max v (int_max w u)
-max_assoc v w u = omega (arith, ints, clamps)
-
 greater_after : (v : ℤ) (x y : Option ℤ) → greater (Some (or_greater v x)) y ≡ Some (or_greater v (greater x y))
 greater_after v None y = refl
 greater_after v (Some w) None = refl
-greater_after v (Some w) (Some u) = ap (λ z. Some z) (max_assoc v w u)
+greater_after v (Some w) (Some u) = ap (λ z. Some z) (max_regroup v w u)
 
 greatest_append : (name : Name) (a b : List (Name × ℤ)) → greatest_to name (a ++ b) ≡ greater (greatest_to name a) (greatest_to name b)
 greatest_append name [] b = refl
@@ -101,11 +93,7 @@ module _ (v : Verified) (ok : Ok v) (m m' : Machine) (lines : List ℤ) (totals 
     cuts = h.cuts;
   })
 
--- lines and updates of a run over what stands round it
-lines_under : (b : State) (around : List Around) (t : Trace) → (trace_under b around t).lines ≡ b.trace.lines ++ t.lines
-lines_under b [] t = refl
-lines_under b (a ∷ around) t = refl
-
+-- updates of a run over what stands round it
 updates_under : (b : State) (around : List Around) (t : Trace) → (trace_under b around t).updates ≡ b.trace.updates ++ t.updates
 updates_under b [] t = refl
 updates_under b (a ∷ around) t = refl

@@ -1,5 +1,5 @@
 -- Which rests of a strand are out, and the floor of its run.
-use Rattle.std.proofs.Common.{◌≡◌, ℕ, zero, suc, ◌+◌, ◌≤◌, ◌<◌, ℤ, Some, List, [], ◌∷◌, length, refl, sym, ap, ◌∙◌, subst, inl, inr, arith}
+use Rattle.std.proofs.Common.{◌≡◌, ℕ, zero, suc, ◌+◌, ◌≤◌, ◌<◌, Some, List, [], ◌∷◌, length, refl, sym, ap, ◌∙◌, subst, inl, inr, arith}
 use Rattle.std.specs.Prelude.{reverse}
 use Rattle.std.proofs.lemmas.List.{length-reverse}
 use Rattle.cw_model.specs.declared.syntax.CallKind.{CallKind}
@@ -9,15 +9,14 @@ use Rattle.cw_strand_laws.specs.Jobs as jobs
 use Rattle.cw_strand_laws.specs.Over.{beneath}
 use Rattle.cw_runnable.specs.declared.verified.Verified.{Verified}
 use Rattle.cw_jobs.specs.declared.call.Parts.{Parts}
-use Rattle.cw_machine.specs.declared.machine.Frame.{Frame}
 use Rattle.cw_machine.specs.declared.machine.Machine.{Machine}
 use Rattle.cw_machine.specs.Arrays.{Out, IsFit, Ok, AllAbove}
-use Rattle.cw_machine.specs.Shows.{Round, Shows}
+use Rattle.cw_machine.specs.Shows.{Shows}
 use Rattle.cw_machine.specs.Stretches.{calls_in, IsFloor}
+use Rattle.cw_machine.specs.lemmas.Rounds.{calls_caller, frames_many, no_floor, round_many}
 use Rattle.cw_strand.specs.declared.strand.Lent.{Lent}
 use Rattle.cw_strand.specs.Levels.{Level, level_if, levels_of}
 use Rattle.cw_strand.specs.Holds.{floor_in, Lends, AreOut, AreBack, rest_in}
-use Rattle.cw_strand.proofs.Levels.{round_many}
 
 -- each of these levels has fewer blocks and calls round it
 abbrev pub AllUnder : List Level → ℕ → Type 0
@@ -87,20 +86,9 @@ module _ (p : Parts) where
     floor_out (Block o ∷ around) jobs_out h = floor_out around jobs_out h
     floor_out (Caller w ∷ around) jobs_out h = caller_floor w.kind w around refl (floor_out around) jobs_out h
 
--- a call that waits is one more
-pub calls_caller : (b : State) (w : Waiting) (around : List Around) → calls_in (beneath b (Caller w ∷ around)) ≡ suc (calls_in (beneath b around))
-calls_caller b w [] = refl
-calls_caller b w (a ∷ around) = refl
-
 calls_block : (b : State) (o : _) (around : List Around) → calls_in (beneath b (Block o ∷ around)) ≡ calls_in (beneath b around)
 calls_block b o [] = refl
 calls_block b o (a ∷ around) = refl
-
--- the frames of a machine are the calls that wait
-frames_many : (v : Verified) (ok : Ok v) (cells : List ℤ) (first slots : ℕ) (frames : List Frame) (around : List Around) → Round v ok cells first slots frames around → length frames ≡ calls_in around
-frames_many v ok cells first slots frames [] h = ap length h
-frames_many v ok cells first slots frames (Block o ∷ around) h = frames_many v ok cells first slots frames around h.1
-frames_many v ok cells first slots frames (Caller w ∷ around) h = ap length h.2 ∙ ap suc (frames_many v ok cells h.0.first (length w.slots) h.1 around h.4)
 
 pub frames_are : (v : Verified) (ok : Ok v) (m : Machine) (s : State) → Shows v ok m s → length m.frames.items ≡ calls_in s.around
 frames_are v ok m s h = sym (length-reverse m.frames.items) ∙ frames_many v ok m.cells.items m.first (length s.slots) (reverse m.frames.items) s.around h.holds.round
@@ -114,12 +102,6 @@ floor_round base floor bottom (Caller w ∷ around) (inr h) = let le = floor_rou
 
 pub calls_under : (p : Parts) (base : State) (l : Level) (levels : List Level) (x : Lent) (lent : List Lent) (around : List Around) (jobs_out : List jobs.Job) → AreOut p (levels_of around) jobs_out (l ∷ levels) (x ∷ lent) → suc (calls_in (beneath base l.around)) ≤ calls_in (beneath base around)
 calls_under p base l levels x lent around jobs_out h = floor_round base (suc (calls_in (beneath base l.around))) (suc (length (beneath base l.around))) around (floor_out p base l levels x lent around jobs_out h)
-
--- a run with nothing out has none
-no_floor : (b : State) (around : List Around) → IsFloor b 0 (length b.around) around
-no_floor b [] = (refl, refl)
-no_floor b (Block o ∷ around) = no_floor b around
-no_floor b (Caller w ∷ around) = inr (no_floor b around)
 
 same_level : (o o' : Out) → Some o ≡ Some o' → o.level ≡ o'.level
 same_level o o' e = let q : o ≡ o' = cc in ap (λ (z : Out). z.level) q

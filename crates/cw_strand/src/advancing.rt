@@ -93,7 +93,8 @@ impl Strand {
         ensures of { self.new.of ≡ self.old.of }
         ensures advances { AdvancesBy result self.old self.new }
         ensures leaves { LeavesBy result self.old self.new }
-        ensures does { IsGoing self.old → IsUnended self.old → self.old.count < its_end self.old → DoesOne result }
+        ensures does { IsGoing self.old → IsUnended self.old → self.old.count < its_end self.old
+            → DoesOne result }
     {
         match self.mode {
             Mode::Going => match self.end_at_join() {

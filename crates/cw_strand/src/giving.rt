@@ -66,7 +66,8 @@ fn join_rest(
     shown: Shown,
 ) -> Result<(), AllocError>
     requires { ∥ giving.MayJoin run.old.machine code.now frame.old replaced.old.items home ∥₁ }
-    ensures { OnOk result (HasJoined run.old code.now count frame.old replaced.old.items home shown run.new) }
+    ensures { OnOk result (HasJoined run.old code.now count frame.old replaced.old.items home shown
+        run.new) }
 {
     let Shown {
         lines,

@@ -41,8 +41,10 @@ fn bring_home(
     replaced: &mut Vec<Option<Slice>>,
     is_lost: bool,
 )
-    requires { is_lost ≡ false → ∥ moves.MayReach machine.old code.now home slices.old.items replaced.old.items ∥₁ }
-    ensures home { is_lost ≡ false → moves.Reaches machine.old code.now home slices.old.items replaced.old.items
+    requires { is_lost ≡ false → ∥ moves.MayReach machine.old code.now home slices.old.items
+        replaced.old.items ∥₁ }
+    ensures home { is_lost ≡ false → moves.Reaches machine.old code.now home slices.old.items
+        replaced.old.items
         machine.new }
     ensures lines { machine.new.lines.items ≡ machine.old.lines.items }
 {

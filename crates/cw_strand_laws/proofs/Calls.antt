@@ -1,6 +1,6 @@
 -- The calls on a strand keep that it is a strand of its job.
-use Rattle.std.proofs.Common.{◌≡◌, ℕ, ◌+◌, ◌<◌, ◌≤◌, Bool, true, false, nat_lt, if◌then◌else◌, List, [], ◌∷◌, refl, sym, ap, subst, arith}
-use Rattle.std.proofs.lemmas.Bool.Decides.{nat_tests}
+use Rattle.std.proofs.Common.{◌≡◌, ◌+◌, ◌≤◌, Bool, true, false, nat_lt, if◌then◌else◌, List, [], ◌∷◌, refl, sym, ap, subst}
+use Rattle.cw_facts.specs.Tests.{lt_of, not_lt_of}
 use Rattle.cw_code.specs.Code.{Code}
 use Rattle.cw_code.specs.Run.{Transition, On, Ends, Stops, Stuck, step}
 use Rattle.cw_strand_laws.specs.Jobs.{has_come, standing, Job, Effect, Ended, Joined, TrapIn, OverLimit, Memory, JobMeaning}
@@ -9,12 +9,6 @@ use Rattle.cw_strand_laws.specs.Promises.{IsStrandOf}
 use Rattle.cw_strand_laws.specs.Steps.{Ran, finished, turned, went_on, advance, given_to, give, skip, take_back, WaitsFor, AdvanceKeeps, CallsKeep}
 use Rattle.cw_strand_laws.proofs.Rests.{rest_not_ended}
 use Rattle.cw_strand_laws.proofs.StrandLaws.{starts, runs, falls, passes, wants_memory, gives, gives_over, gives_stop, drops, arrives, returns, stops}
-
-above_so : (a b : ℕ) → nat_lt a b ≡ true → a < b
-above_so a b h = grind (arith, nat_tests)
-
-within_so : (a b : ℕ) → nat_lt a b ≡ false → b ≤ a
-within_so a b h = grind (arith, nat_tests)
 
 module _ (code : Code) (job : Job) where
   advances : (strand : Strand) → IsStrandOf code job strand → AdvanceKeeps code job strand (advance code job strand)
@@ -40,8 +34,8 @@ module _ (code : Code) (job : Job) where
 
       test : (b : Bool) → has_come job.extent code s ≡ false → nat_lt job.limit (job.before + (count + 1)) ≡ b
           → AdvanceKeeps code job (Going s count outs) (if b then Ran (Halted OverLimit outs) else went_on (turn code s) s (step code s) job.limit job.before (count + 1) outs)
-      test true c e = (passes code job s count outs h c (above_so job.limit (job.before + (count + 1)) e), refl)
-      test false c e = moves (step code s) c refl (within_so job.limit (job.before + (count + 1)) e)
+      test true c e = (passes code job s count outs h c (lt_of job.limit (job.before + (count + 1)) e), refl)
+      test false c e = moves (step code s) c refl (not_lt_of job.limit (job.before + (count + 1)) e)
 
       come : (b : Bool) → has_come job.extent code s ≡ b
           → AdvanceKeeps code job (Going s count outs) (if b then finished outs (Joined (standing s) s.trace count)
@@ -64,8 +58,8 @@ module _ (code : Code) (job : Job) where
 
       test : (b : Bool) → nat_lt job.limit (job.before + (count + cost_of e)) ≡ b → IsStrandOf code job (Waits s count (out ∷ others))
           → IsStrandOf code job (if b then Halted OverLimit others else given_to s count others e) × (outs_of (if b then Halted OverLimit others else given_to s count others e) ≡ others)
-      test true c k = (gives_over code job out s count others e k m (above_so job.limit (job.before + (count + cost_of e)) c), refl)
-      test false c k = given e m (within_so job.limit (job.before + (count + cost_of e)) c) k
+      test true c k = (gives_over code job out s count others e k m (lt_of job.limit (job.before + (count + cost_of e)) c), refl)
+      test false c k = given e m (not_lt_of job.limit (job.before + (count + cost_of e)) c) k
   gives_ok (Halted e' outs) out others e h w m =
       subst (λ os. IsStrandOf code job (give job (Halted e' os) e) × (outs_of (give job (Halted e' os) e) ≡ others)) (sym w) (drops code job out e' e others h, refl)
 

@@ -2,12 +2,14 @@
 use Rattle.std.proofs.Common.{◌≡◌, ◌≢◌, ◌⊎◌, ℕ, zero, suc, ◌+◌, ◌<◌, List, [], ◌∷◌, ◌++◌, Option, Some, None, refl, sym, ap, ◌∙◌, subst, inl, inr, arith, length, length-append}
 use Rattle.std.proofs.lemmas.List.{length-set}
 use Rattle.std.specs.Prelude.{slice_get, slice_set}
+use Rattle.std.proofs.lemmas.Option.{slice_get_within}
+use Rattle.cw_facts.specs.Lists.{set_gives, added_gives}
 use Rattle.cw_code.specs.Code.{Code}
 use Rattle.cw_strand_laws.specs.Jobs.{Job, Memory}
 use Rattle.cw_strand_laws.specs.Strands.{Strand}
 use Rattle.cw_strand_laws.specs.Steps.{started, give, skip, take_back, out_of_memory}
 use Rattle.cw_strand_laws.specs.Worlds.{Place, Undecided, Kept, Offered, Runs, Made, Settled, Spent, World, placed, joined_by, Has, Next, Run, Spawn, Offer, Inline, Begin, Skip, Resume, End, Settle, Give, Want, GiveUp, After, Now, Later, world_of, IsAmong, Falls, OwnersAreSingle}
-use Rattle.cw_strand_laws.proofs.WorldLaws.{set_gives, added_gives, stays_there, last_there, one_there}
+use Rattle.cw_strand_laws.proofs.WorldLaws.{stays_there, last_there, one_there}
 
 -- which strand handed each number out
 abbrev IsOpen : Option Place → Type 0
@@ -22,11 +24,6 @@ record Owned (world : World) : Type 0 where
   pub even : length parents ≡ length world.jobs
   pub even' : length parents ≡ length world.places
   pub listed : (i worker : ℕ) (job : Job) (strand : Strand) (numbers : List ℕ) → Has world i job (Runs worker strand numbers) → Listed parents world.places i numbers × Falls numbers
-
-within : {A : Type 0} (xs : List A) (k : ℕ) (x : A) → slice_get xs k ≡ Some x → k < length xs
-within [] k x e = cc
-within (y ∷ xs) zero x e = omega arith
-within (y ∷ xs) (suc k) x e = let lt = within xs k x e in omega (arith, lt)
 
 set_other : (xs : List Place) (a b : ℕ) (y : Place) → b ≢ a → slice_get (slice_set xs a y) b ≡ slice_get xs b
 set_other [] a b y n = refl
@@ -154,7 +151,7 @@ parents_on parents new places i (n ∷ numbers) h = (stays_there parents n new i
 
 falls_from : (n : ℕ) (parents : List ℕ) (places : List Place) (i : ℕ) (numbers : List ℕ) → length parents ≡ n → Listed parents places i numbers → Falls numbers → Falls (n ∷ numbers)
 falls_from n parents places i [] e h f = tt
-falls_from n parents places i (m ∷ numbers) e h f = (let lt = within parents m i h.0 in omega (arith, lt, e), f)
+falls_from n parents places i (m ∷ numbers) e h f = (let lt = slice_get_within parents m i h.0 in omega (arith, lt, e), f)
 
 left_there : (xs : List Place) (x : Place) (n : ℕ) → n < length xs → slice_get (xs ++ x ∷ []) n ≡ slice_get xs n
 left_there [] x n lt = absurd (omega (arith, lt))
@@ -176,7 +173,7 @@ spawn_owned world i worker job out strand new numbers owned has = record {
     | inr p ↦ elim (added_gives world.places k (Undecided worker) (Runs worker' strand' numbers') p.1) [
       | inl q ↦ absurd (undecided worker' strand' numbers' q.1)
       | inr q ↦ elim (added_gives world.jobs k out job' has'.job_is) [
-        | inl r ↦ absurd (let lt = within world.places k (Runs worker' strand' numbers') q in let same = r.0 in let e = owned.even in let e' = owned.even' in omega (arith, lt, same, e, e'))
+        | inl r ↦ absurd (let lt = slice_get_within world.places k (Runs worker' strand' numbers') q in let same = r.0 in let e = owned.even in let e' = owned.even' in omega (arith, lt, same, e, e'))
         | inr r ↦ carried k numbers' (owned.listed k worker' job' strand' numbers' (record { job_is = r; place_is = q }))
       ]
     ]
@@ -200,7 +197,7 @@ spawn_owned world i worker job out strand new numbers owned has = record {
     carried k numbers' good = (
       listed_on (owned.parents ++ i ∷ []) world.places (slice_set (world.places ++ Undecided worker ∷ []) i (Runs worker new (length world.jobs ∷ numbers))) k numbers'
           (λ n a h. open_set (world.places ++ Undecided worker ∷ []) i n (Runs worker new (length world.jobs ∷ numbers)) (λ e. runs_spent worker new (length world.jobs ∷ numbers) e)
-          (subst IsOpen (sym (left_there world.places (Undecided worker) n (let lt = within owned.parents n k (parent_in owned.parents world.places k n numbers' a good.0) in let e = owned.even' in omega (arith, lt, e)))) h))
+          (subst IsOpen (sym (left_there world.places (Undecided worker) n (let lt = slice_get_within owned.parents n k (parent_in owned.parents world.places k n numbers' a good.0) in let e = owned.even' in omega (arith, lt, e)))) h))
           (parents_on owned.parents i world.places k numbers' good.0),
       good.1,
     )

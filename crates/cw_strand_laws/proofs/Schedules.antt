@@ -7,11 +7,12 @@ use Rattle.cw_model.specs.Answers.{answer_of}
 use Rattle.cw_code.specs.declared.code.Func.{Func}
 use Rattle.cw_code.specs.Code.{Code}
 use Rattle.cw_code.specs.Run.{State, Transition, On, Ends, Stops, Stuck, Entering, begun, step, RunOutcome, go_on, steps, first_state, first_transition, reducers_of, code_serial}
+use Rattle.cw_code.specs.lemmas.Runs.{joined_quiet}
 use Rattle.cw_strand_laws.specs.Jobs.{Extent, WholeCall, Came, Arrives, Returns, Falls, Beyond, Lost, moved, travel, Job, job_start, course, root_job, Effect, Joined, Memory, IsOf, JobMeaning, Same, Passed, Short, answered}
 use Rattle.cw_strand_laws.specs.Strands.{Strand, Going, Waits, Halted, outs_of, Reached, Started, Ran as Instruction, Fell, TooMuch, NoMemory, Given, GivenTooMuch, GivenStop, Skipped, Dropped, Makes, Arrived, Returned, Stopped, GivenUp}
 use Rattle.cw_strand_laws.specs.Promises.{IsStrandOf}
 use Rattle.cw_strand_laws.specs.RestLaws.{onwards, call_job, Cut, Kept, RootsAreSerial, SchedulesAreSerial}
-use Rattle.cw_strand_laws.proofs.Travels.{joined_quiet, travel_under}
+use Rattle.cw_strand_laws.proofs.Travels.{travel_under}
 use Rattle.cw_strand_laws.proofs.StrandLaws.{rest_under, starts, runs, falls, passes, wants_memory, gives, gives_over, gives_stop, drops, arrives, returns, stops}
 
 module _ (code : Code) where

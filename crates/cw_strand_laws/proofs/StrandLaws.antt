@@ -8,13 +8,14 @@ use Rattle.cw_model.specs.Outcome.{Trace}
 use Rattle.cw_code.specs.declared.code.Instr.{Instr}
 use Rattle.cw_code.specs.Code.{Code}
 use Rattle.cw_code.specs.Run.{Slots, Results, Waiting, Around, Caller, Block, State, Transition, On, Ends, Stops, Stuck, synced, is_full, settled, Entering, begun, given_back, going_on, result_of, returns_to, back, act, step}
+use Rattle.cw_code.specs.lemmas.Runs.{joined_quiet}
 use Rattle.cw_strand_laws.specs.Jobs.{Extent, ToJoin, has_come, Standing, standing, Came, Arrives, Falls, Beyond, moved, travel, Job, job_start, course, Effect, Ended, Joined, TrapIn, OverLimit, Memory, JobMeaning}
 use Rattle.cw_strand_laws.specs.Strands.{Strand, Going, Waits, Halted, rest_at, Turn, Goes, HandsOut, ComesBack, turn_back, turn_in, turn_call, turn_of, turn, spawn_job, goes_on, resumed, HasStopped, stopped_after, dropped, cost_of}
 use Rattle.cw_strand_laws.specs.Promises.{Takes, OutAt, Outs, IsOutHere, OutsHere, ComesTo, IsStrandOf}
 use Rattle.cw_strand_laws.specs.RestLaws.{onwards}
 use Rattle.cw_strand_laws.specs.lemmas.Acts.{acts_by}
 use Rattle.cw_strand_laws.specs.lemmas.Budgets.{takes_none, takes_then, takes_step, come_at, stands_meaning}
-use Rattle.cw_strand_laws.proofs.Travels.{joined_quiet, travel_under}
+use Rattle.cw_strand_laws.proofs.Travels.{travel_under}
 use Rattle.cw_strand_laws.proofs.Budgets.{meaning_stands, stands_short}
 
 -- a greater bound does no harm

@@ -1,6 +1,7 @@
 -- In code that fits no strand of any world finds what does not fit.
 use Rattle.std.proofs.Common.{◌≡◌, ℕ, zero, suc, ◌+◌, ◌<◌, ◌≤◌, ℤ, Bool, true, false, ◌&&◌, nat_lt, if◌then◌else◌, Option, Some, List, [], ◌∷◌, ◌++◌, length, refl, sym, ap, ◌∙◌, subst, inl, inr, arith}
 use Rattle.std.specs.Prelude.{slice_get}
+use Rattle.cw_facts.specs.Lists.{set_gives, added_gives}
 use Rattle.cw_model.specs.declared.syntax.CallKind.{CallKind}
 use Rattle.cw_model.specs.declared.syntax.CallKind.TheVariants.{Plain, Spawned}
 use Rattle.cw_model.specs.Outcome.{Trace, quiet, joined}
@@ -10,6 +11,7 @@ use Rattle.cw_code.specs.Code.{Code}
 use Rattle.cw_code.specs.Fits.{array_params_of, readers_of, Shape, Fits}
 use Rattle.cw_code.specs.Run.{Slots, Around, Caller, Block, State, Transition, On, Ends, Stops, Stuck, synced, settled, Entering, begun, back, act, step}
 use Rattle.cw_code.specs.Good.{Good, GoodState, FitBegins, FitSteps, FitSettles}
+use Rattle.cw_code.specs.lemmas.Runs.{same_state}
 use Rattle.cw_strand_laws.specs.Jobs.{Extent, WholeCall, ToJoin, joins, is_first, has_come, standing, Job, job_start, course, root_job, Effect, Ended, Joined, TrapIn, OverLimit, Memory, JobMeaning}
 use Rattle.cw_strand_laws.specs.Strands.{Strand, Going, Waits, Halted, outs_of, rest_at, Turn, turn_back, turn_in, turn_call, turn_of, turn, cost_of}
 use Rattle.cw_strand_laws.specs.Promises.{IsOutHere, Outs, OutsHere, IsStrandOf}
@@ -20,16 +22,13 @@ use Rattle.cw_strand_laws.specs.lemmas.Rests.{GoesOn, act_goes}
 use Rattle.cw_strand_laws.proofs.Budgets.{meaning_stands}
 use Rattle.cw_strand_laws.specs.lemmas.JobsFit.{Base, Alone, Upon, lifted, LiftedTransition, lifted_step, FitJob, hands_fit, arrived, gives_fit}
 use Rattle.cw_strand_laws.specs.Over.{under}
-use Rattle.cw_strand_laws.proofs.WorldLaws.{set_gives, added_gives, stays_there, one_there, last_there, Named, PlaceOk, WorldOk, next_ok, begins_ok}
+use Rattle.cw_strand_laws.proofs.WorldLaws.{stays_there, one_there, last_there, Named, PlaceOk, WorldOk, next_ok, begins_ok}
 
 abbrev GoesNowhere : Transition → Type 0
 GoesNowhere (On s) = ⊥
 GoesNowhere (Ends v arrays t) = Unit {0}
 GoesNowhere (Stops trap line lines) = Unit {0}
 GoesNowhere Stuck = Unit {0}
-
-one_state : (s s' : State) → On s ≡ On s' → s ≡ s'
-one_state s s' e = ap (λ w. elim w [ On s2 ↦ s2 | Ends v arrays t ↦ s | Stops trap line lines ↦ s | Stuck ↦ s ]) e
 
 module _ (code : Code) (fits : Fits code) (steps_well : FitSteps code fits) (settles : FitSettles) (begins : FitBegins code fits) where
   -- the state of a strand fits, over what its job stands upon
@@ -87,7 +86,7 @@ module _ (code : Code) (fits : Fits code) (steps_well : FitSteps code fits) (set
             cases : (kind : CallKind) → e.kind ≡ kind → FitTurn s count outs (turn_call kind e.target e.taken) (On (begun s e))
             cases Plain k s' same g = g
             cases Spawned k s' same g = (
-              hands_fit code fits steps_well settles job.extent base s e job.limit (job.before + (count + 1)) k (subst (λ (s2 : State). GoodState code fits (lifted base s2)) (one_state s' (begun s e) (sym same)) g),
+              hands_fit code fits steps_well settles job.extent base s e job.limit (job.before + (count + 1)) k (subst (λ (s2 : State). GoodState code fits (lifted base s2)) (same_state s' (begun s e) (sym same)) g),
               g,
             )
 

@@ -1,29 +1,21 @@
 -- The cut: a run over what waits is the run up to the join, and from there on, what waits having gone back into its slots.
 use Rattle.std.proofs.Common.{◌≡◌, ℕ, zero, suc, ℤ, Bool, true, false, ◌&&◌, if◌then◌else◌, Option, Some, None, List, [], ◌∷◌, ◌++◌, refl, sym, ap, ◌∙◌, subst}
 use Rattle.std.specs.Prelude.{slice_get, slice_set}
-use Rattle.std.proofs.lemmas.List.{append-nil}
+use Rattle.cw_facts.specs.Tests.{second_false, taken, not_taken}
 use Rattle.cw_model.specs.declared.syntax.CallKind.{CallKind}
 use Rattle.cw_model.specs.declared.syntax.CallKind.TheVariants.{Plain, Spawned}
-use Rattle.cw_model.specs.Outcome.{Trace, quiet, joined}
+use Rattle.cw_model.specs.Outcome.{Trace, joined}
 use Rattle.cw_code.specs.declared.code.Instr.{Instr}
 use Rattle.cw_code.specs.declared.code.Instr.TheVariants as instr
 use Rattle.cw_code.specs.Code.{Code}
 use Rattle.cw_code.specs.Run.{Slots, Results, Around, Caller, Block, State, Transition, On, Ends, Stops, Stuck, synced, is_full, settled, put_in, given_back, going_on, event_of, rejoined, result_of, returns_to, back, act, step}
+use Rattle.cw_code.specs.lemmas.Slots.{settled_append}
 use Rattle.cw_strand_laws.specs.Jobs.{Extent, WholeCall, ToJoin, joins, is_first, has_come, standing, Arrives, Beyond, moved, travel}
 use Rattle.cw_strand_laws.specs.Strands.{resumed}
 use Rattle.cw_strand_laws.specs.RestLaws.{onwards}
 use Rattle.cw_strand_laws.specs.Over.{under, transition_under}
-use Rattle.cw_strand_laws.specs.lemmas.Tests.{taken, not_taken}
 use Rattle.cw_strand_laws.specs.lemmas.Acts.{acts_by}
-use Rattle.cw_strand_laws.specs.lemmas.Settled.{settled_append}
-use Rattle.cw_strand_laws.specs.lemmas.Under.{same_trace, HasCaller, IsCall, Allowed, act_under}
-
-pub joined_quiet : (t : Trace) → joined t quiet ≡ t
-joined_quiet t = same_trace _ _ (append-nil t.lines) (append-nil t.updates) (append-nil t.events)
-
-second_false : (a b : Bool) → b ≡ false → (a && b) ≡ false
-second_false true b h = h
-second_false false b h = refl
+use Rattle.cw_strand_laws.specs.lemmas.Under.{HasCaller, IsCall, Allowed, act_under}
 
 -- how deep the call is that a run began in
 abbrev pub base_of : ℕ → List Around → ℕ

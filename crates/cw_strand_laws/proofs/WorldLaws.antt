@@ -1,7 +1,8 @@
 -- Each event keeps what is true of each job's place.
-use Rattle.std.proofs.Common.{◌≡◌, ◌⊎◌, ℕ, zero, suc, ◌+◌, ◌<◌, ◌≤◌, List, [], ◌∷◌, ◌++◌, Option, Some, None, refl, sym, ap, ◌∙◌, subst, inl, inr, arith, length, length-append}
+use Rattle.std.proofs.Common.{◌≡◌, ℕ, zero, suc, ◌+◌, ◌<◌, ◌≤◌, List, [], ◌∷◌, ◌++◌, Option, Some, None, refl, sym, ap, ◌∙◌, subst, inl, inr, arith, length, length-append}
 use Rattle.std.proofs.lemmas.List.{length-set}
-use Rattle.std.specs.Prelude.{slice_get, slice_set}
+use Rattle.std.specs.Prelude.{slice_get}
+use Rattle.cw_facts.specs.Lists.{set_gives, added_gives}
 use Rattle.cw_code.specs.Code.{Code}
 use Rattle.cw_strand_laws.specs.Jobs.{Job, root_job, Effect, Memory, JobMeaning, Short}
 use Rattle.cw_strand_laws.specs.Strands.{Strand, Going, Waits, Halted, outs_of}
@@ -12,29 +13,6 @@ use Rattle.cw_strand_laws.proofs.Calls.{calls_keep}
 use Rattle.cw_strand_laws.proofs.Schedules.{root_serial}
 
 module _ {A : Type 0} where
-  -- what a list gives after one entry was set, or one was added
-  pub set_gives : (xs : List A) (i k : ℕ) (x y : A) → slice_get (slice_set xs i x) k ≡ Some y → (k ≡ i × (y ≡ x)) ⊎ (slice_get xs k ≡ Some y)
-  set_gives [] i k x y h = inr h
-  set_gives (z ∷ xs) zero zero x y h = inl (refl, sym (some_same x y h))
-    where
-      some_same : (a b : A) → Some a ≡ Some b → a ≡ b
-      some_same a b e = ap (λ o. elim o [ Some c ↦ c | None ↦ a ]) e
-  set_gives (z ∷ xs) zero (suc k) x y h = inr h
-  set_gives (z ∷ xs) (suc i) zero x y h = inr h
-  set_gives (z ∷ xs) (suc i) (suc k) x y h = elim (set_gives xs i k x y h) [
-    | inl p ↦ inl (ap suc p.0, p.1)
-    | inr p ↦ inr p
-  ]
-
-  pub added_gives : (xs : List A) (k : ℕ) (x y : A) → slice_get (xs ++ x ∷ []) k ≡ Some y → (k ≡ length xs × (y ≡ x)) ⊎ (slice_get xs k ≡ Some y)
-  added_gives [] zero x y h = inl (refl, ap (λ o. elim o [ Some c ↦ c | None ↦ y ]) (sym h))
-  added_gives [] (suc k) x y h = inr h
-  added_gives (z ∷ xs) zero x y h = inr h
-  added_gives (z ∷ xs) (suc k) x y h = elim (added_gives xs k x y h) [
-    | inl p ↦ inl (ap suc p.0, p.1)
-    | inr p ↦ inr p
-  ]
-
   pub stays_there : (xs : List A) (k : ℕ) (x y : A) → slice_get xs k ≡ Some y → slice_get (xs ++ x ∷ []) k ≡ Some y
   stays_there [] k x y h = cc
   stays_there (z ∷ xs) zero x y h = h

@@ -1,9 +1,9 @@
 -- Lemmas on runs of jobs, which the proofs of crates above cite.
-pub mod Tests
 pub mod Acts
 pub mod Under
 pub mod Budgets
 pub mod Rests
 pub mod Within
-pub mod Settled
 pub mod JobsFit
+pub mod First
+pub mod Ample

@@ -209,7 +209,8 @@ fn run_apart(guide: &mut Guide, depth: u32, job: Job) -> Result<Effect, Lost>
 fn go_on(guide: &mut Guide, depth: u32, strand: &mut Strand) -> Result<Option<Effect>, Lost>
     requires running { IsRunning strand.old }
     ensures of { strand.new.of ≡ strand.old.of }
-    ensures ends { IfOk result (λ came. IfSome came (λ e. KeptBy (step.Ended e) strand.old strand.new)) }
+    ensures ends { IfOk result (λ came. IfSome came (λ e. KeptBy (step.Ended e) strand.old
+        strand.new)) }
     ensures running { IfOk result (λ came. came ≡ None → IsRunning strand.new) }
     ensures outs { IfOk result (λ came. came ≡ None → outs strand.new ≡ outs strand.old) }
     ensures waits { IfOk result (λ came. came ≡ None → IsAtSync strand.new) }

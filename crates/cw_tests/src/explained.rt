@@ -10,7 +10,7 @@ const EXPLAINED: &[Row] = &[
         "int f() { return 1; }\nint main() {\n  int x = 0;\n  x = cilk_spawn f();\n  print(x);\n  cilk_sync;\n  return x;\n}",
         2,
         "",
-        "refused 4 line 5\nf:5: x is read in line 5, and the call spawned in line 4 gives its result at the next cilk_sync\n  4 |   x = cilk_spawn f();\n  5 |   print(x);\n",
+        "refused 4 line 5\nf:5: x is read in line 5, and the call spawned in line 4 gives its result at the next cilk_sync; put one right before this statement\n  4 |   x = cilk_spawn f();\n  5 |   print(x);\n",
     ),
     (
         "run f --explain",

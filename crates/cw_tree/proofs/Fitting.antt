@@ -1,10 +1,10 @@
 -- In a resolved program that keeps the limits and the rules of names and types, each slot and each index fits.
 use Rattle.std.proofs.Common.{◌≡◌, ℕ, suc, ◌<◌, ◌≤◌, max, nat_lt, nat_le, Bool, true, false, not, ◌&&◌, ◌||◌, if◌then◌else◌, List, [], ◌∷◌, ◌++◌, length, drop, map, filter, flat_map, Option, Some, None, option_map, refl, sym, ap, ◌∙◌, arith, true≢false}
 use Rattle.std.specs.List.{list_all}
-use Rattle.std.proofs.lemmas.Bool.Decides.{nat_tests}
-use Rattle.std.proofs.lemmas.List.{length-map}
+use Rattle.std.proofs.lemmas.List.{length-map, length_push}
 use Rattle.std.proofs.lemmas.List.Folds.{list_all-append}
 use Rattle.std.proofs.lemmas.Slice.Eq.{bytes_eq-Decides}
+use Rattle.cw_facts.specs.Tests.{below, lt_of, at_most}
 use Rattle.cw_model.specs.declared.limits.TheConstants.{MOST_GRAIN, MOST_DECLARED}
 use Rattle.cw_model.specs.Lines.{unless}
 use Rattle.cw_model.specs.Names.{same_name, is_among}
@@ -12,29 +12,21 @@ use Rattle.cw_model.specs.Syntax as model
 use Rattle.cw_model.specs.Syntax.{Name, Param, Reducer, Program}
 use Rattle.cw_model.specs.Answers.{main_name}
 use Rattle.cw_model.specs.Sizes.{first_places, regions_in, regions_in_block, regions_of, function_limits, limit_faults}
-use Rattle.cw_model.specs.Typing.{Known, is_known, is_int, is_array, is_writable, is_new, is_fine, is_argument, are_arguments, called, is_target, is_call, is_reducer, Returns, Nowhere, WithInt, Alone, may_return, declares, surely_returns, ends_block, is_head_of_loop, is_cut, faults_in, faults_in_block, known_of, is_head, faults_of, type_faults}
+use Rattle.cw_model.specs.Typing.{Known, is_known, is_int, is_array, is_writable, is_new, is_fine, are_arguments, called, is_target, is_call, is_reducer, Returns, Nowhere, WithInt, Alone, may_return, declares, surely_returns, ends_block, is_head_of_loop, is_cut, faults_in, faults_in_block, known_of, is_head, faults_of, type_faults}
 use Rattle.cw_model.specs.lemmas.Kept.{left_none, right_none, kept, both_left, both_right}
 use Rattle.cw_tree.specs.Resolved as spec
 use Rattle.cw_tree.specs.Bounds.{Counts, is_below, fits_expr, fits_argument, fits_target, fits_return, fits_head, fits_parts, fits_stmt, fits_block, counts_of, fits_function, is_fitting}
 use Rattle.cw_tree.proofs.Plain.{function_faults}
-use Rattle.cw_tree.proofs.Right.{both, same}
-use Rattle.cw_tree.specs.lemmas.Slotted.{one_more, few_ints_in, few_arrays_in, params_count}
+use Rattle.cw_tree.proofs.Right.{both}
+use Rattle.cw_tree.specs.lemmas.Slotted.{few_ints_in, few_arrays_in, params_count}
 use Rattle.cw_tree.specs.lemmas.Few.{heads_small, small_head}
 use Rattle.cw_tree.specs.lemmas.Reducers.{is_named}
+use Rattle.cw_tree.specs.lemmas.Names.{among_more, front_among}
 use Rattle.cw_model.specs.declared.syntax.NameKind.TheVariants as name_kind
 use Rattle.cw_model.specs.Syntax.{wants_array}
 use Rattle.cw_model.specs.declared.syntax.NameKind.{NameKind}
 use Rattle.cw_model.specs.Syntax.{is_array_kind}
 use Rattle.cw_model.specs.lemmas.Fits.{fits_kind, fit_kinds, writable_array, writable_arrays, arguments_fit}
-
-less : (a b : ℕ) → a < b → nat_lt a b ≡ true
-less a b h = grind (arith, nat_tests)
-
-was_less : (a b : ℕ) → nat_lt a b ≡ true → a < b
-was_less a b h = grind (arith, nat_tests)
-
-no_more : (a b : ℕ) → a ≤ b → nat_le a b ≡ true
-no_more a b h = grind (arith, nat_tests)
 
 -- a name that is there has a place there
 placed : (x : Name) (names : List Name) → is_among x names ≡ true → spec.slot_of x names < length names
@@ -46,8 +38,8 @@ placed x (y ∷ names) h = first (same_name x y) h (placed x names)
     first true h' more = omega arith
     first false h' more = let p = more h' in omega (arith, p)
 
-below : (x : Name) (names : List Name) (n : ℕ) → is_among x names ≡ true → length names ≤ n → nat_lt (spec.slot_of x names) n ≡ true
-below x names n h few = let p = placed x names h in less (spec.slot_of x names) n (omega (arith, p, few))
+slot_below : (x : Name) (names : List Name) (n : ℕ) → is_among x names ≡ true → length names ≤ n → nat_lt (spec.slot_of x names) n ≡ true
+slot_below x names n h few = let p = placed x names h in below (spec.slot_of x names) n (omega (arith, p, few))
 
 -- names that are there stay there
 among_last : (x y : Name) (names : List Name) → same_name x y ≡ true → is_among x (names ++ y ∷ []) ≡ true
@@ -57,15 +49,6 @@ among_last x y (z ∷ names) h = first (same_name x z) (among_last x y names h)
     first : (b : Bool) → is_among x (names ++ y ∷ []) ≡ true → (if b then true else is_among x (names ++ y ∷ [])) ≡ true
     first true more = refl
     first false more = more
-
-among_more : (x y : Name) (names : List Name) → is_among x names ≡ true → is_among x (names ++ y ∷ []) ≡ true
-among_more x y [] h = cc
-among_more x y (z ∷ names) h = first (same_name x z) h (among_more x y names)
-  where
-    first : (b : Bool) → (if b then true else is_among x names) ≡ true → (is_among x names ≡ true → is_among x (names ++ y ∷ []) ≡ true) →
-        (if b then true else is_among x (names ++ y ∷ [])) ≡ true
-    first true h' more = refl
-    first false h' more = more h'
 
 -- what is known as an integer is among the integers, and what is known as an array among the arrays
 record Agree (known : Known) (l : spec.Locals) : Type 0 where
@@ -188,11 +171,11 @@ record Room (n : Counts) (l : spec.Locals) : Type 0 where
 fit_expr : (n : Counts) (known : Known) (l : spec.Locals) → Agree known l → Room n l → (e : model.Expr) → is_fine known e ≡ true →
     fits_expr n (spec.resolved_expr l e) ≡ true
 fit_expr n known l a r (model.Number v) h = refl
-fit_expr n known l a r (model.Variable x) h = below x l.ints n.ints (a.ints x h) r.ints
+fit_expr n known l a r (model.Variable x) h = slot_below x l.ints n.ints (a.ints x h) r.ints
 fit_expr n known l a r (model.Element x e) h =
-    both (below x l.arrays n.arrays (a.arrays x (both_left (is_array known x) (is_fine known e) h)) r.arrays)
+    both (slot_below x l.arrays n.arrays (a.arrays x (both_left (is_array known x) (is_fine known e) h)) r.arrays)
     (fit_expr n known l a r e (both_right (is_array known x) (is_fine known e) h))
-fit_expr n known l a r (model.Length x) h = below x l.arrays n.arrays (a.arrays x h) r.arrays
+fit_expr n known l a r (model.Length x) h = slot_below x l.arrays n.arrays (a.arrays x h) r.arrays
 fit_expr n known l a r (model.Negative e) h = fit_expr n known l a r e h
 fit_expr n known l a r (model.Not e) h = fit_expr n known l a r e h
 fit_expr n known l a r (model.Binary o d e) h =
@@ -212,9 +195,9 @@ fit_name n known l a r qs array x h = first (is_among x l.arrays) refl array h
   where
     first : (b : Bool) → is_among x l.arrays ≡ b → (array : Bool) → fits_kind known array (model.Variable x) ≡ true →
         fits_argument n (if b then spec.passed_to qs (spec.use_of l.arrays x) else spec.Int (spec.Variable (spec.use_of l.ints x))) ≡ true
-    first true e array h' = fit_passed n qs (spec.use_of l.arrays x) (below x l.arrays n.arrays e r.arrays)
+    first true e array h' = fit_passed n qs (spec.use_of l.arrays x) (slot_below x l.arrays n.arrays e r.arrays)
     first false e true h' = absurd (true≢false (sym (a.arrays x h') ∙ e))
-    first false e false h' = below x l.ints n.ints (a.ints x h') r.ints
+    first false e false h' = slot_below x l.ints n.ints (a.ints x h') r.ints
 
 fit_argument : (n : Counts) (known : Known) (l : spec.Locals) → Agree known l → Room n l → (qs : List Param) (array : Bool) (e : model.Expr) →
     fits_kind known array e ≡ true → fits_argument n (spec.resolved_argument l qs e) ≡ true
@@ -243,7 +226,7 @@ fit_arguments n known l a r qs (p ∷ ps) (e ∷ es) h =
 fit_target : (n : Counts) (known : Known) (l : spec.Locals) → Agree known l → Room n l → (g : model.Function) (target : Option Name) →
     is_target known g target ≡ true → fits_target n (option_map (spec.use_of l.ints) target) ≡ true
 fit_target n known l a r g None h = refl
-fit_target n known l a r g (Some x) h = below x l.ints n.ints (a.ints x (both_left (is_int known x) g.gives_int h)) r.ints
+fit_target n known l a r g (Some x) h = slot_below x l.ints n.ints (a.ints x (both_left (is_int known x) g.gives_int h)) r.ints
 
 fit_return : (n : Counts) (known : Known) (l : spec.Locals) → Agree known l → Room n l → (returns : Returns) (e : Option model.Expr) →
     may_return returns known e ≡ true → fits_return n (option_map (spec.resolved_expr l) e) ≡ true
@@ -290,8 +273,8 @@ fit_first k n few found (u ∷ us) h = fit_first k n few (spec.with_first k foun
   where
     first : (b : Bool) → nat_lt u.slot k ≡ b → (c : Bool) → list_all (is_below n) (if b && c then found ++ u ∷ [] else found) ≡ true
     first true e true =
-        let p = was_less u.slot k e in
-        list_all-append (is_below n) found (u ∷ []) ∙ both h (both (less u.slot n (omega (arith, p, few))) refl)
+        let p = lt_of u.slot k e in
+        list_all-append (is_below n) found (u ∷ []) ∙ both h (both (below u.slot n (omega (arith, p, few))) refl)
     first true e false = h
     first false e c = h
 
@@ -299,7 +282,7 @@ fit_over : (n : Counts) (known : Known) (l : spec.Locals) → Agree known l → 
     list_all (λ x. is_array known x) over ≡ true → list_all (is_below n.arrays) (map (spec.use_of l.arrays) over) ≡ true
 fit_over n known l a r [] h = refl
 fit_over n known l a r (x ∷ xs) h =
-    both (below x l.arrays n.arrays (a.arrays x (both_left (is_array known x) (list_all (λ y. is_array known y) xs) h)) r.arrays)
+    both (slot_below x l.arrays n.arrays (a.arrays x (both_left (is_array known x) (list_all (λ y. is_array known y) xs) h)) r.arrays)
     (fit_over n known l a r xs (both_right (is_array known x) (list_all (λ y. is_array known y) xs) h))
 
 fit_head : (program : Program) (n : Counts) (known : Known) (l : spec.Locals) → Agree known l → Room n l →
@@ -317,7 +300,7 @@ fit_head program n known l a r x y z from to grain over body new h =
     let most = both_left ((((i && b) && c) && d) && e) f (both_left (((((i && b) && c) && d) && e) && f) g (both_left ((((((i && b) && c) && d) && e) && f) && g) arrays h)) in
     let start = both_right ((i && b) && c) d (both_left (((i && b) && c) && d) e most) in
     let end = both_right (((i && b) && c) && d) e most in
-    both (both (both (both (less (length l.ints) n.ints new) (fit_expr n known l a r from start)) (fit_expr n known l a r to end))
+    both (both (both (both (below (length l.ints) n.ints new) (fit_expr n known l a r from start)) (fit_expr n known l a r to end))
     (fit_first (length l.ints) n.ints r.ints [] (spec.reads_in_block body) refl))
     (fit_over n known l a r over (writable_arrays known over (both_right ((((((i && b) && c) && d) && e) && f) && g) arrays h)))
 
@@ -328,9 +311,9 @@ fit_parts program n known l a r x e left right new h =
     let i = is_writable known x in
     let f = is_fine known e in
     let two = both_left (i && f) (is_new program known left) (both_left ((i && f) && is_new program known left) (is_new program known right) (both_left (((i && f) && is_new program known left) && is_new program known right) (not (same_name left right)) h)) in
-    let one = one_more l.arrays left in
-    both (both (both (below x l.arrays n.arrays (a.arrays x (writable_array known x (both_left i f two))) r.arrays) (fit_expr n known l a r e (both_right i f two)))
-    (less (length l.arrays) n.arrays (omega (arith, new, one)))) (less (length (l.arrays ++ left ∷ [])) n.arrays new)
+    let one = length_push l.arrays left in
+    both (both (both (slot_below x l.arrays n.arrays (a.arrays x (writable_array known x (both_left i f two))) r.arrays) (fit_expr n known l a r e (both_right i f two)))
+    (below (length l.arrays) n.arrays (omega (arith, new, one)))) (below (length (l.arrays ++ left ∷ [])) n.arrays new)
 
 -- there are no fewer slots after a statement
 mutual
@@ -389,7 +372,7 @@ mutual
 
 -- the locals after a statement have their slots among those that it needs
 ints_grown : (lists : spec.Lists) (l : spec.Locals) (n : ℕ) (s : model.Stmt) → length l.ints ≤ n → length (spec.locals_after l s).ints ≤ spec.ints_in n (spec.resolved_stmt lists l s)
-ints_grown lists l n (model.Declare x e) h = let one = one_more l.ints x in omega (arith, one)
+ints_grown lists l n (model.Declare x e) h = let one = length_push l.ints x in omega (arith, one)
 ints_grown lists l n (model.DeclareArray x e) h = h
 ints_grown lists l n (model.Assign x e) h = h
 ints_grown lists l n (model.AssignElement x i e) h = h
@@ -410,7 +393,7 @@ ints_grown lists l n (model.Return e) h = h
 
 arrays_grown : (lists : spec.Lists) (l : spec.Locals) (n : ℕ) (s : model.Stmt) → length l.arrays ≤ n → length (spec.locals_after l s).arrays ≤ spec.arrays_in n (spec.resolved_stmt lists l s)
 arrays_grown lists l n (model.Declare x e) h = h
-arrays_grown lists l n (model.DeclareArray x e) h = let one = one_more l.arrays x in omega (arith, one)
+arrays_grown lists l n (model.DeclareArray x e) h = let one = length_push l.arrays x in omega (arith, one)
 arrays_grown lists l n (model.Assign x e) h = h
 arrays_grown lists l n (model.AssignElement x i e) h = h
 arrays_grown lists l n (model.Reduce how s e) h = h
@@ -455,9 +438,6 @@ tags_front tags ds rest h = λ x e. h x (among_front x ds rest e)
 
 tags_rear : (tags : List Name) (ds rest : List (Name × ℕ)) → IsTagged tags (ds ++ rest) → IsTagged tags rest
 tags_rear tags ds rest h = λ x e. h x (among_rear x ds rest e)
-
-here_among : (x : Name) (names : List Name) → is_among x (x ∷ names) ≡ true
-here_among x names = ap (λ b. if b then true else is_among x names) (same x)
 
 same_among : (x y : Name) (names : List Name) → same_name x y ≡ true → is_among y names ≡ is_among x names
 same_among x y names h = ap (λ z. is_among z names) (sym ((bytes_eq-Decides x y).0 h))
@@ -518,31 +498,31 @@ module _ (program : Program) (n : Counts) (tables : Tables program n) where
         let r = has_room n l i j (spec.resolved_stmt (spec.lists_of program) l (model.Declare x e)) stands needs in
         let k = kept (is_fine known e && is_new program known x) line h in
         let u = needs.0 in
-        both (less (length l.ints) n.ints (omega (arith, u))) (fit_expr n known l a r e (both_left (is_fine known e) (is_new program known x) k))
+        both (below (length l.ints) n.ints (omega (arith, u))) (fit_expr n known l a r e (both_left (is_fine known e) (is_new program known x) k))
     fit_stmt returns known l i j a stands line (model.DeclareArray x e) needs tagged h =
         let r = has_room n l i j (spec.resolved_stmt (spec.lists_of program) l (model.DeclareArray x e)) stands needs in
         let k = kept (is_fine known e && is_new program known x) line h in
         let u = needs.1 in
-        both (less (length l.arrays) n.arrays (omega (arith, u))) (fit_expr n known l a r e (both_left (is_fine known e) (is_new program known x) k))
+        both (below (length l.arrays) n.arrays (omega (arith, u))) (fit_expr n known l a r e (both_left (is_fine known e) (is_new program known x) k))
     fit_stmt returns known l i j a stands line (model.Assign x e) needs tagged h =
         let r = has_room n l i j (spec.resolved_stmt (spec.lists_of program) l (model.Assign x e)) stands needs in
         let k = kept (is_int known x && is_fine known e) line h in
-        both (below x l.ints n.ints (a.ints x (both_left (is_int known x) (is_fine known e) k)) r.ints) (fit_expr n known l a r e (both_right (is_int known x) (is_fine known e) k))
+        both (slot_below x l.ints n.ints (a.ints x (both_left (is_int known x) (is_fine known e) k)) r.ints) (fit_expr n known l a r e (both_right (is_int known x) (is_fine known e) k))
     fit_stmt returns known l i j a stands line (model.AssignElement x d e) needs tagged h =
         let r = has_room n l i j (spec.resolved_stmt (spec.lists_of program) l (model.AssignElement x d e)) stands needs in
         let k = kept ((is_writable known x && is_fine known d) && is_fine known e) line h in
         let two = both_left (is_writable known x && is_fine known d) (is_fine known e) k in
-        both (both (below x l.arrays n.arrays (a.arrays x (writable_array known x (both_left (is_writable known x) (is_fine known d) two))) r.arrays) (fit_expr n known l a r d (both_right (is_writable known x) (is_fine known d) two)))
+        both (both (slot_below x l.arrays n.arrays (a.arrays x (writable_array known x (both_left (is_writable known x) (is_fine known d) two))) r.arrays) (fit_expr n known l a r d (both_right (is_writable known x) (is_fine known d) two)))
         (fit_expr n known l a r e (both_right (is_writable known x && is_fine known d) (is_fine known e) k))
     fit_stmt returns known l i j a stands line (model.Reduce how s e) needs tagged h =
         let r = has_room n l i j (spec.resolved_stmt (spec.lists_of program) l (model.Reduce how s e)) stands needs in
         let k = kept (is_reducer program how s && is_fine known e) line h in
         let named = is_named how s program.reducers (both_left (is_reducer program how s) (is_fine known e) k) in
-        both (below s (spec.reducer_names program.reducers) n.reducers named tables.reducers) (fit_expr n known l a r e (both_right (is_reducer program how s) (is_fine known e) k))
+        both (slot_below s (spec.reducer_names program.reducers) n.reducers named tables.reducers) (fit_expr n known l a r e (both_right (is_reducer program how s) (is_fine known e) k))
     fit_stmt returns known l i j a stands line (model.Call kind site target f es) needs tagged h =
         let r = has_room n l i j (spec.resolved_stmt (spec.lists_of program) l (model.Call kind site target f es)) stands needs in
         let c = is_called known target f es program.functions (kept (is_call known target (called f program.functions) es) line h) in
-        both (both (fit_target n known l a r c.callee target c.gives) (below f (spec.function_names program.functions) n.functions c.there tables.functions))
+        both (both (fit_target n known l a r c.callee target c.gives) (slot_below f (spec.function_names program.functions) n.functions c.there tables.functions))
         (fit_arguments n known l a r (spec.params_of (spec.lists_of program) f) c.callee.params es (arguments_fit known c.callee.params es c.given))
     fit_stmt returns known l i j a stands line (model.Start kind f es) needs tagged h = refl
     fit_stmt returns known l i j a stands line (model.Begin f from to captured over) needs tagged h = refl
@@ -583,7 +563,7 @@ module _ (program : Program) (n : Counts) (tables : Tables program n) where
         let p = more_ints_in (max i (suc (length l.ints))) block in
         let u = needs.0 in
         let w = stands.arrays in
-        let one = one_more l.ints x in
+        let one = length_push l.ints x in
         both (fit_head program n known l a r x y z from to grain over block (omega (arith, p, u)) (kept (is_head_of_loop program known x y z from to grain over) line (left_none test inner h)))
         (fit_block Nowhere ((x, name_kind.Integer) ∷ known) (spec.with_int x l) (max i (suc (length l.ints))) j (agree_int known l x a) (record { ints = omega (arith, one); arrays = w }) b needs tagged (right_none test inner h))
     fit_stmt returns known l i j a stands line (model.Scope b) needs tagged h = fit_block Nowhere known l i j a stands b needs tagged h
@@ -597,12 +577,12 @@ module _ (program : Program) (n : Counts) (tables : Tables program n) where
         let p = more_arrays_in k block in
         let u = needs.1 in
         let w = stands.ints in
-        let two = one_more (l.arrays ++ left ∷ []) right in
+        let two = length_push (l.arrays ++ left ∷ []) right in
         both (fit_parts program n known l a r x e left right (omega (arith, p, u)) (kept (is_cut program known x e left right) line (left_none test inner h)))
         (fit_block Nowhere ((right, name_kind.Array) ∷ (left, name_kind.Array) ∷ known) l' i k (agree_array ((left, name_kind.Array) ∷ known) (spec.with_array left l) right (agree_array known l left a)) (record { ints = w; arrays = omega (arith, two) }) b needs tagged (right_none test inner h))
     fit_stmt returns known l i j a stands line (model.Region tag b) needs tagged h =
-        let there = tagged tag (here_among tag (map (λ (d : Name × ℕ). d.0) (regions_in_block b))) in
-        both (below tag (spec.tags_of program) n.tags there tables.tags) (fit_block Nowhere known l i j a stands b needs (tags_rear (spec.tags_of program) ((tag, line) ∷ []) (regions_in_block b) tagged) h)
+        let there = tagged tag (front_among tag (map (λ (d : Name × ℕ). d.0) (regions_in_block b))) in
+        both (slot_below tag (spec.tags_of program) n.tags there tables.tags) (fit_block Nowhere known l i j a stands b needs (tags_rear (spec.tags_of program) ((tag, line) ∷ []) (regions_in_block b) tagged) h)
     fit_stmt returns known l i j a stands line (model.Print e) needs tagged h =
         fit_expr n known l a (has_room n l i j (spec.resolved_stmt (spec.lists_of program) l (model.Print e)) stands needs) e (kept (is_fine known e) line h)
     fit_stmt returns known l i j a stands line (model.Return e) needs tagged h =
@@ -650,7 +630,7 @@ fit_function program f few tagged h =
     let params = params_count f.params in
     let p = few_ints_in lists l (length l.ints) f.body in
     let q = few_arrays_in lists l (length l.arrays) f.body in
-    both (both (no_more i MOST_DECLARED (omega (arith, small, params, p))) (no_more j MOST_DECLARED (omega (arith, small, params, q))))
+    both (both (at_most i MOST_DECLARED (omega (arith, small, params, p))) (at_most j MOST_DECLARED (omega (arith, small, params, q))))
     (fit_block program (counts_in program f) (tables_of program f) returns (known_of f.params) l (length l.ints) (length l.arrays) (agree_params f.params)
     (record { ints = omega arith; arrays = omega arith }) f.body (omega arith, omega arith) tagged
     (right_none (unless (is_head program f) f.line) (faults_in_block program returns (known_of f.params) f.body) h))
@@ -671,4 +651,4 @@ resolved_fits program few h =
     let tree : length (map (spec.resolved_function (spec.lists_of program)) program.functions) ≡ length program.functions = length-map program.functions (spec.resolved_function (spec.lists_of program)) in
     let names : length (spec.function_names program.functions) ≡ length program.functions = length-map program.functions (λ (g : model.Function). g.name) in
     both (fit_functions program program.functions (heads_small program few) (all_tagged program) (function_faults program h))
-    (below main_name (spec.function_names program.functions) (length (map (spec.resolved_function (spec.lists_of program)) program.functions)) (kept main 1 (left_none (unless main 1) _ h)) (omega (arith, tree, names)))
+    (slot_below main_name (spec.function_names program.functions) (length (map (spec.resolved_function (spec.lists_of program)) program.functions)) (kept main 1 (left_none (unless main 1) _ h)) (omega (arith, tree, names)))

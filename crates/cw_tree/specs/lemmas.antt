@@ -4,3 +4,4 @@ pub mod Slotted
 pub mod NamedSlots
 pub mod Looked
 pub mod Reducers
+pub mod Names

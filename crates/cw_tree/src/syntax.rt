@@ -5,7 +5,7 @@ pub use cw_model::syntax::Name;
 use cw_model::syntax::{CallKind, NameKind, Operator, Reduction};
 
 /// An expression.
-#[derive(Drop, Debug)]
+#[derive(Drop)]
 pub enum Expr {
     /// A number, which the source writes without a sign: from 0 to `i64::MAX`.
     Number(i64),
@@ -24,7 +24,7 @@ pub enum Expr {
 }
 
 /// A call statement.
-#[derive(Drop, Debug)]
+#[derive(Drop)]
 pub struct Call {
     /// Whether the call is spawned.
     pub kind: CallKind,
@@ -39,7 +39,7 @@ pub struct Call {
 }
 
 /// The head of a parallel loop.
-#[derive(Drop, Debug)]
+#[derive(Drop)]
 pub struct Head {
     /// The variable of the loop.
     pub variable: Name,
@@ -58,7 +58,7 @@ pub struct Head {
 }
 
 /// Where an array is cut, and the names of its two parts.
-#[derive(Drop, Debug)]
+#[derive(Drop)]
 pub struct Cut {
     /// The array that is cut.
     pub array: Name,
@@ -72,7 +72,7 @@ pub struct Cut {
 
 /// A statement, with the line of its first token.
 #[cycle(stmt)]
-#[derive(Drop, Debug)]
+#[derive(Drop)]
 pub struct Line {
     pub line: u32,
     pub stmt: Stmt,
@@ -80,7 +80,7 @@ pub struct Line {
 
 /// A statement.
 #[cycle(stmt)]
-#[derive(Drop, Debug)]
+#[derive(Drop)]
 pub enum Stmt {
     /// A variable by its name, and its first value.
     Declare(Name, Expr),
@@ -117,7 +117,7 @@ pub enum Stmt {
 }
 
 /// A parameter of a function.
-#[derive(Drop, Debug)]
+#[derive(Drop)]
 pub struct Param {
     pub name: Name,
     /// Whether it is an integer, an array, or an array that is only read.
@@ -125,7 +125,7 @@ pub struct Param {
 }
 
 /// A function.
-#[derive(Drop, Debug)]
+#[derive(Drop)]
 pub struct Function {
     pub name: Name,
     /// The line of the name.
@@ -137,7 +137,7 @@ pub struct Function {
 }
 
 /// A reducer.
-#[derive(Drop, Debug)]
+#[derive(Drop)]
 pub struct Reducer {
     pub name: Name,
     /// How it reduces what it is told.
@@ -147,7 +147,7 @@ pub struct Reducer {
 }
 
 /// A whole source: its reducers and its functions, each in their order.
-#[derive(Drop, Debug)]
+#[derive(Drop)]
 pub struct Ast {
     pub reducers: Vec<Reducer>,
     pub functions: Vec<Function>,

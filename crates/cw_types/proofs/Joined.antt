@@ -1,7 +1,7 @@
 -- The lines of a block, one after another.
-use Rattle.std.proofs.Common.{ℕ, take, ◌≡◌, ◌+◌, ◌≤◌, List, [], ◌∷◌, ◌++◌, length, refl, ap, length-append, arith}
-use Rattle.std.proofs.lemmas.List.{take-append-le}
-use Rattle.cw_model.specs.Syntax.{Name, Stmt, Declare, DeclareArray, Assign, AssignElement, Reduce, Call, Start, Begin, Sync, If, IfElse, While, For, Scope, Cut, Region, Print, Return}
+use Rattle.std.proofs.Common.{ℕ, take, ◌≡◌, ◌+◌, ◌≤◌, List, [], ◌∷◌, ◌++◌, length, refl, ap, arith}
+use Rattle.std.proofs.lemmas.List.{take-append-le, length_push}
+use Rattle.cw_model.specs.Syntax.{Stmt, Declare, DeclareArray, Assign, AssignElement, Reduce, Call, Start, Begin, Sync, If, IfElse, While, For, Scope, Cut, Region, Print, Return}
 use Rattle.cw_tree.specs.declared.resolved.Line.{Line, the_lemmas}
 use Rattle.cw_tree.specs.Declares.{declares_in}
 use Rattle.cw_tree.specs.Resolved.{Block, End, Then, Locals, locals_after}
@@ -20,13 +20,10 @@ pub joined_push : (ls : List Line) (l : Line) (c : Block) → joined (block_of (
 joined_push [] l c = grind (arith, the_lemmas)
 joined_push (k ∷ ls) l c = ap (Then (line_of k).0 (line_of k).1) (joined_push ls l c)
 
-more : (names : List Name) (x : Name) → length (names ++ x ∷ []) ≡ length names + 1
-more names x = rw length-append refl
-
 -- a statement declares no more locals behind itself than it declares in all
 pub counted : (l : Locals) (s : Stmt) → length (locals_after l s).ints + length (locals_after l s).arrays ≤ length l.ints + length l.arrays + declares_in s
-counted l (Declare x e) = let one = more l.ints x in omega (arith, one)
-counted l (DeclareArray a e) = let one = more l.arrays a in omega (arith, one)
+counted l (Declare x e) = let one = length_push l.ints x in omega (arith, one)
+counted l (DeclareArray a e) = let one = length_push l.arrays a in omega (arith, one)
 counted l (Assign x e) = omega arith
 counted l (AssignElement a i e) = omega arith
 counted l (Reduce how s e) = omega arith
@@ -46,7 +43,7 @@ counted l (Return e) = omega arith
 
 -- what a statement declares stands behind what was known
 pub grown_ints : (l : Locals) (s : Stmt) → length l.ints ≤ length (locals_after l s).ints
-grown_ints l (Declare x e) = let one = more l.ints x in omega (arith, one)
+grown_ints l (Declare x e) = let one = length_push l.ints x in omega (arith, one)
 grown_ints l (DeclareArray a e) = omega arith
 grown_ints l (Assign x e) = omega arith
 grown_ints l (AssignElement a i e) = omega arith
@@ -67,7 +64,7 @@ grown_ints l (Return e) = omega arith
 
 pub grown_arrays : (l : Locals) (s : Stmt) → length l.arrays ≤ length (locals_after l s).arrays
 grown_arrays l (Declare x e) = omega arith
-grown_arrays l (DeclareArray a e) = let one = more l.arrays a in omega (arith, one)
+grown_arrays l (DeclareArray a e) = let one = length_push l.arrays a in omega (arith, one)
 grown_arrays l (Assign x e) = omega arith
 grown_arrays l (AssignElement a i e) = omega arith
 grown_arrays l (Reduce how s e) = omega arith

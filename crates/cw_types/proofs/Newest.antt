@@ -5,6 +5,7 @@ use Rattle.std.proofs.lemmas.Slice.Eq.{bytes_eq-Decides}
 use Rattle.std.proofs.lemmas.Map.Text.{hash_map_updates_str}
 use Rattle.std.specs.HashMap as hash
 use Rattle.std.specs.HashMap.{HashMap, get_by}
+use Rattle.std.proofs.lemmas.Option.{same_Some}
 use Rattle.cw_model.specs.declared.syntax.NameKind.{NameKind}
 use Rattle.cw_model.specs.Syntax.{Name}
 use Rattle.cw_model.specs.Names.{same_name, is_among}
@@ -71,13 +72,10 @@ found_newest x ds None h = none (newest x ds) (newest_so x ds ∙ ap (option_map
     none (Some d) e = cc
 found_newest x ds (Some l) h = newest_so x ds ∙ ap (option_map (λ (l : Local). (l.kind, l.line))) (sym h)
 
-some_is : {X : Type 0} (x y : X) → Some x ≡ Some y → x ≡ y
-some_is x y h = cc h
-
 -- its line alone
 pub newest_line : (o : Option Declared) (kind : NameKind) (line : ℕ) → option_map kind_and_line o ≡ Some (kind, line) → option_map (λ (d : Declared). d.line) o ≡ Some line
 newest_line None kind line h = cc
-newest_line (Some d) kind line h = ap (λ (p : NameKind × ℕ). Some p.1) (some_is (d.kind, d.line) (kind, line) h)
+newest_line (Some d) kind line h = ap (λ (p : NameKind × ℕ). Some p.1) (same_Some (d.kind, d.line) (kind, line) h)
 
 -- the newest of a spelling is there, with its line
 pub newest_there : (x : Name) (ds : List Declared) (kind : NameKind) (line : ℕ) → option_map kind_and_line (newest x ds) ≡ Some (kind, line) →
@@ -92,7 +90,7 @@ newest_there x (d ∷ ds) kind line h = first (same_name x d.name) refl h (newes
         (option_map kind_and_line (newest x ds) ≡ Some (kind, line) → Contains {X = Name × ℕ} (map named ds) (x, line)) → Contains {X = Name × ℕ} (map named (d ∷ ds)) (x, line)
     first true e k more =
         let same : x ≡ d.name = (bytes_eq-Decides x d.name).0 (sym e) in
-        let at : d.line ≡ line = ap (λ (p : NameKind × ℕ). p.1) (some_is (d.kind, d.line) (kind, line) k) in
+        let at : d.line ≡ line = ap (λ (p : NameKind × ℕ). p.1) (same_Some (d.kind, d.line) (kind, line) k) in
         let there : Contains {X = Name × ℕ} (named d ∷ []) (x, line) = (0, omega arith, sym (pairs same at)) in
         Contains-append_left (named d ∷ []) (map named ds) (x, line) there
       where

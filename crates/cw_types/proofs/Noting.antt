@@ -1,5 +1,5 @@
 -- The lines that break a rule of names and types, in the order in which the code finds them.
-use Rattle.std.proofs.Common.{Bor, ◌==◌, ◌&&◌, ◌||◌, get_or, zero, option_map, option_copied, ◌≡◌, ℕ, suc, ◌-◌, Bool, true, false, if◌then◌else◌, List, [], ◌∷◌, ◌++◌, length, map, Option, Some, None, slice_get, MatchOption, IfSome, is_some, Contains, refl, sym, ap, ◌∙◌, arith}
+use Rattle.std.proofs.Common.{Bor, ◌==◌, ◌&&◌, get_or, zero, option_map, option_copied, ◌≡◌, ℕ, suc, ◌-◌, Bool, true, false, if◌then◌else◌, List, [], ◌∷◌, ◌++◌, length, map, Option, Some, None, slice_get, MatchOption, IfSome, is_some, Contains, refl, sym, ap, ◌∙◌, arith}
 use Rattle.std.proofs.lemmas.List.{append-nil}
 use Rattle.std.proofs.lemmas.Bool.Decides.{nat_tests}
 use Rattle.std.proofs.lemmas.List.Elements.{Contains-append_left, Contains-append_right}
@@ -84,16 +84,6 @@ reducer_at x (r ∷ rs) = first (same_name x r.name) (reducer_at x rs)
   where
     first : (b : Bool) → slice_get rs (slot_of x (reducer_names rs)) ≡ reducer_called x rs →
         slice_get (r ∷ rs) (if b then 0 else suc (slot_of x (reducer_names rs))) ≡ (if b then Some r else reducer_called x rs)
-    first true h = refl
-    first false h = h
-
--- a name among names in two lists
-pub among_append : (x : Name) (xs ys : List Name) → is_among x (xs ++ ys) ≡ (is_among x xs || is_among x ys)
-among_append x [] ys = refl
-among_append x (y ∷ xs) ys = first (same_name x y) (among_append x xs ys)
-  where
-    first : (b : Bool) → is_among x (xs ++ ys) ≡ (is_among x xs || is_among x ys) →
-        (if b then true else is_among x (xs ++ ys)) ≡ ((if b then true else is_among x xs) || is_among x ys)
     first true h = refl
     first false h = h
 

@@ -7,6 +7,7 @@ use Rattle.std.specs.HashMap.{HashMap, get_by}
 use Rattle.cw_model.specs.Syntax.{Name}
 use Rattle.cw_model.specs.Names.{same_name, is_among}
 use Rattle.cw_tree.specs.Resolved.{slot_of}
+use Rattle.cw_tree.specs.lemmas.Names.{same_itself}
 use Rattle.cw_types.specs.Places.{place_of, ArePlaces}
 
 abbrev pub place_or : Option ℕ → ℕ → ℕ
@@ -130,11 +131,8 @@ place_below x (y ∷ names) r h = first (same_name x y) (place_of x names) (λ q
     first false None more e = cc
     first false (Some q) more e = let next : suc q ≡ r = cc in let below = more q refl in omega arith
 
-same_self : (y : Name) → same_name y y ≡ true
-same_self y = (bytes_eq-Decides y y).1 refl
-
 place_pushed : (names : List Name) (y : Name) → place_of y (names ++ y ∷ []) ≡ after_push (place_of y names) true (length names)
-place_pushed names y = push_if y names y ∙ ap (λ b. after_push (place_of y names) b (length names)) (same_self y)
+place_pushed names y = push_if y names y ∙ ap (λ b. after_push (place_of y names) b (length names)) (same_itself y)
 
 was_new : (names : List Name) (y : Name) → place_of y (names ++ y ∷ []) ≡ Some (length names) → place_of y names ≡ None
 was_new names y h = first (place_of y names) refl (sym (place_pushed names y) ∙ h)

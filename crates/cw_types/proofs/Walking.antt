@@ -10,7 +10,7 @@ use Rattle.cw_types.specs.Told.{BeginsAt}
 use Rattle.cw_types.specs.Typing.{are_new}
 use Rattle.cw_tree.specs.declared.syntax.Line.{Line, the_lemmas}
 use Rattle.cw_tree.specs.SyntaxView.{block_of}
-use Rattle.cw_types.proofs.Noting.{among_append}
+use Rattle.cw_tree.specs.lemmas.Names.{among_append}
 
 pub oldest_more : (k : Declared) (ks : List Declared) (n : ℕ) → n ≤ length ks → oldest n (k ∷ ks) ≡ oldest n ks
 oldest_more k ks n h =

@@ -1,9 +1,10 @@
 -- What the code answers where it has looked names up.
-use Rattle.std.specs.Prelude.{◌≡◌, ◌≤◌, ◌+◌, ◌++◌, ℕ, List, length, map, Option, option_map}
+use Rattle.std.specs.Prelude.{◌≡◌, ◌≤◌, ◌+◌, ◌++◌, ℕ, List, length, map, Option, option_map, Result, IfOk}
 use Rattle.std.specs.Global.{Vec}
 use Rattle.cw_model.specs.declared.limits.TheConstants.{MOST_DECLARED}
 use Rattle.cw_model.specs.Syntax.{Name}
 use Rattle.cw_model.specs.Syntax as model
+use Rattle.cw_tree.specs.declared.syntax.Ast.{Ast}
 use Rattle.cw_tree.specs.declared.syntax.Call.{Call}
 use Rattle.cw_tree.specs.declared.syntax.Cut.{Cut}
 use Rattle.cw_tree.specs.declared.syntax.Expr.{Expr}
@@ -16,6 +17,7 @@ use Rattle.cw_tree.specs.declared.syntax.Stmt.{Stmt}
 use Rattle.cw_tree.specs.SyntaxView as parsed
 use Rattle.cw_types.specs.declared.lists.Lists.{Lists}
 use Rattle.cw_types.specs.declared.locals.Locals.{Locals}
+use Rattle.cw_types.specs.declared.regions.Marked.{Marked}
 use Rattle.cw_tree.specs.declared.resolved.Argument as made_argument
 use Rattle.cw_tree.specs.declared.resolved.Call as made_call
 use Rattle.cw_tree.specs.declared.resolved.Cut as made_cut
@@ -29,6 +31,7 @@ use Rattle.cw_tree.specs.declared.resolved.Use as made_use
 use Rattle.cw_tree.specs.Declares.{declares_in_block}
 use Rattle.cw_types.specs.Heads.{call_of, resolved_call, resolved_head, resolved_cut}
 use Rattle.cw_types.specs.Locals.{locals_view, lists_view}
+use Rattle.cw_types.specs.Regions.{tags_of}
 use Rattle.cw_tree.specs.Resolved as spec
 use Rattle.cw_tree.specs.ResolvedView.{use_of, expr_of, argument_of, head_of, parts_of, stmt_of, block_of}
 use Rattle.cw_tree.specs.ResolvedView.{function_of, reducer_of}
@@ -100,6 +103,26 @@ IsCutOver lists locals c b found =
 abbrev pub IsBlock : Lists → Locals → List Line → List made_line.Line → Type 0
 IsBlock lists locals b found =
     block_of found ≡ spec.resolved_block (lists_view lists) (locals_view locals) (parsed.block_of b)
+
+-- this was found, and the locals that are known are those of before
+pub record IsFound (Found : Type 0) (before after : Locals) : Type 0 where
+  pub tree : Found
+  pub ints : after.ints ≡ before.ints
+  pub arrays : after.arrays ≡ before.arrays
+
+-- where memory did not run out, such a thing was found, and the locals that are known are those of before
+abbrev pub Finds : {A E : Type 0} → (A → Type 0) → (before after : Locals) → Result A E → Type 0
+Finds Such before after r = IfOk r (λ found. IsFound (Such found) before after)
+
+-- what a program lists, whose first regions these are
+abbrev pub AreLists : Ast → List Marked → Lists → Type 0
+AreLists ast marked lists =
+    lists_view lists ≡ record {
+      callees = map parsed.function_of ast.functions.items;
+      functions = spec.function_names (map parsed.function_of ast.functions.items);
+      reducers = spec.reducer_names (map parsed.reducer_of ast.reducers.items);
+      tags = tags_of marked;
+    }
 
 -- a function declares no more names than it may, its parameters included
 abbrev pub DeclaresFew : Function → Type 0

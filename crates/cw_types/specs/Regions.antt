@@ -27,6 +27,10 @@ regions_of_all functions = flat_map (λ f. regions_in_block f.body) (map functio
 abbrev pub AreFirst : List Marked → Vec Marked → Type 0
 AreFirst regions found = regions_of found.items ≡ first_places (regions_of regions) []
 
+-- the first region of each tag of functions
+abbrev pub AreFirstOfAll : List Function → Vec Marked → Type 0
+AreFirstOfAll functions found = regions_of found.items ≡ first_places (regions_of_all functions) []
+
 -- behind the regions found before there are these
 abbrev pub Adds : List (Name × ℕ) → (before after : Vec Marked) → Type 0
 Adds regions before after = regions_of after.items ≡ regions_of before.items ++ regions

@@ -13,7 +13,7 @@ use std::collections::HashMap;
 use std::marker::Model;
 
 /// What a name stands for, and the line of its declaration.
-#[derive(Clone, Copy, Debug)]
+#[derive(Clone, Copy)]
 pub struct Local {
     pub kind: NameKind,
     pub line: u32,

@@ -3,8 +3,9 @@
 ghost use Rattle.std.specs.Prelude.{◌≡◌, ◌<◌, ◌+◌, ◌^◌, [], map, length, All, IfOk, OnOk};
 ghost use Rattle.cw_model.specs.Sizes.{limit_faults};
 ghost use Rattle.cw_tree.specs.SyntaxView as parsed;
-ghost use Rattle.cw_types.specs.Found.{AddsInts, AddsArrays, AreFunctions, AreReducers, DeclaresFew, IsFunction};
+ghost use Rattle.cw_types.specs.Found.{AddsInts, AddsArrays, AreFunctions, AreLists, AreReducers, DeclaresFew, IsFunction};
 ghost use Rattle.cw_types.specs.Locals.{locals_count};
+ghost use Rattle.cw_types.specs.Regions.{AreFirstOfAll};
 ghost use Rattle.cw_tree.specs.Resolved as spec;
 ghost use Rattle.cw_tree.specs.ResolvedView.{resolved_of, param_of};
 
@@ -12,7 +13,7 @@ use crate::frames::{arrays_of_block, ints_of_block};
 use crate::globals::{function_names, reducer_names};
 use crate::lists::Lists;
 use crate::locals::Locals;
-use crate::regions::regions;
+use crate::regions::{Marked, regions};
 use crate::resolve::copy;
 use crate::rules::MAIN;
 use crate::statements::block;
@@ -27,26 +28,43 @@ pub fn resolve(alloc: Global, ast: &Ast) -> Result<tree::Tree, AllocError>
     requires { limit_faults (parsed.program_of ast.now) ≡ [] }
     ensures { IfOk result (λ tree. resolved_of tree ≡ spec.resolved (parsed.program_of ast.now)) }
 {
-    let regions = regions(alloc, &ast.functions)?;
-    let different = different(alloc, &regions)?;
-    let function_table = function_names(alloc, &ast.functions)?;
-    let reducer_table = reducer_names(alloc, &ast.reducers)?;
-    let tag_table = tag_table(alloc, &different)?;
-    let lists = Lists {
-        callees: &ast.functions,
-        functions: function_table,
-        reducers: reducer_table,
-        tags: tag_table,
-    };
     let reducers = reducers(alloc, &ast.reducers)?;
+    let marked = marked(alloc, &ast.functions)?;
+    let tags = tag_names(alloc, &marked)?;
+    let lists = lists(alloc, ast, &marked)?;
     let functions = functions(alloc, &lists, &ast.functions)?;
-    let tags = tag_names(alloc, &different)?;
     let main = lists.functions.find(MAIN);
     Ok(tree::Tree {
         reducers,
         functions,
         tags,
         main,
+    })
+}
+
+// The first region of each tag.
+fn marked<'a>(alloc: Global, functions: &'a [Function]) -> Result<Vec<Marked<'a>>, AllocError>
+    ensures { IfOk result (AreFirstOfAll functions.now) }
+{
+    let regions = regions(alloc, functions)?;
+    let found = different(alloc, &regions)?;
+    Ok(found)
+}
+
+// What a program lists, whose first regions these are.
+fn lists<'a>(alloc: Global, ast: &'a Ast, marked: &[Marked<'a>]) -> Result<Lists<'a>, AllocError>
+    requires limits { limit_faults (parsed.program_of ast.now) ≡ [] }
+    requires few { length marked.now < 2 ^ 32 }
+    ensures { IfOk result (AreLists ast.now marked.now) }
+{
+    let functions = function_names(alloc, &ast.functions)?;
+    let reducers = reducer_names(alloc, &ast.reducers)?;
+    let tags = tag_table(alloc, marked)?;
+    Ok(Lists {
+        callees: &ast.functions,
+        functions,
+        reducers,
+        tags,
     })
 }
 

@@ -4,7 +4,7 @@ use cw_model::syntax::Reduction;
 use cw_tree::syntax::Name;
 
 /// What else a name is.
-#[derive(Clone, Copy, Debug)]
+#[derive(Clone, Copy)]
 pub enum Other {
     Integer,
     Array,
@@ -15,7 +15,7 @@ pub enum Other {
 }
 
 /// A rule of names and types that is broken, with the names that it is broken for, and the other line that matters.
-#[derive(Clone, Copy, Debug)]
+#[derive(Clone, Copy)]
 pub enum IllTyped<'a> {
     /// There is no function `main`.
     NoMain,
@@ -72,7 +72,7 @@ pub enum IllTyped<'a> {
 }
 
 /// A limit on the parts of a program that is passed.
-#[derive(Clone, Copy, Debug)]
+#[derive(Clone, Copy)]
 pub enum TooLarge<'a> {
     /// There are too many functions.
     Functions,

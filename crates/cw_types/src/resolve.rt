@@ -52,6 +52,7 @@ pub fn listed(alloc: Global, names: &Table, name: &Name) -> Result<tree::Listed,
 }
 
 /// An expression with each name looked up.
+#[cycle(expressions)]
 pub fn expression(alloc: Global, locals: &Locals, e: &Expr) -> Result<tree::Expr, AllocError>
     ensures { IfOk result (looked.IsExpr locals.now e.now) }
 {
@@ -63,29 +64,37 @@ pub fn expression(alloc: Global, locals: &Locals, e: &Expr) -> Result<tree::Expr
         }
         Expr::Element(a, i) => {
             let used = use_of(alloc, &locals.arrays, a)?;
-            let index = expression(alloc, locals, i)?;
-            Ok(tree::Expr::Element(used, Box::new(alloc, index)?))
+            let index = boxed(alloc, locals, i)?;
+            Ok(tree::Expr::Element(used, index))
         }
         Expr::Length(a) => {
             let used = use_of(alloc, &locals.arrays, a)?;
             Ok(tree::Expr::Length(used))
         }
         Expr::Negative(d) => {
-            let operand = expression(alloc, locals, d)?;
-            Ok(tree::Expr::Negative(Box::new(alloc, operand)?))
+            let operand = boxed(alloc, locals, d)?;
+            Ok(tree::Expr::Negative(operand))
         }
         Expr::Not(d) => {
-            let operand = expression(alloc, locals, d)?;
-            Ok(tree::Expr::Not(Box::new(alloc, operand)?))
+            let operand = boxed(alloc, locals, d)?;
+            Ok(tree::Expr::Not(operand))
         }
         Expr::Binary(operator, d, e) => {
-            let left = expression(alloc, locals, d)?;
-            let right = expression(alloc, locals, e)?;
-            let left = Box::new(alloc, left)?;
-            let right = Box::new(alloc, right)?;
+            let left = boxed(alloc, locals, d)?;
+            let right = boxed(alloc, locals, e)?;
             Ok(tree::Expr::Binary(*operator, left, right))
         }
     }
+}
+
+/// Such an expression in a box.
+#[cycle(expressions)]
+pub fn boxed(alloc: Global, locals: &Locals, e: &Expr) -> Result<Box<tree::Expr>, AllocError>
+    ensures { IfOk result (λ found. looked.IsExpr locals.now e.now found.value) }
+{
+    let found = expression(alloc, locals, e)?;
+    let found = Box::new(alloc, found)?;
+    Ok(found)
 }
 
 // Whether the first of these parameters only reads an array.
@@ -256,10 +265,10 @@ pub fn head(
     ensures { IfOk result (looked.IsHead locals.now head.now body.now) }
 {
     let variable = next_use(alloc, &locals.ints, &head.variable)?;
-    let from = expression(alloc, locals, &head.from)?;
-    let to = expression(alloc, locals, &head.to)?;
     let captured = captured(alloc, locals.ints.len(), body)?;
     let over = arrays(alloc, &locals.arrays, &head.over)?;
+    let from = expression(alloc, locals, &head.from)?;
+    let to = expression(alloc, locals, &head.to)?;
     Ok(tree::Head {
         variable,
         from,
@@ -276,11 +285,11 @@ pub fn cut(alloc: Global, locals: &Locals, cut: &Cut) -> Result<tree::Cut, Alloc
     ensures { IfOk result (looked.IsCut locals.now cut.now) }
 {
     let array = use_of(alloc, &locals.arrays, &cut.array)?;
-    let at = expression(alloc, locals, &cut.at)?;
     let left = next_use(alloc, &locals.arrays, &cut.left)?;
     let name = copy(alloc, &cut.right)?;
     let slot = left.slot + 1;
     let right = tree::Use { name, slot };
+    let at = expression(alloc, locals, &cut.at)?;
     Ok(tree::Cut {
         array,
         at,

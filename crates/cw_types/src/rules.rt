@@ -73,19 +73,19 @@ pub fn of_stmt<'a>(
         (stmt_of stmt.now)) }
 {
     match stmt {
-        Stmt::Declare(x, e) => Some(of_declare(globals, known, x, e)?),
-        Stmt::DeclareArray(a, e) => Some(of_declare(globals, known, a, e)?),
-        Stmt::Assign(x, e) => Some(of_name_and(globals, known, x, NameKind::Integer, e)?),
-        Stmt::AssignElement(a, i, e) => Some(of_assign_element(globals, known, a, i, e)?),
-        Stmt::Reduce(how, s, e) => Some(of_reduce(globals, known, *how, s, e)?),
-        Stmt::If(e, _) => Some(of_expr(globals, known, e)?),
-        Stmt::IfElse(e, _, _) => Some(of_expr(globals, known, e)?),
-        Stmt::While(e, _) => Some(of_expr(globals, known, e)?),
-        Stmt::Print(e) => Some(of_expr(globals, known, e)?),
-        Stmt::Call(call) => Some(of_call(globals, known, call)?),
-        Stmt::For(head, _) => Some(of_loop(globals, known, head)?),
-        Stmt::Cut(cut, _) => Some(of_cut(globals, known, cut)?),
-        Stmt::Return(value) => Some(of_return(globals, returns, known, value)?),
+        Stmt::Declare(x, e) => of_declare(globals, known, x, e),
+        Stmt::DeclareArray(a, e) => of_declare(globals, known, a, e),
+        Stmt::Assign(x, e) => of_name_and(globals, known, x, NameKind::Integer, e),
+        Stmt::AssignElement(a, i, e) => of_assign_element(globals, known, a, i, e),
+        Stmt::Reduce(how, s, e) => of_reduce(globals, known, *how, s, e),
+        Stmt::If(e, _) => of_expr(globals, known, e),
+        Stmt::IfElse(e, _, _) => of_expr(globals, known, e),
+        Stmt::While(e, _) => of_expr(globals, known, e),
+        Stmt::Print(e) => of_expr(globals, known, e),
+        Stmt::Call(call) => of_call(globals, known, call),
+        Stmt::For(head, _) => of_loop(globals, known, head),
+        Stmt::Cut(cut, _) => of_cut(globals, known, cut),
+        Stmt::Return(value) => of_return(globals, returns, known, value),
         Stmt::Sync | Stmt::Scope(_) | Stmt::Region(_, _) => None,
     }
 }
@@ -219,7 +219,7 @@ fn of_declared<'a>(globals: &Globals<'a>, known: &Known<'a>, name: &'a Name) -> 
 }
 
 /// A function or a reducer has the name.
-#[tactic(auto, using(crate::proofs::Noting::among_append))]
+#[tactic(auto, using(cw_tree::specs::lemmas::Names::among_append))]
 pub fn of_global<'a>(globals: &Globals<'a>, name: &'a Name) -> Option<IllTyped<'a>>
     ensures decides { is_some result
         ≡ is_among name.now (rule.globals (program_of globals.now.ast.now)) }
@@ -376,10 +376,7 @@ fn of_call<'a>(globals: &Globals<'a>, known: &Known<'a>, call: &'a Call) -> Opti
 {
     match globals.function(call.callee.as_bytes()) {
         None => Some(IllTyped::NoFunction(&call.callee)),
-        Some(function) => {
-            let reason = of_called(globals, known, function, call)?;
-            Some(reason)
-        }
+        Some(function) => of_called(globals, known, function, call),
     }
 }
 

@@ -1,14 +1,14 @@
 //! Names looked up in statements and blocks.
 
-ghost use Rattle.std.specs.Prelude.{◌≡◌, ◌<◌, ◌+◌, ◌^◌, true, IfOk, OnOk};
+ghost use Rattle.std.specs.Prelude.{◌≡◌, ◌<◌, ◌+◌, ◌^◌, true, IfOk};
 ghost use Rattle.cw_tree.specs.SyntaxView as parsed;
 ghost use Rattle.cw_tree.specs.Declares.{declares_in, declares_in_block, is_plain};
-ghost use Rattle.cw_types.specs.Found.{IsBlock, IsCutOver, IsLoop, IsStmt, cut_over, loop_over};
+ghost use Rattle.cw_types.specs.Found.{Finds, IsBlock, IsCutOver, IsLoop, IsStmt, cut_over, loop_over};
 ghost use Rattle.cw_types.specs.Locals.{locals_count};
 
 use crate::lists::Lists;
 use crate::locals::{Locals, declare};
-use crate::resolve::{call, cut, expression, head, listed, next_use, returned, use_of};
+use crate::resolve::{boxed, call, cut, expression, head, listed, next_use, returned, use_of};
 use cw_tree::resolved as tree;
 use cw_tree::syntax::{Cut, Head, Line, Stmt};
 use std::alloc::{AllocError, Global};
@@ -22,20 +22,19 @@ pub fn block<'a>(
     lines: &'a [Line],
 ) -> Result<Vec<tree::Line>, AllocError>
     requires { locals_count locals.old + declares_in_block (parsed.block_of lines.now) < 2 ^ 32 }
-    ensures tree { IfOk result (λ found. IsBlock lists.now locals.old lines.now found.items) }
-    ensures ints { OnOk result (locals.new.ints ≡ locals.old.ints) }
-    ensures arrays { OnOk result (locals.new.arrays ≡ locals.old.arrays) }
+    ensures { Finds (λ found. IsBlock lists.now locals.old lines.now found.items)
+        locals.old locals.new result }
 {
     let ints = locals.ints.len();
     let arrays = locals.arrays.len();
     let mut found = Vec::new(alloc);
     for line in lines {
         let stmt = statement(alloc, lists, locals, &line.stmt)?;
-        declare(locals, &line.stmt)?;
         found.push(tree::Line {
             line: line.line,
             stmt,
         })?;
+        declare(locals, &line.stmt)?;
     }
     locals.ints.leave(ints);
     locals.arrays.leave(arrays);
@@ -51,34 +50,25 @@ fn statement<'a>(
     stmt: &'a Stmt,
 ) -> Result<tree::Stmt, AllocError>
     requires { locals_count locals.old + declares_in (parsed.stmt_of stmt.now) < 2 ^ 32 }
-    ensures tree { IfOk result (IsStmt lists.now locals.old stmt.now) }
-    ensures ints { OnOk result (locals.new.ints ≡ locals.old.ints) }
-    ensures arrays { OnOk result (locals.new.arrays ≡ locals.old.arrays) }
+    ensures { Finds (IsStmt lists.now locals.old stmt.now) locals.old locals.new result }
 {
     match stmt {
         Stmt::If(e, b) => {
-            let condition = expression(alloc, locals, e)?;
-            Ok(tree::Stmt::If(condition, block(alloc, lists, locals, b)?))
+            let body = block(alloc, lists, locals, b)?;
+            Ok(tree::Stmt::If(expression(alloc, locals, e)?, body))
         }
         Stmt::IfElse(e, b, c) => {
-            let condition = expression(alloc, locals, e)?;
             let body = block(alloc, lists, locals, b)?;
-            let other = block(alloc, lists, locals, c)?;
-            Ok(tree::Stmt::IfElse(condition, body, Box::new(alloc, other)?))
+            let other = Box::new(alloc, block(alloc, lists, locals, c)?)?;
+            Ok(tree::Stmt::IfElse(expression(alloc, locals, e)?, body, other))
         }
         Stmt::While(e, b) => {
-            let condition = expression(alloc, locals, e)?;
-            Ok(tree::Stmt::While(condition, block(alloc, lists, locals, b)?))
+            let body = block(alloc, lists, locals, b)?;
+            Ok(tree::Stmt::While(expression(alloc, locals, e)?, body))
         }
-        Stmt::For(h, b) => {
-            let found = turns(alloc, lists, locals, h, b)?;
-            Ok(found)
-        }
+        Stmt::For(h, b) => turns(alloc, lists, locals, h, b),
         Stmt::Scope(b) => Ok(tree::Stmt::Scope(block(alloc, lists, locals, b)?)),
-        Stmt::Cut(c, b) => {
-            let found = with_parts(alloc, lists, locals, c, b)?;
-            Ok(found)
-        }
+        Stmt::Cut(c, b) => with_parts(alloc, lists, locals, c, b),
         Stmt::Region(tag, b) => {
             let tag = listed(alloc, &lists.tags, tag)?;
             Ok(tree::Stmt::Region(tag, block(alloc, lists, locals, b)?))
@@ -91,10 +81,7 @@ fn statement<'a>(
         | Stmt::Call(_)
         | Stmt::Sync
         | Stmt::Print(_)
-        | Stmt::Return(_) => {
-            let found = plain(alloc, lists, locals, stmt)?;
-            Ok(found)
-        }
+        | Stmt::Return(_) => plain(alloc, lists, locals, stmt),
     }
 }
 
@@ -108,9 +95,7 @@ fn turns<'a>(
     b: &'a [Line],
 ) -> Result<tree::Stmt, AllocError>
     requires { locals_count locals.old + declares_in (loop_over h.now b.now) < 2 ^ 32 }
-    ensures tree { IfOk result (IsLoop lists.now locals.old h.now b.now) }
-    ensures ints { OnOk result (locals.new.ints ≡ locals.old.ints) }
-    ensures arrays { OnOk result (locals.new.arrays ≡ locals.old.arrays) }
+    ensures { Finds (IsLoop lists.now locals.old h.now b.now) locals.old locals.new result }
 {
     locals.ints.add(h.variable.as_bytes())?;
     let body = block(alloc, lists, locals, b)?;
@@ -129,16 +114,14 @@ fn with_parts<'a>(
     b: &'a [Line],
 ) -> Result<tree::Stmt, AllocError>
     requires { locals_count locals.old + declares_in (cut_over c.now b.now) < 2 ^ 32 }
-    ensures tree { IfOk result (IsCutOver lists.now locals.old c.now b.now) }
-    ensures ints { OnOk result (locals.new.ints ≡ locals.old.ints) }
-    ensures arrays { OnOk result (locals.new.arrays ≡ locals.old.arrays) }
+    ensures { Finds (IsCutOver lists.now locals.old c.now b.now) locals.old locals.new result }
 {
-    let parts = cut(alloc, locals, c)?;
     locals.arrays.add(c.left.as_bytes())?;
     locals.arrays.add(c.right.as_bytes())?;
     let body = block(alloc, lists, locals, b)?;
     locals.arrays.forget();
     locals.arrays.forget();
+    let parts = cut(alloc, locals, c)?;
     Ok(tree::Stmt::Cut(Box::new(alloc, parts)?, body))
 }
 
@@ -169,7 +152,7 @@ fn plain(
         }
         Stmt::AssignElement(a, i, e) => {
             let name = use_of(alloc, &locals.arrays, a)?;
-            let index = Box::new(alloc, expression(alloc, locals, i)?)?;
+            let index = boxed(alloc, locals, i)?;
             Ok(tree::Stmt::AssignElement(name, index, expression(alloc, locals, e)?))
         }
         Stmt::Reduce(how, s, e) => {

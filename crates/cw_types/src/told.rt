@@ -8,7 +8,7 @@ use cw_reasons::At;
 use cw_text::LeastLine;
 
 /// The least line so far that passes a limit, with the one that was found for it first.
-#[derive(Clone, Copy, Debug)]
+#[derive(Clone, Copy)]
 pub struct Told<R> {
     pub first: Option<At<R>>,
 }

@@ -1,11 +1,14 @@
 -- Numbers for the blocks round places.
 use Rattle.std.proofs.Common.{◌≡◌, ◌⊎◌, inl, inr, ⊎_elim, ℕ, zero, suc, ◌<◌, ◌≤◌, Bool, true, false, ◌||◌, if◌then◌else◌, nat_eq, List, [], ◌∷◌, Some, None, refl, sym, ap, subst, ◌∙◌, arith}
 use Rattle.std.specs.Prelude.{Option, replicate, slice_get, slice_set}
+use Rattle.cw_facts.specs.Lists.{set_other}
+use Rattle.cw_facts.specs.Tests.{both_true, equal, not_equal}
 use Rattle.cw_code.specs.declared.code.Instr.{Instr}
 use Rattle.cw_code.specs.declared.code.Instr.TheVariants as instr
 use Rattle.cw_code.specs.Code.{Code}
 use Rattle.cw_code.specs.Fits.{Row, Outer, Shape, leaves}
-use Rattle.std.proofs.lemmas.Bool.{cases_eq}
+use Rattle.std.proofs.lemmas.Bool.{cases_eq, or_from}
+use Rattle.std.proofs.lemmas.Option.{same_Some}
 use Rattle.cw_verify.specs.declared.found.Found.{Found}
 use Rattle.cw_verify.specs.declared.meeting.Meeting.{Meeting}
 use Rattle.cw_verify.specs.declared.meeting.Meeting.TheVariants as meeting
@@ -15,8 +18,6 @@ use Rattle.cw_verify.specs.declared.search.Search.{Search}
 use Rattle.cw_verify.specs.Meetings.{meeting_of, meets}
 use Rattle.cw_verify.specs.Table.{Shapes, rounds_of, shape_view, shapes_of, brings, round_brings, each_brings, either_each, is_alike, are_alike, joined, can_meet, met}
 use Rattle.cw_verify.specs.Numbers.{Names, HasNumber, IsPair, given, number_of, number_after, AreNumbered, IsKnown, IsKnownWith, keeps_blocks, IsNext}
-use Rattle.cw_verify.proofs.Decided.{equal, not_equal, both_true}
-use Rattle.cw_verify.proofs.Lists.{same_some, set_other}
 use Rattle.cw_verify.proofs.Rounds.{each_stays, each_comes}
 use Rattle.cw_verify.proofs.Spreading.{shapes_set}
 use Rattle.cw_verify.proofs.Tables.{is_alike_of}
@@ -27,13 +28,9 @@ brings_self [] = refl
 brings_self (true ∷ row) = brings_self row
 brings_self (false ∷ row) = brings_self row
 
-neither : (a b : Bool) → a ≡ false → b ≡ false → (a || b) ≡ false
-neither true b h k = cc
-neither false b h k = k
-
 each_brings_self : (xs : List Outer) → each_brings xs xs ≡ false
 each_brings_self [] = refl
-each_brings_self (x ∷ xs) = neither (round_brings x x) (each_brings xs xs) (neither (brings x.empty x.empty) (brings x.gone x.gone || brings x.frozen x.frozen) (brings_self x.empty) (neither (brings x.gone x.gone) (brings x.frozen x.frozen) (brings_self x.gone) (brings_self x.frozen))) (each_brings_self xs)
+each_brings_self (x ∷ xs) = or_from (round_brings x x) (each_brings xs xs) (or_from (brings x.empty x.empty) (brings x.gone x.gone || brings x.frozen x.frozen) (brings_self x.empty) (or_from (brings x.gone x.gone) (brings x.frozen x.frozen) (brings_self x.gone) (brings_self x.frozen))) (each_brings_self xs)
 
 is_alike_self : (x : Outer) → is_alike x x ≡ true
 is_alike_self x = is_alike_of x x refl refl refl refl
@@ -216,7 +213,7 @@ pub joined_outer : (t s r : Shape) → joined (Some t) s ≡ Some r → r.outer 
 joined_outer t s r e = at (can_meet t s) e
   where
     at : (b : Bool) → (if b then Some (met t s) else None) ≡ Some r → r.outer ≡ either_each t.outer s.outer
-    at true e = sym (ap (λ u. u.outer) (same_some (met t s) r e))
+    at true e = sym (ap (λ u. u.outer) (same_Some (met t s) r e))
     at false e = cc
 
 -- what is known once a place has another shape and its number

@@ -1,17 +1,17 @@
 -- Blocks that meet, and what each of them has.
 use Rattle.std.proofs.Common.{◌≡◌, ◌<◌, ◌≤◌, Bool, true, false, ◌||◌, nat_eq, List, [], ◌∷◌, refl, sym, ap, ◌∙◌, arith}
+use Rattle.std.proofs.lemmas.Bool.{or_parts}
+use Rattle.cw_facts.specs.Tests.{first_true, second_true}
 use Rattle.cw_code.specs.Fits.{Outer, Shape}
 use Rattle.cw_verify.specs.Table.{blocks_of, can_meet, either_empty, either_round, either_each, brings, round_brings, each_brings, is_alike, are_alike, unmarked_round, unmarked_each, IsEach}
-use Rattle.cw_verify.proofs.Lists.{or_false}
-use Rattle.cw_verify.proofs.Decided.{first_true, second_true}
 use Rattle.cw_verify.proofs.Rows.{either_stays, either_within, either_fewer, either_comes}
 use Rattle.cw_verify.proofs.Tables.{alike}
 
 -- a block that is brought nothing stays
 round_stays : (x y : Outer) → round_brings x y ≡ false → either_round x y ≡ x
 round_stays x y h =
-    let both = or_false (brings x.empty y.empty) (brings x.gone y.gone || brings x.frozen y.frozen) h in
-    let rest = or_false (brings x.gone y.gone) (brings x.frozen y.frozen) both.1 in
+    let both = or_parts (brings x.empty y.empty) (brings x.gone y.gone || brings x.frozen y.frozen) h in
+    let rest = or_parts (brings x.gone y.gone) (brings x.frozen y.frozen) both.1 in
     ap (λ r. record { empty = r; gone = either_empty x.gone y.gone; frozen = either_empty x.frozen y.frozen; cut = x.cut }) (either_stays x.empty y.empty both.0)
     ∙ ap (λ r. record { empty = x.empty; gone = r; frozen = either_empty x.frozen y.frozen; cut = x.cut }) (either_stays x.gone y.gone rest.0)
     ∙ ap (λ r. record { empty = x.empty; gone = x.gone; frozen = r; cut = x.cut }) (either_stays x.frozen y.frozen rest.1)
@@ -20,7 +20,7 @@ pub each_stays : (xs ys : List Outer) → each_brings xs ys ≡ false → either
 each_stays [] ys h = refl
 each_stays (x ∷ xs) [] h = refl
 each_stays (x ∷ xs) (y ∷ ys) h =
-    let both = or_false (round_brings x y) (each_brings xs ys) h in
+    let both = or_parts (round_brings x y) (each_brings xs ys) h in
     ap (λ l. either_round x y ∷ l) (each_stays xs ys both.1) ∙ ap (λ r. r ∷ xs) (round_stays x y both.0)
 
 -- what is brought leaves fewer slots full
@@ -54,8 +54,8 @@ each_fewer (x ∷ xs) (y ∷ ys) h = one_fewer x y xs ys (round_brings x y) refl
 round_comes : (x y : Outer) → is_alike x y ≡ true → round_brings y x ≡ false → either_round x y ≡ y
 round_comes x y e h =
     let a = alike x y e in
-    let both = or_false (brings y.empty x.empty) (brings y.gone x.gone || brings y.frozen x.frozen) h in
-    let rest = or_false (brings y.gone x.gone) (brings y.frozen x.frozen) both.1 in
+    let both = or_parts (brings y.empty x.empty) (brings y.gone x.gone || brings y.frozen x.frozen) h in
+    let rest = or_parts (brings y.gone x.gone) (brings y.frozen x.frozen) both.1 in
     ap (λ r. record { empty = r; gone = either_empty x.gone y.gone; frozen = either_empty x.frozen y.frozen; cut = x.cut }) (either_comes x.empty y.empty a.as_wide both.0)
     ∙ ap (λ r. record { empty = y.empty; gone = r; frozen = either_empty x.frozen y.frozen; cut = x.cut }) (either_comes x.gone y.gone a.as_wide_gone rest.0)
     ∙ ap (λ r. record { empty = y.empty; gone = y.gone; frozen = r; cut = x.cut }) (either_comes x.frozen y.frozen a.as_wide_frozen rest.1)
@@ -66,7 +66,7 @@ each_comes [] [] e h = refl
 each_comes [] (y ∷ ys) e h = cc
 each_comes (x ∷ xs) [] e h = cc
 each_comes (x ∷ xs) (y ∷ ys) e h =
-    let both = or_false (round_brings y x) (each_brings ys xs) h in
+    let both = or_parts (round_brings y x) (each_brings ys xs) h in
     ap (λ l. either_round x y ∷ l) (each_comes xs ys (second_true (is_alike x y) (are_alike xs ys) e) both.1)
     ∙ ap (λ r. r ∷ ys) (round_comes x y (first_true (is_alike x y) (are_alike xs ys) e) both.0)
 

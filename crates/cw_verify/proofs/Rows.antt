@@ -2,21 +2,23 @@
 use Rattle.std.proofs.Common.{◌≡◌, ℕ, zero, suc, ◌+◌, ◌<◌, ◌≤◌, Bool, true, false, not, ◌||◌, ◌&&◌, if◌then◌else◌, nat_eq, nat_lt, List, [], ◌∷◌, Some, length, get_or, refl, sym, ap, ◌∙◌, ⊎_elim, arith}
 use Rattle.std.specs.Prelude.{take, drop, slice_get, slice_set}
 use Rattle.std.proofs.lemmas.List.{length-set, length-replicate}
-use Rattle.std.proofs.lemmas.Bool.{cases_eq}
+use Rattle.std.proofs.lemmas.Bool.{cases_eq, or_parts}
+use Rattle.cw_facts.specs.Lists.{get_set, set_other}
+use Rattle.cw_facts.specs.Tests.{both_true, first_true, second_true, first_false, second_false, below, equal, eq_of, not_equal, lt_of, four_and}
 use Rattle.cw_code.specs.Fits.{Row, Shape, is_full_in, has_array, has_arrays, is_none_of, names_arrays, with_gone, slots_lent, none_empty}
 use Rattle.cw_code.specs.declared.code.Loan.{Loan}
 use Rattle.cw_code.specs.declared.code.Loan.TheVariants.{Array, Reader}
+use Rattle.cw_code.specs.lemmas.Slots.{row_there}
 use Rattle.cw_verify.specs.Views.{frozen_by, with_loans}
 use Rattle.cw_verify.specs.Table.{either_empty, brings, has_all, any_empty, are_unmarked, unmarked, IsEither}
-use Rattle.cw_verify.proofs.Lists.{drop_at, get_set, set_other, or_false}
-use Rattle.cw_verify.proofs.Decided.{below, eq_of, equal, not_equal, lt_of, first_false, second_false, both_true, first_true, second_true}
+use Rattle.cw_verify.proofs.Lists.{drop_at}
 
 -- a row that is brought nothing stays
 pub either_stays : (xs ys : Row) → brings xs ys ≡ false → either_empty xs ys ≡ xs
 either_stays [] ys h = refl
 either_stays (x ∷ xs) [] h = refl
 either_stays (x ∷ xs) (y ∷ ys) h =
-    let both = or_false (not x && y) (brings xs ys) h in
+    let both = or_parts (not x && y) (brings xs ys) h in
     ap (λ l. (x || y) ∷ l) (either_stays xs ys both.1) ∙ ap (λ b. b ∷ xs) (stays x y both.0)
   where
     stays : (x y : Bool) → (not x && y) ≡ false → (x || y) ≡ x
@@ -45,7 +47,7 @@ either_comes [] [] e h = refl
 either_comes [] (y ∷ ys) e h = absurd (omega (arith, e))
 either_comes (x ∷ xs) [] e h = absurd (omega (arith, e))
 either_comes (x ∷ xs) (y ∷ ys) e h =
-    let both = or_false (not y && x) (brings ys xs) h in
+    let both = or_parts (not y && x) (brings ys xs) h in
     ap (λ l. (x || y) ∷ l) (either_comes xs ys (omega (arith, e)) both.1) ∙ ap (λ b. b ∷ ys) (comes x y both.0)
   where
     comes : (x y : Bool) → (not y && x) ≡ false → (x || y) ≡ y
@@ -87,7 +89,7 @@ brings_done (x ∷ xs) (y ∷ ys) (suc a) n = brings_done xs ys a (λ p q. n (om
 pub none_marked : (row : Row) → any_empty row ≡ false → row ≡ none_empty (length row)
 none_marked [] h = refl
 none_marked (x ∷ row) h =
-    let both = or_false x (any_empty row) h in
+    let both = or_parts x (any_empty row) h in
     ap (λ b. b ∷ row) both.0 ∙ ap (λ l. false ∷ l) (none_marked row both.1)
 
 pub either_none : (xs : Row) → either_empty xs [] ≡ xs
@@ -167,33 +169,22 @@ abbrev all_full : Row → List ℕ → Bool
 all_full row [] = true
 all_full row (a ∷ slots) = is_full_in (slice_get row a) && all_full row slots
 
-full_within : (row : Row) (a : ℕ) → is_full_in (slice_get row a) ≡ true → a < length row
-full_within [] a f = cc
-full_within (x ∷ row) zero f = omega arith
-full_within (x ∷ row) (suc a) f = omega (arith, full_within row a f)
-
 -- a slot that is marked is not full then, and each other one is as it was
 marked_full : (row : Row) (a b : ℕ) → is_full_in (slice_get row a) ≡ true → is_full_in (slice_get (slice_set row a true) b) ≡ (not (nat_eq a b) && is_full_in (slice_get row b))
 marked_full row a b f =
     ⊎_elim (λ (q : a ≡ b).
     ap (λ k. is_full_in (slice_get (slice_set row a true) k)) (sym q)
-    ∙ ap is_full_in (get_set row a true (full_within row a f))
+    ∙ ap is_full_in (get_set row a true (row_there row a f))
     ∙ ap (λ e. not e && is_full_in (slice_get row b)) (sym (equal a b q)))
     (λ (q : a ≡ b → ⊥). ap is_full_in (set_other row a b true (λ e. q (sym e))) ∙ ap (λ e. not e && is_full_in (slice_get row b)) (sym (not_equal a b q)))
     (cases_eq a b)
-
-four : (x y n r : Bool) → ((x && y) && (n && r)) ≡ ((x && n) && (y && r))
-four false y n r = refl
-four true true n r = refl
-four true false true r = refl
-four true false false r = refl
 
 all_marked : (row : Row) (a : ℕ) (slots : List ℕ) → is_full_in (slice_get row a) ≡ true → all_full (slice_set row a true) slots ≡ (is_none_of a slots && all_full row slots)
 all_marked row a [] f = refl
 all_marked row a (b ∷ slots) f =
     ap (λ x. x && all_full (slice_set row a true) slots) (marked_full row a b f)
     ∙ ap (λ x. (not (nat_eq a b) && is_full_in (slice_get row b)) && x) (all_marked row a slots f)
-    ∙ four (not (nat_eq a b)) (is_full_in (slice_get row b)) (is_none_of a slots) (all_full row slots)
+    ∙ four_and (not (nat_eq a b)) (is_full_in (slice_get row b)) (is_none_of a slots) (all_full row slots)
 
 three : (n r m : Bool) → ((n && r) && m) ≡ (r && (n && m))
 three true r m = refl
@@ -213,7 +204,7 @@ unmarked_named row (a ∷ slots) = at (is_full_in (slice_get row a)) refl (unmar
         ∙ ap (λ n. all_full (slice_set row a true) slots && names_arrays n slots) (length-set row a true)
         ∙ ap (λ x. x && names_arrays (length row) slots) (all_marked row a slots f)
         ∙ three (is_none_of a slots) (all_full row slots) (names_arrays (length row) slots)
-        ∙ ap (λ x. all_full row slots && (x && (is_none_of a slots && names_arrays (length row) slots))) (sym (below a (length row) (full_within row a f)))
+        ∙ ap (λ x. all_full row slots && (x && (is_none_of a slots && names_arrays (length row) slots))) (sym (below a (length row) (row_there row a f)))
 
 none_full : (n a : ℕ) → a < n → is_full_in (slice_get (none_empty n) a) ≡ true
 none_full zero a lt = absurd (omega (arith, lt))

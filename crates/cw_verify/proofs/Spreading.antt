@@ -1,9 +1,10 @@
 -- What a step of a search changes, and what it keeps.
 use Rattle.std.proofs.Common.{◌≡◌, ◌⊎◌, inl, inr, ⊎_elim, ℕ, zero, suc, ◌+◌, ◌-◌, ◌<◌, ◌≤◌, Bool, true, false, ◌||◌, Option, Some, None, List, [], ◌∷◌, length, get_or, refl, sym, ap, ◌∙◌, subst, arith}
 use Rattle.std.specs.Prelude.{replicate, slice_get, slice_set, option_map, Result, Ok, Err}
-use Rattle.std.proofs.lemmas.List.{length-map, length-replicate}
-use Rattle.std.proofs.lemmas.Option.{slice_get_within, slice_get-map, slice_get-get_or}
+use Rattle.std.proofs.lemmas.List.{length-map, length-replicate, map-set, set-set}
+use Rattle.std.proofs.lemmas.Option.{slice_get_within, slice_get-map, slice_get-get_or, same_Some}
 use Rattle.std.proofs.lemmas.Bool.{cases_eq}
+use Rattle.cw_facts.specs.Lists.{set_other, set_same}
 use Rattle.cw_text.specs.declared.fault.Fault.{Fault}
 use Rattle.cw_text.specs.declared.fault.Fault.TheVariants as fault
 use Rattle.cw_code.specs.declared.code.Func.{Func}
@@ -14,7 +15,6 @@ use Rattle.cw_verify.specs.declared.found.Found.{Found}
 use Rattle.cw_verify.specs.declared.numbers.Numbers.{Numbers}
 use Rattle.cw_verify.specs.declared.search.Search.{Search}
 use Rattle.cw_verify.specs.Table.{Shapes, shape_view, shapes_of, may_act, joined, come_at, come, visited, unmarked_at, unmarked_in, unreached, IsIn, IsNoted, Notes, left_to_do, Spread, Tells, table_of, IsDone, IsSearch, Fails, AllNamed, blocks_of}
-use Rattle.cw_verify.proofs.Lists.{same_some, set_other, set_set, set_same, map_set}
 use Rattle.cw_verify.proofs.Tables.{may_ready, may_thawed, each_refl, leads_at, Visited, visits, visit_done, leads_grown, done_grown, held}
 
 -- places as shapes
@@ -25,7 +25,7 @@ pub shapes_at : (items : List (Option Found)) (k : ℕ) (o d : Option Found) →
 shapes_at items k o d lt e = slice_get-map (option_map shape_view) items k ∙ ap (option_map (option_map shape_view)) (slice_get-get_or items k d lt ∙ ap Some (sym e))
 
 pub shapes_set : (items : List (Option Found)) (k : ℕ) (y z : Option Found) → shapes_of (slice_set (slice_set items k y) k z) ≡ slice_set (shapes_of items) k (option_map shape_view z)
-shapes_set items k y z = ap shapes_of (set_set items k y z) ∙ map_set (option_map shape_view) items k z
+shapes_set items k y z = ap shapes_of (set-set items k y z) ∙ map-set (option_map shape_view) items k z
 
 -- what is left to do
 unreached_new : (shapes : Shapes) (k : ℕ) (s : Shape) → slice_get shapes k ≡ Some None → suc (unreached (slice_set shapes k (Some s))) ≡ unreached shapes
@@ -44,7 +44,7 @@ unreached_same (Some u ∷ shapes) (suc k) t s e = unreached_same shapes k t s e
 
 unmarked_less : (shapes : Shapes) (k : ℕ) (t s : Shape) → slice_get shapes k ≡ Some (Some t) → unmarked_at (Some s) < unmarked_at (Some t) → unmarked_in (slice_set shapes k (Some s)) < unmarked_in shapes
 unmarked_less [] k t s e lt = cc
-unmarked_less (o ∷ shapes) zero t s e lt = let same : o ≡ Some t = same_some o (Some t) e in omega (arith, lt, ap unmarked_at same)
+unmarked_less (o ∷ shapes) zero t s e lt = let same : o ≡ Some t = same_Some o (Some t) e in omega (arith, lt, ap unmarked_at same)
 unmarked_less (o ∷ shapes) (suc k) t s e lt = omega (arith, unmarked_less shapes k t s e lt)
 
 -- a step that changes nothing
@@ -157,7 +157,7 @@ visit_search code f old new work rest work' k i reached inside named h e is v sp
 
     here : slice_get new k ≡ slice_get old k → IsDone code f.start new k
     here same = λ s i' q is'.
-        let r : i ≡ i' = same_some i i' (sym is ∙ is') in
+        let r : i ≡ i' = same_Some i i' (sym is ∙ is') in
         let d = visit_done code f old k i is (named_at k lt i is) s new (sym same ∙ q) v in
         subst (λ x. (may_act code s x ≡ true) × FlowsIntoEach (table_of f.start new) (leaves code s x) (nexts (f.start + k) x)) r d
 

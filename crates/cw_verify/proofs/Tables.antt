@@ -2,8 +2,10 @@
 use Rattle.std.proofs.Common.{◌≡◌, ⊎_elim, ℕ, zero, suc, ◌+◌, ◌-◌, ◌<◌, ◌≤◌, Bool, true, false, ◌||◌, ◌&&◌, nat_le, nat_eq, if◌then◌else◌, Option, Some, None, List, [], ◌∷◌, length, refl, sym, ap, ◌∙◌, subst, arith}
 use Rattle.std.specs.Prelude.{map, is_none, slice_get, slice_set, option_map}
 use Rattle.std.proofs.lemmas.List.{length-set}
-use Rattle.std.proofs.lemmas.Option.{slice_get_within}
+use Rattle.std.proofs.lemmas.Option.{slice_get_within, same_Some}
 use Rattle.std.proofs.lemmas.Bool.{cases_eq}
+use Rattle.cw_facts.specs.Lists.{missing, get_set, set_other}
+use Rattle.cw_facts.specs.Tests.{taken, not_taken, both_true, first_true, second_true, first_false, second_false, at_most, equal, eq_of, le_of}
 use Rattle.cw_model.specs.declared.syntax.CallKind.{CallKind}
 use Rattle.cw_model.specs.declared.syntax.CallKind.TheVariants.{Plain, Spawned}
 use Rattle.cw_code.specs.declared.code.Func.{Func}
@@ -15,9 +17,9 @@ use Rattle.cw_code.specs.declared.code.Loan.{Loan}
 use Rattle.cw_code.specs.declared.code.Loan.TheVariants.{Array, Reader}
 use Rattle.cw_code.specs.Run.{passed_by, lent_by}
 use Rattle.cw_code.specs.Fits.{Row, Outer, empty_rows, gone_rows, frozen_rows, params_of, names_well, Shape, is_full_in, full_in_all, has_slot, has_array, has_arrays, has_loan, has_loans, has_target, has_arguments, none_open, can_close, has_parts, can_uncut, is_no_half, is_no_part, are_no_parts, none_frozen, slots_cut, slots_uncut, changes_back, slots_lent, with_target, with_gone, with_passed, with_uncut, none_empty, closed_shape, uncut_shape, is_ready, is_thawed, leaves, nexts, Covers, CoversEach, Table, FlowsInto, FlowsIntoEach, IsTable}
+use Rattle.cw_code.specs.lemmas.Slots.{covers_full, covers_length}
 use Rattle.cw_verify.specs.Table.{Shapes, either_empty, either_each, same_cut, is_alike, are_alike, blocks_of, can_meet, met, may_act, joined, come_at, come, then_come, come_all, next_distances, visited_at, visited, shape_at, table_of, Below, Grows, IsDone}
-use Rattle.cw_verify.proofs.Decided.{taken, not_taken, let_through, first_false, second_false, both_true, both_less, first_true, second_true, at_most, equal, le_of, eq_of}
-use Rattle.cw_verify.proofs.Lists.{same_some, missing, get_set, set_other}
+use Rattle.cw_verify.proofs.Decided.{let_through, both_less}
 
 -- rows that cover
 pub covers_refl : (xs : Row) → Covers xs xs
@@ -92,20 +94,6 @@ covers_passed Spawned slots xs ys c = covers_gone slots xs ys c
 covers_uncut : (cut : Option Halves) (xs ys : Row) → Covers xs ys → Covers (with_uncut cut xs) (with_uncut cut ys)
 covers_uncut None xs ys c = c
 covers_uncut (Some h) xs ys c = covers_unset xs ys h.array c
-
-covers_length : (xs ys : Row) → Covers xs ys → length xs ≡ length ys
-covers_length [] [] c = refl
-covers_length [] (y ∷ ys) c = absurd c
-covers_length (x ∷ xs) [] c = absurd c
-covers_length (x ∷ xs) (y ∷ ys) c = omega (arith, covers_length xs ys c.1)
-
-covers_full : (xs ys : Row) (a : ℕ) → Covers xs ys → is_full_in (slice_get xs a) ≡ true → is_full_in (slice_get ys a) ≡ true
-covers_full [] [] a c h = h
-covers_full [] (y ∷ ys) a c h = absurd c
-covers_full (x ∷ xs) [] a c h = absurd c
-covers_full (true ∷ xs) (y ∷ ys) zero c h = cc
-covers_full (false ∷ xs) (y ∷ ys) zero c h = ap (λ b. is_full_in (Some b)) (c.0 refl)
-covers_full (x ∷ xs) (y ∷ ys) (suc a) c h = covers_full xs ys a c.1 h
 
 -- cuts that are the same
 halves_equal : (g h : Halves) → g.array ≡ h.array → g.left ≡ h.left → g.right ≡ h.right → g ≡ h
@@ -498,7 +486,7 @@ came shapes k s new e = at (slice_get shapes k) refl e
       where
         by : (j : Option Shape) → joined was s ≡ j → option_map (λ t. slice_set shapes k (Some t)) j ≡ Some new → Came shapes k s new
         by None j e = cc
-        by (Some is) j e = record { was = was; is = is; found = f; by = j; new_is = sym (same_some (slice_set shapes k (Some is)) new e) }
+        by (Some is) j e = record { was = was; is = is; found = f; by = j; new_is = sym (same_Some (slice_set shapes k (Some is)) new e) }
 
 -- what is had once a shape has come
 record Joins (was : Option Shape) (s is : Shape) : Type 0 where
@@ -508,7 +496,7 @@ record Joins (was : Option Shape) (s is : Shape) : Type 0 where
   pub least : (there : Shape) → ((t : Shape) → was ≡ Some t → CoversEach (blocks_of there) (blocks_of t)) → CoversEach (blocks_of there) (blocks_of s) → CoversEach (blocks_of there) (blocks_of is)
 
 joins : (was : Option Shape) (s is : Shape) → joined was s ≡ Some is → Joins was s is
-joins None s is e = subst (λ x. Joins None s x) (same_some s is e) (record { as_many = refl; covers = each_refl (blocks_of s); more = λ t q. cc; least = λ there h c. c })
+joins None s is e = subst (λ x. Joins None s x) (same_Some s is e) (record { as_many = refl; covers = each_refl (blocks_of s); more = λ t q. cc; least = λ there h c. c })
 joins (Some t) s is e = by (can_meet t s) refl e
   where
     by : (b : Bool) → can_meet t s ≡ b → (if b then Some (met t s) else None) ≡ Some is → Joins (Some t) s is
@@ -516,11 +504,11 @@ joins (Some t) s is e = by (can_meet t s) refl e
     by true b e =
         let n = eq_of t.operands s.operands (first_true (nat_eq t.operands s.operands) (are_alike (blocks_of t) (blocks_of s)) b) in
         let m = second_true (nat_eq t.operands s.operands) (are_alike (blocks_of t) (blocks_of s)) b in
-        subst (λ x. Joins (Some t) s x) (same_some (met t s) is e) (record {
+        subst (λ x. Joins (Some t) s x) (same_Some (met t s) is e) (record {
           as_many = n;
           covers = each_second (blocks_of t) (blocks_of s) m;
           more = λ u q.
-              let same : t ≡ u = same_some t u q in
+              let same : t ≡ u = same_Some t u q in
               subst (λ (x : Shape). Less (met t s) x) same (record { as_many = refl; covers = each_first (blocks_of t) (blocks_of s) });
           least = λ there h c. each_either (blocks_of there) (blocks_of t) (blocks_of s) (h t refl) c;
         })
@@ -545,7 +533,7 @@ module _ (start : ℕ) (shapes : Shapes) (k : ℕ) (s : Shape) (new : Shapes) (e
       let c = came shapes k s new e in
       let j = joins c.was s c.is c.by in
       ⊎_elim (λ (q : i ≡ k).
-      let was : c.was ≡ Some x = same_some c.was (Some x) (sym c.found ∙ ap (slice_get shapes) (sym q) ∙ f) in
+      let was : c.was ≡ Some x = same_Some c.was (Some x) (sym c.found ∙ ap (slice_get shapes) (sym q) ∙ f) in
       let m = j.more x was in
       leads_at start new i c.is x (ap (slice_get new) q ∙ at_place) m.as_many m.covers)
       (λ (q : i ≡ k → ⊥). leads_at start new i x x (ap (λ l. slice_get l i) c.new_is ∙ set_other shapes k i (Some c.is) q ∙ f) refl (each_refl (blocks_of x)))
@@ -556,10 +544,10 @@ module _ (start : ℕ) (shapes : Shapes) (k : ℕ) (s : Shape) (new : Shapes) (e
       let c = came shapes k s new e in
       let j = joins c.was s c.is c.by in
       ⊎_elim (λ (q : i ≡ k).
-      let is : c.is ≡ x = same_some c.is x (same_some (Some c.is) (Some x) (sym at_place ∙ ap (slice_get new) (sym q) ∙ f)) in
+      let is : c.is ≡ x = same_Some c.is x (same_Some (Some c.is) (Some x) (sym at_place ∙ ap (slice_get new) (sym q) ∙ f)) in
       let least : CoversEach (blocks_of l.there) (blocks_of c.is) = j.least l.there (λ u q.
       let old = below k u (c.found ∙ ap Some q) in
-      let same : old.there ≡ l.there = same_some old.there l.there (sym old.found ∙ l.found) in
+      let same : old.there ≡ l.there = same_Some old.there l.there (sym old.found ∙ l.found) in
       subst (λ (y : Shape). CoversEach (blocks_of y) (blocks_of u)) same (covers_all old)) (covers_all l) in
       let here : FlowsInto t (start + k) c.is = leads_of t (start + k) l.there c.is l.found (l.as_many ∙ sym j.as_many) least in
       subst (λ y. FlowsInto t (start + i) y) is (subst (λ n. FlowsInto t (start + n) c.is) (sym q) here))
@@ -575,7 +563,7 @@ come_goes start shapes k s t below l lt e = at (slice_get shapes k) refl e
     at (Some None) f e = cc
     at (Some (Some u)) f e =
         let old = below k u f in
-        let same : old.there ≡ l.there = same_some old.there l.there (sym old.found ∙ l.found) in
+        let same : old.there ≡ l.there = same_Some old.there l.there (sym old.found ∙ l.found) in
         let n : u.operands ≡ s.operands = sym old.as_many ∙ ap (λ (y : Shape). y.operands) same ∙ l.as_many in
         let covers : CoversEach (blocks_of l.there) (blocks_of u) = subst (λ (y : Shape). CoversEach (blocks_of y) (blocks_of u)) same (covers_all old) in
         never (can_meet u s) (both_true (nat_eq u.operands s.operands) (are_alike (blocks_of u) (blocks_of s)) (equal u.operands s.operands n) (each_alike (blocks_of l.there) (blocks_of u) (blocks_of s) covers (covers_all l))) (met u s) e
@@ -628,7 +616,7 @@ record CameAll (start : ℕ) (shapes : Shapes) (ps : List ℕ) (s : Shape) (new 
 
 came_all : (start : ℕ) (ps : List ℕ) (shapes : Shapes) (s : Shape) (new : Shapes) → AllFrom start ps → come_all shapes (map (λ p. p - start) ps) s ≡ Some new → CameAll start shapes ps s new
 came_all start [] shapes s new from e =
-    let same : shapes ≡ new = same_some shapes new e in
+    let same : shapes ≡ new = same_Some shapes new e in
     subst (λ l. CameAll start shapes [] s l) same (record { as_many = refl; grows = grows_refl start shapes; lead = tt; below = λ t b l. b })
 came_all start (p ∷ ps) shapes s new from e = by (λ mid e'. came_all start ps mid s new from.1 e') (come shapes (p - start) s) refl e
   where
@@ -734,7 +722,7 @@ module _ (code : Code) (f : Func) (shapes : Shapes) (k : ℕ) (i : Instr) (is : 
   visits new e = at (slice_get shapes k) refl
     where
       none : Some shapes ≡ Some new → Visited code f shapes new
-      none e = subst (λ l. Visited code f shapes l) (same_some shapes new e) (record { as_many = refl; grows = grows_refl f.start shapes; below = λ t table b. b })
+      none e = subst (λ l. Visited code f shapes l) (same_Some shapes new e) (record { as_many = refl; grows = grows_refl f.start shapes; below = λ t table b. b })
 
       at : (o : Option (Option Shape)) → slice_get shapes k ≡ o → Visited code f shapes new
       at None found = none (sym (ap (visited_at code f.start shapes k i) found) ∙ e)

@@ -3,7 +3,6 @@
 ghost use Rattle.std.specs.Prelude.{◌≡◌, ◌+◌, ◌-◌, ◌≤◌, true};
 ghost use Rattle.cw_code.specs.Fits as fits;
 ghost use Rattle.cw_code.specs.declared.code.Instr.TheVariants as instr;
-ghost use Rattle.cw_model.specs.declared.syntax.CallKind.TheVariants.{Spawned};
 ghost use Rattle.cw_verify.specs.Table as table;
 ghost use Rattle.cw_verify.specs.Views as views;
 ghost use Rattle.cw_verify.specs.Steps.{OrMemory};
@@ -39,7 +38,7 @@ fn less(found: Found, count: usize) -> Found
 
 // The row after a spawn took the slot of its result, if there is one.
 fn with_target(alloc: Global, row: Rc<Row>, target: Option<u32>) -> Result<Rc<Row>, Fault>
-    ensures { OrMemory result (λ r. r.value.items ≡ fits.with_target Spawned target row.value.items) }
+    ensures { OrMemory result (λ r. r.value.items ≡ views.after_spawn target row.value.items) }
 {
     match target {
         None => Ok(row),

@@ -1,9 +1,10 @@
 //! The sync blocks round a place, in the same call.
 
-ghost use Rattle.std.specs.Prelude.{◌≡◌, ◌∷◌, true};
+ghost use Rattle.std.specs.Prelude.{◌≡◌, true};
 ghost use Rattle.cw_code.specs.Fits as fits;
 ghost use Rattle.cw_verify.specs.Meetings as meetings;
 ghost use Rattle.cw_verify.specs.Table as table;
+ghost use Rattle.cw_verify.specs.Table.{rounds_of};
 ghost use Rattle.cw_verify.specs.Views as views;
 ghost use Rattle.cw_verify.specs.Steps.{OrMemory};
 
@@ -139,7 +140,7 @@ fn either_round(alloc: Global, round: &Round, more: &Round) -> Result<Round, Fau
 
 // A block and those round it.
 fn within(alloc: Global, round: Round, outer: Rc<Rounds>) -> Result<Rc<Rounds>, Fault>
-    ensures { OrMemory result (λ r. table.rounds_of r.value ≡ table.round_view round ∷ table.rounds_of outer.value) }
+    ensures { OrMemory result (λ r. table.rounds_of r.value ≡ table.rounds_in round outer.value) }
 {
     let rounds = Rc::new(alloc, Rounds::Within(round, outer))?;
     Ok(rounds)
@@ -155,7 +156,7 @@ fn share(rounds: &Rc<Rounds>) -> Result<Rc<Rounds>, Fault>
 
 // What may be empty in the blocks here or there, block by block.
 fn either_each(alloc: Global, rounds: &Rounds, more: &Rounds) -> Result<Rc<Rounds>, Fault>
-    ensures { OrMemory result (λ r. table.rounds_of r.value ≡ views.either_each rounds.now more.now) }
+    ensures { OrMemory result (λ r. rounds_of r.value ≡ views.either_each rounds.now more.now) }
 {
     match (rounds, more) {
         (Rounds::Outermost, _) => {

@@ -152,7 +152,7 @@ fn share(row: &Rc<Row>) -> Result<Rc<Row>, Fault>
 /// What may be empty in one row or the other, to be shared; whether that is more than in the first, which stays where
 /// it is not. A row that has all that was there comes in its place.
 pub fn shared_either(alloc: Global, row: Rc<Row>, more: &Rc<Row>) -> Result<(Rc<Row>, bool), Fault>
-    ensures { OrMemory result (λ r. table.IsEither row.value.items more.now.value.items r.0.value.items r.1) }
+    ensures { OrMemory result (λ r. views.MeetsRow row.value more.now.value r.0.value r.1) }
 {
     if !brings(&row, more) {
         return Ok((row, false));

@@ -3,13 +3,9 @@ use Rattle.std.proofs.Common.{◌≡◌, ◌≢◌, ◌∙◌, ℕ, zero, suc, �
 use Rattle.std.proofs.lemmas.Option.{slice_get_read}
 use Rattle.std.specs.Prelude.{map, slice_get, slice_set, position}
 use Rattle.std.specs.List.{position_or_len}
+use Rattle.std.proofs.lemmas.List.{map-set}
 use Rattle.cw_world.specs.core.Board.{newest, oldest, of_worker}
 use Rattle.cw_world.proofs.Lists.{set_same}
-
-pub map_set : {A B : Type 0} (f : A → B) (xs : List A) (k : ℕ) (y : A) → map f (slice_set xs k y) ≡ slice_set (map f xs) k (f y)
-map_set f [] k y = refl
-map_set f (x ∷ xs) zero y = refl
-map_set f (x ∷ xs) (suc k) y = ap (λ l. f x ∷ l) (map_set f xs k y)
 
 pub worker_get : {Q O : Type 0} (f : Q → List O) (qs : List Q) (w : ℕ) (q : Q) → slice_get qs w ≡ Some q → of_worker (map f qs) w ≡ f q
 worker_get f [] w q e = let never : ⊥ = cc in absurd never
@@ -23,16 +19,11 @@ worker_read f qs w q lt e = worker_get f qs w q (slice_get_read qs (length qs) w
 -- it is written
 pub worker_set : {Q O : Type 0} (f : Q → List O) (qs : List Q) (w : ℕ) (q q' : Q) (g : List O → List O) → w < length qs → q ≡ get_or qs w q → f q' ≡ g (f q)
     → map f (slice_set qs w q') ≡ slice_set (map f qs) w (g (of_worker (map f qs) w))
-worker_set f qs w q q' g lt e h = map_set f qs w q' ∙ ap (slice_set (map f qs) w) (h ∙ ap g (sym (worker_read f qs w q lt e)))
+worker_set f qs w q q' g lt e h = map-set f qs w q' ∙ ap (slice_set (map f qs) w) (h ∙ ap g (sym (worker_read f qs w q lt e)))
 
 pub worker_kept : {Q O : Type 0} (f : Q → List O) (qs : List Q) (w : ℕ) (q q' : Q) → w < length qs → q ≡ get_or qs w q → f q' ≡ f q
     → map f (slice_set qs w q') ≡ map f qs
 worker_kept f qs w q q' lt e h = worker_set f qs w q q' (λ l. l) lt e h ∙ set_same (map f qs) w
-
-pub get_set : {A : Type 0} (xs : List A) (k : ℕ) (y : A) → k < length xs → slice_get (slice_set xs k y) k ≡ Some y
-get_set [] k y lt = absurd (omega (arith, lt))
-get_set (x ∷ xs) zero y lt = refl
-get_set (x ∷ xs) (suc k) y lt = get_set xs k y (omega (arith, lt))
 
 pub map_pushed : {A B : Type 0} (f : A → B) (xs : List A) (x : A) → map f (xs ++ x ∷ []) ≡ map f xs ++ f x ∷ []
 map_pushed f [] x = refl

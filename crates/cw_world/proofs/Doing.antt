@@ -3,6 +3,9 @@ use Rattle.std.proofs.Common.{◌≡◌, ◌≢◌, ◌∙◌, ℕ, zero, suc, �
 use Rattle.std.specs.Prelude.{map, not, slice_get, slice_set, IfSome, is_some}
 use Rattle.std.specs.Option.{option_to_list, MatchOption}
 use Rattle.std.specs.Vec.{vec_len, vec_capacity}
+use Rattle.std.proofs.lemmas.Option.{same_Some}
+use Rattle.std.proofs.lemmas.List.{nil_from_length, set-set}
+use Rattle.cw_facts.specs.Lists.{each_at}
 use Rattle.cw_runnable.specs.declared.verified.Verified.{Verified}
 use Rattle.cw_jobs.specs.declared.effect.Effect.{Effect}
 use Rattle.cw_jobs.specs.declared.job.Job.{Job}
@@ -19,18 +22,10 @@ use Rattle.cw_world.specs.Posts.{Comes}
 use Rattle.cw_world.specs.Sound.{IsJobOf, IsOwn, IsOffer, IsCell, IsMade, out_number, Works, Sound}
 use Rattle.cw_world.specs.Table.{goes, newest_out, is_at_spawn, is_undecided, is_at_join, can_retake, is_same, is_settled}
 use Rattle.cw_world.specs.Events.{with_top, but_top, turned, ComesTo, IsBack, IsAtBack, IsBegun}
-use Rattle.cw_world.proofs.Lists.{named, some_is, IsSomeOf, each_newest, each_oldest, each_worker, each_at, laid_back, newest_pushed, none_from_length, within_worker, of_worker_set, set_set, set_same}
+use Rattle.cw_world.proofs.Lists.{named, IsSomeOf, each_newest, each_oldest, each_worker, laid_back, newest_pushed, within_worker, of_worker_set, set_same}
 use Rattle.cw_world.proofs.Strands.{newest_out_of, is_even, jobs_at, comes_to, comes_whole}
 use Rattle.cw_world.proofs.Sounds.{top_stage}
 use Rattle.cw_world.proofs.Turns.{scene_of}
-
-pub and_left : (a b : Bool) → (a && b) ≡ true → a ≡ true
-and_left true b e = refl
-and_left false b e = e
-
-pub and_right : (a b : Bool) → (a && b) ≡ true → b ≡ true
-and_right true b e = e
-and_right false b e = let never : ⊥ = cc in absurd never
 
 -- three parts of a scene
 pub scene_is : (jobs jobs' : List Job) (begun begun' : List (List Stage)) (board board' : Boarded) → jobs ≡ jobs' → begun ≡ begun' → board ≡ board'
@@ -85,7 +80,7 @@ back_job v s w (out.Offered n) rest h own back =
     each_newest (IsOffer s.jobs) (of_worker s.board.offers w) (record { number = n; job = rest }) (each_worker (IsOffer s.jobs) s.board.offers w h.offers) back
 
 same_of : (jobs : List Job) (n : ℕ) (a b : Job) → IsJobOf jobs n a → IsJobOf jobs n b → a ≡ b
-same_of jobs n a b ha hb = some_is a b (sym ha ∙ hb)
+same_of jobs n a b ha hb = same_Some a b (sym ha ∙ hb)
 
 -- what the strand has out, where this came back
 pub record Lacking (p : Posted) (older : List Out) (rest : Job) : Type 0 where
@@ -136,7 +131,7 @@ gives v s p older n place e h works are cell =
 
 -- the newest of a list is popped
 pub popped : {A : Type 0} (q q' : Vec A Global) (r : Option A) → q.items ≡ q'.items ++ option_to_list r → MatchOption r ((vec_len q ≡ 0) × (vec_len q' ≡ 0)) (λ _. vec_len q' + 1 ≡ vec_len q) → newest q.items ≡ r
-popped q q' None items cases = ap newest (none_from_length q.items (sym q.ok.0 ∙ cases.0))
+popped q q' None items cases = ap newest (nil_from_length q.items (sym q.ok.0 ∙ cases.0))
 popped q q' (Some x) items cases = ap newest items ∙ newest_pushed q'.items x
 
 pub popped_are : {A : Type 0} (q q' : Vec A Global) (r : Option A) (x : A) → q.items ≡ q'.items ++ option_to_list r → r ≡ Some x → q.items ≡ q'.items ++ x ∷ []
@@ -215,14 +210,14 @@ oldest_some (Some x) e none = let never : ⊥ = cc in never
 
 oldest_is : {A : Type 0} (xs : List A) (x : A) → oldest xs ≡ Some x → xs ≡ x ∷ but_oldest xs
 oldest_is [] x e = absurd (subst IsSomeOf (sym e) tt)
-oldest_is (y ∷ ys) x e = ap (λ z. z ∷ ys) (some_is y x e)
+oldest_is (y ∷ ys) x e = ap (λ z. z ∷ ys) (same_Some y x e)
 
 pub set_back : {A : Type 0} (ls : List (List A)) (v : ℕ) (o : A) → oldest (of_worker ls v) ≡ Some o
     → slice_set (slice_set ls v (but_oldest (of_worker ls v))) v (o ∷ of_worker (slice_set ls v (but_oldest (of_worker ls v))) v) ≡ ls
 set_back ls v o e =
     let some : of_worker ls v ≢ [] = λ none. absurd (subst IsSomeOf (sym e ∙ ap oldest none) tt) in
     let lt : v < length ls = within_worker ls v some in
-    set_set ls v (but_oldest (of_worker ls v)) (o ∷ of_worker (slice_set ls v (but_oldest (of_worker ls v))) v)
+    set-set ls v (but_oldest (of_worker ls v)) (o ∷ of_worker (slice_set ls v (but_oldest (of_worker ls v))) v)
     ∙ (ap (λ l. slice_set ls v (o ∷ l)) (of_worker_set ls v (but_oldest (of_worker ls v)) lt)
     ∙ (ap (slice_set ls v) (sym (oldest_is (of_worker ls v) o e)) ∙ set_same ls v))
 

@@ -1,8 +1,9 @@
 -- Each event keeps that memory was wanting nowhere, or it was wanting by it.
-use Rattle.std.proofs.Common.{◌≡◌, ◌⊎◌, ◌∙◌, ℕ, ◌-◌, ◌<◌, ℤ, Bool, true, false, List, [], ◌∷◌, ◌++◌, Option, Some, None, refl, sym, ap, subst, length, inl, inr}
+use Rattle.std.proofs.Common.{◌≡◌, ◌⊎◌, ◌∙◌, ℕ, ◌-◌, ◌<◌, ℤ, true, false, List, [], ◌∷◌, ◌++◌, Some, sym, ap, subst, length, inl, inr}
 use Rattle.std.specs.Prelude.{Result, Ok, Err}
 use Rattle.std.specs.Arc.{arc_value}
-use Rattle.cw_text.specs.declared.fault.Fault.{Fault}
+use Rattle.std.proofs.lemmas.List.{length-set}
+use Rattle.cw_facts.specs.Lists.{each_pushed, each_at}
 use Rattle.cw_text.specs.declared.fault.Fault.TheVariants as fault
 use Rattle.cw_model.specs.declared.burden.Burden.{Burden}
 use Rattle.cw_runnable.specs.declared.verified.Verified.{Verified}
@@ -17,12 +18,12 @@ use Rattle.cw_world.specs.declared.event.Refused.{Refused}
 use Rattle.cw_world.specs.declared.post.Out.{Out}
 use Rattle.cw_world.specs.declared.post.Out.TheVariants as out
 use Rattle.cw_world.specs.declared.world.World.{World}
-use Rattle.cw_world.specs.Boards.{Each, Boarded, offered, settled, collected}
+use Rattle.cw_world.specs.Boards.{Each, Boarded, offered, collected}
 use Rattle.cw_world.specs.Scenes.{Posted, Stage, Goes, Made, Answered, Scene, scene, top}
 use Rattle.cw_world.specs.Lacking.{is_memory, lacks_memory, HasEnded, LacksNone, Loses, LacksBy, KeepsMemory}
 use Rattle.cw_world.specs.Events.{with_top, but_top, turned, board_without, with_outs, Runs, Spawns, Offers, Inlines, Retakes, Steals, Settles, Collects, Does, DoesOr}
 use Rattle.cw_world.specs.Worlds.{answer_of, IsStarted, Leads, LeadsToLack}
-use Rattle.cw_world.proofs.Lists.{each_set, each_worker, each_but_newest, each_pushed, each_newest, each_oldest, each_at, of_worker_set, length_set, newest_pushed}
+use Rattle.cw_world.proofs.Lists.{each_set, each_worker, each_but_newest, each_newest, each_oldest, of_worker_set, newest_pushed}
 use Rattle.cw_world.proofs.Sounds.{each_remove}
 use Rattle.cw_world.proofs.Begins.{each_none}
 use Rattle.cw_world.proofs.Placed.{there}
@@ -53,7 +54,7 @@ laid begun w x lt = ap newest (of_worker_set begun w (of_worker begun w ++ x ∷
 
 turned_top : (s : Scene) (w : ℕ) (x y : Stage) (board : Boarded) → top s w ≡ Some y → top (turned s w x board) w ≡ Some x
 turned_top s w x y board at =
-    laid (but_top s.begun w) w x (subst (λ n. w < n) (sym (length_set s.begun w (but_newest (of_worker s.begun w)))) (there s.begun w y at))
+    laid (but_top s.begun w) w x (subst (λ n. w < n) (sym (length-set s.begun w (but_newest (of_worker s.begun w)))) (there s.begun w y at))
 
 abbrev loses : (s s' : Scene) (w : ℕ) (p : Posted) (x : Stage) (board : Boarded) → top s w ≡ Some (Goes p) → s' ≡ turned s w x board → lacks_memory x ≡ true → Loses s s' w
 loses s s' w p x board at is l = record {

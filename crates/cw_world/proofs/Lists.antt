@@ -1,9 +1,10 @@
 -- Lists whose newest stands at the back, and lists of them by worker.
 use Rattle.std.proofs.Common.{◌≡◌, ◌≢◌, ◌∙◌, ℕ, zero, suc, ◌<◌, List, [], ◌∷◌, ◌++◌, Option, Some, None, refl, sym, ap, subst, length, reverse, arith, Vec, Global, ◌==◌, true, false}
-use Rattle.std.proofs.lemmas.Bool.Decides.{nat_tests}
-use Rattle.std.proofs.lemmas.List.{reverse-append, length-reverse}
-use Rattle.std.specs.Prelude.{map, slice_get, slice_set}
+use Rattle.std.proofs.lemmas.List.{length-reverse, nil_from_length, set-set}
+use Rattle.std.specs.Prelude.{map, slice_set}
 use Rattle.std.specs.Vec.{vec_len}
+use Rattle.std.proofs.lemmas.Option.{same_Some}
+use Rattle.cw_facts.specs.Tests.{eq_of, equal}
 use Rattle.cw_world.specs.Boards.{Each}
 use Rattle.cw_world.specs.core.Board.{pushed, newest, but_newest, oldest, but_oldest, of_worker}
 
@@ -33,9 +34,6 @@ abbrev pub un : {A : Type 0} → A → Option A → A
 un d None = d
 un d (Some x) = x
 
-pub some_is : {A : Type 0} (x y : A) → Some x ≡ Some y → x ≡ y
-some_is x y e = ap (un x) e
-
 abbrev pub IsSomeOf : {A : Type 0} → Option A → Type 0
 IsSomeOf None = ⊥
 IsSomeOf (Some x) = Unit {0}
@@ -43,7 +41,7 @@ IsSomeOf (Some x) = Unit {0}
 -- what stands at the back, and what stands before it
 pub newest_is : {A : Type 0} (xs : List A) (x : A) → newest xs ≡ Some x → xs ≡ but_newest xs ++ x ∷ []
 newest_is [] x e = absurd (subst IsSomeOf (sym e) tt)
-newest_is (y ∷ []) x e = ap (λ z. z ∷ []) (some_is y x e)
+newest_is (y ∷ []) x e = ap (λ z. z ∷ []) (same_Some y x e)
 newest_is (y ∷ (z ∷ zs)) x e = ap (λ l. y ∷ l) (newest_is (z ∷ zs) x e)
 
 pub of_worker_set : {A : Type 0} (ls : List (List A)) (w : ℕ) (l : List A) → w < length ls → of_worker (slice_set ls w l) w ≡ l
@@ -57,20 +55,10 @@ within_worker [] w h = absurd (h refl)
 within_worker (x ∷ ls) zero h = omega arith
 within_worker (x ∷ ls) (suc w) h = let r : w < length ls = within_worker ls w h in omega arith
 
-pub set_set : {A : Type 0} (xs : List A) (i : ℕ) (x y : A) → slice_set (slice_set xs i x) i y ≡ slice_set xs i y
-set_set [] i x y = refl
-set_set (z ∷ xs) zero x y = refl
-set_set (z ∷ xs) (suc i) x y = ap (λ l. z ∷ l) (set_set xs i x y)
-
 pub set_same : {A : Type 0} (ls : List (List A)) (w : ℕ) → slice_set ls w (of_worker ls w) ≡ ls
 set_same [] w = refl
 set_same (x ∷ ls) zero = refl
 set_same (x ∷ ls) (suc w) = ap (λ l. x ∷ l) (set_same ls w)
-
-pub length_set : {A : Type 0} (xs : List A) (i : ℕ) (x : A) → length (slice_set xs i x) ≡ length xs
-length_set [] i x = refl
-length_set (z ∷ xs) zero x = refl
-length_set (z ∷ xs) (suc i) x = ap (λ n. suc n) (length_set xs i x)
 
 -- a worker's newest taken and laid back
 pub laid_back : {A : Type 0} (ls : List (List A)) (w : ℕ) (x : A) → newest (of_worker ls w) ≡ Some x
@@ -78,18 +66,13 @@ pub laid_back : {A : Type 0} (ls : List (List A)) (w : ℕ) (x : A) → newest (
 laid_back ls w x e =
     let some : of_worker ls w ≢ [] = λ n. absurd (subst IsSomeOf (sym e ∙ ap newest n) tt) in
     let h : w < length ls = within_worker ls w some in
-    set_set ls w (but_newest (of_worker ls w)) (pushed (of_worker (slice_set ls w (but_newest (of_worker ls w))) w) x)
+    set-set ls w (but_newest (of_worker ls w)) (pushed (of_worker (slice_set ls w (but_newest (of_worker ls w))) w) x)
     ∙ (ap (λ l. slice_set ls w (pushed l x)) (of_worker_set ls w (but_newest (of_worker ls w)) h)
     ∙ (ap (λ l. slice_set ls w l) (sym (newest_is (of_worker ls w) x e)) ∙ set_same ls w))
 
 pub each_weaken : {A : Type 0} (P Q : A → Type 0) (xs : List A) → ((x : A) → P x → Q x) → Each P xs → Each Q xs
 each_weaken P Q [] f h = tt
 each_weaken P Q (x ∷ xs) f h = (f x h.0, each_weaken P Q xs f h.1)
-
-pub each_at : {A : Type 0} (P : A → Type 0) (xs : List A) (i : ℕ) (x : A) → Each P xs → slice_get xs i ≡ Some x → P x
-each_at P [] i x h e = absurd (subst IsSomeOf (sym e) tt)
-each_at P (y ∷ ys) zero x h e = subst P (some_is y x e) h.0
-each_at P (y ∷ ys) (suc i) x h e = each_at P ys i x h.1 e
 
 pub each_worker : {A : Type 0} (P : A → Type 0) (ls : List (List A)) (w : ℕ) → Each (Each P) ls → Each P (of_worker ls w)
 each_worker P [] w h = tt
@@ -101,10 +84,6 @@ each_set P [] i x h p = tt
 each_set P (y ∷ ys) zero x h p = (p, h.1)
 each_set P (y ∷ ys) (suc i) x h p = (h.0, each_set P ys i x h.1 p)
 
-pub each_pushed : {A : Type 0} (P : A → Type 0) (xs : List A) (x : A) → Each P xs → P x → Each P (xs ++ x ∷ [])
-each_pushed P [] x h p = (p, tt)
-each_pushed P (y ∷ ys) x h p = (h.0, each_pushed P ys x h.1 p)
-
 pub each_but_newest : {A : Type 0} (P : A → Type 0) (xs : List A) → Each P xs → Each P (but_newest xs)
 each_but_newest P [] h = tt
 each_but_newest P (y ∷ []) h = tt
@@ -112,7 +91,7 @@ each_but_newest P (y ∷ (z ∷ zs)) h = (h.0, each_but_newest P (z ∷ zs) h.1)
 
 pub each_newest : {A : Type 0} (P : A → Type 0) (xs : List A) (x : A) → Each P xs → newest xs ≡ Some x → P x
 each_newest P [] x h e = absurd (subst IsSomeOf (sym e) tt)
-each_newest P (y ∷ []) x h e = subst P (some_is y x e) h.0
+each_newest P (y ∷ []) x h e = subst P (same_Some y x e) h.0
 each_newest P (y ∷ (z ∷ zs)) x h e = each_newest P (z ∷ zs) x h.1 e
 
 pub each_but_oldest : {A : Type 0} (P : A → Type 0) (xs : List A) → Each P xs → Each P (but_oldest xs)
@@ -121,22 +100,7 @@ each_but_oldest P (y ∷ ys) h = h.1
 
 pub each_oldest : {A : Type 0} (P : A → Type 0) (xs : List A) (x : A) → Each P xs → oldest xs ≡ Some x → P x
 each_oldest P [] x h e = absurd (subst IsSomeOf (sym e) tt)
-each_oldest P (y ∷ ys) x h e = subst P (some_is y x e) h.0
-
--- what a longer list has
-pub get_pushed : {A : Type 0} (xs : List A) (y : A) (n : ℕ) (x : A) → slice_get xs n ≡ Some x → slice_get (xs ++ y ∷ []) n ≡ Some x
-get_pushed [] y n x e = absurd (subst IsSomeOf (sym e) tt)
-get_pushed (z ∷ zs) y zero x e = e
-get_pushed (z ∷ zs) y (suc n) x e = get_pushed zs y n x e
-
-pub get_last : {A : Type 0} (xs : List A) (y : A) → slice_get (xs ++ y ∷ []) (length xs) ≡ Some y
-get_last [] y = refl
-get_last (z ∷ zs) y = get_last zs y
-
-pub get_within : {A : Type 0} (xs : List A) (n : ℕ) (x : A) → slice_get xs n ≡ Some x → n < length xs
-get_within [] n x e = absurd (subst IsSomeOf (sym e) tt)
-get_within (z ∷ zs) zero x e = omega arith
-get_within (z ∷ zs) (suc n) x e = let r : n < length zs = get_within zs n x e in omega arith
+each_oldest P (y ∷ ys) x h e = subst P (same_Some y x e) h.0
 
 abbrev pub named : {A : Type 0} → List A → List (Option A)
 named js = map (λ j. Some j) js
@@ -161,21 +125,8 @@ as_many f (o ∷ os) (j ∷ js) e = ap (λ n. suc n) (as_many f os js (ap tail_o
 pub length_reverse : {A : Type 0} (xs : List A) → length (reverse xs) ≡ length xs
 length_reverse xs = length-reverse xs
 
-pub reverse_pushed : {A : Type 0} (xs : List A) (x : A) → reverse (xs ++ x ∷ []) ≡ x ∷ reverse xs
-reverse_pushed xs x = reverse-append xs (x ∷ [])
-
-pub none_from_length : {A : Type 0} (xs : List A) → length xs ≡ 0 → xs ≡ []
-none_from_length [] h = refl
-none_from_length (x ∷ xs) h = absurd (omega arith)
-
-zero_of : (n : ℕ) → (n == 0) ≡ true → n ≡ 0
-zero_of n h = grind (arith, nat_tests)
-
-zero_is : (n : ℕ) → n ≡ 0 → (n == 0) ≡ true
-zero_is n h = grind (arith, nat_tests)
-
 pub empty_from : {A : Type 0} (v : Vec A Global) → (vec_len v == 0) ≡ true → v.items ≡ []
-empty_from v e = none_from_length v.items (sym v.ok.0 ∙ zero_of (vec_len v) e)
+empty_from v e = nil_from_length v.items (sym v.ok.0 ∙ eq_of (vec_len v) 0 e)
 
 pub some_from : {A : Type 0} (v : Vec A Global) → (vec_len v == 0) ≡ false → v.items ≢ []
-some_from v e none = let bad : true ≡ false = sym (zero_is (vec_len v) (v.ok.0 ∙ ap length none)) ∙ e in let never : ⊥ = cc in never
+some_from v e none = let bad : true ≡ false = sym (equal (vec_len v) 0 (v.ok.0 ∙ ap length none)) ∙ e in let never : ⊥ = cc in never

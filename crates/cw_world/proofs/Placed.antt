@@ -2,6 +2,8 @@
 use Rattle.std.proofs.Common.{◌≡◌, ◌⊎◌, ◌∙◌, ℕ, zero, suc, ◌+◌, ◌<◌, ◌≤◌, Bool, true, false, List, [], ◌∷◌, ◌++◌, Option, Some, None, refl, sym, ap, subst, length, inl, inr, arith}
 use Rattle.std.specs.Prelude.{slice_get, slice_set, nat_eq, take, drop}
 use Rattle.std.specs.List.{remove}
+use Rattle.std.proofs.lemmas.Option.{same_Some}
+use Rattle.std.proofs.lemmas.List.{length_push, length-set}
 use Rattle.cw_runnable.specs.declared.verified.Verified.{Verified}
 use Rattle.cw_world.specs.core.Board.{newest, but_newest, oldest, but_oldest, of_worker}
 use Rattle.cw_world.specs.declared.board.Offer.{Offer}
@@ -16,7 +18,7 @@ use Rattle.cw_world.specs.Boards.{Boarded, back_number, newest_number}
 use Rattle.cw_world.specs.Scenes.{Posted, Stage, Goes, Made, Answered, Scene, top}
 use Rattle.cw_world.specs.Places.{once, sum_of, sum_over, out_at, out_of, held_at, held_by, run_by, offered_at, settled_at, OnePlace, IsRootStage, RootIsFirst}
 use Rattle.cw_world.specs.Events.{with_top, but_top, turned, board_without, with_outs, IsAtBack, GoesOn, Runs, Spawns, Offers, Inlines, Retakes, Steals, Settles, Collects, Does}
-use Rattle.cw_world.proofs.Lists.{some_is, IsSomeOf, within_worker, of_worker_set, length_set}
+use Rattle.cw_world.proofs.Lists.{IsSomeOf, within_worker, of_worker_set}
 use Rattle.cw_world.proofs.Boards.{found}
 
 pub there : {A : Type 0} (ls : List (List A)) (w : ℕ) (x : A) → newest (of_worker ls w) ≡ Some x → w < length ls
@@ -28,10 +30,6 @@ first_there ls w x e = within_worker ls w (λ none. absurd (subst IsSomeOf (sym 
 same_number : (x : Cell) (m : ℕ) → nat_eq x.number m ≡ true → x.number ≡ m
 same_number x m e = grind (arith, e)
 
-length_pushed : {A : Type 0} (xs : List A) (x : A) → length (xs ++ x ∷ []) ≡ length xs + 1
-length_pushed [] x = refl
-length_pushed (y ∷ ys) x = let r : length (ys ++ x ∷ []) ≡ length ys + 1 = length_pushed ys x in omega (arith, r)
-
 module _ {A : Type 0} (f : A → ℕ) where
   sum_pushed : (xs : List A) (x : A) → sum_of f (xs ++ x ∷ []) ≡ sum_of f xs + f x
   sum_pushed [] x = omega arith
@@ -39,12 +37,12 @@ module _ {A : Type 0} (f : A → ℕ) where
 
   sum_newest : (xs : List A) (x : A) → newest xs ≡ Some x → sum_of f xs ≡ sum_of f (but_newest xs) + f x
   sum_newest [] x e = absurd (subst IsSomeOf (sym e) tt)
-  sum_newest (y ∷ []) x e = let r : f y ≡ f x = ap f (some_is y x e) in omega (arith, r)
+  sum_newest (y ∷ []) x e = let r : f y ≡ f x = ap f (same_Some y x e) in omega (arith, r)
   sum_newest (y ∷ (z ∷ zs)) x e = let r : sum_of f (z ∷ zs) ≡ sum_of f (but_newest (z ∷ zs)) + f x = sum_newest (z ∷ zs) x e in omega (arith, r)
 
   sum_oldest : (xs : List A) (x : A) → oldest xs ≡ Some x → sum_of f xs ≡ sum_of f (but_oldest xs) + f x
   sum_oldest [] x e = absurd (subst IsSomeOf (sym e) tt)
-  sum_oldest (y ∷ ys) x e = let r : f y ≡ f x = ap f (some_is y x e) in omega (arith, r)
+  sum_oldest (y ∷ ys) x e = let r : f y ≡ f x = ap f (same_Some y x e) in omega (arith, r)
 
   sum_append : (xs ys : List A) → sum_of f (xs ++ ys) ≡ sum_of f xs + sum_of f ys
   sum_append [] ys = omega arith
@@ -52,7 +50,7 @@ module _ {A : Type 0} (f : A → ℕ) where
 
   sum_cut : (xs : List A) (i : ℕ) (x : A) → slice_get xs i ≡ Some x → sum_of f xs ≡ sum_of f (take i xs) + (f x + sum_of f (drop (suc i) xs))
   sum_cut [] i x e = absurd (subst IsSomeOf (sym e) tt)
-  sum_cut (y ∷ ys) zero x e = let r : f y ≡ f x = ap f (some_is y x e) in omega (arith, r)
+  sum_cut (y ∷ ys) zero x e = let r : f y ≡ f x = ap f (same_Some y x e) in omega (arith, r)
   sum_cut (y ∷ ys) (suc i) x e = let r : sum_of f ys ≡ sum_of f (take i ys) + (f x + sum_of f (drop (suc i) ys)) = sum_cut ys i x e in omega (arith, r)
 
   sum_remove : (xs : List A) (i : ℕ) (x : A) → slice_get xs i ≡ Some x → sum_of f xs ≡ sum_of f (remove xs i) + f x
@@ -91,7 +89,7 @@ module _ {A : Type 0} (f : A → ℕ) where
       → sum_over f (slice_set (slice_set ls w (but_newest (of_worker ls w))) w (of_worker (slice_set ls w (but_newest (of_worker ls w))) w ++ y ∷ [])) + f x ≡ sum_over f ls + f y
   over_turn ls w x y e =
       let less : List (List A) = slice_set ls w (but_newest (of_worker ls w)) in
-      let lt : w < length less = subst (λ n. w < n) (sym (length_set ls w (but_newest (of_worker ls w)))) (there ls w x e) in
+      let lt : w < length less = subst (λ n. w < n) (sym (length-set ls w (but_newest (of_worker ls w)))) (there ls w x e) in
       let a : sum_over f (slice_set less w (of_worker less w ++ y ∷ [])) ≡ sum_over f less + f y = over_more less w y lt in
       let b : sum_over f less + f x ≡ sum_over f ls = over_less ls w x e in
       omega (arith, a, b)
@@ -171,8 +169,8 @@ spawn_placed v s s' w o d =
         | inr z ↦ let z0 = z.0 in omega (arith, out_is n, z.1, o.later n (omega (arith, z0)))
       ];
       later = λ n lt. elim (once_cases n k) [
-        | inl z ↦ let long : length (s.jobs ++ d.job ∷ []) ≡ length s.jobs + 1 = length_pushed s.jobs d.job in omega (arith, out_is n, z, o.later n (omega (arith, lt, long)))
-        | inr z ↦ let long : length (s.jobs ++ d.job ∷ []) ≡ length s.jobs + 1 = length_pushed s.jobs d.job in let z0 = z.0 in absurd (omega (arith, lt, long, z0))
+        | inl z ↦ let long : length (s.jobs ++ d.job ∷ []) ≡ length s.jobs + 1 = length_push s.jobs d.job in omega (arith, out_is n, z, o.later n (omega (arith, lt, long)))
+        | inr z ↦ let long : length (s.jobs ++ d.job ∷ []) ≡ length s.jobs + 1 = length_push s.jobs d.job in let z0 = z.0 in absurd (omega (arith, lt, long, z0))
       ];
     })
 
@@ -230,7 +228,7 @@ number_at b w m e = by_newest (newest (of_worker b.offers w)) refl e
   where
     by_newest : (r : Option Offer) → newest (of_worker b.offers w) ≡ r → back_number r ≡ Some m → (x : Offer) × (newest (of_worker b.offers w) ≡ Some x) × (x.number ≡ m)
     by_newest None is e = let never : ⊥ = cc in absurd never
-    by_newest (Some x) is e = (x, is, some_is x.number m e)
+    by_newest (Some x) is e = (x, is, same_Some x.number m e)
 
 retake_evens : (s : Scene) (w : ℕ) (p : Posted) (older : List Out) (o : Out) → p.outs ≡ older ++ o ∷ [] → IsAtBack s.board w o → Evens p older s.board (board_without s.board w o)
 retake_evens s w p older (out.Undecided m j) are back =
@@ -359,7 +357,7 @@ turned_root s zero p os x h at g =
     let l : List Stage = of_worker s.begun 0 in
     let lt = there s.begun 0 (Goes p) at in
     let but : List (List Stage) = but_top s.begun 0 in
-    let lt' : 0 < length but = subst (λ n. 0 < n) (sym (length_set s.begun 0 (but_newest l))) lt in
+    let lt' : 0 < length but = subst (λ n. 0 < n) (sym (length-set s.begun 0 (but_newest l))) lt in
     let a : of_worker but 0 ≡ but_newest l = of_worker_set s.begun 0 (but_newest l) lt in
     let b : of_worker (with_top but 0 x) 0 ≡ of_worker but 0 ++ x ∷ [] = of_worker_set but 0 (of_worker but 0 ++ x ∷ []) lt' in
     let is : oldest (of_worker (with_top but 0 x) 0) ≡ oldest (but_newest l ++ x ∷ []) = ap oldest (b ∙ ap (λ (k : List Stage). k ++ x ∷ []) a) in

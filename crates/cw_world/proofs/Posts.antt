@@ -2,6 +2,7 @@
 use Rattle.std.proofs.Common.{◌≡◌, ◌≢◌, ◌∙◌, ℕ, ◌+◌, ◌≤◌, ◌<◌, nat_lt, arith, Bool, true, false, List, [], ◌∷◌, ◌++◌, Option, Some, None, refl, sym, ap, subst, length, inl, inr}
 use Rattle.std.specs.Prelude.{Ok}
 use Rattle.std.proofs.lemmas.Bool.Decides.{nat_tests}
+use Rattle.std.proofs.lemmas.List.{nil_from_length}
 use Rattle.cw_jobs.specs.declared.effect.Effect.{Effect}
 use Rattle.cw_jobs.specs.declared.effect.Effect.TheVariants as effect
 use Rattle.cw_jobs.specs.declared.job.Job.{Job}
@@ -16,7 +17,6 @@ use Rattle.cw_world.specs.declared.post.Out.{Out}
 use Rattle.cw_world.specs.declared.post.Out.TheVariants as out
 use Rattle.cw_world.specs.Scenes.{Posted}
 use Rattle.cw_world.specs.Posts.{StandsRight, Comes, Steps, HasDone, HasDoneWith, DoesOneMore}
-use Rattle.cw_world.proofs.Lists.{none_from_length}
 
 true_false : true ≡ false → ⊥
 true_false e = cc
@@ -26,7 +26,7 @@ pub stands_paused : (p : Posted) → (p.at_join ≡ true → IsAtSync p.strand) 
 stands_paused p paused goes some even = (
   (λ j. (paused j, some)),
   goes,
-  λ none. absurd (some (none_from_length p.outs (even ∙ ap length none))),
+  λ none. absurd (some (nil_from_length p.outs (even ∙ ap length none))),
 )
 
 -- nor is one set where it goes on
@@ -45,16 +45,16 @@ pub some_not_none : {A : Type 0} (x : A) (xs : List A) → x ∷ xs ≡ [] → �
 some_not_none x xs e = cc
 
 pub none_out : (os : List Out) (js : List Job) → length os ≡ length js → js ≡ [] → os ≡ []
-none_out os js even none = none_from_length os (even ∙ ap length none)
+none_out os js even none = nil_from_length os (even ∙ ap length none)
 
 pub some_out : (os : List Out) (js : List Job) → length os ≡ length js → js ≢ [] → os ≢ []
-some_out os js even some none = some (none_from_length js (sym even ∙ ap length none))
+some_out os js even some none = some (nil_from_length js (sym even ∙ ap length none))
 
 -- with nothing out it ends, or goes on
 pub ends : (r : Option Effect) (old new : Posted) → new.number ≡ old.number → new.outs ≡ old.outs → its_job new.strand ≡ its_job old.strand → old.outs ≡ [] → new.at_join ≡ false
     → length old.outs ≡ length (outs old.strand) → EndsBy r old.strand new.strand → Comes r old new (outs old.strand)
 ends None old new n os of none flag even e =
-    let bare : outs old.strand ≡ [] = none_from_length (outs old.strand) (sym even ∙ ap length none) in
+    let bare : outs old.strand ≡ [] = nil_from_length (outs old.strand) (sym even ∙ ap length none) in
     record { numbered = n; of = of; running = e.0; outs_are = os; left_are = e.1; stands = stands_none new flag (e.3 (e.1 ∙ bare)) }
 ends (Some x) old new n os of none flag even e = (n, e.0, none)
 

@@ -2,6 +2,9 @@
 use Rattle.std.proofs.Common.{◌≡◌, ◌∙◌, ℕ, zero, suc, List, [], ◌∷◌, ◌++◌, Some, refl, sym, ap, subst, length, reverse, inl, inr}
 use Rattle.std.specs.Prelude.{slice_get, slice_set, take, drop}
 use Rattle.std.specs.List.{remove}
+use Rattle.std.proofs.lemmas.Option.{same_Some}
+use Rattle.std.proofs.lemmas.List.{length-set}
+use Rattle.cw_facts.specs.Lists.{each_pushed, get_before}
 use Rattle.cw_runnable.specs.declared.verified.Verified.{Verified}
 use Rattle.cw_jobs.specs.declared.effect.Effect.{Effect}
 use Rattle.cw_jobs.specs.declared.job.Job.{Job}
@@ -16,7 +19,7 @@ use Rattle.cw_world.specs.Boards.{Each, Boarded}
 use Rattle.cw_world.specs.Scenes.{Posted, Stage, Goes, Made, Answered, Scene, top}
 use Rattle.cw_world.specs.Sound.{IsJobOf, IsOwn, IsOffer, IsCell, out_number, Works, IsMade, IsStage, HasRoot, Sound, KeepsRuns}
 use Rattle.cw_world.specs.Events.{with_top, but_top, turned, board_without, Runs, Spawns, Offers, Inlines, Retakes, Steals, Settles, Collects, Does}
-use Rattle.cw_world.proofs.Lists.{each_weaken, each_set, each_worker, each_but_newest, each_pushed, each_newest, each_but_oldest, get_pushed, some_is, same_names, length_set}
+use Rattle.cw_world.proofs.Lists.{each_weaken, each_set, each_worker, each_but_newest, each_newest, each_but_oldest, same_names}
 use Rattle.cw_world.proofs.Strands.{newest_out_of, works_other}
 
 -- all that workers have begun
@@ -37,10 +40,10 @@ pub top_stage : (v : Verified) (s : Scene) (w : ℕ) (x : Stage) → Sound v s �
 top_stage v s w x h e = each_newest (IsStage v s.jobs) (of_worker s.begun w) x (each_worker (IsStage v s.jobs) s.begun w h.begun) e
 
 less_long : (begun : List (List Stage)) (w : ℕ) → length (but_top begun w) ≡ length begun
-less_long begun w = length_set begun w (but_newest (of_worker begun w))
+less_long begun w = length-set begun w (but_newest (of_worker begun w))
 
 more_long : (begun : List (List Stage)) (w : ℕ) (x : Stage) → length (with_top begun w x) ≡ length begun
-more_long begun w x = length_set begun w (pushed (of_worker begun w) x)
+more_long begun w x = length-set begun w (pushed (of_worker begun w) x)
 
 -- a board that is right beside the same jobs
 pub record IsBoard (jobs : List Job) (old new : Boarded) : Type 0 where
@@ -64,7 +67,7 @@ turned_sound v s w x board h right b =
 -- with one more job each thing is as right as before
 module _ (jobs : List Job) (job : Job) where
   pub kept_job : (n : ℕ) (j : Job) → IsJobOf jobs n j → IsJobOf (jobs ++ job ∷ []) n j
-  kept_job n j e = get_pushed jobs job n j e
+  kept_job n j e = get_before jobs job n j e
 
   pub kept_own : (o : Out) → IsOwn jobs o → IsOwn (jobs ++ job ∷ []) o
   kept_own (out.Undecided n j) h = kept_job n j h
@@ -89,7 +92,7 @@ module _ (jobs : List Job) (job : Job) where
   kept_stage v r (Made n e) h = kept_made n e h
   kept_stage v r (Answered a) h =
       λ args n burden root is_named is.
-      let same : r.root ≡ root = some_is r.root root (sym (kept_job 0 r.root r.named) ∙ is_named) in
+      let same : r.root ≡ root = same_Some r.root root (sym (kept_job 0 r.root r.named) ∙ is_named) in
       h args n burden root (r.named ∙ ap (λ j. Some j) same) is
 
   kept_root : (v : Verified) → HasRoot v jobs → HasRoot v (jobs ++ job ∷ [])
@@ -121,7 +124,7 @@ retaken_board v s w (out.Offered n) h =
     record {
       offers = fewer_offers s.jobs s.board w _ h.offers (each_but_newest (IsOffer s.jobs) (of_worker s.board.offers w) (each_worker (IsOffer s.jobs) s.board.offers w h.offers));
       cells = h.cells;
-      many = length_set s.board.offers w _;
+      many = length-set s.board.offers w _;
     }
 
 each_append : {A : Type 0} (P : A → Type 0) (xs ys : List A) → Each P xs → Each P ys → Each P (xs ++ ys)
@@ -167,7 +170,7 @@ offer_sound v s s' w h d =
     let b : IsBoard s.jobs s.board (record { offers = slice_set s.board.offers w (of_worker s.board.offers w ++ o ∷ []); cells = s.board.cells }) = record {
       offers = fewer_offers s.jobs s.board w _ h.offers (each_pushed (IsOffer s.jobs) (of_worker s.board.offers w) o (each_worker (IsOffer s.jobs) s.board.offers w h.offers) n.this);
       cells = h.cells;
-      many = length_set s.board.offers w _;
+      many = length-set s.board.offers w _;
     } in
     subst (λ (t : Scene). Sound v t) (sym d.is)
     (turned_sound v s w (Goes (record { number = p.number; strand = p.strand; at_join = p.at_join; outs = d.at.older ++ out.Offered d.number ∷ [] })) _ h
@@ -184,7 +187,7 @@ steal_sound v s s' w victim h d =
       offers = fewer_offers s.jobs s.board victim _ h.offers
           (each_but_oldest (IsOffer s.jobs) (of_worker s.board.offers victim) (each_worker (IsOffer s.jobs) s.board.offers victim h.offers));
       cells = h.cells;
-      workers = length_set s.board.offers victim _ ∙ (h.workers ∙ sym (more_long s.begun w d.stage));
+      workers = length-set s.board.offers victim _ ∙ (h.workers ∙ sym (more_long s.begun w d.stage));
     })
 
 pub settle_sound : (v : Verified) (s s' : Scene) (w : ℕ) → Sound v s → Settles s s' w → Sound v s'
@@ -220,7 +223,7 @@ same_jobs old new e = λ root h. ap (λ l. slice_get l 0) e ∙ h
 -- the jobs of the world after an event
 pub does_jobs : (v : Verified) (s s' : Scene) (e : Event) → Does v e s s' → KeepsRuns s.jobs s'.jobs
 does_jobs v s s' (event.Run w) (inl d) = same_jobs s.jobs s'.jobs (ap (λ (t : Scene). t.jobs) d.is)
-does_jobs v s s' (event.Run w) (inr d) = λ root h. ap (λ (t : Scene). slice_get t.jobs 0) d.is ∙ get_pushed s.jobs d.job 0 root h
+does_jobs v s s' (event.Run w) (inr d) = λ root h. ap (λ (t : Scene). slice_get t.jobs 0) d.is ∙ get_before s.jobs d.job 0 root h
 does_jobs v s s' (event.Offer w) d = same_jobs s.jobs s'.jobs (ap (λ (t : Scene). t.jobs) d.is)
 does_jobs v s s' (event.Inline w) d = same_jobs s.jobs s'.jobs (ap (λ (t : Scene). t.jobs) d.is)
 does_jobs v s s' (event.Retake w) d = same_jobs s.jobs s'.jobs (ap (λ (t : Scene). t.jobs) d.is)

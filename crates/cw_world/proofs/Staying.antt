@@ -2,6 +2,7 @@
 use Rattle.std.proofs.Common.{◌≡◌, ◌∙◌, ℕ, zero, suc, ◌<◌, List, [], ◌∷◌, ◌++◌, Option, Some, sym, ap, subst, length, inl, inr}
 use Rattle.std.specs.Prelude.{Result, Ok, Err}
 use Rattle.std.specs.Arc.{arc_value}
+use Rattle.std.proofs.lemmas.List.{length-set}
 use Rattle.cw_text.specs.declared.fault.Fault.{Fault}
 use Rattle.cw_runnable.specs.declared.verified.Verified.{Verified}
 use Rattle.cw_jobs.specs.declared.effect.Effect.{Effect}
@@ -15,7 +16,7 @@ use Rattle.cw_world.specs.declared.world.World.{World}
 use Rattle.cw_world.specs.Scenes.{Posted, Stage, Goes, Made, Answered, Scene, scene, top}
 use Rattle.cw_world.specs.Events.{with_top, but_top, with_outs, Does, DoesOr}
 use Rattle.cw_world.specs.Worlds.{answer_in, KeepsAnswer}
-use Rattle.cw_world.proofs.Lists.{of_worker_set, length_set}
+use Rattle.cw_world.proofs.Lists.{of_worker_set}
 use Rattle.cw_world.proofs.Placed.{there, first_turned, first_less, other_zero}
 use Rattle.cw_world.proofs.Ends.{answer_is}
 
@@ -34,7 +35,7 @@ turned_stays s zero p x a h at =
     let l : List Stage = of_worker s.begun 0 in
     let lt = there s.begun 0 (Goes p) at in
     let but : List (List Stage) = but_top s.begun 0 in
-    let lt' : 0 < length but = subst (λ n. 0 < n) (sym (length_set s.begun 0 (but_newest l))) lt in
+    let lt' : 0 < length but = subst (λ n. 0 < n) (sym (length-set s.begun 0 (but_newest l))) lt in
     let b : of_worker but 0 ≡ but_newest l = of_worker_set s.begun 0 (but_newest l) lt in
     let c : of_worker (with_top but 0 x) 0 ≡ of_worker but 0 ++ x ∷ [] = of_worker_set but 0 (of_worker but 0 ++ x ∷ []) lt' in
     let is : oldest (of_worker (with_top but 0 x) 0) ≡ oldest (but_newest l ++ x ∷ []) = ap oldest (c ∙ ap (λ (k : List Stage). k ++ x ∷ []) b) in

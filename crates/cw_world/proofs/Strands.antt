@@ -1,6 +1,8 @@
 -- What a strand comes to is right for its jobs.
 use Rattle.std.proofs.Common.{◌≡◌, ◌≢◌, ◌∙◌, ℕ, List, [], ◌∷◌, ◌++◌, Option, Some, None, refl, sym, ap, subst, length, reverse}
 use Rattle.std.specs.Prelude.{map, slice_get, IfSome}
+use Rattle.std.proofs.lemmas.Option.{same_Some}
+use Rattle.cw_facts.specs.Lists.{reverse_pushed, each_init, each_pushed}
 use Rattle.cw_runnable.specs.declared.verified.Verified.{Verified}
 use Rattle.cw_jobs.specs.declared.effect.Effect.{Effect}
 use Rattle.cw_jobs.specs.declared.job.Job.{Job}
@@ -15,14 +17,14 @@ use Rattle.cw_world.specs.Scenes.{Posted, Stage, Goes, Made, Answered}
 use Rattle.cw_world.specs.Posts.{Stays, Comes}
 use Rattle.cw_world.specs.Sound.{IsJobOf, IsOwn, out_number, Works, IsMade, HasRoot}
 use Rattle.cw_world.specs.Events.{ComesTo, IsBegun}
-use Rattle.cw_world.proofs.Lists.{named, head_or, tail_of, IsCons, some_is, IsSomeOf, each_pushed, reverse_pushed, as_many, length_reverse, newest_pushed}
+use Rattle.cw_world.proofs.Lists.{named, head_or, tail_of, IsCons, IsSomeOf, as_many, length_reverse, newest_pushed}
 
 -- the jobs of numbers
 abbrev pub jobs_at : List Job → List Out → List (Option Job)
 jobs_at jobs os = map (λ o. slice_get jobs (out_number o)) (reverse os)
 
 pub same_job : (jobs : List Job) (n m : ℕ) (a b : Job) → n ≡ m → IsJobOf jobs n a → IsJobOf jobs m b → a ≡ b
-same_job jobs n m a b e ha hb = some_is a b (sym ha ∙ (ap (slice_get jobs) e ∙ hb))
+same_job jobs n m a b e ha hb = same_Some a b (sym ha ∙ (ap (slice_get jobs) e ∙ hb))
 
 -- the newest job out of a strand, and the others
 pub record Newest (jobs : List Job) (p : Posted) (older : List Out) (o : Out) : Type 0 where
@@ -33,10 +35,6 @@ pub record Newest (jobs : List Job) (p : Posted) (older : List Out) (o : Out) : 
   pub older_are : jobs_at jobs older ≡ named others
   pub own : Each (IsOwn jobs) older
   pub this : IsOwn jobs o
-
-each_init : {A : Type 0} (P : A → Type 0) (xs : List A) (x : A) → Each P (xs ++ x ∷ []) → Each P xs × P x
-each_init P [] x h = (tt, h.0)
-each_init P (y ∷ ys) x h = let r = each_init P ys x h.1 in ((h.0, r.0), r.1)
 
 newest_of : (jobs : List Job) (older : List Out) (o : Out) (js : List Job) → slice_get jobs (out_number o) ∷ jobs_at jobs older ≡ named js
     → (job : Job) × (others : List Job) × (js ≡ job ∷ others) × IsJobOf jobs (out_number o) job × (jobs_at jobs older ≡ named others)

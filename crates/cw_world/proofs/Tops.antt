@@ -1,8 +1,8 @@
 -- What a worker has begun last, as it is taken from its list and laid there.
 use Rattle.std.proofs.Common.{◌≡◌, ◌≢◌, ◌∙◌, ℕ, zero, suc, ◌+◌, ◌-◌, ◌<◌, true, false, List, [], ◌∷◌, ◌++◌, Option, Some, None, refl, sym, ap, length, get_or, arith, Vec, Global, Bor}
-use Rattle.std.proofs.lemmas.Option.{get_or_from_slice_get}
 use Rattle.std.specs.Prelude.{map, slice_get, slice_set, Result, Ok, Err, OnOk}
 use Rattle.std.specs.Option.{option_copied}
+use Rattle.std.proofs.lemmas.List.{nil_from_length}
 use Rattle.cw_world.specs.core.Board.{pushed, newest, but_newest, of_worker}
 use Rattle.cw_text.specs.declared.fault.Fault.{Fault}
 use Rattle.cw_jobs.specs.declared.effect.Effect.{Effect}
@@ -14,7 +14,7 @@ use Rattle.cw_world.specs.declared.post.Out.{Out}
 use Rattle.cw_world.specs.Scenes.{Stage, stage_of, stages, staged, out_of}
 use Rattle.cw_world.specs.Table.{goes, has_made}
 use Rattle.cw_world.specs.Events.{but_top, with_top}
-use Rattle.cw_world.proofs.Lists.{newest_pushed, but_newest_pushed, none_from_length}
+use Rattle.cw_world.proofs.Lists.{newest_pushed, but_newest_pushed}
 use Rattle.cw_world.proofs.Boards.{map_pushed, worker_read, worker_set, worker_kept, newest_there}
 
 pub goes_some : (o : Option Stage) → goes o ≡ true → o ≢ None
@@ -36,7 +36,7 @@ module _ (qs : List (Vec Begun Global)) (w : ℕ) (q q' : Vec Begun Global) wher
       (sym (ap but_newest (ap (map stage_of) items ∙ map_pushed stage_of q'.items x) ∙ but_newest_pushed (map stage_of q'.items) (stage_of x)))
 
   pub none_popped : w < length qs → q ≡ get_or qs w q → length q.items ≡ 0 → newest (of_worker (map stages qs) w) ≡ None
-  none_popped lt e none = ap newest (worker_read stages qs w q lt e ∙ ap (map stage_of) (none_from_length q.items none))
+  none_popped lt e none = ap newest (worker_read stages qs w q lt e ∙ ap (map stage_of) (nil_from_length q.items none))
 
   pub top_laid : (x : Begun) → w < length qs → q ≡ get_or qs w q → q'.items ≡ q.items ++ x ∷ [] → map stages (slice_set qs w q') ≡ with_top (map stages qs) w (stage_of x)
   top_laid x lt e items =

@@ -1,6 +1,7 @@
 -- What events do, by what a post came to and what was laid on its worker's list.
 use Rattle.std.proofs.Common.{◌≡◌, ◌⊎◌, ◌∙◌, ℕ, ◌+◌, Bool, true, List, [], ◌∷◌, ◌++◌, Option, Some, None, refl, sym, ap, subst, length, reverse, inl, inr}
 use Rattle.std.specs.Prelude.{map, slice_get, IfSome, Ok}
+use Rattle.cw_facts.specs.Lists.{get_last, reverse_pushed, each_pushed, get_before}
 use Rattle.cw_runnable.specs.declared.verified.Verified.{Verified}
 use Rattle.cw_jobs.specs.declared.effect.Effect.{Effect}
 use Rattle.cw_jobs.specs.declared.job.Job.{Job}
@@ -16,7 +17,7 @@ use Rattle.cw_world.specs.Scenes.{Posted, Stage, Goes, Made, Answered, Scene, to
 use Rattle.cw_world.specs.Posts.{Stays, Comes, HandsOut, Steps, HasDone, HasDoneWith, DoesOneMore}
 use Rattle.cw_world.specs.Sound.{IsJobOf, IsOwn, out_number, Works, HasRoot, Sound}
 use Rattle.cw_world.specs.Events.{with_top, but_top, GoesOn, ComesTo, Counts, IsBegun, Runs, Spawns}
-use Rattle.cw_world.proofs.Lists.{named, each_weaken, each_pushed, get_pushed, get_last, same_names, reverse_pushed}
+use Rattle.cw_world.proofs.Lists.{named, each_weaken, same_names}
 use Rattle.cw_world.proofs.Strands.{jobs_at, newest_out_of, comes_stays, comes_to, ended_stage, comes_whole}
 use Rattle.cw_world.specs.Lacking.{lacks_memory, LacksAfter}
 use Rattle.cw_world.proofs.Lacking.{stage_lacks}
@@ -79,7 +80,7 @@ spawned_names jobs p job works =
     let g : Out → Option Job = λ o. slice_get (jobs ++ job ∷ []) (out_number o) in
     ap (map g) (reverse_pushed p.outs (out.Undecided (length jobs) job))
     ∙ (ap (λ k. k ∷ map g (reverse p.outs)) (get_last jobs job)
-    ∙ ap (λ l. Some job ∷ l) (same_names (λ o. slice_get jobs (out_number o)) g (reverse p.outs) (outs p.strand) (λ o j e. get_pushed jobs job (out_number o) j e) works.lent))
+    ∙ ap (λ l. Some job ∷ l) (same_names (λ o. slice_get jobs (out_number o)) g (reverse p.outs) (outs p.strand) (λ o j e. get_before jobs job (out_number o) j e) works.lent))
 
 spawned : (v : Verified) (s : Scene) (w : ℕ) (p q : Posted) (jobs' : List Job) (begun' : List (List Stage)) (x : Stage) → top s w ≡ Some (Goes p) → Works s.jobs p
     → HandsOut p q s.jobs jobs' → x ≡ Goes q → begun' ≡ with_top (but_top s.begun w) w x → Spawns v s (scene_of jobs' begun' s.board) w

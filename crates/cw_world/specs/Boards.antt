@@ -11,6 +11,8 @@ use Rattle.cw_world.specs.core.Board.{pushed, newest, laid, without_newest, with
 use Rattle.cw_world.specs.declared.board.Board.{Board}
 use Rattle.cw_world.specs.declared.board.Offer.{Offer}
 use Rattle.cw_world.specs.declared.board.Cell.{Cell}
+-- every one of them
+pub use Rattle.cw_facts.specs.Lists.{Each}
 
 -- the deque of each worker, the oldest first; and the effects that wait in their cells
 pub record Boarded : Type 0 where
@@ -92,8 +94,3 @@ IsFull v = vec_capacity v ≤ vec_len v
 -- nor has a worker's deque
 abbrev pub IsDequeFull : Board → (w : ℕ) → Type 0
 IsDequeFull b w = (q : _) × (slice_get b.lists.items w ≡ Some q) × (deque_capacity q ≤ deque_len q)
-
--- every one of them
-abbrev pub Each : {A : Type 0} → (A → Type 0) → List A → Type 0
-Each P [] = Unit {0}
-Each P (x ∷ xs) = P x × Each P xs

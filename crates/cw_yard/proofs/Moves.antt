@@ -1,6 +1,7 @@
 -- Each step at a deque keeps its rule.
-use Rattle.std.proofs.Common.{◌≡◌, ◌≢◌, ◌<◌, ◌+◌, ◌⊎◌, ℕ, zero, suc, true, false, List, [], ◌∷◌, ◌++◌, length, map, set, sym, refl, ap, ◌∙◌, subst, inl, inr, ⊎_elim, arith, Option, Some, None}
+use Rattle.std.proofs.Common.{◌≡◌, ◌≢◌, ◌<◌, ◌+◌, ◌⊎◌, ℕ, zero, suc, true, false, List, [], ◌∷◌, ◌++◌, length, map, set, sym, refl, ap, ◌∙◌, subst, inl, inr, ⊎_elim, arith, Option, Some}
 use Rattle.std.proofs.lemmas.List.{length-map}
+use Rattle.std.proofs.lemmas.Option.{none-some, same_Some}
 use mathlib.Core.Option.{some, some-injective, some-ne-none}
 use mathlib.Core.List.{map-append}
 use lib.ListN.{get_elem?}
@@ -8,6 +9,7 @@ use Rattle.crossbeam_deque.specs.Tasks.{Pushes, Pops, Takes, Forks}
 use Rattle.crossbeam_deque.proofs.Lists.{at_set, at_snoc, set_again}
 use Rattle.atomic_table.specs.Seated.{TableId}
 use Rattle.atomic_table.specs.declared.shared.Seat.{Seat}
+use Rattle.cw_facts.specs.Lists.{each_init, each_pushed}
 use Rattle.cw_yard.specs.declared.left.Left.{Left}
 use Rattle.cw_yard.specs.declared.view.CellView.{CellView}
 use Rattle.cw_yard.specs.declared.task.Task.{Task}
@@ -40,14 +42,6 @@ running items views p v plays at d =
     ⊎_elim (λ s. ⊎_elim (λ a. absurd (subst Plays (sym (one_view Fresh v p (subst (λ l. get_elem? l p ≡ some v) a.1 at))) plays))
     (λ a. absurd (subst Plays (sym (one_view (Marked a.0) v p (subst (λ l. get_elem? l p ≡ some v) a.2 at))) plays)) s)
     (λ r. r) d
-
-each-snoc : {A : Type 0} (P : A → Type 0) (xs : List A) (x : A) → Each P xs → P x → Each P (xs ++ x ∷ [])
-each-snoc P [] x h p = (p, tt)
-each-snoc P (y ∷ ys) x h p = (h.0, each-snoc P ys x h.1 p)
-
-each-init : {A : Type 0} (P : A → Type 0) (xs : List A) (x : A) → Each P (xs ++ x ∷ []) → Each P xs × P x
-each-init P [] x h = (tt, h.0)
-each-init P (y ∷ ys) x h = let r = each-init P ys x h.1 in ((h.0, r.0), r.1)
 
 refit : (z : TableId) (owner : ℕ) (ledger after : List Entry) (port : ℕ) → ((q : ℕ) → q ≢ port → thefts q 0 after ≡ thefts q 0 ledger) → ((q : ℕ) → q ≢ port → q ≡ owner → map shown after ≡ map shown ledger)
     → (p : ℕ) (v : DequeView) → p ≢ port → Fits z owner ledger p v → Fits z owner after p v
@@ -83,21 +77,13 @@ pushes port (Owner t os) k may items views d at =
         r.1,
         after,
         names,
-        each-snoc (λ x. table_of x ≡ r.0) items (Work k) r.4 (may.0 ∙ mine.0),
+        each_pushed (λ x. table_of x ≡ r.0) items (Work k) r.4 (may.0 ∙ mine.0),
         front-snoc ledger (lot k) r.5,
         refits r.0 r.1 ledger after views port w r.6 (mine.0, mine.1, ap (λ l. l ++ offer (lot k) false ∷ []) mine.2 ∙ sym (map-append shown ledger ((lot k, out) ∷ []))) (λ q _. thefts-snoc q 0 ledger (lot k))
             (λ q apart is. absurd (apart (is ∙ sym mine.1))),
       ),
       refl,
     )
-
-abbrev un : {A : Type 0} → A → Option A → A
-un d None = d
-un d (Some x) = x
-
-abbrev There : {A : Type 0} → Option A → Type 0
-There None = ⊥
-There (Some x) = Unit {0}
 
 -- a list of which each is there, cut before its last one
 pub record Cut (l : List (Option Name)) (o : Option Name) (ns : List Name) : Type 0 where
@@ -133,7 +119,7 @@ retakes port (Owner t os) k items views own at r ps is names =
     let front = subst FrontFirst l.is r.5 in
     let none = front_after l.before (lot k) l.after front in
     let w : DequeView = Owner t (pre ++ offer (lot k) true ∷ post) in
-    let tables = each-init (λ x. table_of x ≡ r.0) items (Work k) r.4 in (
+    let tables = each_init (λ x. table_of x ≡ r.0) items (Work k) r.4 in (
       w,
       inr (
         r.0,
@@ -160,9 +146,9 @@ retakes port (Owner t os) k items views own at r ps is names =
 
 pops_at : (port : ℕ) (v : DequeView) (x : Item) (items : List Item) (views : List DequeView) → IsOwner v → get_elem? views port ≡ some v → (r : Running (items ++ x ∷ []) views)
     → Cut (map name_of items) (name_of x) (outs 0 r.2) → (w : DequeView) × Dealt items (set views port w) × Retakes v (x ∷ []) w
-pops_at port v (Mark t) items views own at r c = absurd (subst There (sym c.lasts) tt)
+pops_at port v (Mark t) items views own at r c = absurd (none-some c.last c.lasts)
 pops_at port v (Work k) items views own at r c =
-    retakes port v k items views own at r c.front (c.is ∙ ap (λ q. c.front ++ q ∷ []) (sym (ap (un (number k, lot k)) c.lasts))) c.fronts
+    retakes port v k items views own at r c.front (c.is ∙ ap (λ q. c.front ++ q ∷ []) (sym (same_Some (number k, lot k) c.last c.lasts))) c.fronts
 
 plays : (v : DequeView) → IsOwner v → Plays v
 plays Fresh h = h
@@ -213,9 +199,9 @@ steals port (Thief t ss) k items views own at r ps is names =
 steals_at : (port : ℕ) (v : DequeView) (x : Item) (items : List Item) (views : List DequeView) (ns : List Name) → IsThief v → get_elem? views port ≡ some v → (r : Running (x ∷ items) views)
     → outs 0 r.2 ≡ ns → name_of x ∷ map name_of items ≡ named ns → (w : DequeView) × Dealt items (set views port w) × Steals v (x ∷ []) w
 steals_at port v x items views [] own at r is e = absurd (nil_no_cons (name_of x) (map name_of items) (sym e))
-steals_at port v (Mark t) items views (n ∷ ns) own at r is e = absurd (subst There (sym (ap (head_or (Some n)) e)) tt)
+steals_at port v (Mark t) items views (n ∷ ns) own at r is e = absurd (none-some n (ap (head_or (Some n)) e))
 steals_at port v (Work k) items views (n ∷ ns) own at r is e =
-    steals port v k items views own at r ns (is ∙ ap (λ q. q ∷ ns) (sym (ap (un (number k, lot k)) (ap (head_or (Some n)) e)))) (ap tail_of e)
+    steals port v k items views own at r ns (is ∙ ap (λ q. q ∷ ns) (sym (same_Some (number k, lot k) n (ap (head_or (Some n)) e)))) (ap tail_of e)
 
 plays_thief : (v : DequeView) → IsThief v → Plays v
 plays_thief Fresh h = h

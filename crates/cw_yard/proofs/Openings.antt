@@ -1,9 +1,10 @@
 -- Lists that the opening of a yard makes.
-use Rattle.std.proofs.Common.{◌≡◌, ◌∙◌, ◌<◌, ◌≤◌, ◌+◌, ◌++◌, ℕ, zero, suc, List, [], ◌∷◌, length, refl, sym, ap, subst, arith, Option, Some, None, ◌*◌, ◌⊎◌, inl, inr, ⊎_elim, set, length-set}
+use Rattle.std.proofs.Common.{◌≡◌, ◌∙◌, ◌<◌, ◌≤◌, ◌+◌, ◌++◌, ℕ, zero, suc, List, [], ◌∷◌, length, refl, sym, ap, subst, arith, Option, Some, ◌*◌, ◌⊎◌, inl, inr, ⊎_elim, set, length-set}
 use Rattle.std.proofs.Math.ListN.{get_or}
-use Rattle.std.proofs.lemmas.Option.{slice_get_read}
+use Rattle.std.proofs.lemmas.Option.{slice_get_read, same_Some, none-some}
 use Rattle.atomic_table.specs.Seated.{TableId}
 use Rattle.atomic_table.specs.declared.shared.Seat.{Seat as Token}
+use Rattle.cw_facts.specs.Lists.{get_last, get_before, each_at}
 use Rattle.cw_yard.specs.declared.left.Left.{Left}
 use Rattle.cw_yard.specs.declared.view.CellView.{CellView}
 use Rattle.cw_yard.specs.declared.task.DequeView.{DequeView}
@@ -14,16 +15,11 @@ use Rattle.cw_yard.specs.declared.open.Part.{Part}
 use Rattle.cw_yard.specs.Words.{StealsAt, OwnsAt, stolen, offered}
 use Rattle.cw_yard.specs.Seats.{table_of, workers_of}
 use Rattle.cw_yard.specs.Opened.{IsNewSeat}
-use Rattle.cw_yard.proofs.Thefts.{or_else}
 use Rattle.std.specs.Prelude.{slice_get}
 use Rattle.crossbeam_deque.specs.Handles.{view, IsPassOf, stealer_deque, worker_deque, worker_view, worker_flavor}
 use Rattle.crossbeam_utils.specs.Padded.{padded_value}
 use Rattle.cw_yard.specs.Ledger.{Each, as_thief}
 use Rattle.cw_yard.specs.Opens.{OwnDeque, Victim, ThiefPass, Begins, IsFresh, IsPart, ServesDeques, HasPasses}
-
-abbrev IsNone : {A : Type 0} → Option A → Type 0
-IsNone None = Unit {0}
-IsNone (Some x) = ⊥
 
 mul_suc : (k c : ℕ) → (suc k) * c ≡ c + k * c
 mul_suc k c = omega arith
@@ -37,14 +33,6 @@ mul_le (suc a) (suc b) c le = let r : a * c ≤ b * c = mul_le a b c (omega arit
 abbrev pub Stolen : List OwnDeque → List Victim → Type 0
 Stolen owns others = (k : ℕ) (w : OwnDeque) (o : Victim) → slice_get owns k ≡ Some w → slice_get others k ≡ Some o → stealer_deque (padded_value o) ≡ worker_deque w
 
-pub each_snoc : {A : Type 0} (P : A → Type 0) (xs : List A) (x : A) → Each P xs → P x → Each P (xs ++ x ∷ [])
-each_snoc P [] x h p = (p, tt)
-each_snoc P (y ∷ ys) x h p = (h.0, each_snoc P ys x h.1 p)
-
-pub each_init : {A : Type 0} (P : A → Type 0) (xs : List A) (x : A) → Each P (xs ++ x ∷ []) → Each P xs × P x
-each_init P [] x h = (tt, h.0)
-each_init P (y ∷ ys) x h = let r = each_init P ys x h.1 in ((h.0, r.0), r.1)
-
 pub room : (k w c from : ℕ) → from ≡ 64 + k * c → k < w → from + c ≤ 64 + w * c
 room k w c from e lt =
     let n : (suc k) * c ≤ w * c = mul_le (suc k) w c (omega arith) in
@@ -56,22 +44,16 @@ next_room k c from e =
     let m : (suc k) * c ≡ c + k * c = mul_suc k c in
     let q : (k + 1) * c ≡ (suc k) * c = ap (λ (n : ℕ). n * c) p in omega arith
 
-some_is : {A : Type 0} (a b : A) → Some a ≡ Some b → a ≡ b
-some_is a b e = ap (or_else a) e
-
-none_some : {A B : Type 0} (a : A) → None ≡ Some a → B
-none_some a e = absurd (subst IsNone e tt)
-
 pub set_cases : {A : Type 0} (xs : List A) (k j : ℕ) (y x : A) → slice_get (set xs k y) j ≡ Some x → ((j ≡ k) × (y ≡ x)) ⊎ (slice_get xs j ≡ Some x)
 set_cases [] k j y x e = inr e
-set_cases (a ∷ xs) zero zero y x e = inl (refl, some_is y x e)
+set_cases (a ∷ xs) zero zero y x e = inl (refl, same_Some y x e)
 set_cases (a ∷ xs) zero (suc j) y x e = inr e
 set_cases (a ∷ xs) (suc k) zero y x e = inr e
 set_cases (a ∷ xs) (suc k) (suc j) y x e = ⊎_elim (λ p. inl (ap suc p.0, p.1)) (λ p. inr p) (set_cases xs k j y x e)
 
 pub snoc_cases : {A : Type 0} (xs : List A) (y x : A) (j : ℕ) → slice_get (xs ++ y ∷ []) j ≡ Some x → ((j ≡ length xs) × (y ≡ x)) ⊎ (slice_get xs j ≡ Some x)
-snoc_cases [] y x zero e = inl (refl, some_is y x e)
-snoc_cases [] y x (suc j) e = none_some x e
+snoc_cases [] y x zero e = inl (refl, same_Some y x e)
+snoc_cases [] y x (suc j) e = absurd (none-some x e)
 snoc_cases (a ∷ xs) y x zero e = inr e
 snoc_cases (a ∷ xs) y x (suc j) e = ⊎_elim (λ p. inl (ap suc p.0, p.1)) (λ p. inr p) (snoc_cases xs y x j e)
 
@@ -79,11 +61,6 @@ each_set : {A : Type 0} (P : A → Type 0) (xs : List A) (k : ℕ) (y : A) → E
 each_set P [] k y h p = tt
 each_set P (a ∷ xs) zero y h p = (p, h.1)
 each_set P (a ∷ xs) (suc k) y h p = (h.0, each_set P xs k y h.1 p)
-
-pub each_at : {A : Type 0} (P : A → Type 0) (xs : List A) (k : ℕ) (x : A) → Each P xs → slice_get xs k ≡ Some x → P x
-each_at P [] k x h e = none_some x e
-each_at P (a ∷ xs) zero x h e = subst P (some_is a x e) h.0
-each_at P (a ∷ xs) (suc k) x h e = each_at P xs k x h.1 e
 
 begins : (z : TableId) (v : DequeView) → Begins z v → (t : Token (Option Left) CellView) × (v ≡ Owner t [])
 begins z Fresh h = absurd h
@@ -144,17 +121,8 @@ nothing_offered z (Thief t ss) h = absurd h
 abbrev pub Lead : Yard → List OwnDeque → Type 0
 Lead y owns = Stolen owns y.stealers.items
 
-before_at : {A : Type 0} (xs : List A) (x y : A) (k : ℕ) → slice_get xs k ≡ Some y → slice_get (xs ++ x ∷ []) k ≡ Some y
-before_at [] x y k e = none_some y e
-before_at (a ∷ xs) x y zero e = e
-before_at (a ∷ xs) x y (suc k) e = before_at xs x y k e
-
-last_at : {A : Type 0} (xs : List A) (x : A) → slice_get (xs ++ x ∷ []) (length xs) ≡ Some x
-last_at [] x = refl
-last_at (a ∷ xs) x = last_at xs x
-
 pub lead_init : (y : Yard) (owns : List OwnDeque) (w : OwnDeque) → Lead y (owns ++ w ∷ []) → Lead y owns
-lead_init y owns w h k x o e f = h k x o (before_at owns w x k e) f
+lead_init y owns w h k x o e f = h k x o (get_before owns w k x e) f
 
 abbrev pub seat : OwnDeque → Part → Seat
 seat w p = record { own = w; free = p.free; passes = p.passes; watch = p.watch; spare = p.spare }
@@ -165,7 +133,7 @@ seated y cells owns w p lead f h = record {
   seat = (owns_at (table_of y) (worker_view w) f.0, f.1, h.1, h.2.0, h.2.1, h.3);
   room = h.4;
   unseen = h.5;
-  worker = λ o e. lead (length owns) w o (last_at owns w) e;
+  worker = λ o e. lead (length owns) w o (get_last owns w) e;
   offered = nothing_offered (table_of y) (worker_view w) f.0;
   stolen = h.2.2;
   free = h.0;

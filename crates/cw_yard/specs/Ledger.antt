@@ -12,11 +12,8 @@ use Rattle.cw_yard.specs.declared.task.Item.TheVariants.{Mark, Work}
 use Rattle.cw_yard.specs.declared.task.Offer.{Offer}
 use Rattle.cw_yard.specs.declared.task.DequeView.{DequeView}
 use Rattle.cw_yard.specs.declared.task.DequeView.TheVariants.{Fresh, Marked, Owner, Thief}
-
 -- every one of them
-abbrev pub Each : {A : Type 0} → (A → Type 0) → List A → Type 0
-Each P [] = Unit {0}
-Each P (x ∷ xs) = P x × Each P xs
+pub use Rattle.cw_facts.specs.Lists.{Each}
 
 -- a job with its cell
 abbrev pub Lot : Type 0

@@ -4,7 +4,7 @@ ghost use Rattle.crossbeam_deque.specs.Handles.{stealer_deque, worker_deque};
 ghost use Rattle.crossbeam_utils.specs.Padded.{padded_value};
 ghost use Rattle.cw_yard.specs.declared.view.CellView.TheVariants.{Rest};
 ghost use Rattle.cw_yard.specs.Marks.{IsWatchOf};
-ghost use Rattle.cw_yard.specs.Ledger.{Each};
+ghost use Rattle.cw_facts.specs.Lists.{Each};
 ghost use Rattle.cw_yard.specs.Seats.{table_of, workers_of};
 ghost use Rattle.cw_yard.specs.Opened as opened;
 ghost use Rattle.cw_yard.specs.Opened.{AreSeats, IsOpened, IsRefused};

@@ -1,16 +1,10 @@
 -- Names that are the same, and names that are apart.
 use Rattle.std.proofs.Common.{◌≡◌, Bool, true, false, List, ◌∷◌, refl, sym}
 use Rattle.std.specs.Prelude.{if◌then◌else◌}
-use Rattle.std.proofs.lemmas.Slice.Eq.{bytes_eq-Decides}
 use Rattle.cw_model.specs.Syntax.{Name}
 use Rattle.cw_model.specs.Names.{same_name, is_among}
+use Rattle.cw_tree.specs.lemmas.Names.{same_are}
 use Rattle.cw_loops.specs.Lowered.{is_plain}
-
-pub same_itself : (x : Name) → same_name x x ≡ true
-same_itself x = (bytes_eq-Decides x x).1 refl
-
-pub same_are : (x y : Name) → same_name x y ≡ true → x ≡ y
-same_are x y e = (bytes_eq-Decides x y).0 e
 
 -- apart where their being one is absurd
 pub apart : (x y : Name) → (x ≡ y → ⊥) → same_name x y ≡ false

@@ -2,6 +2,8 @@
 use Rattle.std.proofs.Common.{◌≡◌, ℕ, Bool, true, false, List, [], ◌∷◌, ◌++◌, sym, subst}
 use Rattle.std.specs.Prelude.{if◌then◌else◌, not, ◌||◌, nat_le}
 use Rattle.std.specs.List.{list_all}
+use Rattle.std.proofs.lemmas.Bool.{and_parts}
+use Rattle.cw_facts.specs.Tests.{not_true}
 use Rattle.cw_model.specs.declared.syntax.NameKind.{NameKind}
 use Rattle.cw_model.specs.declared.limits.TheConstants.{MOST_GRAIN}
 use Rattle.cw_model.specs.Lines.{unless}
@@ -16,7 +18,6 @@ use Rattle.cw_model.specs.Typing.{ends_block}
 use Rattle.cw_model.specs.Typing.{surely_returns, faults_in, faults_in_block, declares, Returns, Nowhere}
 use Rattle.cw_model.specs.lemmas.Fits.{writable_array, writable_arrays}
 use Rattle.cw_model.specs.lemmas.Kept.{left_none, right_none, kept}
-use Rattle.cw_loops.specs.lemmas.Tests.{both_true, not_true}
 use Rattle.cw_loops.specs.lemmas.Naming.{Placed, at_front, after_it, placed, Side, in_first, in_second, side}
 use Rattle.cw_loops.specs.lemmas.Knowing.{Unknown, new_unknown, Adds, an_int, an_array, nothing, adds}
 
@@ -33,14 +34,14 @@ pub record HeadKept (program : Program) (known : Known) (x : Name) (from to : Ex
 pub head_kept : (program : Program) (known : Known) (x y z : Name) (from to : Expr) (grain : ℕ) (over : List Name) →
     is_head_of_loop program known x y z from to grain over ≡ true → HeadKept program known x from to grain over
 head_kept program known x y z from to grain over h =
-    let a = both_true _ (list_all (λ a. is_writable known a) over) h in
-    let b = both_true _ (nat_le grain MOST_GRAIN) a.0 in
-    let c = both_true _ (nat_le 1 grain) b.0 in
-    let d = both_true _ (is_fine known to) c.0 in
-    let e = both_true _ (is_fine known from) d.0 in
-    let f = both_true _ (same_name z x) e.0 in
+    let a = and_parts _ (list_all (λ a. is_writable known a) over) h in
+    let b = and_parts _ (nat_le grain MOST_GRAIN) a.0 in
+    let c = and_parts _ (nat_le 1 grain) b.0 in
+    let d = and_parts _ (is_fine known to) c.0 in
+    let e = and_parts _ (is_fine known from) d.0 in
+    let f = and_parts _ (same_name z x) e.0 in
     record {
-      new = (both_true (is_new program known x) (same_name y x) f.0).0;
+      new = (and_parts (is_new program known x) (same_name y x) f.0).0;
       from_fine = e.1;
       to_fine = d.1;
       some = c.1;
@@ -60,10 +61,10 @@ pub record CutKept (program : Program) (known : Known) (a : Name) (e : Expr) (l 
 pub cut_kept : (program : Program) (known : Known) (a : Name) (e : Expr) (l r : Name) →
     is_cut program known a e l r ≡ true → CutKept program known a e l r
 cut_kept program known a e l r h =
-    let p = both_true _ (not (same_name l r)) h in
-    let q = both_true _ (is_new program known r) p.0 in
-    let s = both_true _ (is_new program known l) q.0 in
-    let t = both_true (is_writable known a) (is_fine known e) s.0 in
+    let p = and_parts _ (not (same_name l r)) h in
+    let q = and_parts _ (is_new program known r) p.0 in
+    let s = and_parts _ (is_new program known l) q.0 in
+    let t = and_parts (is_writable known a) (is_fine known e) s.0 in
     record {
       array = writable_array known a t.0;
       writable = t.0;
@@ -168,9 +169,9 @@ module _ (program : Program) where
   mutual
     pub stmt_new : (s : Stmt) → StmtNew s
     stmt_new (Declare x e) returns known line h v o =
-        one_new known x v (both_true (is_fine known e) (is_new program known x) (kept _ line h)).1 o
+        one_new known x v (and_parts (is_fine known e) (is_new program known x) (kept _ line h)).1 o
     stmt_new (DeclareArray x e) returns known line h v o =
-        one_new known x v (both_true (is_fine known e) (is_new program known x) (kept _ line h)).1 o
+        one_new known x v (and_parts (is_fine known e) (is_new program known x) (kept _ line h)).1 o
     stmt_new (Assign x e) returns known line h v o = absurd cc
     stmt_new (AssignElement a i e) returns known line h v o = absurd cc
     stmt_new (Reduce how s e) returns known line h v o = absurd cc

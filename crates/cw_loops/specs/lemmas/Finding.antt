@@ -3,14 +3,15 @@ use Rattle.std.proofs.Common.{◌≡◌, ℕ, ◌+◌, ◌≤◌, Bool, true, fa
 use Rattle.std.proofs.Common.{append_assoc, subst}
 use Rattle.std.specs.Prelude.{if◌then◌else◌}
 use Rattle.std.specs.List.{list_all}
+use Rattle.std.proofs.lemmas.Bool.{and_parts}
 use Rattle.cw_model.specs.Syntax.{Name, Function}
 use Rattle.cw_model.specs.Names.{same_name}
 use Rattle.cw_model.specs.Meaning.{no_function, function_named}
+use Rattle.cw_tree.specs.lemmas.Names.{same_itself}
 use Rattle.cw_loops.specs.Lowered.{is_plain, loop_name, loop_count_in, made_in, lower_function, lower_functions}
 use Rattle.cw_loops.specs.Lowered.{made_of}
 use Rattle.cw_loops.specs.Lowerable.{can_lower_function}
-use Rattle.cw_loops.specs.lemmas.Tests.{both_true}
-use Rattle.cw_loops.specs.lemmas.Apart.{same_itself, plain_apart, apart_plain}
+use Rattle.cw_loops.specs.lemmas.Apart.{plain_apart, apart_plain}
 use Rattle.cw_loops.specs.lemmas.Numbering.{Numbered, made_functions, loops_apart}
 
 -- each of these functions is found by its name
@@ -51,8 +52,8 @@ pub lowered_plain : (all0 fs : List Function) (k : ℕ) → list_all (can_lower_
     Skips (loop_name j) (lower_functions k fs)
 lowered_plain all0 [] k h j rest = refl
 lowered_plain all0 (f ∷ fs) k h j rest =
-    let p = both_true (can_lower_function all0 f) (list_all (can_lower_function all0) fs) h in
-    let n = both_true (is_plain f.name) _ p.0 in
+    let p = and_parts (can_lower_function all0 f) (list_all (can_lower_function all0) fs) h in
+    let n = and_parts (is_plain f.name) _ p.0 in
     ap (λ b. if b then lower_function k f else function_named (loop_name j)
     (lower_functions (k + loop_count_in f.body) fs ++ rest)) (apart_plain f.name (j ∷ []) n.0) ∙ lowered_plain all0
     fs (k + loop_count_in f.body) p.1 j rest
@@ -84,7 +85,7 @@ looked_in all0 all g plain (f ∷ fs) k rest j num h found e =
     (found_right all (made_in k f.body) (made_of (k + loop_count_in f.body) fs) found) q)
   where
     p : (can_lower_function all0 f ≡ true) × (list_all (can_lower_function all0) fs ≡ true)
-    p = both_true (can_lower_function all0 f) (list_all (can_lower_function all0) fs) h
+    p = and_parts (can_lower_function all0 f) (list_all (can_lower_function all0) fs) h
 
     by_name : (b : Bool) → same_name g f.name ≡ b
         → (function_named g all ≡ function_named g (lower_functions (k + loop_count_in f.body) fs ++ rest)

@@ -2,6 +2,8 @@
 use Rattle.std.proofs.Common.{◌≡◌, Bool, true, false, List, [], ◌∷◌, ◌++◌, refl, sym, ◌∙◌, ap}
 use Rattle.std.specs.Prelude.{if◌then◌else◌, not, ◌&&◌, ◌||◌, flat_map, map}
 use Rattle.std.specs.List.{list_any}
+use Rattle.std.proofs.lemmas.Bool.{and_parts, or_parts}
+use Rattle.cw_facts.specs.Tests.{not_true}
 use Rattle.cw_model.specs.declared.syntax.NameKind.{NameKind}
 use Rattle.cw_model.specs.Lines.{unless}
 use Rattle.cw_model.specs.Syntax.{Name, Param, Function, Program, is_array_kind, wants_array}
@@ -10,9 +12,9 @@ use Rattle.cw_model.specs.Answers.{main_name}
 use Rattle.cw_model.specs.Typing.{Known, is_known, is_int, is_array, globals, block_returns, known_of, is_head}
 use Rattle.cw_model.specs.Typing.{faults_of, repeated_names, IsWellTyped}
 use Rattle.cw_model.specs.lemmas.Kept.{left_none, right_none, kept}
+use Rattle.cw_tree.specs.lemmas.Names.{same_are}
 use Rattle.cw_loops.specs.Lowerable.{integers_of, arrays_of}
-use Rattle.cw_loops.specs.lemmas.Tests.{both_true, not_true, never, none_of, either_right}
-use Rattle.cw_loops.specs.lemmas.Apart.{same_are}
+use Rattle.cw_loops.specs.lemmas.Tests.{never, either_right}
 use Rattle.cw_loops.specs.lemmas.Knowing.{not_there}
 
 -- the names of parameters
@@ -76,7 +78,7 @@ heads_are x (p ∷ ps) =
 pub others_differ : (p : Param) (ps : List Param) → differ (names_of (p ∷ ps)) ≡ true →
     (is_among p.name (names_of ps) ≡ false) × (differ (names_of ps) ≡ true)
 others_differ p ps h =
-    let d = both_true (not (is_among p.name (names_of ps))) (differ (names_of ps)) h in (not_true _ d.0, d.1)
+    let d = and_parts (not (is_among p.name (names_of ps))) (differ (names_of ps)) h in (not_true _ d.0, d.1)
 
 -- the newest parameter, or one before it
 newest : (such : NameKind → Bool) (p : Param) (ps : List Param) (x : Name) → is_among p.name (names_of ps) ≡ false
@@ -99,7 +101,7 @@ newest such p ps x alone =
 
 pub no_kind : (x : Name) (ps : List Param) → is_among x (names_of ps) ≡ false →
     (is_among x (integers_of ps) ≡ false) × (is_among x (arrays_of ps) ≡ false)
-no_kind x ps h = none_of (is_among x (integers_of ps)) (is_among x (arrays_of ps)) (sym (kind_among x ps) ∙ h)
+no_kind x ps h = or_parts (is_among x (integers_of ps)) (is_among x (arrays_of ps)) (sym (kind_among x ps) ∙ h)
 
 pub int_kind : (ps : List Param) → differ (names_of ps) ≡ true → (x : Name) →
     is_int (known_of ps) x ≡ is_among x (integers_of ps)
@@ -150,11 +152,11 @@ pub record HeadOf (f : Function) : Type 0 where
 pub head_of : (program : Program) (f : Function) → faults_of program f ≡ [] → HeadOf f
 head_of program f h =
     let a =
-    both_true _ (not (same_name f.name main_name) || (f.gives_int && not (list_any (λ p. wants_array p) f.params)))
+    and_parts _ (not (same_name f.name main_name) || (f.gives_int && not (list_any (λ p. wants_array p) f.params)))
     (kept (is_head program f) f.line (left_none _ _ h)) in
-    let b = both_true _ (not f.gives_int || block_returns f.body) a.0 in
+    let b = and_parts _ (not f.gives_int || block_returns f.body) a.0 in
     let c =
-    both_true (differ (names_of f.params)) (not (list_any (λ p. is_among p.name (globals program)) f.params)) b.0 in
+    and_parts (differ (names_of f.params)) (not (list_any (λ p. is_among p.name (globals program)) f.params)) b.0 in
     record { params = c.0; main = a.1 }
 
 pub heads_kept : (program : Program) → IsWellTyped program → flat_map (faults_of program) program.functions ≡ []

@@ -1,6 +1,8 @@
 -- Names that are known, and those that a statement makes known.
 use Rattle.std.proofs.Common.{◌≡◌, Bool, true, false, List, [], ◌∷◌, refl}
 use Rattle.std.specs.Prelude.{if◌then◌else◌, not, ◌||◌, map}
+use Rattle.std.proofs.lemmas.Bool.{or_parts}
+use Rattle.cw_facts.specs.Tests.{not_true}
 use Rattle.cw_model.specs.declared.syntax.NameKind.{NameKind}
 use Rattle.cw_model.specs.Syntax.{is_array_kind, Name, Expr, Stmt, Declare, DeclareArray, Assign, AssignElement, Reduce}
 use Rattle.cw_model.specs.Syntax.{Call, Start}
@@ -9,7 +11,6 @@ use Rattle.cw_model.specs.Names.{same_name, is_among}
 use Rattle.cw_model.specs.Typing.{Known, is_known, is_int, is_array, is_new, globals, declares}
 use Rattle.cw_model.specs.Ownership.{known_after}
 use Rattle.cw_loops.specs.Lowerable.{new_integers, new_arrays}
-use Rattle.cw_loops.specs.lemmas.Tests.{none_of, not_true}
 
 -- a name that is not known
 pub record Unknown (known : Known) (x : Name) : Type 0 where
@@ -29,7 +30,7 @@ not_there such (k ∷ ks) x h = go (same_name x k.0) h (λ g. not_there such ks 
 
 pub new_unknown : (program : Program) (known : Known) (x : Name) → is_new program known x ≡ true → Unknown known x
 new_unknown program known x h =
-    let n = none_of (is_among x (map (λ k. k.0) known)) (is_among x (globals program)) (not_true _ h) in
+    let n = or_parts (is_among x (map (λ k. k.0) known)) (is_among x (globals program)) (not_true _ h) in
     record {
       no_int = not_there (λ kind. not (is_array_kind kind)) known x n.0;
       no_array = not_there is_array_kind known x n.0;

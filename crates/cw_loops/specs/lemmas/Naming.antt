@@ -2,37 +2,21 @@
 use Rattle.std.proofs.Common.{◌≡◌, Bool, true, false, List, [], ◌∷◌, ◌++◌, refl, sym, ◌∙◌, ap}
 use Rattle.std.specs.Prelude.{if◌then◌else◌, not, ◌||◌}
 use Rattle.std.specs.List.{list_any, list_all}
+use Rattle.std.proofs.lemmas.Bool.{and_parts, or_parts}
+use Rattle.cw_facts.specs.Tests.{both_true}
 use Rattle.cw_model.specs.Syntax.{Name}
 use Rattle.cw_model.specs.Names.{same_name, is_among, differ, new_names}
-use Rattle.cw_loops.specs.lemmas.Tests.{both_true, none_of, all_of, either_left, either_right, never, refuted}
-use Rattle.cw_loops.specs.lemmas.Apart.{same_are, same_itself, not_later}
+use Rattle.cw_tree.specs.lemmas.Names.{among_append, same_are, front_among, later_among}
+use Rattle.cw_loops.specs.lemmas.Tests.{either_left, either_right, never, refuted}
+use Rattle.cw_loops.specs.lemmas.Apart.{not_later}
 
 -- names that are joined
 
-pub among_join : (x : Name) (xs ys : List Name) → is_among x (xs ++ ys) ≡ (is_among x xs || is_among x ys)
-among_join x [] ys = refl
-among_join x (y ∷ xs) ys = go (same_name x y) (among_join x xs ys)
-  where
-    go : (b : Bool) → is_among x (xs ++ ys) ≡ (is_among x xs || is_among x ys) →
-        (if b then true else is_among x (xs ++ ys)) ≡ ((if b then true else is_among x xs) || is_among x ys)
-    go true h = refl
-    go false h = h
-
 pub among_left : (x : Name) (xs ys : List Name) → is_among x xs ≡ true → is_among x (xs ++ ys) ≡ true
-among_left x xs ys h = among_join x xs ys ∙ either_left (is_among x xs) (is_among x ys) h
+among_left x xs ys h = among_append x xs ys ∙ either_left (is_among x xs) (is_among x ys) h
 
 pub among_right : (x : Name) (xs ys : List Name) → is_among x ys ≡ true → is_among x (xs ++ ys) ≡ true
-among_right x xs ys h = among_join x xs ys ∙ either_right (is_among x xs) (is_among x ys) h
-
-pub front_among : (x : Name) (xs : List Name) → is_among x (x ∷ xs) ≡ true
-front_among x xs = ap (λ b. if b then true else is_among x xs) (same_itself x)
-
-pub later_among : (x y : Name) (xs : List Name) → is_among x xs ≡ true → is_among x (y ∷ xs) ≡ true
-later_among x y xs h = go (same_name x y)
-  where
-    go : (b : Bool) → (if b then true else is_among x xs) ≡ true
-    go true = refl
-    go false = h
+among_right x xs ys h = among_append x xs ys ∙ either_right (is_among x xs) (is_among x ys) h
 
 -- where a name of a list is
 pub data Placed (x y : Name) (xs : List Name) : Type 0 where
@@ -51,7 +35,7 @@ pub data Side (x : Name) (xs ys : List Name) : Type 0 where
   in_second : is_among x ys ≡ true → Side x xs ys
 
 pub side : (x : Name) (xs ys : List Name) → is_among x (xs ++ ys) ≡ true → Side x xs ys
-side x xs ys h = go (is_among x xs) refl (sym (among_join x xs ys) ∙ h)
+side x xs ys h = go (is_among x xs) refl (sym (among_append x xs ys) ∙ h)
   where
     go : (b : Bool) → is_among x xs ≡ b → (b || is_among x ys) ≡ true → Side x xs ys
     go true e o = in_first e
@@ -59,25 +43,16 @@ side x xs ys h = go (is_among x xs) refl (sym (among_join x xs ys) ∙ h)
 
 pub neither_among : (x : Name) (xs ys : List Name) → is_among x (xs ++ ys) ≡ false →
     (is_among x xs ≡ false) × (is_among x ys ≡ false)
-neither_among x xs ys h = none_of (is_among x xs) (is_among x ys) (sym (among_join x xs ys) ∙ h)
+neither_among x xs ys h = or_parts (is_among x xs) (is_among x ys) (sym (among_append x xs ys) ∙ h)
 
 pub none_among : (x : Name) (xs ys : List Name) → is_among x xs ≡ false → is_among x ys ≡ false →
     is_among x (xs ++ ys) ≡ false
-none_among x xs ys h g = among_join x xs ys ∙ ap (λ b. b || is_among x ys) h ∙ g
-
-pub same_turned : (x y : Name) → same_name x y ≡ same_name y x
-same_turned x y = go (same_name x y) (same_name y x) refl refl
-  where
-    go : (a b : Bool) → same_name x y ≡ a → same_name y x ≡ b → a ≡ b
-    go true true e f = refl
-    go false false e f = refl
-    go true false e f = sym (same_itself y) ∙ ap (λ z. same_name y z) (sym (same_are x y e)) ∙ f
-    go false true e f = sym e ∙ ap (λ z. same_name x z) (same_are y x f) ∙ same_itself x
+none_among x xs ys h g = among_append x xs ys ∙ ap (λ b. b || is_among x ys) h ∙ g
 
 -- one name more at the end
 pub pushed : (x y : Name) (xs : List Name) (b : Bool) → b ≡ is_among x xs →
     (if same_name x y then true else b) ≡ is_among x (xs ++ y ∷ [])
-pushed x y xs b h = go (same_name x y) refl (is_among x xs) refl ∙ sym (among_join x xs (y ∷ []))
+pushed x y xs b h = go (same_name x y) refl (is_among x xs) refl ∙ sym (among_append x xs (y ∷ []))
   where
     go : (s : Bool) → same_name x y ≡ s → (m : Bool) → is_among x xs ≡ m →
         (if s then true else b) ≡ (is_among x xs || (if s then true else false))
@@ -99,7 +74,7 @@ passed x y xs b h n = go (same_name x y) refl
 
 pub each_of : (f : Name → Bool) (xs : List Name) → list_all f xs ≡ true → (x : Name) → is_among x xs ≡ true → f x ≡ true
 each_of f [] h x o = absurd cc
-each_of f (y ∷ xs) h x o = by (both_true (f y) (list_all f xs) h) (placed x y xs o) (λ g more. each_of f xs g x more)
+each_of f (y ∷ xs) h x o = by (and_parts (f y) (list_all f xs) h) (placed x y xs o) (λ g more. each_of f xs g x more)
   where
     by : (f y ≡ true) × (list_all f xs ≡ true) → Placed x y xs →
         (list_all f xs ≡ true → is_among x xs ≡ true → f x ≡ true) → f x ≡ true
@@ -109,7 +84,7 @@ each_of f (y ∷ xs) h x o = by (both_true (f y) (list_all f xs) h) (placed x y 
 pub none_any : (f : Name → Bool) (xs : List Name) → list_any f xs ≡ false → (x : Name) → is_among x xs ≡ true →
     f x ≡ false
 none_any f [] h x o = absurd cc
-none_any f (y ∷ xs) h x o = by (none_of (f y) (list_any f xs) h) (placed x y xs o) (λ g more. none_any f xs g x more)
+none_any f (y ∷ xs) h x o = by (or_parts (f y) (list_any f xs) h) (placed x y xs o) (λ g more. none_any f xs g x more)
   where
     by : (f y ≡ false) × (list_any f xs ≡ false) → Placed x y xs →
         (list_any f xs ≡ false → is_among x xs ≡ true → f x ≡ false) → f x ≡ false
@@ -164,5 +139,5 @@ new_differ (y ∷ xs) known = go (is_among y known) (λ k. new_differ xs k)
         differ (if b then new_names xs known else y ∷ new_names xs (y ∷ known)) ≡ true
     go true more = more known
     go false more =
-        all_of (not (is_among y (new_names xs (y ∷ known)))) (differ (new_names xs (y ∷ known))) (ap not fresh)
+        both_true (not (is_among y (new_names xs (y ∷ known)))) (differ (new_names xs (y ∷ known))) (ap not fresh)
         (more (y ∷ known))

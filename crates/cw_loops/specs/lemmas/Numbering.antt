@@ -1,11 +1,12 @@
 -- What loops are made into: as many functions, named by numbers in turn.
-use Rattle.std.proofs.Common.{◌≡◌, ℕ, suc, ◌+◌, ◌<◌, false, List, [], ◌∷◌, ◌++◌, length, arith, refl, sym, ◌∙◌, subst}
+use Rattle.std.proofs.Common.{◌≡◌, ℕ, zero, suc, ◌+◌, ◌<◌, false, if◌then◌else◌, List, [], ◌∷◌, ◌++◌, length, arith, refl, sym, ◌∙◌, subst}
 use Rattle.std.proofs.Common.{length-append, ap}
 use Rattle.cw_model.specs.Syntax.{Stmt, Declare, DeclareArray, Assign, AssignElement, Reduce, Call, Start, Begin}
 use Rattle.cw_model.specs.Syntax.{Sync, If, IfElse, While, For, Scope, Cut, Region, Print, Return, Block, End, Then}
 use Rattle.cw_model.specs.Syntax.{Function}
 use Rattle.cw_model.specs.Names.{same_name}
-use Rattle.cw_tree.specs.Resolved.{function_names}
+use Rattle.cw_tree.specs.Resolved.{function_names, slot_of}
+use Rattle.cw_tree.specs.lemmas.Names.{same_itself}
 use Rattle.cw_loops.specs.Lowered.{loop_name, loop_count, loop_count_in, lower_functions, made_by, made_in, made_of}
 use Rattle.cw_loops.specs.lemmas.Apart.{apart}
 
@@ -89,3 +90,21 @@ names_stay k (f ∷ fs) = ap (λ names. f.name ∷ names) (names_stay (k + loop_
 pub count_stays : (k : ℕ) (fs : List Function) → length (lower_functions k fs) ≡ length fs
 count_stays k [] = refl
 count_stays k (f ∷ fs) = ap suc (count_stays (k + loop_count_in f.body) fs)
+
+-- the slot of such a function
+pub numbered_slot : (made : List Function) (j i : ℕ) → Numbered j made → i < length made → slot_of (loop_name (j + i)) (function_names made) ≡ i
+numbered_slot [] j i h less = absurd (omega (arith, less))
+numbered_slot (f ∷ made) j zero h less =
+    ap (λ w. if same_name (loop_name (j + 0)) w then 0 else suc (slot_of (loop_name (j + 0)) (function_names made))) h.0
+    ∙ ap (λ w. if same_name (loop_name w) (loop_name j) then 0 else suc (slot_of (loop_name (j + 0)) (function_names made))) (none j)
+    ∙ ap (λ b. if b then 0 else suc (slot_of (loop_name (j + 0)) (function_names made))) (same_itself (loop_name j))
+  where
+    none : (n : ℕ) → n + 0 ≡ n
+    none n = omega arith
+numbered_slot (f ∷ made) j (suc i) h less =
+    ap (λ w. if same_name (loop_name (j + suc i)) w then 0 else suc (slot_of (loop_name (j + suc i)) (function_names made))) h.0
+    ∙ ap (λ b. if b then 0 else suc (slot_of (loop_name (j + suc i)) (function_names made))) (loops_apart (j + suc i) j (omega arith))
+    ∙ ap (λ w. suc (slot_of (loop_name w) (function_names made))) (next j i) ∙ ap suc (numbered_slot made (j + 1) i h.1 (omega (arith, less)))
+  where
+    next : (m n : ℕ) → m + suc n ≡ m + 1 + n
+    next m n = omega arith

@@ -2,6 +2,8 @@
 use Rattle.std.proofs.Common.{◌≡◌, ℕ, ◌+◌, Bool, true, false, List, [], ◌∷◌, ◌++◌, refl, sym, ◌∙◌, ap, subst}
 use Rattle.std.specs.Prelude.{if◌then◌else◌, not, ◌&&◌, ◌||◌, Option, Some, None}
 use Rattle.std.specs.List.{list_all}
+use Rattle.std.proofs.lemmas.Bool.{and_parts, or_parts}
+use Rattle.cw_facts.specs.Tests.{not_true}
 use Rattle.cw_model.specs.declared.syntax.NameKind.{NameKind}
 use Rattle.cw_model.specs.lemmas.Fits.{fits_kind, fit_kinds, arguments_fit}
 use Rattle.cw_model.specs.Lines.{unless}
@@ -23,12 +25,12 @@ use Rattle.cw_model.specs.Ownership.{names_in, arrays_given, given, target_names
 use Rattle.cw_model.specs.Ownership.{Closing, Leaves, Joins, CutOf, taken_after, declared_by, owner_faults}
 use Rattle.cw_model.specs.Ownership.{owner_faults_in, are_loose, may_lend, lent, arrays_lent}
 use Rattle.cw_model.specs.lemmas.Kept.{left_none, right_none, kept}
+use Rattle.cw_tree.specs.lemmas.Names.{same_are, called_is, front_among, later_among}
 use Rattle.cw_loops.specs.Lowered.{is_plain}
 use Rattle.cw_loops.specs.SourceLike.{is_source_expr, is_source_stmt, is_source_block, is_source_target}
-use Rattle.cw_loops.specs.lemmas.Tests.{both_true, not_true, never, none_of}
-use Rattle.cw_loops.specs.lemmas.Apart.{same_are}
+use Rattle.cw_loops.specs.lemmas.Tests.{never}
 use Rattle.cw_loops.specs.lemmas.Naming.{Placed, at_front, after_it, placed, Side, in_first, in_second, side}
-use Rattle.cw_loops.specs.lemmas.Naming.{none_any, among_left, among_right, front_among, later_among}
+use Rattle.cw_loops.specs.lemmas.Naming.{none_any, among_left, among_right}
 use Rattle.cw_loops.specs.lemmas.Knowing.{Adds, an_int, an_array, nothing, adds, known_more, known_array_more}
 use Rattle.cw_loops.specs.lemmas.Declaring.{HeadKept, head_kept, CutKept, cut_kept}
 
@@ -51,14 +53,14 @@ expr_seen known (Variable y) source fine x o = go (placed x y [] o)
     go (at_front same) = (ap is_plain same ∙ source, ap (is_int known) same ∙ fine)
     go (after_it other p) = absurd cc
 expr_seen known (Element a e) source fine x o =
-    expr_seen known e (both_true (is_plain a) (is_source_expr e) source).1
-    (both_true (is_array known a) (is_fine known e) fine).1 x o
+    expr_seen known e (and_parts (is_plain a) (is_source_expr e) source).1
+    (and_parts (is_array known a) (is_fine known e) fine).1 x o
 expr_seen known (Length a) source fine x o = absurd cc
 expr_seen known (Negative e) source fine x o = expr_seen known e source fine x o
 expr_seen known (Not e) source fine x o = expr_seen known e source fine x o
 expr_seen known (Binary operator d e) source fine x o =
-    let s = both_true (is_source_expr d) (is_source_expr e) source in
-    let f = both_true (is_fine known d) (is_fine known e) fine in
+    let s = and_parts (is_source_expr d) (is_source_expr e) source in
+    let f = and_parts (is_fine known d) (is_fine known e) fine in
     go (side x (read_by d) (read_by e) o) (expr_seen known d s.0 f.0 x) (expr_seen known e s.1 f.1 x)
   where
     go : Side x (read_by d) (read_by e) →
@@ -67,16 +69,6 @@ expr_seen known (Binary operator d e) source fine x o =
         (is_plain x ≡ true) × (is_int known x ≡ true)
     go (in_first p) one other = one p
     go (in_second p) one other = other p
-
--- the function of a call
-pub called_is : (f : Name) (fs : List Function) (g : Function) → called f fs ≡ Some g → function_named f fs ≡ g
-called_is f [] g h = absurd cc
-called_is f (k ∷ fs) g h = go (same_name f k.name) h (λ p. called_is f fs g p)
-  where
-    go : (b : Bool) → (if b then Some k else called f fs) ≡ Some g → (called f fs ≡ Some g → function_named f fs ≡ g) →
-        (if b then k else function_named f fs) ≡ g
-    go true p more = cc
-    go false p more = more p
 
 pub record CallKept (fs : List Function) (known : Known) (target : Option Name) (f : Name) (es : List Expr) : Type 0
   where
@@ -90,8 +82,8 @@ call_kept fs known target f es h = go (called f fs) refl h
     go : (o : Option Function) → called f fs ≡ o → is_call known target o es ≡ true → CallKept fs known target f es
     go None same g = absurd cc
     go (Some k) same g =
-        let p = both_true _ (not (same_name k.name main_name)) g in
-        let q = both_true (is_target known k target) (are_arguments known k.params es) p.0 in
+        let p = and_parts _ (not (same_name k.name main_name)) g in
+        let q = and_parts (is_target known k target) (are_arguments known k.params es) p.0 in
         let is = called_is f fs k same in
         record {
           target_fine = ap (λ w. is_target known w target) is ∙ q.0;
@@ -160,20 +152,20 @@ pub given_kept : (around : Around) (taken : Taken) (fs : List Function) (target 
     && differ (given fs f es) && may_lend around (given fs f es) (lent fs f es)) ≡ true
     → GivenKept around taken fs target f es
 given_kept around taken fs target f es h =
-    let m = both_true _ (may_lend around (given fs f es) (lent fs f es)) h in
-    let p = both_true _ (differ (given fs f es)) m.0 in
+    let m = and_parts _ (may_lend around (given fs f es) (lent fs f es)) h in
+    let p = and_parts _ (differ (given fs f es)) m.0 in
     let q =
-    both_true (list_all (λ e. may_read around taken e) es)
+    and_parts (list_all (λ e. may_read around taken e) es)
     (may_write around taken (target_names target ++ given fs f es)) p.0 in
     let w =
-    both_true (are_loose taken (target_names target ++ given fs f es))
+    and_parts (are_loose taken (target_names target ++ given fs f es))
     (are_inner around (target_names target ++ given fs f es)) q.1 in
     let each = inner_names around (target_names target ++ given fs f es) w.1 in
     record {
       reads = q.0;
       targets = λ x o. each x (among_left x (target_names target) (given fs f es) o);
       arrays = λ x o. each x (among_right x (target_names target) (given fs f es) o);
-      readers = inner_names around (lent fs f es) (both_true (are_inner around (lent fs f es)) _ m.1).0;
+      readers = inner_names around (lent fs f es) (and_parts (are_inner around (lent fs f es)) _ m.1).0;
     }
 
 -- none of the arrays that are passed is from outside the loop
@@ -212,8 +204,8 @@ module _ (around : Around) (known : Known) (declared : List Name) where
   arguments_seen [] (e ∷ es) source fine inner' x o = absurd cc
   arguments_seen (p ∷ ps) [] source fine inner' x o = absurd cc
   arguments_seen (p ∷ ps) (e ∷ es) source fine inner' x o =
-      let s = both_true (is_source_expr e) (list_all is_source_expr es) source in
-      let f = both_true (fits_kind known (wants_array p) e) (fit_kinds known ps es) fine in
+      let s = and_parts (is_source_expr e) (list_all is_source_expr es) source in
+      let f = and_parts (fits_kind known (wants_array p) e) (fit_kinds known ps es) fine in
       go (side x (read_by e) (read_by_all es) o)
       (argument_seen (wants_array p) e s.0 f.0
       (λ v q. inner' v (among_left v (if wants_array p then names_in e else []) (arrays_passed ps es) q)) x)
@@ -258,7 +250,7 @@ home v known owners same over declared x s = by s
         is_among x (v ∷ owners) ≡ false → Home v known declared x
     of_array true e p out = absurd cc
     of_array false e p out =
-        never (is_array known x) p (none_of (is_int known x) (is_array known x)
+        never (is_array known x) p (or_parts (is_int known x) (is_array known x)
         (sym (same x) ∙ ap (λ r. if r then true else is_among x owners) (sym e) ∙ out)).1
 
     of_int : (r : Bool) → same_name x v ≡ r → (if r then true else is_int known x) ≡ true → Home v known declared x
@@ -325,8 +317,8 @@ module _ (program : Program) (fs : List Function) (fs_is : program.functions ≡
   call_seen : (kind : CallKind) (site : ℕ) (target : Option Name) (f : Name) (es : List Expr) →
       StmtSeen (Call kind site target f es)
   call_seen kind site target f es returns known owners around same depth line taken source types owns x o =
-      let s = both_true (is_source_target target) _ source in
-      let t = both_true (is_plain f) (list_all is_source_expr es) s.1 in
+      let s = and_parts (is_source_target target) _ source in
+      let t = and_parts (is_plain f) (list_all is_source_expr es) s.1 in
       let k =
       call_kept fs known target f es
       (ap (λ w. is_call known target (called f w) es) (sym fs_is) ∙ kept _ line types) in
@@ -359,10 +351,10 @@ module _ (program : Program) (fs : List Function) (fs_is : program.functions ≡
       go (side x (read_by e) (read_in_block b ++ read_in_block d) o)
     where
       s1 : (is_source_expr e ≡ true) × ((is_source_block b && is_source_block d) ≡ true)
-      s1 = both_true (is_source_expr e) _ source
+      s1 = and_parts (is_source_expr e) _ source
 
       s2 : (is_source_block b ≡ true) × (is_source_block d ≡ true)
-      s2 = both_true (is_source_block b) (is_source_block d) s1.1
+      s2 = and_parts (is_source_block b) (is_source_block d) s1.1
 
       types' : faults_in_block program returns known b ++ faults_in_block program returns known d ≡ []
       types' = right_none (unless (is_fine known e) line) _ types
@@ -402,13 +394,13 @@ module _ (program : Program) (fs : List Function) (fs_is : program.functions ≡
 
       s1 : (is_plain v ≡ true) ×
           ((is_source_expr from && (is_source_expr to && (list_all is_plain over && is_source_block b))) ≡ true)
-      s1 = both_true (is_plain v) _ source
+      s1 = and_parts (is_plain v) _ source
 
       s2 : (is_source_expr from ≡ true) × ((is_source_expr to && (list_all is_plain over && is_source_block b)) ≡ true)
-      s2 = both_true (is_source_expr from) _ s1.1
+      s2 = and_parts (is_source_expr from) _ s1.1
 
       s3 : (is_source_expr to ≡ true) × ((list_all is_plain over && is_source_block b) ≡ true)
-      s3 = both_true (is_source_expr to) _ s2.1
+      s3 = and_parts (is_source_expr to) _ s2.1
 
       declared : List Name
       declared = v ∷ declared_in_block b
@@ -432,7 +424,7 @@ module _ (program : Program) (fs : List Function) (fs_is : program.functions ≡
       body p =
           let s =
           more Nowhere ((v, name_kind.Integer) ∷ known) (v ∷ owners) (InLoop (v ∷ owners) v over) inside_known
-          (depth + 1) Joins taken [] (both_true (list_all is_plain over) (is_source_block b) s3.1).1 types' owns' x p in
+          (depth + 1) Joins taken [] (and_parts (list_all is_plain over) (is_source_block b) s3.1).1 types' owns' x p in
           record { plain = s.plain; place = at_home (home v known owners same over (declared_in_block b) x s.place) }
 
       late : Side x (read_by to) (read_in_block b) → Seen around known declared x
@@ -451,13 +443,13 @@ module _ (program : Program) (fs : List Function) (fs_is : program.functions ≡
       k = cut_kept program known a e l r (kept _ line (left_none _ _ types))
 
       s1 : (is_plain a ≡ true) × ((is_source_expr e && (is_plain l && (is_plain r && is_source_block b))) ≡ true)
-      s1 = both_true (is_plain a) _ source
+      s1 = and_parts (is_plain a) _ source
 
       s2 : (is_source_expr e ≡ true) × ((is_plain l && (is_plain r && is_source_block b)) ≡ true)
-      s2 = both_true (is_source_expr e) _ s1.1
+      s2 = and_parts (is_source_expr e) _ s1.1
 
       s3 : (is_plain r ≡ true) × (is_source_block b ≡ true)
-      s3 = both_true (is_plain r) (is_source_block b) (both_true (is_plain l) _ s2.1).1
+      s3 = and_parts (is_plain r) (is_source_block b) (and_parts (is_plain l) _ s2.1).1
 
       declared : List Name
       declared = l ∷ r ∷ declared_in_block b
@@ -499,7 +491,7 @@ module _ (program : Program) (fs : List Function) (fs_is : program.functions ≡
       go (side x (read_in s) (read_in_block b) o)
     where
       both : (is_source_stmt s ≡ true) × (is_source_block b ≡ true)
-      both = both_true (is_source_stmt s) (is_source_block b) source
+      both = and_parts (is_source_stmt s) (is_source_block b) source
 
       go : Side x (read_in s) (read_in_block b) → Seen around known (declared_in s ++ declared_in_block b) x
       go (in_first p) =
@@ -522,21 +514,21 @@ module _ (program : Program) (fs : List Function) (fs_is : program.functions ≡
   mutual
     pub stmt_seen : (s : Stmt) → StmtSeen s
     stmt_seen (Declare y e) returns known owners around same depth line taken source types owns x o =
-        fine_seen around known (y ∷ []) e (both_true (is_plain y) (is_source_expr e) source).1
-        (both_true (is_fine known e) (is_new program known y) (kept _ line types)).0 x o
+        fine_seen around known (y ∷ []) e (and_parts (is_plain y) (is_source_expr e) source).1
+        (and_parts (is_fine known e) (is_new program known y) (kept _ line types)).0 x o
     stmt_seen (DeclareArray y e) returns known owners around same depth line taken source types owns x o =
-        fine_seen around known (y ∷ []) e (both_true (is_plain y) (is_source_expr e) source).1
-        (both_true (is_fine known e) (is_new program known y) (kept _ line types)).0 x o
+        fine_seen around known (y ∷ []) e (and_parts (is_plain y) (is_source_expr e) source).1
+        (and_parts (is_fine known e) (is_new program known y) (kept _ line types)).0 x o
     stmt_seen (Assign y e) returns known owners around same depth line taken source types owns x o =
-        fine_seen around known [] e (both_true (is_plain y) (is_source_expr e) source).1
-        (both_true (is_int known y) (is_fine known e) (kept _ line types)).1 x o
+        fine_seen around known [] e (and_parts (is_plain y) (is_source_expr e) source).1
+        (and_parts (is_int known y) (is_fine known e) (kept _ line types)).1 x o
     stmt_seen (AssignElement a i e) returns known owners around same depth line taken source types owns x o =
-        let s = both_true (is_source_expr i) (is_source_expr e) (both_true (is_plain a) _ source).1 in
-        let f = both_true (is_writable known a && is_fine known i) (is_fine known e) (kept _ line types) in
-        element_seen known around i e s.0 s.1 (both_true (is_writable known a) (is_fine known i) f.0).1 f.1 x o
+        let s = and_parts (is_source_expr i) (is_source_expr e) (and_parts (is_plain a) _ source).1 in
+        let f = and_parts (is_writable known a && is_fine known i) (is_fine known e) (kept _ line types) in
+        element_seen known around i e s.0 s.1 (and_parts (is_writable known a) (is_fine known i) f.0).1 f.1 x o
     stmt_seen (Reduce how r e) returns known owners around same depth line taken source types owns x o =
-        fine_seen around known [] e (both_true (is_plain r) (is_source_expr e) source).1
-        (both_true (is_reducer program how r) (is_fine known e) (kept _ line types)).1 x o
+        fine_seen around known [] e (and_parts (is_plain r) (is_source_expr e) source).1
+        (and_parts (is_reducer program how r) (is_fine known e) (kept _ line types)).1 x o
     stmt_seen (Call kind site target f es) returns known owners around same depth line taken source types owns x o =
         call_seen kind site target f es returns known owners around same depth line taken source types owns x o
     stmt_seen (Start kind f es) returns known owners around same depth line taken source types owns x o = absurd cc
@@ -544,7 +536,7 @@ module _ (program : Program) (fs : List Function) (fs_is : program.functions ≡
         absurd cc
     stmt_seen Sync returns known owners around same depth line taken source types owns x o = absurd cc
     stmt_seen (If e b) returns known owners around same depth line taken source types owns x o =
-        let s = both_true (is_source_expr e) (is_source_block b) source in
+        let s = and_parts (is_source_expr e) (is_source_block b) source in
         tested_seen e b returns known around s.0 (kept _ line (left_none _ _ types)) x
         (block_seen b returns known owners around same depth Leaves taken [] s.1 (right_none _ _ types)
         (right_none _ _ owns) x) o
@@ -552,7 +544,7 @@ module _ (program : Program) (fs : List Function) (fs_is : program.functions ≡
         choice_seen e b d (block_seen b) (block_seen d) returns known owners around same depth line taken source types
         owns x o
     stmt_seen (While e b) returns known owners around same depth line taken source types owns x o =
-        let s = both_true (is_source_expr e) (is_source_block b) source in
+        let s = and_parts (is_source_expr e) (is_source_block b) source in
         tested_seen e b returns known around s.0 (kept _ line (left_none _ _ types)) x
         (block_seen b returns known owners around same depth Leaves (taken_after fs depth (While e b) taken) [] s.1
         (right_none _ _ types) (right_none _ _ owns) x) o

@@ -1,22 +1,20 @@
 -- A rest came back to a run of a job: what the run's own spawns left goes back into its slots, and what waited before
 -- it began waits on.
-use Rattle.std.proofs.Common.{◌≡◌, ℕ, zero, suc, ◌+◌, ◌<◌, ℤ, true, Option, Some, None, List, [], ◌∷◌, ◌++◌, length}
+use Rattle.std.proofs.Common.{◌≡◌, ℕ, zero, suc, ◌+◌, ◌<◌, ℤ, true, Option, Some, None, List, [], ◌∷◌, length}
 use Rattle.std.proofs.Common.{refl, sym, ap, ◌∙◌, arith}
 use Rattle.std.specs.Prelude.{slice_get}
 use Rattle.std.proofs.lemmas.List.{append-nil}
-use Rattle.cw_model.specs.Outcome.{Trace, quiet, joined}
+use Rattle.cw_model.specs.Outcome.{quiet}
 use Rattle.cw_code.specs.Run.{Slots, Results, Around, Caller, Block, State, is_full}
 use Rattle.cw_code.specs.Good.{IsNotAmong, slots_in, ints_round, all_of}
+use Rattle.cw_code.specs.lemmas.Slots.{not_in_first, not_in_second}
+use Rattle.cw_code.specs.lemmas.Runs.{joined_quiet}
 use Rattle.cw_strand_laws.specs.Jobs.{Standing}
 use Rattle.cw_strand_laws.specs.Over.{trace_under, under}
 use Rattle.cw_strand_laws.specs.Strands.{resumed}
-use Rattle.cw_strand_laws.specs.lemmas.Under.{same_trace}
 use Rattle.cw_machine.specs.Shows.{cell, Comes}
 use Rattle.cw_machine.specs.Gives.{Waits, went_on, ComesBut, RoundComesBut}
 use Rattle.cw_machine.specs.Hands.{ComesRound}
-
-joined_quiet : (t : Trace) → joined t quiet ≡ t
-joined_quiet t = same_trace (joined t quiet) t (append-nil t.lines) (append-nil t.updates) (append-nil t.events)
 
 abbrev pub waits_at : (b s : State) (around : List Around) → Waits (under b (record s { around = around }))
 waits_at b s [] =
@@ -78,14 +76,6 @@ comes_back target slots out back kept (r ∷ results) apart h =
           (λ a full. (apart a full).1) h.2,
     )
 
-not_first : (a : ℕ) (xs ys : List ℕ) → IsNotAmong a (xs ++ ys) → IsNotAmong a xs
-not_first a [] ys h = tt
-not_first a (x ∷ xs) ys h = (h.0, not_first a xs ys h.1)
-
-not_second : (a : ℕ) (xs ys : List ℕ) → IsNotAmong a (xs ++ ys) → IsNotAmong a ys
-not_second a [] ys h = h
-not_second a (x ∷ xs) ys h = not_second a xs ys h.1
-
 -- and what the open blocks round it wait for
 pub comes_back_round : (target : Option ℕ) (slots : Slots ℤ) (out back : List ℤ)
     → ((a : ℕ) → slice_get slots a ≡ Some None → cell back a ≡ cell out a)
@@ -96,7 +86,7 @@ comes_back_round target slots out back kept [] apart h = tt
 comes_back_round target slots out back kept (Caller w ∷ around) apart h = tt
 comes_back_round target slots out back kept (Block o ∷ around) apart h = (
   comes_back target slots out back kept o.results
-      (λ a full. not_first a (slots_in o.results) (all_of (ints_round around)) (apart a full)) h.0,
+      (λ a full. not_in_first a (slots_in o.results) (all_of (ints_round around)) (apart a full)) h.0,
   comes_back_round target slots out back kept around
-      (λ a full. not_second a (slots_in o.results) (all_of (ints_round around)) (apart a full)) h.1,
+      (λ a full. not_in_second a (slots_in o.results) (all_of (ints_round around)) (apart a full)) h.1,
 )

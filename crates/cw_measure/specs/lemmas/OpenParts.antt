@@ -161,3 +161,7 @@ work_since os es fs k s =
       join = λ x n e h. let a = work_more os x Join in omega arith;
     } in
     kept_since P K es fs 0 k s (omega arith) ∙ omega arith
+
+-- behind a join nothing is spawned
+pub spawned_joined : (es : List Event) → has_spawned (es ++ Join ∷ []) ≡ false
+spawned_joined es = spawned_append false es (Join ∷ [])

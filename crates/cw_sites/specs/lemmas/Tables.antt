@@ -1,17 +1,18 @@
 -- Lemmas of tables: each run has one that shows it, and quiet parts need no call.
-use Rattle.std.specs.Prelude.{◌≡◌, ℕ, false, List, Option, Some, None, refl}
+use Rattle.std.specs.Prelude.{◌≡◌, ℕ, ◌+◌, false, List, Option, Some, None, refl, slice_get}
 use Rattle.std.proofs.Common.{sym, ◌∙◌, arith}
-use Rattle.cw_model.specs.Trees.{Mark, Invocation, Execution, work}
-use Rattle.cw_model.specs.Rows.{is_site}
+use Rattle.cw_model.specs.Trees.{Tree, Mark, Invocation, Execution, work}
+use Rattle.cw_model.specs.Rows.{is_site, site_row}
 use Rattle.cw_measure.specs.OpenParts.{Open}
 use Rattle.cw_measure.specs.Outermost.{is_counted}
 use Rattle.cw_measure.specs.lemmas.OpenParts.{adds_none, work_adds, left_work}
+use Rattle.cw_sites.specs.declared.table.SiteRow as declared
 use Rattle.cw_sites.specs.declared.table.SiteTable.{SiteTable}
 use Rattle.cw_sites.specs.StepLists.{strand_path}
 use Rattle.cw_sites.specs.OpenPaths.{inside, here_in}
 use Rattle.cw_sites.specs.SiteRows.{row_of}
 use Rattle.cw_sites.specs.Laws.{AllRunsAreShown}
-use Rattle.cw_sites.specs.Tables.{IsQuiet, QuietParts}
+use Rattle.cw_sites.specs.Tables.{IsQuiet, IsRow, QuietParts}
 use Rattle.cw_sites.specs.lemmas.OpenPaths.{shows_work, shows_entered, shows_spawned, shows_spawned_again}
 use Rattle.cw_sites.specs.lemmas.OpenPaths.{shows_joined, shows_unjoined, shows_left, shows_ended, shows_all}
 use Rattle.cw_sites.specs.lemmas.SiteRows.{row_other, row_other_left}
@@ -64,3 +65,8 @@ all_runs_are_shown = λ site base. record {
   child_end = shows_ended site base;
   end = shows_all site base;
 }
+
+-- rows by their numbers, from a number on
+abbrev pub AreRowsFrom : ℕ → Tree → List declared.SiteRow → Type 0
+AreRowsFrom n t rows =
+    (k site : ℕ) (row : declared.SiteRow) → site ≡ n + k → slice_get rows k ≡ Some row → IsRow row (site_row site t)

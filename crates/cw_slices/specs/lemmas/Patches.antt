@@ -6,6 +6,7 @@ use Prim.Native.Nat.{zero, suc}
 use lib.ListN.{length-append, length-drop, length-replicate}
 use lib.Seq.{length-take-le}
 use Rattle.std.proofs.lemmas.Option.{none-some, same_Some, slice_get_within}
+use Rattle.cw_facts.specs.Lists.{there_at, get_left}
 use Rattle.cw_slices.specs.Blocks.{ins, outs, patched, IsIn, Have, AreIn, numbers, marks}
 
 abbrev Cells : Type 0
@@ -14,11 +15,6 @@ Cells = List (Option ℤ)
 -- the same place, counted otherwise
 same_place : {X : Type 0} (xs : List X) (j k : ℕ) → j ≡ k → slice_get xs j ≡ slice_get xs k
 same_place xs j k e = ap (λ (i : ℕ). slice_get xs i) e
-
-in_first : {X : Type 0} (xs ys : List X) (k : ℕ) → k < length xs → slice_get (xs ++ ys) k ≡ slice_get xs k
-in_first [] ys k lt = absurd (omega (arith, lt))
-in_first (x ∷ xs) ys zero lt = refl
-in_first (x ∷ xs) ys (suc k) lt = in_first xs ys k (omega (arith, lt))
 
 in_second : {X : Type 0} (xs ys : List X) (k : ℕ) → length xs ≤ k
     → slice_get (xs ++ ys) k ≡ slice_get ys (k - length xs)
@@ -68,13 +64,13 @@ module _ {X : Type 0} (from : ℕ) (new cells : List X) (fits : from + length ne
 
   -- those before are as they were
   pub patched_before : (k : ℕ) → k < from → slice_get (patched from new cells) k ≡ slice_get cells k
-  patched_before k lt = in_first (take from cells) tail k (omega (arith, lt, front)) ∙ in_take from cells k lt
+  patched_before k lt = get_left (take from cells) tail k (omega (arith, lt, front)) ∙ in_take from cells k lt
 
   -- the new ones are there
   pub patched_at : (k : ℕ) → k < length new → slice_get (patched from new cells) (from + k) ≡ slice_get new k
   patched_at k lt =
       in_second (take from cells) tail (from + k) (omega (arith, front)) ∙
-      same_place tail (from + k - length (take from cells)) k (omega (arith, front)) ∙ in_first new last k lt
+      same_place tail (from + k - length (take from cells)) k (omega (arith, front)) ∙ get_left new last k lt
 
   -- those after are as they were
   pub patched_after : (k : ℕ) → from + length new ≤ k → slice_get (patched from new cells) k ≡ slice_get cells k
@@ -103,11 +99,6 @@ length_ins (x ∷ xs) = ap suc (length_ins xs)
 pub length_outs : (n : ℕ) → length (outs n) ≡ n
 length_outs n = length-replicate n None
 
-there : {X : Type 0} (xs : List X) (k : ℕ) → k < length xs → (x : X) × (slice_get xs k ≡ Some x)
-there [] k lt = absurd (omega (arith, lt))
-there (x ∷ xs) zero lt = (x, refl)
-there (x ∷ xs) (suc k) lt = there xs k (omega (arith, lt))
-
 -- cells that are all in have their numbers, and no others
 pub have_ins : (xs : List ℤ) → Have (ins xs) 0 xs
 have_ins xs k x e = same_place (ins xs) (0 + k) k (omega arith) ∙ ins_get xs k x e
@@ -117,7 +108,7 @@ ins_same xs ys e =
     same_each xs ys (sym (length_ins xs) ∙ ap length e ∙ length_ins ys)
     (λ k x at. get_ins ys k x (ap (λ (l : Cells). slice_get l k) (sym e) ∙ ins_get xs k x at))
 
-never_out : (xs : List ℤ) (k : ℕ) → slice_get (ins xs) k ≡ Some None → ⊥
+pub never_out : (xs : List ℤ) (k : ℕ) → slice_get (ins xs) k ≡ Some None → ⊥
 never_out [] k e = none-some None e
 never_out (x ∷ xs) zero e = none-some x (sym (same_Some (Some x) None e))
 never_out (x ∷ xs) (suc k) e = never_out xs k e
@@ -195,18 +186,6 @@ get_replicated zero v k lt = absurd (omega (arith, lt))
 get_replicated (suc n) v zero lt = refl
 get_replicated (suc n) v (suc k) lt = get_replicated n v k (omega (arith, lt))
 
-set_here : {X : Type 0} (xs : List X) (i : ℕ) (x : X) → i < length xs → slice_get (slice_set xs i x) i ≡ Some x
-set_here [] i x lt = absurd (omega (arith, lt))
-set_here (y ∷ xs) zero x lt = refl
-set_here (y ∷ xs) (suc i) x lt = set_here xs i x (omega (arith, lt))
-
-set_other : {X : Type 0} (xs : List X) (i k : ℕ) (x : X) → k ≢ i → slice_get (slice_set xs i x) k ≡ slice_get xs k
-set_other [] i k x apart = refl
-set_other (y ∷ xs) zero zero x apart = absurd (apart refl)
-set_other (y ∷ xs) zero (suc k) x apart = refl
-set_other (y ∷ xs) (suc i) zero x apart = refl
-set_other (y ∷ xs) (suc i) (suc k) x apart = set_other xs i k x (λ e. apart (ap suc e))
-
 same_or : (j k : ℕ) → (k ≡ j) ⊎ (k ≢ j)
 same_or zero zero = inl refl
 same_or zero (suc k) = inr (λ e. absurd (omega (arith, e)))
@@ -241,7 +220,7 @@ marks_ins (x ∷ xs) = ap (λ (l : List Bool). true ∷ l) (marks_ins xs)
 
 -- which places are in: each of cells that are all in
 pub in_ins : (xs : List ℤ) (k : ℕ) → k < length xs → IsIn (ins xs) k
-in_ins xs k lt = let x = there xs k lt in (x.0, ins_get xs k x.0 x.1)
+in_ins xs k lt = let x = there_at xs k lt in (x.0, ins_get xs k x.0 x.1)
 
 -- one that was in, beside those that others are in the place of
 pub in_beside : (from : ℕ) (new cells : Cells) (k : ℕ) → from + length new ≤ length cells
@@ -251,7 +230,7 @@ in_beside from new cells k fits (inr after) is = (is.0, patched_after from new c
 
 -- one that a list of numbers tells
 pub in_have : (cells : Cells) (from k : ℕ) (xs : List ℤ) → Have cells from xs → k < length xs → IsIn cells (from + k)
-in_have cells from k xs has lt = let x = there xs k lt in (x.0, has k x.0 x.1)
+in_have cells from k xs has lt = let x = there_at xs k lt in (x.0, has k x.0 x.1)
 
 -- one that was given back
 pub in_back : (from : ℕ) (xs : List ℤ) (cells : Cells) (k : ℕ) → from + length xs ≤ length cells → k < length xs

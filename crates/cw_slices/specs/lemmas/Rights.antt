@@ -3,7 +3,8 @@ use Rattle.std.proofs.Common.{◌≡◌, ℕ, ◌+◌, ◌-◌, ◌<◌, ◌≤�
 use Rattle.std.proofs.Common.{◌∙◌, arith}
 use Prim.Native.Nat.{zero, suc}
 use Rattle.std.proofs.lemmas.Option.{same_Some}
-use Rattle.cw_slices.specs.Blocks.{patched, AreHalved}
+use Rattle.std.specs.Coded.{Coded-set, coded_list, coded_ℕ}
+use Rattle.cw_slices.specs.Blocks.{patched, AreHalved, IsWhole, Lodged}
 use Rattle.cw_slices.specs.lemmas.Patches.{same_each, length_patched, patched_before, patched_at, patched_after}
 use Rattle.cw_slices.specs.lemmas.Patches.{length_replicated, get_replicated}
 
@@ -76,3 +77,7 @@ merged_back from count d d' rights fits alike =
 
     each : (k x : ℕ) → slice_get again k ≡ Some x → slice_get rights k ≡ Some x
     each k x is = by k x is (less_or k from)
+
+-- that a block is whole is a proposition
+pub whole_prop : (b : Lodged) → IsProp (IsWhole b)
+whole_prop b = λ p q. Coded-set (coded_list coded_ℕ) b.rights (replicate (length b.cells) b.spot.halved) p q

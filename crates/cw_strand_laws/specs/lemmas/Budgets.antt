@@ -2,6 +2,7 @@
 use Rattle.std.proofs.Common.{◌≡◌, ℕ, zero, suc, ◌+◌, ◌-◌, ◌≤◌, Bool, true, false, refl, sym, ap, ◌∙◌, subst, inl}
 use Rattle.std.proofs.Common.{inr, arith}
 use Rattle.std.proofs.lemmas.Bool.{cases_lt}
+use Rattle.cw_facts.specs.Tests.{taken, not_taken}
 use Rattle.cw_code.specs.Code.{Code}
 use Rattle.cw_code.specs.Run.{State, Transition, On, Ends, Stops, Stuck, step}
 use Rattle.cw_strand_laws.specs.Jobs.{Extent, has_come, standing, Came, Arrives, Returns, Falls, Beyond, Lost, moved}
@@ -9,7 +10,6 @@ use Rattle.cw_strand_laws.specs.Jobs.{travel, Job, course, Effect, Ended, Joined
 use Rattle.cw_strand_laws.specs.Jobs.{JobMeaning, Same, Passed, Short}
 use Rattle.cw_strand_laws.specs.Strands.{cost_of}
 use Rattle.cw_strand_laws.specs.Promises.{Takes, StandsFor}
-use Rattle.cw_strand_laws.specs.lemmas.Tests.{taken, not_taken}
 
 pub takes_none : (cost : ℕ) (run later : ℕ → Came) → cost ≡ 0 → ((n : ℕ) → run n ≡ later n) → Takes cost run later
 takes_none cost run later e same = record {

@@ -12,13 +12,13 @@ use Rattle.cw_code.specs.Run.{Slots, Results, Taken, slot_taken, Waiting, Around
 use Rattle.cw_code.specs.Run.{Stops, Stuck, settled, Entering, waiting_at, begun, result_of, going_on, step}
 use Rattle.cw_code.specs.Good.{slots_in, Seat, Good, IsGiven, AllResume, GoodState, GoodTransition, FitSteps}
 use Rattle.cw_code.specs.Good.{FitSettles}
+use Rattle.cw_code.specs.lemmas.Slots.{settled_append}
 use Rattle.cw_strand_laws.specs.Jobs.{Extent, WholeCall, ToJoin, joins, is_first, has_come, Standing, standing, Came}
 use Rattle.cw_strand_laws.specs.Jobs.{Arrives, Returns, Falls, Beyond, Lost, moved, travel, Job, job_start}
 use Rattle.cw_strand_laws.specs.Strands.{spawn_job, resumed}
 use Rattle.cw_strand_laws.specs.Over.{beneath, results_under, arrived_under, under, transition_under}
 use Rattle.cw_strand_laws.specs.lemmas.Under.{act_under}
 use Rattle.cw_strand_laws.specs.lemmas.Budgets.{come_at, none_left, go_one}
-use Rattle.cw_strand_laws.specs.lemmas.Settled.{settled_append}
 
 -- what a run of an extent stands upon: a whole call upon nothing, a rest upon the state in which its block would go on
 pub data Base : Extent → Type 0 where

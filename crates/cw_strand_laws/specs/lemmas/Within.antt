@@ -1,8 +1,9 @@
 -- A run of the rest of a block comes to a join of the function that it began in.
-use Rattle.std.proofs.Common.{◌≡◌, ◌⊎◌, inl, inr, ⊎_elim, ℕ, zero, suc, ◌+◌, ◌<◌, ◌≤◌, ℤ, ◌+ℤ◌, Bool, true, false}
+use Rattle.std.proofs.Common.{◌≡◌, ◌⊎◌, inl, inr, ⊎_elim, ℕ, zero, suc, ◌+◌, ℤ, ◌+ℤ◌, Bool, true, false}
 use Rattle.std.proofs.Common.{◌&&◌, nat_lt, if◌then◌else◌, Option, Some, None, List, [], ◌∷◌, length, refl, sym, ap}
-use Rattle.std.proofs.Common.{◌∙◌, subst, arith}
+use Rattle.std.proofs.Common.{◌∙◌, subst}
 use Rattle.std.specs.Prelude.{map, take, drop, is_none, slice_get, slice_set}
+use Rattle.std.proofs.lemmas.Option.{same_Some}
 use Rattle.cw_model.specs.declared.trap.Trap.TheVariants as trap
 use Rattle.cw_model.specs.declared.limits.TheConstants.{MOST_DEPTH}
 use Rattle.cw_model.specs.declared.syntax.CallKind.{CallKind}
@@ -21,7 +22,7 @@ use Rattle.cw_code.specs.declared.code.Instr.{Instr}
 use Rattle.cw_code.specs.declared.code.Loan.{Loan}
 use Rattle.cw_code.specs.declared.code.Instr.TheVariants as instr
 use Rattle.cw_code.specs.Code.{Code, reducer_names}
-use Rattle.cw_code.specs.Fits.{Shape, nexts, Table, FlowsIntoEach, LieFrom, Fits, leaves}
+use Rattle.cw_code.specs.Fits.{Shape, nexts, Table, FlowsIntoEach, Fits, leaves}
 use Rattle.cw_code.specs.Good.{Seat, GoodState, GoodTransition, FitFacts, FitSteps}
 use Rattle.cw_code.specs.Run.{Slots, Results, State, Transition, On, Ends, Stops, Stuck, on_top, on_two, on_slot}
 use Rattle.cw_code.specs.Run.{is_full, apply_unary, operated, set_array, adds, settled, put_in, Whole, arrays_in}
@@ -30,6 +31,8 @@ use Rattle.cw_code.specs.Run.{parts_of, looped, on_range, start, given_back, res
 use Rattle.cw_code.specs.Run.{rejoined, event_of, back, opened, opened_region, cut_arrays, may_cut, cuts, Around}
 use Rattle.cw_code.specs.Run.{Caller, Block, resumes, closed, resumes_uncut, cut_ends, moved_out, reader, lent_in}
 use Rattle.cw_code.specs.Run.{passed_by, lent_by, act, step}
+use Rattle.cw_code.specs.Staying.{IsInside}
+use Rattle.cw_code.specs.lemmas.Lying.{one_function}
 use Rattle.cw_strand_laws.specs.Jobs.{ToJoin, joins, is_first, has_come, Standing, standing, Came, Arrives, Returns}
 use Rattle.cw_strand_laws.specs.Jobs.{Falls, Beyond, Lost, moved, travel}
 use Rattle.cw_strand_laws.specs.Over.{under, transition_under}
@@ -41,10 +44,6 @@ abbrev pub home_place : (place : ℕ) → List Around → ℕ
 home_place place [] = place
 home_place place (Block o ∷ around) = home_place place around
 home_place place (Caller w ∷ around) = home_place w.place around
-
--- a place of a function
-abbrev pub IsInside : Func → ℕ → Type 0
-IsInside f place = (f.start ≤ place) × (place < f.end)
 
 -- the call that a run began in goes on in this function
 abbrev pub StaysIn : Func → Transition → Type 0
@@ -279,30 +278,6 @@ home_either p q [] = inr (refl, refl)
 home_either p q (Block o ∷ around) = home_either p q around
 home_either p q (Caller w ∷ around) = inl refl
 
--- functions lie one after another
-lie_from : (from : ℕ) (fs : List Func) (to k : ℕ) (f : Func) → LieFrom from fs to → slice_get fs k ≡ Some f
-    → from ≤ f.start
-lie_from from [] to k f h e = cc
-lie_from from (g ∷ fs) to zero f h e = (let same : g ≡ f = cc in omega (arith, h.0, ap (λ (x : Func). x.start) same))
-lie_from from (g ∷ fs) to (suc k) f h e = (let r = lie_from g.end fs to k f h.2 e in omega (arith, r, h.1))
-
--- a place has one function
-one_function : (from : ℕ) (fs : List Func) (to j k p : ℕ) (f g : Func) → LieFrom from fs to → slice_get fs j ≡ Some f
-    → slice_get fs k ≡ Some g → IsInside f p → IsInside g p → j ≡ k
-one_function from [] to j k p f g h e e' a b = cc
-one_function from (x ∷ fs) to zero zero p f g h e e' a b = refl
-one_function from (x ∷ fs) to zero (suc k) p f g h e e' a b =
-    let same : x ≡ f = cc in
-    absurd (omega (arith, a.1, b.0, ap (λ (y : Func). y.end) same, lie_from x.end fs to k g h.2 e'))
-one_function from (x ∷ fs) to (suc j) zero p f g h e e' a b =
-    let same : x ≡ g = cc in
-    absurd (omega (arith, a.0, b.1, ap (λ (y : Func). y.end) same, lie_from x.end fs to j f h.2 e))
-one_function from (x ∷ fs) to (suc j) (suc k) p f g h e e' a b =
-    ap suc (one_function x.end fs to j k p f g h.2 e e' a b)
-
-some_same : (f g : Func) → Some f ≡ Some g → f ≡ g
-some_same f g e = cc
-
 module _ (code : Code) (fits : Fits code) (facts : FitFacts code fits) (steps_well : FitSteps code fits) where
   pub inside_of : (place : ℕ) (seat : Seat code fits place) → IsInside seat.func place
   inside_of place seat = (fits.each seat.index seat.func seat.is_func).is_table.within place seat.shape seat.at
@@ -313,7 +288,7 @@ module _ (code : Code) (fits : Fits code) (facts : FitFacts code fits) (steps_we
         let e =
         one_function 0 code.funcs (length code.instrs) seat.index k place seat.func f fits.lie seat.is_func is
         (inside_of place seat) h in
-        some_same seat.func f (sym seat.is_func ∙ ap (slice_get code.funcs) e ∙ is)
+        same_Some seat.func f (sym seat.is_func ∙ ap (slice_get code.funcs) e ∙ is)
 
     module _ (s : State) (good : GoodState code fits (under b s)) (here : IsInside f (home_place s.place s.around))
       where

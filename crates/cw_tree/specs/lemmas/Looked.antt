@@ -1,10 +1,11 @@
 -- A tree whose slots, indices and counts are right is its program with each name looked up.
-use Rattle.std.proofs.Common.{◌≡◌, ℕ, ◌==◌, List, [], ◌∷◌, ◌++◌, length, drop, Bool, true, false, not, ◌&&◌, if◌then◌else◌}
+use Rattle.std.proofs.Common.{◌≡◌, ℕ, ◌==◌, List, [], ◌∷◌, ◌++◌, length, drop, true, not, ◌&&◌, if◌then◌else◌}
 use Rattle.std.proofs.Common.{Option, Some, None, refl, sym, ap, ◌∙◌, bytes_eq}
 use Rattle.std.specs.Prelude.{map, option_map}
 use Rattle.std.specs.List.{list_all}
 use Rattle.std.proofs.lemmas.Bool.{eqb-true}
 use Rattle.std.proofs.lemmas.Slice.Eq.{bytes_eq-Decides}
+use Rattle.cw_facts.specs.Tests.{not_true}
 use Rattle.cw_model.specs.Syntax.{Name, Param, Reducer}
 use Rattle.cw_model.specs.Names.{is_among}
 use Rattle.cw_model.specs.Answers.{main_name}
@@ -48,10 +49,6 @@ expr_is l (Not e) h = ap Not (expr_is l e h)
 expr_is l (Binary o d e) h =
     ap (λ q. Binary o q e) (expr_is l d (both_left (is_right_expr l d) (is_right_expr l e) h)) ∙ ap
     (Binary o (resolved_expr l (plain_expr d))) (expr_is l e (both_right (is_right_expr l d) (is_right_expr l e) h))
-
-not_true : (b : Bool) → not b ≡ true → b ≡ false
-not_true true h = cc
-not_true false h = refl
 
 argument_is : (l : Locals) (ps : List Param) (a : Argument) → is_right_argument l ps a ≡ true
     → a ≡ resolved_argument l ps (plain_argument a)

@@ -1,17 +1,15 @@
 -- A body takes no more slots than its function declares names.
 use Rattle.std.proofs.Common.{Bool, true, false, not, if◌then◌else◌, map, filter, ◌≡◌, ℕ, suc, ◌+◌, ◌≤◌, max, List}
-use Rattle.std.proofs.Common.{[], ◌∷◌, ◌++◌, length, length-append, refl, ap, arith}
+use Rattle.std.proofs.Common.{[], ◌∷◌, ◌++◌, length, refl, ap, arith}
+use Rattle.std.proofs.lemmas.List.{length_push}
 use Rattle.cw_model.specs.Syntax as model
 use Rattle.cw_model.specs.Syntax.{Name, Param}
 use Rattle.cw_tree.specs.Declares.{declares_in, declares_in_block}
 use Rattle.cw_tree.specs.Resolved as spec
 use Rattle.cw_model.specs.Syntax.{wants_array}
 
-pub one_more : (names : List Name) (x : Name) → length (names ++ x ∷ []) ≡ length names + 1
-one_more names x = rw length-append refl
-
 ints_after : (l : spec.Locals) (s : model.Stmt) → length (spec.locals_after l s).ints ≤ length l.ints + declares_in s
-ints_after l (model.Declare x e) = let one = one_more l.ints x in omega (arith, one)
+ints_after l (model.Declare x e) = let one = length_push l.ints x in omega (arith, one)
 ints_after l (model.DeclareArray a e) = omega arith
 ints_after l (model.Assign x e) = omega arith
 ints_after l (model.AssignElement a i e) = omega arith
@@ -33,7 +31,7 @@ ints_after l (model.Return e) = omega arith
 arrays_after : (l : spec.Locals) (s : model.Stmt)
     → length (spec.locals_after l s).arrays ≤ length l.arrays + declares_in s
 arrays_after l (model.Declare x e) = omega arith
-arrays_after l (model.DeclareArray a e) = let one = one_more l.arrays a in omega (arith, one)
+arrays_after l (model.DeclareArray a e) = let one = length_push l.arrays a in omega (arith, one)
 arrays_after l (model.Assign x e) = omega arith
 arrays_after l (model.AssignElement a i e) = omega arith
 arrays_after l (model.Reduce how s e) = omega arith
@@ -70,7 +68,7 @@ mutual
       let second = few_ints_in lists l m c in omega (arith, first, second)
   few_ints lists l n (model.While e b) = few_ints_in lists l n b
   few_ints lists l n (model.For x y z from to grain over b) =
-      let one = one_more l.ints x in
+      let one = length_push l.ints x in
       let body = few_ints_in lists (spec.with_int x l) (max n (suc (length l.ints))) b in omega (arith, one, body)
   few_ints lists l n (model.Scope b) = few_ints_in lists l n b
   few_ints lists l n (model.Cut a e left right b) =
@@ -111,8 +109,8 @@ mutual
       let body = few_arrays_in lists (spec.with_int x l) n b in omega (arith, body)
   few_arrays lists l n (model.Scope b) = few_arrays_in lists l n b
   few_arrays lists l n (model.Cut a e left right b) =
-      let one = one_more l.arrays left in
-      let two = one_more (l.arrays ++ left ∷ []) right in
+      let one = length_push l.arrays left in
+      let two = length_push (l.arrays ++ left ∷ []) right in
       let body =
       few_arrays_in lists (spec.with_array right (spec.with_array left l))
       (max n (suc (length (l.arrays ++ left ∷ [])))) b in omega (arith, one, two, body)

@@ -1,126 +1,38 @@
 -- Where memory is never wanting, no effect is for want of memory.
-use Rattle.std.proofs.Common.{◌≡◌, ℕ, zero, suc, ◌+◌, Bool, true, false, List, [], ◌∷◌, Option, Some, None, refl, sym, subst, inl, inr, length}
-use Rattle.std.specs.Prelude.{slice_get, nat_lt, if◌then◌else◌}
+use Rattle.std.proofs.Common.{◌≡◌, ℕ, zero, suc, Bool, true, false, List, [], ◌∷◌, Option, Some, None, refl, sym, subst, inl, inr, length}
+use Rattle.std.specs.Prelude.{slice_get, if◌then◌else◌}
+use Rattle.std.proofs.lemmas.Option.{same_Some}
+use Rattle.cw_facts.specs.Lists.{added_gives}
 use Rattle.cw_code.specs.Code.{Code}
-use Rattle.cw_code.specs.Run.{State, Transition, On, Ends, Stops, Stuck, step}
-use Rattle.cw_strand_laws.specs.Jobs.{Job, Effect, Ended, Joined, TrapIn, OverLimit, Memory, has_come, standing}
-use Rattle.cw_strand_laws.specs.Strands.{Strand, Going, Waits, Halted, Turn, Goes, HandsOut, ComesBack, turn, dropped, cost_of}
-use Rattle.cw_strand_laws.specs.Steps.{started, Advanced, Ran, Handed, AtSync, Finished, Unfit, advance, finished, turned, went_on, given_to, give}
+use Rattle.cw_strand_laws.specs.Jobs.{Job, Effect, Joined, has_come, standing}
+use Rattle.cw_strand_laws.specs.Strands.{Strand, Going, Waits, Halted}
+use Rattle.cw_strand_laws.specs.Steps.{started, Advanced, Ran, Handed, AtSync, Finished, Unfit, advance, give}
 use Rattle.cw_strand_laws.specs.Worlds.{Place, Undecided, Kept, Offered, Runs, Made, Settled, Spent, World, placed, joined_by}
+use Rattle.cw_strand_laws.specs.lemmas.Ample.{Ample, AmpleStrand, AmplePlace, AmpleWorld, AmpleStep, advances, gives, set_ample}
 use Rattle.cw_world.specs.core.Board.{oldest, of_worker}
 use Rattle.cw_world.specs.core.Table.{Event, Run, Offer, Inline, Retake, Steal, Settle, Collect, Sched, Idle, Busy, Over, top, effect_of, run_or_made, put, advanced, got_back, stole, stolen_by, collected, effect_at, does, perform, is_possible, tried, world_run, first_sched}
 use Rattle.cw_world.specs.core.Laws.{OnePlace, is_short}
-use Rattle.cw_world.proofs.core.Tally.{same_some, set_gives, added_gives}
 use Rattle.cw_world.proofs.core.Events.{with_top, tries}
 
-abbrev pub IsAmple : Effect → Type 0
-IsAmple (Ended v arrays t cost) = Unit {0}
-IsAmple (Joined frame t cost) = Unit {0}
-IsAmple (TrapIn trap line lines cost) = Unit {0}
-IsAmple OverLimit = Unit {0}
-IsAmple Memory = ⊥
-
-abbrev pub HasAmple : Strand → Type 0
-HasAmple (Going s count outs) = Unit {0}
-HasAmple (Waits s count outs) = Unit {0}
-HasAmple (Halted e outs) = IsAmple e
-
-abbrev pub AmplePlace : Place → Type 0
-AmplePlace (Runs w strand outs) = HasAmple strand
-AmplePlace (Made w e) = IsAmple e
-AmplePlace (Settled e) = IsAmple e
-AmplePlace (Undecided w) = Unit {0}
-AmplePlace (Kept w) = Unit {0}
-AmplePlace (Offered w) = Unit {0}
-AmplePlace Spent = Unit {0}
-
-abbrev pub AmpleWorld : World → Type 0
-AmpleWorld world = (n : ℕ) (place : Place) → slice_get world.places n ≡ Some place → AmplePlace place
-
-abbrev AmpleStep : Advanced → Type 0
-AmpleStep (Ran new) = HasAmple new
-AmpleStep (Handed out new) = HasAmple new
-AmpleStep AtSync = Unit {0}
-AmpleStep (Finished e) = IsAmple e
-AmpleStep Unfit = Unit {0}
-
-finishes : (outs : List Job) (e : Effect) → IsAmple e → AmpleStep (finished outs e)
-finishes [] e h = h
-finishes (out ∷ outs) e h = tt
-
-turns : (turn : Turn) (from to : State) (limit before count : ℕ) (outs : List Job) → AmpleStep (turned turn from to limit before count outs)
-turns Goes from to limit before count outs = tt
-turns (HandsOut target taken) from to limit before count outs = tt
-turns ComesBack from to limit before count outs = tt
-
-goes : (turn : Turn) (from : State) (to : Transition) (limit before count : ℕ) (outs : List Job) → AmpleStep (went_on turn from to limit before count outs)
-goes turn from (On s) limit before count outs = turns turn from s limit before count outs
-goes turn from (Ends v arrays t) limit before count outs = finishes outs (Ended v arrays t count) tt
-goes turn from (Stops trap line lines) limit before count outs = tt
-goes turn from Stuck limit before count outs = tt
-
-either : (b : Bool) (x y : Advanced) → AmpleStep x → AmpleStep y → AmpleStep (if b then x else y)
-either true x y h k = h
-either false x y h k = k
-
-advances : (code : Code) (job : Job) (strand : Strand) → HasAmple strand → AmpleStep (advance code job strand)
-advances code job (Going s count outs) h =
-    either (has_come job.extent code s) (finished outs (Joined (standing s) s.trace count)) _ (finishes outs (Joined (standing s) s.trace count) tt)
-    (either (nat_lt job.limit (job.before + (count + 1))) (Ran (Halted OverLimit outs)) (went_on (turn code s) s (step code s) job.limit job.before (count + 1) outs) tt (goes (turn code s) s (step code s) job.limit job.before (count + 1) outs))
-advances code job (Waits s count outs) h = tt
-advances code job (Halted e []) h = h
-advances code job (Halted e (out ∷ outs)) h = tt
-
-gives_to : (s : State) (count : ℕ) (outs : List Job) (e : Effect) → IsAmple e → HasAmple (given_to s count outs e)
-gives_to s count outs (Ended v arrays t cost) h = tt
-gives_to s count outs (Joined frame t cost) h = tt
-gives_to s count outs (TrapIn trap line lines cost) h = tt
-gives_to s count outs OverLimit h = tt
-gives_to s count outs Memory h = absurd h
-
-drops : (e e' : Effect) → IsAmple e → IsAmple e' → IsAmple (dropped e e')
-drops e (Ended v arrays t cost) h k = h
-drops e (Joined frame t cost) h k = h
-drops e (TrapIn trap line lines cost) h k = h
-drops e OverLimit h k = h
-drops e Memory h k = absurd k
-
-gives : (job : Job) (strand : Strand) (e : Effect) → HasAmple strand → IsAmple e → HasAmple (give job strand e)
-gives job (Going s count outs) e h k = tt
-gives job (Waits s count []) e h k = tt
-gives job (Waits s count (out ∷ outs)) e h k = within (nat_lt job.limit (job.before + (count + cost_of e)))
-  where
-    within : (b : Bool) → HasAmple (if b then Halted OverLimit outs else given_to s count outs e)
-    within true = tt
-    within false = gives_to s count outs e k
-gives job (Halted e' []) e h k = h
-gives job (Halted e' (out ∷ outs)) e h k = drops e' e h k
-
-gets_back : (strand : Strand) → HasAmple strand → HasAmple (got_back strand)
+gets_back : (strand : Strand) → AmpleStrand strand → AmpleStrand (got_back strand)
 gets_back (Going s count outs) h = h
 gets_back (Waits s count []) h = tt
 gets_back (Waits s count (out ∷ outs)) h = tt
 gets_back (Halted e []) h = h
 gets_back (Halted e (out ∷ outs)) h = h
 
-ends : (code : Code) (job : Job) (strand : Strand) (e : Effect) → HasAmple strand → effect_of code job strand ≡ Some e → IsAmple e
+ends : (code : Code) (job : Job) (strand : Strand) (e : Effect) → AmpleStrand strand → effect_of code job strand ≡ Some e → Ample e
 ends code job (Going s count []) e h f = come (has_come job.extent code s) f
   where
-    come : (b : Bool) → (if b then Some (Joined (standing s) s.trace count) else None) ≡ Some e → IsAmple e
-    come true g = subst IsAmple (same_some (Joined (standing s) s.trace count) e g) tt
+    come : (b : Bool) → (if b then Some (Joined (standing s) s.trace count) else None) ≡ Some e → Ample e
+    come true g = subst Ample (same_Some (Joined (standing s) s.trace count) e g) tt
     come false g = cc
 ends code job (Going s count (out ∷ outs)) e h f = cc
 ends code job (Waits s count outs) e h f = cc
-ends code job (Halted e' []) e h f = subst IsAmple (same_some e' e f) h
+ends code job (Halted e' []) e h f = subst Ample (same_Some e' e f) h
 ends code job (Halted e' (out ∷ outs)) e h f = cc
 
-set_ample : (world : World) (i : ℕ) (new : Place) → AmpleWorld world → AmplePlace new → AmpleWorld (placed world i new)
-set_ample world i new all h n place at = elim (set_gives world.places i n new place at) [
-  | inl p ↦ subst AmplePlace (sym p.1) h
-  | inr p ↦ all n place p
-]
-
-put_ample : (code : Code) (world : World) (w i : ℕ) (job : Job) (strand : Strand) (outs : List ℕ) → AmpleWorld world → HasAmple strand → AmpleWorld (put code world w i job strand outs)
+put_ample : (code : Code) (world : World) (w i : ℕ) (job : Job) (strand : Strand) (outs : List ℕ) → AmpleWorld world → AmpleStrand strand → AmpleWorld (put code world w i job strand outs)
 put_ample code world w i job strand outs all h = set_ample world i (run_or_made w strand outs (effect_of code job strand)) all (cases (effect_of code job strand) refl)
   where
     cases : (o : Option Effect) → effect_of code job strand ≡ o → AmplePlace (run_or_made w strand outs o)
@@ -144,7 +56,7 @@ module _ (code : Code) (s : Sched) (one : OnePlace s) (all : AmpleWorld s.world)
   spent : (n : ℕ) → AmpleWorld (placed s.world n Spent)
   spent n = set_ample s.world n Spent all tt
 
-  collects : (w i n : ℕ) (job : Job) (strand : Strand) (outs : List ℕ) (o : Option Place) → HasAmple strand → slice_get s.world.places n ≡ o → AmpleWorld (collected code false s w i n job strand outs (effect_at o)).world
+  collects : (w i n : ℕ) (job : Job) (strand : Strand) (outs : List ℕ) (o : Option Place) → AmpleStrand strand → slice_get s.world.places n ≡ o → AmpleWorld (collected code false s w i n job strand outs (effect_at o)).world
   collects w i n job strand outs None h f = all
   collects w i n job strand outs (Some (Made v e)) h f = put_ample code (placed s.world n Spent) w i job (give job strand e) outs (spent n) (gives job strand e h (all n (Made v e) f))
   collects w i n job strand outs (Some (Settled e)) h f = put_ample code (placed s.world n Spent) w i job (give job strand e) outs (spent n) (gives job strand e h (all n (Settled e) f))
@@ -162,7 +74,7 @@ module _ (code : Code) (s : Sched) (one : OnePlace s) (all : AmpleWorld s.world)
       cases None = all
       cases (Some job) = put_ample code s.world w n job (started job) [] all tt
 
-  at_top : (event : Event) (i : ℕ) (job : Job) (strand : Strand) (outs : List ℕ) → HasAmple strand → AmpleWorld (does code false s event (Busy i job strand outs)).world
+  at_top : (event : Event) (i : ℕ) (job : Job) (strand : Strand) (outs : List ℕ) → AmpleStrand strand → AmpleWorld (does code false s event (Busy i job strand outs)).world
   at_top (Run w) i job strand outs h = runs w i job outs (advance code job strand) (advances code job strand h)
   at_top (Offer w) i job strand [] h = all
   at_top (Offer w) i job strand (n ∷ outs) h = set_ample s.world n (Offered w) all tt
@@ -175,7 +87,7 @@ module _ (code : Code) (s : Sched) (one : OnePlace s) (all : AmpleWorld s.world)
   at_top (Collect w) i job strand [] h = all
   at_top (Collect w) i job strand (n ∷ outs) h = collects w i n job strand outs (slice_get s.world.places n) h refl
 
-  at_over : (event : Event) (i : ℕ) (e : Effect) → IsAmple e → AmpleWorld (does code false s event (Over i e)).world
+  at_over : (event : Event) (i : ℕ) (e : Effect) → Ample e → AmpleWorld (does code false s event (Over i e)).world
   at_over (Run w) i e h = all
   at_over (Offer w) i e h = all
   at_over (Inline w) i e h = all
@@ -210,5 +122,5 @@ stays_ample code ((event, false) ∷ events) s h one all = stays_ample code even
 stays_ample code ((event, true) ∷ events) s h one all = cc
 
 pub starts_ample : (root : Job) (others : ℕ) → AmpleWorld (first_sched root others).world
-starts_ample root others zero place at = subst AmplePlace (same_some (Runs 0 (started root) []) place at) tt
+starts_ample root others zero place at = subst AmplePlace (same_Some (Runs 0 (started root) []) place at) tt
 starts_ample root others (suc n) place at = cc

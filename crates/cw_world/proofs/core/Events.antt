@@ -4,6 +4,7 @@ use Rattle.std.proofs.lemmas.List.{length-set}
 use Rattle.std.proofs.lemmas.Bool.{eqb-true, eq-eqb}
 use Rattle.std.proofs.lemmas.Bool.Decides.{eqb_tells}
 use Rattle.std.specs.Prelude.{slice_get, slice_set, nat_eq, is_some, ◌&&◌, ◌||◌, if◌then◌else◌}
+use Rattle.std.proofs.lemmas.Option.{same_Some}
 use Rattle.cw_code.specs.Code.{Code}
 use Rattle.cw_strand_laws.specs.Jobs.{Job, Effect, Joined, has_come, standing}
 use Rattle.cw_strand_laws.specs.Strands.{Strand, Going, Waits, Halted}
@@ -12,7 +13,7 @@ use Rattle.cw_strand_laws.specs.Worlds.{Place, Undecided, Kept, Offered, Runs, M
 use Rattle.cw_world.specs.core.Board.{Board, newest, oldest, but_oldest, but_newest, of_worker, or_none, offer, retake, collect}
 use Rattle.cw_world.specs.core.Table.{Event, Run, Offer, Inline, Retake, Steal, Settle, Collect, Sched, Top, Idle, Busy, Over, top_at, top_of, top, at_join, is_at_join, is_undecided, is_at_spawn, is_kept_by, is_settled, is_same, can_retake, is_possible, effect_of, run_or_made, put, told, noted, advanced, ran, got_back, retaken, short_of, stole, stolen_by, settled, collected, effect_at, does, perform, tried, newest_out, place_of, world_run, none_begun, first_sched, counted}
 use Rattle.cw_world.specs.core.Laws.{one_if, times, is_with, is_offered_by, OnePlace, EachInOnePlace, RunsCome, EventsAreSteps}
-use Rattle.cw_world.proofs.core.Tally.{same_some, set_here, set_there, set_twice, still_some, stays, some_there, beside, pushed_times, newest_times, oldest_times, more_times, same, grows, adds, drops}
+use Rattle.cw_world.proofs.core.Tally.{set_here, set_there, set_twice, still_some, stays, some_there, beside, pushed_times, newest_times, oldest_times, more_times, same, grows, adds, drops}
 
 pub both : (a b : Bool) → a && b ≡ true → (a ≡ true) × (b ≡ true)
 both true b h = (refl, h)
@@ -103,11 +104,11 @@ module _ (code : Code) where
   ended_finishes job (Going state count []) e h = by_come (has_come job.extent code state) (Joined (standing state) state.trace count) _ h
     where
       by_come : (b : Bool) (x : Effect) (others : Advanced) → (if b then Some x else None) ≡ Some e → (if b then Finished x else others) ≡ Finished e
-      by_come true x others k = ap Finished (same_some x e k)
+      by_come true x others k = ap Finished (same_Some x e k)
       by_come false x others k = cc
   ended_finishes job (Going state count (out ∷ outs)) e h = cc
   ended_finishes job (Waits state count outs) e h = cc
-  ended_finishes job (Halted x []) e h = ap Finished (same_some x e h)
+  ended_finishes job (Halted x []) e h = ap Finished (same_Some x e h)
   ended_finishes job (Halted x (out ∷ outs)) e h = cc
 
   -- a strand put into its place, where it may have come to its end

@@ -1,7 +1,8 @@
 -- A rest that is taken back runs as it would in a strand of its own.
-use Rattle.std.proofs.Common.{◌≡◌, ℕ, ◌+◌, ◌≤◌, Bool, true, false, ◌&&◌, List, [], ◌∷◌, ◌++◌, Option, Some, refl, sym, ap, ◌∙◌, subst, arith}
+use Rattle.std.proofs.Common.{◌≡◌, ℕ, ◌+◌, Bool, true, false, ◌&&◌, List, [], ◌∷◌, ◌++◌, Option, Some, refl, sym, ap, ◌∙◌, subst, arith}
 use Rattle.std.specs.Prelude.{slice_get, nat_lt, if◌then◌else◌}
-use Rattle.std.proofs.lemmas.Bool.{ltb-true}
+use Rattle.std.proofs.Math.Bool.{and-false}
+use Rattle.cw_facts.specs.Tests.{not_below}
 use Rattle.cw_code.specs.declared.code.Instr.{Instr}
 use Rattle.cw_code.specs.declared.code.Instr.TheVariants as instr
 use Rattle.cw_code.specs.Code.{Code}
@@ -28,10 +29,6 @@ turn_under code b (Some instr.Return) (Block o ∷ []) h = refl
 turn_under code b (Some instr.Return) (Block o ∷ (a ∷ around)) h = refl
 turn_under code b _ around h = refl
 
-never : (b : Bool) → (b && false) ≡ false
-never true = refl
-never false = refl
-
 come_under : (x : Extent) (code : Code) (b s : State) → has_come ToJoin code s ≡ false → has_come x code (under b s) ≡ false
 come_under WholeCall code b s h = refl
 come_under ToJoin code b s h = cases s.around h
@@ -40,15 +37,8 @@ come_under ToJoin code b s h = cases s.around h
     o = slice_get code.instrs s.place
 
     cases : (around : List Around) → (is_first around && joins o) ≡ false → (is_first (beneath b around) && joins o) ≡ false
-    cases [] k = ap (λ j. is_first b.around && j) k ∙ never (is_first b.around)
+    cases [] k = ap (λ j. is_first b.around && j) k ∙ and-false (is_first b.around)
     cases (a ∷ around) k = refl
-
-not_less : (a b : ℕ) → b ≤ a → nat_lt a b ≡ false
-not_less a b h = cases (nat_lt a b) refl
-  where
-    cases : (c : Bool) → nat_lt a b ≡ c → c ≡ false
-    cases false e = refl
-    cases true e = absurd (let lt = ltb-true a b e in omega (arith, h, lt))
 
 module _ (code : Code) (b : State) (count n : ℕ) (rest job : Job) (s : State) (outs outs' : List Job) where
   turns : (t : Turn) (s' : State) → Alike b count (turned t s s' rest.limit rest.before (n + 1) outs) (turned t (under b s) (under b s') job.limit job.before ((count + n) + 1) outs')
@@ -72,7 +62,7 @@ runs_alike code rest job b s count n outs outs' is h within within' = subst (λ 
     picks false true x y z e f = cc
 
     mine : advance code rest (Going s n outs) ≡ went_on (turn code s) s (step code s) rest.limit rest.before (n + 1) outs
-    mine = picks (has_come rest.extent code s) (nat_lt rest.limit (rest.before + (n + 1))) (finished outs (Joined (standing s) s.trace n)) (Ran (Halted OverLimit outs)) _ (ap (λ x. has_come x code s) is ∙ h) (not_less rest.limit (rest.before + (n + 1)) within)
+    mine = picks (has_come rest.extent code s) (nat_lt rest.limit (rest.before + (n + 1))) (finished outs (Joined (standing s) s.trace n)) (Ran (Halted OverLimit outs)) _ (ap (λ x. has_come x code s) is ∙ h) (not_below rest.limit (rest.before + (n + 1)) within)
 
     moves : went_on (turn code (under b s)) (under b s) (step code (under b s)) job.limit job.before ((count + n) + 1) outs' ≡ went_on (turn code s) (under b s) (transition_under b (step code s)) job.limit job.before ((count + n) + 1) outs'
     moves = ap (λ t. went_on t (under b s) (step code (under b s)) job.limit job.before ((count + n) + 1) outs') (turn_under code b (slice_get code.instrs s.place) s.around h)
@@ -80,7 +70,7 @@ runs_alike code rest job b s count n outs outs' is h within within' = subst (λ 
 
     theirs : advance code job (Going (under b s) (count + n) outs') ≡ went_on (turn code s) (under b s) (transition_under b (step code s)) job.limit job.before ((count + n) + 1) outs'
     theirs = picks (has_come job.extent code (under b s)) (nat_lt job.limit (job.before + ((count + n) + 1))) (finished outs' (Joined (standing (under b s)) (under b s).trace (count + n))) (Ran (Halted OverLimit outs')) _
-        (come_under job.extent code b s h) (not_less job.limit (job.before + ((count + n) + 1)) within') ∙ moves
+        (come_under job.extent code b s h) (not_below job.limit (job.before + ((count + n) + 1)) within') ∙ moves
 
 pub joins_alike : ((code : Code) → Cut code) → JoinsAlike
 joins_alike cut code y s limit before n left frame t none arrives = (cut code).rest y s limit before n none ∙ ap (onwards code y s) arrives

@@ -1,14 +1,13 @@
 -- Lists of numbers beside the places of jobs: each number is counted where its place says.
-use Rattle.std.proofs.Common.{◌≡◌, ◌≢◌, ◌⊎◌, ℕ, zero, suc, ◌+◌, Bool, true, false, List, [], ◌∷◌, ◌++◌, Option, Some, None, refl, sym, ap, ◌∙◌, inl, inr, arith, length}
+use Rattle.std.proofs.Common.{◌≡◌, ◌≢◌, ℕ, zero, suc, ◌+◌, Bool, true, false, List, [], ◌∷◌, ◌++◌, Option, Some, None, refl, sym, ap, ◌∙◌, inl, inr, arith, length}
 use Rattle.std.specs.Prelude.{slice_get, slice_set, nat_eq, is_some}
 use Rattle.std.proofs.lemmas.Bool.{eq-eqb}
 use Rattle.std.proofs.lemmas.Bool.Decides.{eqb_tells}
+use Rattle.std.proofs.lemmas.Option.{same_Some}
+use Rattle.cw_facts.specs.Tests.{not_equal}
 use Rattle.cw_strand_laws.specs.Worlds.{Place}
 use Rattle.cw_world.specs.core.Board.{pushed, newest, but_newest, oldest, but_oldest, of_worker, or_none}
 use Rattle.cw_world.specs.core.Laws.{one_if, times}
-
-pub same_some : {A : Type 0} (x y : A) → Some x ≡ Some y → x ≡ y
-same_some x y e = ap (λ o. elim o [ Some c ↦ c | None ↦ x ]) e
 
 module _ {A : Type 0} where
   pub set_here : (xs : List A) (i : ℕ) (old x : A) → slice_get xs i ≡ Some old → slice_get (slice_set xs i x) i ≡ Some x
@@ -50,29 +49,6 @@ module _ {A : Type 0} where
   some_there None h = cc
   some_there (Some x) h = (x, refl)
 
-  -- what a list gives after one entry was set, or one was added
-  pub set_gives : (xs : List A) (i k : ℕ) (x y : A) → slice_get (slice_set xs i x) k ≡ Some y → (k ≡ i × (y ≡ x)) ⊎ (slice_get xs k ≡ Some y)
-  set_gives [] i k x y h = inr h
-  set_gives (z ∷ xs) zero zero x y h = inl (refl, sym (some_same x y h))
-    where
-      some_same : (a b : A) → Some a ≡ Some b → a ≡ b
-      some_same a b e = ap (λ o. elim o [ Some c ↦ c | None ↦ a ]) e
-  set_gives (z ∷ xs) zero (suc k) x y h = inr h
-  set_gives (z ∷ xs) (suc i) zero x y h = inr h
-  set_gives (z ∷ xs) (suc i) (suc k) x y h = elim (set_gives xs i k x y h) [
-    | inl p ↦ inl (ap suc p.0, p.1)
-    | inr p ↦ inr p
-  ]
-
-  pub added_gives : (xs : List A) (k : ℕ) (x y : A) → slice_get (xs ++ x ∷ []) k ≡ Some y → (k ≡ length xs × (y ≡ x)) ⊎ (slice_get xs k ≡ Some y)
-  added_gives [] zero x y h = inl (refl, ap (λ o. elim o [ Some c ↦ c | None ↦ y ]) (sym h))
-  added_gives [] (suc k) x y h = inr h
-  added_gives (z ∷ xs) zero x y h = inr h
-  added_gives (z ∷ xs) (suc k) x y h = elim (added_gives xs k x y h) [
-    | inl p ↦ inl (ap suc p.0, p.1)
-    | inr p ↦ inr p
-  ]
-
 -- two lists of one length have the same places
 pub beside : {A B : Type 0} (xs : List A) (ys : List B) (n : ℕ) (y : B) → length xs ≡ length ys → slice_get ys n ≡ Some y → (x : A) × (slice_get xs n ≡ Some x)
 beside xs [] n y e h = cc
@@ -86,24 +62,18 @@ pushed_times n i (x ∷ xs) = let e = pushed_times n i xs in omega (arith, e)
 
 pub newest_times : (n i : ℕ) (xs : List ℕ) → newest xs ≡ Some i → times n xs ≡ times n (but_newest xs) + one_if (nat_eq n i)
 newest_times n i [] h = cc
-newest_times n i (x ∷ []) h = let e : one_if (nat_eq n x) ≡ one_if (nat_eq n i) = ap (λ k. one_if (nat_eq n k)) (same_some x i h) in omega (arith, e)
+newest_times n i (x ∷ []) h = let e : one_if (nat_eq n x) ≡ one_if (nat_eq n i) = ap (λ k. one_if (nat_eq n k)) (same_Some x i h) in omega (arith, e)
 newest_times n i (x ∷ (y ∷ xs)) h = let e = newest_times n i (y ∷ xs) h in omega (arith, e)
 
 pub oldest_times : (n i : ℕ) (xs : List ℕ) → oldest xs ≡ Some i → times n xs ≡ times n (but_oldest xs) + one_if (nat_eq n i)
 oldest_times n i [] h = cc
-oldest_times n i (x ∷ xs) h = let e : one_if (nat_eq n x) ≡ one_if (nat_eq n i) = ap (λ k. one_if (nat_eq n k)) (same_some x i h) in omega (arith, e)
+oldest_times n i (x ∷ xs) h = let e : one_if (nat_eq n x) ≡ one_if (nat_eq n i) = ap (λ k. one_if (nat_eq n k)) (same_Some x i h) in omega (arith, e)
 
 pub more_times : (n i : ℕ) (xs : List ℕ) → times n (i ∷ xs) ≡ times n xs + one_if (nat_eq n i)
 more_times n i xs = omega arith
 
 itself : (n : ℕ) → nat_eq n n ≡ true
 itself n = eq-eqb n n refl
-
-another : (n i : ℕ) → n ≢ i → nat_eq n i ≡ false
-another n i h = elim (eqb_tells n i) [
-  | inl p ↦ absurd (h p.1)
-  | inr p ↦ p.0
-]
 
 module _ (f : ℕ → Option Place → Bool) (lists : List (List ℕ)) (places : List Place) (kept : (w n : ℕ) → times n (of_worker lists w) ≡ one_if (f w (slice_get places n))) where
   -- a place changes to one that is read alike
@@ -151,8 +121,8 @@ module _ (f : ℕ → Option Place → Bool) (lists : List (List ℕ)) (places :
   pub adds : (w₀ i : ℕ) (xs xs' : List ℕ) (old new : Place) → slice_get lists w₀ ≡ Some xs → slice_get places i ≡ Some old
       → ((w : ℕ) → f w (Some old) ≡ false) → ((w : ℕ) → f w (Some new) ≡ nat_eq w w₀) → ((n : ℕ) → times n xs' ≡ times n xs + one_if (nat_eq n i))
       → (w n : ℕ) → times n (of_worker (slice_set lists w₀ xs') w) ≡ one_if (f w (slice_get (slice_set places i new) n))
-  adds w₀ i xs xs' old new at at' none one more = change w₀ i xs xs' old new at at' (λ w d. one w ∙ another w w₀ d ∙ sym (none w))
-      (λ n d. let e = more n in let z : one_if (nat_eq n i) ≡ 0 = ap one_if (another n i d) in omega (arith, e, z))
+  adds w₀ i xs xs' old new at at' none one more = change w₀ i xs xs' old new at at' (λ w d. one w ∙ not_equal w w₀ d ∙ sym (none w))
+      (λ n d. let e = more n in let z : one_if (nat_eq n i) ≡ 0 = ap one_if (not_equal n i d) in omega (arith, e, z))
       (let e = more i in let u : one_if (nat_eq i i) ≡ 1 = ap one_if (itself i) in let z : times i xs ≡ 0 = counted_here w₀ i xs old at at' ∙ ap one_if (none w₀) in
       let r : one_if (f w₀ (Some new)) ≡ 1 = ap one_if (one w₀ ∙ itself w₀) in omega (arith, e, u, z, r))
 
@@ -160,7 +130,7 @@ module _ (f : ℕ → Option Place → Bool) (lists : List (List ℕ)) (places :
   pub drops : (w₀ i : ℕ) (xs xs' : List ℕ) (old new : Place) → slice_get lists w₀ ≡ Some xs → slice_get places i ≡ Some old
       → ((w : ℕ) → f w (Some old) ≡ nat_eq w w₀) → ((w : ℕ) → f w (Some new) ≡ false) → ((n : ℕ) → times n xs ≡ times n xs' + one_if (nat_eq n i))
       → (w n : ℕ) → times n (of_worker (slice_set lists w₀ xs') w) ≡ one_if (f w (slice_get (slice_set places i new) n))
-  drops w₀ i xs xs' old new at at' one none more = change w₀ i xs xs' old new at at' (λ w d. none w ∙ sym (one w ∙ another w w₀ d))
-      (λ n d. let e = more n in let z : one_if (nat_eq n i) ≡ 0 = ap one_if (another n i d) in omega (arith, e, z))
+  drops w₀ i xs xs' old new at at' one none more = change w₀ i xs xs' old new at at' (λ w d. none w ∙ sym (one w ∙ not_equal w w₀ d))
+      (λ n d. let e = more n in let z : one_if (nat_eq n i) ≡ 0 = ap one_if (not_equal n i d) in omega (arith, e, z))
       (let e = more i in let u : one_if (nat_eq i i) ≡ 1 = ap one_if (itself i) in let z : times i xs ≡ 1 = counted_here w₀ i xs old at at' ∙ ap one_if (one w₀ ∙ itself w₀) in
       let r : one_if (f w₀ (Some new)) ≡ 0 = ap one_if (none w₀) in omega (arith, e, u, z, r))

@@ -1,10 +1,10 @@
 use Rattle.std.proofs.Common.{◌≡◌, sym, subst}
+use Rattle.cw_facts.specs.Options.{handed_on}
 use Rattle.cw_code.specs.Code.{code_view}
 use Rattle.cw_machine.specs.Runs.{RunsAsCode}
 use Rattle.cw_cli.specs.Analyses.{IsModeInRange}
 use Rattle.cw_compile.specs.Compiled.{AreMade}
 use Rattle.cw_words.specs.declared.asked.Mode.TheVariants as mode
-use Rattle.cw_compile.specs.lemmas.HandedOn.{handed_on}
 use Rattle.cw_cli.proofs.Runs.{out_of_range}
 use Rattle.cw_cli.proofs.analysis.run_gain_with.Goals as goal
 

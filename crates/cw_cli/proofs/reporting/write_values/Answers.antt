@@ -1,5 +1,5 @@
 use Rattle.std.proofs.Common.{◌≡◌, Ok, Err}
-use Rattle.cw_compile.specs.lemmas.HandedOn.{handed_on}
+use Rattle.cw_facts.specs.Options.{handed_on}
 use Rattle.cw_cli.proofs.Runs.{values_tell, finished, stopped, unwritten}
 use Rattle.cw_cli.proofs.reporting.write_values.Goals as goal
 

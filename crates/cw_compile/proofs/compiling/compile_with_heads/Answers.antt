@@ -1,9 +1,9 @@
 use Rattle.std.proofs.Common.{rules, ap, map, ◌∙◌}
+use Rattle.cw_facts.specs.Options.{handed_on}
 use Rattle.cw_tree.specs.SyntaxView as parsed
 use Rattle.cw_tree.specs.ResolvedView.{function_of}
 use Rattle.cw_compile.specs.Sources.{IsSourceOf}
 use Rattle.cw_compile.specs.Compiled.{head_of}
-use Rattle.cw_compile.specs.lemmas.HandedOn.{handed_on}
 use Rattle.cw_compile.proofs.Refusals.{tree_refused, source_of, types_refused, tree_disowned, tree_has_many_loops, tree_too_large, numbered, source_like, not_unfit, made}
 use Rattle.cw_compile.proofs.compiling.compile_with_heads.Goals as goal
 

@@ -1,7 +1,8 @@
 use Rattle.std.proofs.Common.{◌++◌, length, sym, ap, ◌∙◌}
 use Rattle.std.proofs.lemmas.List.{append-nil}
+use Rattle.cw_facts.specs.Options.{which_ends}
 use Rattle.cw_gen.specs.Emit.{emitted_instrs, emitted_funcs}
-use Rattle.cw_gen.proofs.Joins.{no_more, which_ends}
+use Rattle.cw_gen.proofs.Joins.{no_more}
 use Rattle.cw_gen.proofs.functions.functions_with.Goals as goal
 
 pub returns-clause-instrs : goal.returns-clause-instrs

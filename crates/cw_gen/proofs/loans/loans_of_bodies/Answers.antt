@@ -1,6 +1,7 @@
 use Rattle.std.proofs.Common.{length, map, sym, ap, ◌∙◌}
+use Rattle.cw_facts.specs.Options.{which_ends}
 use Rattle.cw_gen.specs.Emit.{put_loans_of}
-use Rattle.cw_gen.proofs.Joins.{no_more, which_ends}
+use Rattle.cw_gen.proofs.Joins.{no_more}
 use Rattle.cw_gen.proofs.loans.loans_of_bodies.Goals as goal
 
 pub returns : goal.returns

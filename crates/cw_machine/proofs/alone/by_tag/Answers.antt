@@ -1,5 +1,6 @@
 use Rattle.std.proofs.Common.{rules, ◌∷◌, length, subst}
-use Rattle.cw_machine.proofs.Keyed.{TagsTowards, one_tag_more, all_tags, which_ends}
+use Rattle.cw_facts.specs.Options.{which_ends}
+use Rattle.cw_machine.proofs.Keyed.{TagsTowards, one_tag_more, all_tags}
 use Rattle.cw_machine.proofs.alone.by_tag.Goals as goal
 
 pub loop-tag-preserved : goal.loop-tag-preserved

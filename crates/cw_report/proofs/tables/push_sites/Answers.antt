@@ -1,9 +1,9 @@
 use Rattle.std.proofs.Common.{◌≡◌, ◌⊎◌, inl, inr, List, [], ◌∷◌, length, refl, ap₂, subst}
+use Rattle.cw_facts.specs.Options.{which_ends}
 use Rattle.cw_code.specs.Code.{site_view}
 use Rattle.cw_code.specs.declared.code.Site.{Site}
 use Rattle.cw_sites.specs.declared.table.SiteRow.{SiteRow}
 use Rattle.cw_report.specs.Texts.{row_line, site_lines}
-use Rattle.cw_report.proofs.Ends.{which_ends}
 use Rattle.cw_report.proofs.Lines.{Towards, arrived, onward}
 use Rattle.cw_report.proofs.tables.push_sites.Goals as goal
 

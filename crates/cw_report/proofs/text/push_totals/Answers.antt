@@ -1,9 +1,9 @@
 use Rattle.std.proofs.Common.{◌≡◌, ◌⊎◌, inl, inr, ◌++◌, List, [], ◌∷◌, length, refl, sym, ap, ◌∙◌}
 use Rattle.std.proofs.lemmas.List.{append-nil}
+use Rattle.cw_facts.specs.Options.{which_ends}
 use Rattle.cw_model.specs.declared.total.Total.{Total}
 use Rattle.cw_code.specs.declared.code.Reducer.{Reducer}
 use Rattle.cw_report.specs.Texts.{totals_text}
-use Rattle.cw_report.proofs.Ends.{which_ends}
 use Rattle.cw_report.proofs.text.push_totals.Goals as goal
 
 -- where either list is at its end no line is left

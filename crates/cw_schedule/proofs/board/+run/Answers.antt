@@ -1,6 +1,7 @@
 use Rattle.std.proofs.Common.{◌≡◌, ◌-◌, ◌++◌, length, arith, refl, ap, sym, ◌∙◌, subst}
 use Rattle.cw_greedy.specs.Slots.{ready_slots, run_slots, RoomFor}
-use Rattle.cw_schedule.proofs.Slots.{room-all, run-all, room_first, room_second, length-run, run-append, run_first}
+use Rattle.cw_greedy.specs.lemmas.Slots.{run-append, room_first, room_second}
+use Rattle.cw_schedule.proofs.Slots.{room-all, run-all, length-run, run_first}
 use Rattle.cw_schedule.proofs.Halves.{opened_right, opened_shows, same_tells, same_shows, length_shown, handed_on, whole}
 use Rattle.cw_schedule.proofs.board.+run.Goals as goal
 

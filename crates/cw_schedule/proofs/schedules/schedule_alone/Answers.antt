@@ -1,10 +1,10 @@
-use Rattle.std.proofs.Common.{◌≡◌, ◌≤◌, true, arith, refl, sym, subst, ◌∙◌}
+use Rattle.std.proofs.Common.{◌≡◌, true, refl, sym, subst, ◌∙◌}
+use Rattle.cw_facts.specs.Options.{handed_on}
 use Rattle.cw_model.specs.Trees.{work}
-use Rattle.cw_model.specs.declared.limits.TheConstants.{MOST_LIMIT}
 use Rattle.cw_code.specs.Code.{code_view}
 use Rattle.cw_runnable.specs.declared.verified.Verified.{Verified}
 use Rattle.cw_schedule.specs.Schedules.{is_asked}
-use Rattle.cw_schedule.proofs.Told.{at_most, ends_so, handed_on, not_scheduled, record_kept}
+use Rattle.cw_schedule.proofs.Told.{at_most, ends_so, not_scheduled, record_kept}
 use Rattle.cw_schedule.proofs.Within.{within}
 use Rattle.cw_schedule.proofs.schedules.schedule_alone.Goals as goal
 

@@ -1,9 +1,8 @@
-use Rattle.std.proofs.Common.{◌≡◌, ◌+◌, ◌<◌, drop, length, get_or, arith, refl, ap, sym, subst, ◌∙◌}
+use Rattle.std.proofs.Common.{◌+◌, ◌<◌, drop, length, arith, ap, subst}
 use Rattle.std.proofs.lemmas.List.{drop_all}
 use Rattle.cw_greedy.specs.declared.code.Code.TheVariants.{Instructions}
-use Rattle.cw_schedule.specs.Planned.{instructions_of}
 use Rattle.cw_schedule.specs.Reading.{instructions}
-use Rattle.cw_schedule.specs.Weighed.{WillWeigh, counted}
+use Rattle.cw_schedule.specs.Weighed.{WillWeigh}
 use Rattle.cw_schedule.proofs.Plans.{sum_step}
 use Rattle.cw_schedule.proofs.Weighing.{weighs_all, weighs_next}
 use Rattle.cw_schedule.proofs.weights.weighed.Goals as goal

@@ -5,9 +5,9 @@ use Rattle.cw_tree.specs.declared.syntax.Stmt.{the_lemmas}
 use Rattle.cw_tree.specs.SyntaxView.{exprs_of, stmt_of}
 use Rattle.cw_types.proofs.rules.of_stmt.Goals as goal
 
-pub returns-in_ok-of_call-in-Call-clause-holds : goal.returns-in_ok-of_call-in-Call-clause-holds
-returns-in_ok-of_call-in-Call-clause-holds c =
+pub returns-in-Call-clause-holds : goal.returns-in-Call-clause-holds
+returns-in-Call-clause-holds c =
     let call = c.deref.result.now in
     let seen : stmt_of c.args.stmt.now ≡ model.Call call.kind call.site call.target call.callee (exprs_of call.arguments.items) =
     grind (arith, common_steps, the_lemmas) in
-    rw seen c.in_ok-of_call-in-Call.ensures.holds
+    rw seen c.of_call.ensures.holds

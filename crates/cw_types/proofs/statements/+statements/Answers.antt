@@ -51,9 +51,14 @@ block-declare-requires t c =
     let split : parsed.block_of (drop c.loop-line.line-index c.args.lines.now) ≡ model.Then c.line-item.result.line s rest = grind (arith, common_steps, the_lemmas) in
     omega (arith, ap length c.in_ok-stmt.ensures.ints, ap length c.in_ok-stmt.ensures.arrays, ap declares_in_block split, c.loop-line.invariant.room)
 
-pub block-returns-clause-tree : goal.block-returns-clause-tree
-block-returns-clause-tree t c =
+pub block-returns : goal.block-returns
+block-returns t c =
     let empty : parsed.block_of (drop c.loop-line.line-index c.args.lines.now) ≡ model.End = grind (arith, common_steps, the_lemmas) in
-    sym (joined_end (block_of c.loop-line.found.items))
-    ∙ ap (λ b. joined (block_of c.loop-line.found.items) (spec.resolved_block (lists_view c.args.lists.now) (locals_view c.loop-line.locals) b)) (sym empty)
-    ∙ c.loop-line.invariant.all
+    record {
+      tree =
+          sym (joined_end (block_of c.loop-line.found.items))
+          ∙ ap (λ b. joined (block_of c.loop-line.found.items) (spec.resolved_block (lists_view c.args.lists.now) (locals_view c.loop-line.locals) b)) (sym empty)
+          ∙ c.loop-line.invariant.all;
+      ints = grind (arith, common_steps);
+      arrays = grind (arith, common_steps);
+    }

@@ -15,3 +15,15 @@ returns-in_ok-returned-in-Return c = grind (arith, common_steps, the_lemmas, par
 
 pub returns-in-Sync : goal.returns-in-Sync
 returns-in-Sync c = grind (arith, common_steps, the_lemmas, parsed_lemmas)
+
+pub returns-in_ok-value-in-Declare : goal.returns-in_ok-value-in-Declare
+returns-in_ok-value-in-Declare c = grind (arith, common_steps, the_lemmas, parsed_lemmas)
+
+pub returns-in_ok-length-in-DeclareArray : goal.returns-in_ok-length-in-DeclareArray
+returns-in_ok-length-in-DeclareArray c = grind (arith, common_steps, the_lemmas, parsed_lemmas)
+
+pub returns-in_ok-expression-in-Assign : goal.returns-in_ok-expression-in-Assign
+returns-in_ok-expression-in-Assign c = grind (arith, common_steps, the_lemmas, parsed_lemmas)
+
+pub returns-in_ok-expression-in-AssignElement : goal.returns-in_ok-expression-in-AssignElement
+returns-in_ok-expression-in-AssignElement c = grind (arith, common_steps, the_lemmas, parsed_lemmas)

@@ -1,5 +1,5 @@
 use Rattle.std.proofs.Common.{arith}
-use Rattle.cw_world.proofs.Boards.{get_set}
+use Rattle.cw_facts.specs.Lists.{get_set}
 use Rattle.cw_world.proofs.Tops.{same_laid, on_ok}
 use Rattle.cw_world.proofs.world.room.Goals as goal
 

@@ -1,9 +1,9 @@
 use Rattle.std.proofs.Common.{◌∙◌, Some, refl, sym, ap, length, arith}
 use Rattle.std.proofs.lemmas.Option.{slice_get_read}
+use Rattle.cw_facts.specs.Lists.{get_set}
 use Rattle.cw_world.specs.core.Board.{newest, of_worker}
 use Rattle.cw_world.specs.Scenes.{stacks, stage_of}
 use Rattle.cw_world.proofs.Lists.{newest_pushed}
-use Rattle.cw_world.proofs.Boards.{get_set}
 use Rattle.cw_world.proofs.Tops.{goes_some, goes_not, top_popped, left_popped, none_popped, made_never, answered_never, there}
 use Rattle.cw_world.proofs.world.take.Goals as goal
 

@@ -1,8 +1,9 @@
 use Rattle.std.proofs.Common.{rules, sym, subst}
+use Rattle.cw_facts.specs.Lists.{each_init}
 use Rattle.cw_yard.specs.Ledger.{Each}
 use Rattle.cw_yard.specs.Seats.{table_of}
 use Rattle.cw_yard.specs.Opens.{IsFresh, IsPart}
-use Rattle.cw_yard.proofs.Openings.{Lead, Made, lead_init, made_snoc, each_init, seated, seat}
+use Rattle.cw_yard.proofs.Openings.{Lead, Made, lead_init, made_snoc, seated, seat}
 use Rattle.cw_yard.proofs.open.seats.Goals as goal
 
 pub loop-own-preserved : goal.loop-own-preserved

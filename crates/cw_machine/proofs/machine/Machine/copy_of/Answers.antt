@@ -1,10 +1,10 @@
 use Rattle.std.proofs.Common.{arith, ◌+◌, ◌<◌, true, false, length, sym, ap, ◌∙◌, ◌≡◌, subst}
+use Rattle.cw_facts.specs.Tests.{equal}
 use Rattle.cw_slices.specs.Blocks.{Lodged}
 use Rattle.cw_machine.specs.declared.machine.View.{View}
 use Rattle.cw_machine.specs.Arrays.{block}
 use Rattle.cw_machine.specs.JobRuns.{Copies}
 use Rattle.cw_machine.proofs.Blocks.{block_is}
-use Rattle.cw_machine.proofs.Decided.{equal}
 use Rattle.cw_machine.proofs.JobSlots.{view_is}
 use Rattle.cw_machine.proofs.machine.Machine.copy_of.Goals as goal
 use Rattle.cw_machine.proofs.machine.Machine.copy_of.Goals.{else-is_whole-via-then-is_whole+else-v-count, then-v-a, else-v-a, else-is_whole-via-else-is_whole, then-v-len, else-v-len}

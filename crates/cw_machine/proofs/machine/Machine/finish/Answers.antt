@@ -1,17 +1,13 @@
 use Rattle.std.proofs.Common.{◌≡◌, ℕ, length, sym, subst, ◌∙◌}
-use Rattle.std.specs.Prelude.{replicate}
-use Rattle.std.specs.Coded.{Coded-set, coded_list, coded_ℕ, le_prop}
+use Rattle.std.specs.Coded.{Coded-set, coded_ℕ, le_prop}
 use Rattle.std.proofs.Math.Logic.{∥∥₁_elim}
 use mathlib.Core.HLevel.{⊥_prop}
-use Rattle.cw_slices.specs.Blocks.{Lodged, IsWhole as IsUnshared}
+use Rattle.cw_slices.specs.lemmas.Rights.{whole_prop}
 use Rattle.cw_machine.specs.declared.machine.Machine.{Machine}
 use Rattle.cw_machine.specs.Arrays.{block}
 use Rattle.cw_machine.specs.JobRuns.{AreFrom, CanEnd, MaySee, SlotsEnd}
 use Rattle.cw_machine.proofs.JobEnds.{may_see, job_ends}
 use Rattle.cw_machine.proofs.machine.Machine.finish.Goals as goal
-
-unshared_prop : (b : Lodged) → IsProp (IsUnshared b)
-unshared_prop b = λ p q. Coded-set (coded_list coded_ℕ) b.rights (replicate (length b.cells) b.spot.halved) p q
 
 same_prop : (a b : ℕ) → IsProp (a ≡ b)
 same_prop a b = λ p q. Coded-set coded_ℕ a b p q
@@ -25,7 +21,7 @@ sees m n h = record {
   blocks = ∥∥₁_elim h le_prop (λ can. (seen m n can).blocks);
   all_here = λ b. (
     (λ k e. ∥∥₁_elim h ⊥_prop (λ can. ((seen m n can).all_here b).0 k e)),
-    ∥∥₁_elim h (unshared_prop (block m.blocks.items b)) (λ can. ((seen m n can).all_here b).1),
+    ∥∥₁_elim h (whole_prop (block m.blocks.items b)) (λ can. ((seen m n can).all_here b).1),
   );
   there = λ a lt. ∥∥₁_elim h le_prop (λ can. (seen m n can).there a lt);
   within = λ a lt some. ∥∥₁_elim h le_prop (λ can. (seen m n can).within a lt some);

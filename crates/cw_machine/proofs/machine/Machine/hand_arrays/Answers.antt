@@ -1,5 +1,5 @@
 use Rattle.std.proofs.Common.{◌≡◌, length, sym, ◌∙◌, arith}
-use Rattle.cw_machine.proofs.Decided.{eq_of}
+use Rattle.cw_facts.specs.Tests.{eq_of}
 use Rattle.cw_machine.proofs.Handed.{hands_none, hands_all}
 use Rattle.cw_machine.proofs.machine.Machine.hand_arrays.Goals as goal
 

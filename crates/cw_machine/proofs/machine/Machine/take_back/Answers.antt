@@ -1,6 +1,6 @@
 use Rattle.std.proofs.Common.{◌≡◌, length, sym, ◌∙◌, arith}
+use Rattle.cw_facts.specs.Tests.{eq_of}
 use Rattle.cw_code.specs.Fits.{slots_lent}
-use Rattle.cw_machine.proofs.Decided.{eq_of}
 use Rattle.cw_machine.proofs.Home.{home_none, home_all}
 use Rattle.cw_machine.proofs.machine.Machine.take_back.Goals as goal
 

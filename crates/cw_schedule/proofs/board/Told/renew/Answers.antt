@@ -1,5 +1,6 @@
 use Rattle.std.proofs.Common.{arith}
-use Rattle.cw_schedule.proofs.Slots.{ready_in, ready-append, least-append}
+use Rattle.cw_greedy.specs.lemmas.Slots.{ready-append}
+use Rattle.cw_schedule.proofs.Slots.{ready_in, least-append}
 use Rattle.cw_schedule.proofs.Halves.{owed_zero}
 use Rattle.cw_schedule.proofs.board.Told.renew.Goals as goal
 

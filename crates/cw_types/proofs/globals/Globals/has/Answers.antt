@@ -2,7 +2,7 @@ use Rattle.std.proofs.Common.{ap, sym, ◌∙◌, ◌||◌}
 use Rattle.cw_model.specs.Names.{is_among}
 use Rattle.cw_tree.specs.SyntaxView.{program_of}
 use Rattle.cw_tree.specs.Resolved.{function_names, reducer_names}
-use Rattle.cw_types.proofs.Noting.{among_append}
+use Rattle.cw_tree.specs.lemmas.Names.{among_append}
 use Rattle.cw_types.proofs.globals.Globals.has.Goals as goal
 
 pub returns-then-has : goal.returns-then-has

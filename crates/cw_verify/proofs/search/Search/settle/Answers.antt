@@ -1,7 +1,7 @@
 use Rattle.std.proofs.Common.{arith, ◌<◌, ◌+◌, sym, subst, ◌∙◌}
+use Rattle.cw_facts.specs.Lists.{there_at}
 use Rattle.cw_code.specs.Code.{code_view}
 use Rattle.cw_verify.specs.Table.{so_far, places_of, work_of, visited, left_to_do, IsSearch, HasNone}
-use Rattle.cw_verify.proofs.Lists.{there}
 use Rattle.cw_verify.proofs.Spreading.{shapes_length, visit_search, fails_from}
 use Rattle.cw_verify.proofs.Tables.{visit_goes}
 use Rattle.cw_verify.proofs.search.Search.settle.Goals as goal
@@ -32,7 +32,7 @@ returns-in-Err-clause-settles c =
     let old = c.loop-k.self in
     let search = c.loop-k.invariant.search in
     let small = search.small k c.in-Some.ensures.here in
-    let t = there code.instrs (f.start + k) (omega (arith, small, search.whole, c.requires.there)) in
+    let t = there_at code.instrs (f.start + k) (omega (arith, small, search.whole, c.requires.there)) in
     let named = c.requires.named (f.start + k) t.0 (omega arith) (omega (arith, small, search.whole)) t.1 in
     fails_from c.in-Err.e (visited code f.start (so_far old) k t.0) _ c.visit.new.self (HasNone code f) (c.in-Err.ensures.visits t.0 t.1)
     (λ none t' table. visit_goes code f (so_far old) k t.0 t.1 named t' table (search.below t' table) search.whole none)
@@ -46,7 +46,7 @@ returns-then-reached-clause-settles c =
     let new = c.visit.new.self in
     let search = c.loop-k.invariant.search in
     let small = search.small k c.in-Some.ensures.here in
-    let t = there code.instrs (f.start + k) (omega (arith, small, search.whole, c.requires.there)) in
+    let t = there_at code.instrs (f.start + k) (omega (arith, small, search.whole, c.requires.there)) in
     let tells = c.in-Ok.ensures.visits t.0 t.1 in
     record {
       search = visit_search code f (so_far old) (so_far new) (work_of old) (places_of c.pop.new.self) (work_of new) k t.0 c.in-Ok.reached c.requires.there c.requires.named search c.in-Some.ensures t.1 tells.0 tells.1;
@@ -63,7 +63,7 @@ loop-k-smaller c =
     let new = c.visit.new.self in
     let search = c.loop-k.invariant.search in
     let small = search.small k c.in-Some.ensures.here in
-    let t = there code.instrs (f.start + k) (omega (arith, small, search.whole, c.requires.there)) in
+    let t = there_at code.instrs (f.start + k) (omega (arith, small, search.whole, c.requires.there)) in
     let tells = c.in-Ok.ensures.visits t.0 t.1 in
     let less : left_to_do (so_far new) (work_of new) < left_to_do (so_far old) (work_of old) = omega (arith, tells.1.shrinks c.if-reached.false, c.in-Some.ensures.longer) in
     less
@@ -77,7 +77,7 @@ loop-k-preserved c =
     let new = c.visit.new.self in
     let search = c.loop-k.invariant.search in
     let small = search.small k c.in-Some.ensures.here in
-    let t = there code.instrs (f.start + k) (omega (arith, small, search.whole, c.requires.there)) in
+    let t = there_at code.instrs (f.start + k) (omega (arith, small, search.whole, c.requires.there)) in
     let tells = c.in-Ok.ensures.visits t.0 t.1 in
     record {
       search = visit_search code f (so_far old) (so_far new) (work_of old) (places_of c.pop.new.self) (work_of new) k t.0 c.in-Ok.reached c.requires.there c.requires.named search c.in-Some.ensures t.1 tells.0 tells.1;

@@ -1,12 +1,11 @@
 use Rattle.std.proofs.Common.{◌≡◌, ◌+◌, Some, sym, ap, subst, ◌∙◌}
 use Rattle.std.specs.Prelude.{Bool, Result, Ok, Err, IfOk, option_map, slice_get}
-use Rattle.std.proofs.lemmas.Option.{slice_get-get_or}
+use Rattle.std.proofs.lemmas.Option.{slice_get-get_or, same_Some}
 use Rattle.cw_code.specs.Code.{code_view}
 use Rattle.cw_code.specs.Fits.{leaves}
 use Rattle.cw_text.specs.declared.fault.Fault.{Fault}
 use Rattle.cw_verify.specs.Numbers.{IsKnown, StaysKnown}
 use Rattle.cw_verify.specs.Table.{shape_view, shapes_of, come_all, next_distances, visited, Tells}
-use Rattle.cw_verify.proofs.Lists.{same_some}
 use Rattle.cw_verify.proofs.Numbering.{known_next}
 use Rattle.cw_verify.proofs.Spreading.{shapes_at, tells_from}
 use Rattle.cw_verify.proofs.Tables.{may_both, visited_ready, visited_unready, visited_frozen}
@@ -22,7 +21,7 @@ returns-clause-visits c = λ i is.
     let shape = shape_view c.in-Some.shape in
     let here = c.index.result.now in
     let is_here : slice_get code.instrs (start + k) ≡ Some here = slice_get-get_or code.instrs (start + k) here c.requires.there ∙ ap Some (sym c.index.ensures) in
-    let same : here ≡ i = same_some here i (sym is_here ∙ is) in
+    let same : here ≡ i = same_Some here i (sym is_here ∙ is) in
     let at = shapes_at items k found found c.requires.row c.index-2.ensures ∙ ap (λ o. Some (option_map shape_view o)) c.in-Some.is in
     let ready = sym c.is_ready.ensures ∙ c.if-not-is_ready.false in
     let left = c.in_ok-left.ensures ∙ ap (λ s. leaves code s here) c.in_ok-shape-in-Some.ensures in
@@ -42,7 +41,7 @@ returns-then-not-is_ready-clause-visits c = λ i is.
     let shape = shape_view c.in-Some.shape in
     let here = c.index.result.now in
     let is_here : slice_get code.instrs (start + k) ≡ Some here = slice_get-get_or code.instrs (start + k) here c.requires.there ∙ ap Some (sym c.index.ensures) in
-    let same : i ≡ here = same_some i here (sym is ∙ is_here) in
+    let same : i ≡ here = same_Some i here (sym is ∙ is_here) in
     let at = shapes_at items k found found c.requires.row c.index-2.ensures ∙ ap (λ o. Some (option_map shape_view o)) c.in-Some.is in
     ap (visited code start (shapes_of items) k) same ∙ visited_unready code start (shapes_of items) k here shape at (sym c.is_ready.ensures ∙ c.if-not-is_ready.true)
 
@@ -56,7 +55,7 @@ returns-then-not-is_thawed-clause-visits c = λ i is.
     let shape = shape_view c.in-Some.shape in
     let here = c.index.result.now in
     let is_here : slice_get code.instrs (start + k) ≡ Some here = slice_get-get_or code.instrs (start + k) here c.requires.there ∙ ap Some (sym c.index.ensures) in
-    let same : i ≡ here = same_some i here (sym is ∙ is_here) in
+    let same : i ≡ here = same_Some i here (sym is ∙ is_here) in
     let at = shapes_at items k found found c.requires.row c.index-2.ensures ∙ ap (λ o. Some (option_map shape_view o)) c.in-Some.is in
     ap (visited code start (shapes_of items) k) same ∙ visited_frozen code start (shapes_of items) k here shape at (sym c.is_thawed.ensures ∙ c.if-not-is_thawed.true)
 

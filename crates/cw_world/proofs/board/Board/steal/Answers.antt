@@ -1,7 +1,8 @@
 use Rattle.std.proofs.Common.{List, sym, ap, arith}
+use Rattle.cw_facts.specs.Lists.{get_set}
 use Rattle.cw_world.specs.core.Board.{but_oldest}
 use Rattle.cw_world.specs.declared.board.Offer.{Offer}
-use Rattle.cw_world.proofs.Boards.{worker_set, get_set, oldest_there}
+use Rattle.cw_world.proofs.Boards.{worker_set, oldest_there}
 use Rattle.cw_world.proofs.board.Board.steal.Goals as goal
 
 pub returns-clause-stolen : goal.returns-clause-stolen

@@ -1,15 +1,16 @@
 use Rattle.std.proofs.Common.{refl}
 use Rattle.std.specs.Arc.{arc_value}
+use Rattle.cw_facts.specs.Tests.{first_true, second_true}
 use Rattle.cw_world.specs.declared.post.Out.TheVariants as out
 use Rattle.cw_world.specs.Scenes.{posted, scene, stacks, top}
 use Rattle.cw_world.specs.Table as table
 use Rattle.cw_world.proofs.Lacking.{stage_lacks}
 use Rattle.cw_world.proofs.Turns.{came_back, counted_with, back_whole}
-use Rattle.cw_world.proofs.Doing.{and_left, and_right, turned_scene, taken_works, at_sync, gives, popped, popped_are, settled_out, join_goes}
+use Rattle.cw_world.proofs.Doing.{turned_scene, taken_works, at_sync, gives, popped, popped_are, settled_out, join_goes}
 use Rattle.cw_world.proofs.world.World.collect.Goals as goal
 
 pub take-post-requires : goal.take-post-requires
-take-post-requires c = join_goes (top (scene c.args.self.now) c.args.w) (and_left (table.is_at_join (top (scene c.args.self.now) c.args.w)) _ c.requires.possible)
+take-post-requires c = join_goes (top (scene c.args.self.now) c.args.w) (first_true (table.is_at_join (top (scene c.args.self.now) c.args.w)) _ c.requires.possible)
 
 pub settled-number-requires : goal.settled-number-requires
 settled-number-requires c =
@@ -19,7 +20,7 @@ settled-number-requires c =
     let works = taken_works v s c.args.w p c.requires.sound.right c.take-post.ensures.top in
     let latest = c.pop-latest.result in
     let same = popped c.take-post.result.outs c.pop-latest.new.self latest c.pop-latest.ensures.items c.pop-latest.ensures.cases in
-    settled_out s.board p (top s c.args.w) latest c.take-post.ensures.top same (and_right (table.is_at_join (top s c.args.w)) _ c.requires.possible)
+    settled_out s.board p (top s c.args.w) latest c.take-post.ensures.top same (second_true (table.is_at_join (top s c.args.w)) _ c.requires.possible)
 
 pub give-ended-requires-clause-at_sync : goal.give-ended-requires-clause-at_sync
 give-ended-requires-clause-at_sync c =
@@ -29,7 +30,7 @@ give-ended-requires-clause-at_sync c =
     let works = taken_works v s c.args.w p c.requires.sound.right c.take-post.ensures.top in
     let latest = c.pop-latest.result in
     let same = popped c.take-post.result.outs c.pop-latest.new.self latest c.pop-latest.ensures.items c.pop-latest.ensures.cases in
-    at_sync s.jobs p (top s c.args.w) works c.take-post.ensures.top (and_left (table.is_at_join (top s c.args.w)) _ c.requires.possible)
+    at_sync s.jobs p (top s c.args.w) works c.take-post.ensures.top (first_true (table.is_at_join (top s c.args.w)) _ c.requires.possible)
 
 pub give-ended-requires-clause-lacks : goal.give-ended-requires-clause-lacks
 give-ended-requires-clause-lacks c =

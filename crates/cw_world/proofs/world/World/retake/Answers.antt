@@ -1,16 +1,17 @@
 use Rattle.std.proofs.Common.{◌≡◌, refl}
 use Rattle.std.specs.Arc.{arc_value}
+use Rattle.cw_facts.specs.Tests.{first_true, second_true}
 use Rattle.cw_world.specs.Boards.{boarded}
 use Rattle.cw_world.specs.Scenes.{posted, scene, stacks, top}
 use Rattle.cw_world.specs.Table as table
 use Rattle.cw_world.specs.Events.{board_without, IsBack}
 use Rattle.cw_world.proofs.Lacking.{back_lacks}
 use Rattle.cw_world.proofs.Turns.{came_back, counted, back_whole}
-use Rattle.cw_world.proofs.Doing.{and_left, and_right, turned_scene, taken_works, at_sync, lacks_back, comes_of, at_back, popped, popped_are, retake_out, join_goes, some_of, if_some, retake_some}
+use Rattle.cw_world.proofs.Doing.{turned_scene, taken_works, at_sync, lacks_back, comes_of, at_back, popped, popped_are, retake_out, join_goes, some_of, if_some, retake_some}
 use Rattle.cw_world.proofs.world.World.retake.Goals as goal
 
 pub take-post-requires : goal.take-post-requires
-take-post-requires c = join_goes (top (scene c.args.self.now) c.args.w) (and_left (table.is_at_join (top (scene c.args.self.now) c.args.w)) _ c.requires.possible)
+take-post-requires c = join_goes (top (scene c.args.self.now) c.args.w) (first_true (table.is_at_join (top (scene c.args.self.now) c.args.w)) _ c.requires.possible)
 
 pub unrun-rest-requires : goal.unrun-rest-requires
 unrun-rest-requires c =
@@ -20,7 +21,7 @@ unrun-rest-requires c =
     let works = taken_works v s c.args.w p c.requires.sound.right c.take-post.ensures.top in
     let latest = c.pop-latest.result in
     let same = popped c.take-post.result.outs c.pop-latest.new.self latest c.pop-latest.ensures.items c.pop-latest.ensures.cases in
-    retake_out s.board c.args.w p (top s c.args.w) latest c.take-post.ensures.top same (and_right (table.is_at_join (top s c.args.w)) _ c.requires.possible)
+    retake_out s.board c.args.w p (top s c.args.w) latest c.take-post.ensures.top same (second_true (table.is_at_join (top s c.args.w)) _ c.requires.possible)
 
 pub take_in-ended-requires-clause-at_sync : goal.take_in-ended-requires-clause-at_sync
 take_in-ended-requires-clause-at_sync c =
@@ -30,7 +31,7 @@ take_in-ended-requires-clause-at_sync c =
     let works = taken_works v s c.args.w p c.requires.sound.right c.take-post.ensures.top in
     let latest = c.pop-latest.result in
     let same = popped c.take-post.result.outs c.pop-latest.new.self latest c.pop-latest.ensures.items c.pop-latest.ensures.cases in
-    at_sync s.jobs p (top s c.args.w) works c.take-post.ensures.top (and_left (table.is_at_join (top s c.args.w)) _ c.requires.possible)
+    at_sync s.jobs p (top s c.args.w) works c.take-post.ensures.top (first_true (table.is_at_join (top s c.args.w)) _ c.requires.possible)
 
 pub take_in-ended-requires-clause-lacks : goal.take_in-ended-requires-clause-lacks
 take_in-ended-requires-clause-lacks c =
@@ -80,7 +81,7 @@ returns-clause-does c =
     let x = c.turn.ensures.stage in
     record {
       at = record { at = record { post = p; is = c.take-post.ensures.top }; older = older; newest = o; are = are };
-      back = at_back s.board c.args.w o (retake_some s.board c.args.w p (top s c.args.w) latest o c.take-post.ensures.top same some.is (and_right (table.is_at_join (top s c.args.w)) _ c.requires.possible));
+      back = at_back s.board c.args.w o (retake_some s.board c.args.w p (top s c.args.w) latest o c.take-post.ensures.top same some.is (second_true (table.is_at_join (top s c.args.w)) _ c.requires.possible));
       stage = x;
       comes = came_back v s.jobs p (posted c.take_in-ended.new.self) older o p.at_join c.take_in-ended.result x works are
           (comes_of v s c.args.w p (posted c.take_in-ended.new.self) older o c.unrun-rest.result c.take_in-ended.result c.requires.sound.right works are back c.take_in-ended.ensures.comes) c.turn.ensures.begun;

@@ -1,2 +1,0 @@
--- Lemmas on refusals, which the proofs of crates above cite.
-pub mod HandedOn

@@ -1,0 +1,378 @@
+//! From a fault to its explanation.
+
+ghost use Rattle.std.specs.Prelude.{IfOk};
+ghost use Rattle.cw_model.specs.Tokens.{IsTokenCut};
+
+use crate::excerpt::{add_lines, line_of};
+use crate::further::{add_refusals, add_text, add_tokens};
+use crate::hinting::{closed_return, hint_in, near_main};
+use crate::lexical::{Unreadable, no_token, not_ascii};
+use crate::others::{Named, of_run, parameters_of_main};
+use crate::owning::Text;
+use crate::refusals::{OfOwnership, OfTypes, Refusals};
+use crate::traps::trapped;
+use crate::unparsed::{Unparsed, first_unparsed};
+use crate::words::BYTES;
+use crate::{limits, parts};
+use cw_gen::excess_of;
+use cw_lex::lex;
+use cw_loops::lower;
+use cw_model::limits::MOST_SOURCE_BYTES;
+use cw_model::token::Token;
+use cw_model::trap::Trap;
+use cw_own::{disowned, own};
+use cw_parse::{parse, passed_by_tokens};
+use cw_reasons::At;
+use cw_text::{Fault, Source};
+use cw_tree::syntax::Ast;
+use cw_types::{IllTyped, check, ill_typed, too_large};
+use std::alloc::{AllocError, Global};
+
+/// What is refused: a source, with the words that it was run with.
+#[derive(Clone, Copy)]
+pub struct Refused<'a> {
+    /// The path of the source; empty for standard input.
+    pub file: &'a str,
+    /// The bytes that were read of it.
+    pub bytes: &'a [u8],
+    /// How many arguments are given.
+    pub args: usize,
+    /// The greatest cost of the run in instructions.
+    pub limit: u64,
+    /// The most strands of a run that a schedule is made of.
+    pub strands: u64,
+}
+
+/// Why a source is refused with this fault, or its run: the rule that is broken, in words, with its names, on one line that begins
+/// with the source and its line, and below it the lines of the source that matter, with their numbers. Behind that what else the
+/// stage refuses, a line for each line of the source, rising: twenty lines at most with the first, and about 4 KB. Each line ends
+/// with a line feed.
+///
+/// Nothing is told of want of memory, nor of code that the verifier refuses. `Memory` where memory runs out.
+pub fn explain(alloc: Global, refused: &Refused<'_>, fault: &Fault) -> Result<String, Fault> {
+    let mut out = String::new(alloc);
+    add_reason(alloc, &mut out, refused, fault)?;
+    Ok(out)
+}
+
+// Adds why a source is refused with this fault, or its run.
+fn add_reason(
+    alloc: Global,
+    out: &mut String,
+    refused: &Refused<'_>,
+    fault: &Fault,
+) -> Result<(), Fault> {
+    let file = refused.file;
+    let bytes = refused.bytes;
+    match fault {
+        Fault::Lexical(place) => {
+            add_place(out, file, place.line)?;
+            of_text(out, bytes, place.line)?;
+            add_text(out, Named { path: file }, bytes, place.line)
+        }
+        Fault::Syntax(place) => {
+            add_place(out, file, place.line)?;
+            of_grammar(alloc, out, refused, place.line)
+        }
+        Fault::Types(place) => {
+            add_place(out, file, place.line)?;
+            of_types(alloc, out, refused, place.line)
+        }
+        Fault::Ownership(place) => {
+            add_place(out, file, place.line)?;
+            of_ownership(alloc, out, refused, place.line)
+        }
+        Fault::Size(place) => {
+            add_place(out, file, place.line)?;
+            of_size(alloc, out, bytes, place.line)
+        }
+        Fault::Trap { code, line, .. } => of_trap(out, refused, *code, *line),
+        Fault::Arguments => of_arguments(alloc, out, refused),
+        _ => {
+            of_run(out, refused, fault)?;
+            Ok(())
+        }
+    }
+}
+
+// Of a trap.
+fn of_trap(out: &mut String, refused: &Refused<'_>, code: Trap, line: u32) -> Result<(), Fault> {
+    let rule = trapped(code);
+    add_place(out, refused.file, line)?;
+    write!(out, "{rule}\n")?;
+    add_lines(out, refused.bytes, line, None)?;
+    Ok(())
+}
+
+// Of the arguments of main.
+fn of_arguments(alloc: Global, out: &mut String, refused: &Refused<'_>) -> Result<(), Fault> {
+    let (_source, tokens) = tokens_of(alloc, refused.bytes)?;
+    if let Some((count, line)) = parameters_of_main(refused.bytes, tokens.as_slice()) {
+        let given = refused.args;
+        add_place(out, refused.file, line)?;
+        write!(
+            out,
+            "main has parameters: {count}, and arguments are given behind the source: {given}\n"
+        )?;
+    }
+    Ok(())
+}
+
+// Adds the source and a line of it, as editors read it.
+fn add_place(out: &mut String, file: &str, line: u32) -> Result<(), Fault> {
+    let file = Named { path: file };
+    write!(out, "{file}:{line}: ")?;
+    Ok(())
+}
+
+// Of bytes and tokens.
+fn of_text(out: &mut String, bytes: &[u8], line: u32) -> Result<(), Fault> {
+    let text = line_of(bytes, line);
+    let reason = not_ascii(text).or(no_token(text));
+    match reason {
+        Some(reason) => write!(out, "{reason}")?,
+        None => out.push_str("a byte that starts no token, or a number that is too great")?,
+    }
+    if let Some(Unreadable::NoToken(byte)) = reason {
+        of_byte(out, byte)?;
+    }
+    out.push('\n')?;
+    add_lines(out, bytes, line, None)?;
+    Ok(())
+}
+
+// What C writes with a byte that starts no token.
+fn of_byte(out: &mut String, byte: u8) -> Result<(), Fault> {
+    for (mark, says) in BYTES {
+        if *mark == byte {
+            write!(out, "{says}")?;
+        }
+    }
+    Ok(())
+}
+
+// The tokens of bytes.
+fn tokens_of(alloc: Global, bytes: &[u8]) -> Result<(Source, Vec<Token>), Fault>
+    ensures { IfOk result (λ read. IsTokenCut read.0 read.1.items) }
+{
+    let source = Source::read(alloc, bytes)?;
+    let tokens = lex(alloc, &source)?;
+    Ok((source, tokens))
+}
+
+// Of the grammar.
+fn of_grammar(
+    alloc: Global,
+    out: &mut String,
+    refused: &Refused<'_>,
+    line: u32,
+) -> Result<(), Fault> {
+    let (source, tokens) = tokens_of(alloc, refused.bytes)?;
+    let bytes = refused.bytes;
+    let tokens = tokens.as_slice();
+    match first_unparsed(alloc, &source, bytes, tokens)? {
+        Some(reason) => add_unparsed(out, bytes, line, &reason)?,
+        None => out.push_str("a token cannot stand here\n")?,
+    }
+    let path = refused.file;
+    add_tokens(alloc, out, Named { path }, bytes, tokens, line)
+}
+
+// Adds why a token cannot stand, and the lines that matter.
+fn add_unparsed(
+    out: &mut String,
+    bytes: &[u8],
+    line: u32,
+    reason: &Unparsed<'_>,
+) -> Result<(), AllocError> {
+    write!(out, "{reason}\n")?;
+    add_lines(out, bytes, line, reason.other_line())
+}
+
+// Adds what the tokens say of a name behind the first reason of names and types, if something.
+fn add_hint(
+    alloc: Global,
+    out: &mut String,
+    refused: &Refused<'_>,
+    tokens: &[Token],
+    line: u32,
+    reason: &IllTyped<'_>,
+) -> Result<(), Fault> {
+    let hint = match reason {
+        IllTyped::NoMain => near_main(refused.bytes, tokens),
+        _ => hint_in(alloc, refused.bytes, tokens, line)?,
+    };
+    if let Some((hint, line)) = hint {
+        add_place(out, refused.file, line)?;
+        write!(out, "{hint}\n")?;
+    }
+    Ok(())
+}
+
+// The line of a return inside of a block, where it is why a function in this line may end without one.
+fn inside_of(
+    alloc: Global,
+    first: Option<At<IllTyped<'_>>>,
+    tokens: &[Token],
+    line: u32,
+) -> Result<Option<u32>, AllocError> {
+    let Some(at) = first else {
+        return Ok(None);
+    };
+    match at.reason {
+        IllTyped::MayNotReturn(_) => closed_return(alloc, tokens, line),
+        _ => Ok(None),
+    }
+}
+
+// Of names and types.
+fn of_types(
+    alloc: Global,
+    out: &mut String,
+    refused: &Refused<'_>,
+    line: u32,
+) -> Result<(), Fault> {
+    let (source, tokens) = tokens_of(alloc, refused.bytes)?;
+    let tokens = tokens.as_slice();
+    let ast = parse(alloc, &source, tokens)?;
+    let told = ill_typed(alloc, &ast)?;
+    let first = told.first();
+    let inside = inside_of(alloc, first, tokens, line)?;
+    let told = OfTypes { told, inside };
+    add_first(out, refused.bytes, line, &told)?;
+    if let Some(at) = first {
+        add_hint(alloc, out, refused, tokens, line, &at.reason)?;
+    }
+    add_refusals(out, Named { path: refused.file }, &told)
+}
+
+// Of ownership.
+fn of_ownership(
+    alloc: Global,
+    out: &mut String,
+    refused: &Refused<'_>,
+    line: u32,
+) -> Result<(), Fault> {
+    let bytes = refused.bytes;
+    let (source, tokens) = tokens_of(alloc, bytes)?;
+    let ast = parse(alloc, &source, tokens.as_slice())?;
+    let typed = check(alloc, ast)?;
+    let text = Text {
+        bytes,
+        tokens: tokens.as_slice(),
+    };
+    let told = OfOwnership {
+        told: disowned(alloc, &typed)?,
+        text,
+    };
+    add_first(out, bytes, line, &told)?;
+    add_refusals(out, Named { path: refused.file }, &told)
+}
+
+// Adds the rule that the first line breaks, and the lines that matter.
+fn add_first<R: Refusals>(
+    out: &mut String,
+    bytes: &[u8],
+    line: u32,
+    told: &R,
+) -> Result<(), Fault> {
+    match told.at(0) {
+        Some(first) => {
+            let rule = first.phrase;
+            write!(out, "{rule}\n")?;
+            add_lines(out, bytes, line, first.other_line)?;
+        }
+        None => {
+            out.push_str("a rule is broken here\n")?;
+            add_lines(out, bytes, line, None)?;
+        }
+    }
+    Ok(())
+}
+
+// Of limits: of the bytes, a name, the tokens, the program's parts, and its code, in this order.
+fn of_size(alloc: Global, out: &mut String, bytes: &[u8], line: u32) -> Result<(), Fault> {
+    if bytes.len() > MOST_SOURCE_BYTES {
+        let reason = Unreadable::TooLong(bytes.len());
+        write!(out, "{reason}\n")?;
+        return Ok(());
+    }
+    match of_read(alloc, out, bytes) {
+        Ok(()) => {}
+        Err(Fault::Size(_place)) => of_name(out, bytes, line)?,
+        Err(fault) => return Err(fault),
+    }
+    add_lines(out, bytes, line, None)?;
+    Ok(())
+}
+
+// Of what the bytes are cut into; `Size` where a name among them is too long.
+fn of_read(alloc: Global, out: &mut String, bytes: &[u8]) -> Result<(), Fault> {
+    let (source, tokens) = tokens_of(alloc, bytes)?;
+    of_tokens(alloc, out, &source, tokens.as_slice())
+}
+
+// Of a name.
+fn of_name(out: &mut String, bytes: &[u8], line: u32) -> Result<(), Fault> {
+    match no_token(line_of(bytes, line)) {
+        Some(reason) => write!(out, "{reason}\n")?,
+        None => out.push_str("a name is too long\n")?,
+    }
+    Ok(())
+}
+
+// Of tokens.
+fn of_tokens(
+    alloc: Global,
+    out: &mut String,
+    source: &Source,
+    tokens: &[Token],
+) -> Result<(), Fault>
+    requires { IsTokenCut source.now tokens.now }
+{
+    match passed_by_tokens(tokens) {
+        Some(at) => {
+            let limit = limits::of_tokens(at.reason);
+            write!(out, "{limit}\n")?;
+            Ok(())
+        }
+        None => {
+            let ast = parse(alloc, source, tokens)?;
+            of_parts(alloc, out, ast)
+        }
+    }
+}
+
+// Of parts, loops and code.
+fn of_parts(alloc: Global, out: &mut String, ast: Ast) -> Result<(), Fault> {
+    let is_told = add_parts(alloc, out, &ast)?;
+    if is_told {
+        return Ok(());
+    }
+    of_code(alloc, out, ast)
+}
+
+// Adds the limit of parts that is passed, and says whether there is one.
+fn add_parts(alloc: Global, out: &mut String, ast: &Ast) -> Result<bool, Fault> {
+    match too_large(alloc, ast)? {
+        Some(at) => {
+            let limit = parts::phrase_of(&at.reason);
+            write!(out, "{limit}\n")?;
+            Ok(true)
+        }
+        None => Ok(false),
+    }
+}
+
+// Of loops and code.
+fn of_code(alloc: Global, out: &mut String, ast: Ast) -> Result<(), Fault> {
+    let typed = check(alloc, ast)?;
+    let owned = own(alloc, typed)?;
+    let limit = match lower(alloc, owned) {
+        Ok(core) => limits::of_code(excess_of(alloc, &core)?),
+        Err(Fault::Size(_place)) => limits::of_loops(),
+        Err(fault) => return Err(fault),
+    };
+    write!(out, "{limit}\n")?;
+    Ok(())
+}

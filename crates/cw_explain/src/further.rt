@@ -1,0 +1,123 @@
+//! What else is refused behind the first fault: of the text line by line, of the grammar what no source has anywhere, and of names,
+//! types and ownership what their stages tell.
+
+use crate::around::{Around, Opened};
+use crate::lexical::{Unreadable, no_token, not_ascii};
+use crate::others::Named;
+use crate::refusals::Refusals;
+use crate::unparsed::BARE;
+use crate::words::{OUTSIDE, WORDS};
+use cw_model::token::Token;
+use cw_reasons::MOST_TOLD;
+use cw_text::Fault;
+use std::alloc::Global;
+use std::fmt;
+
+/// How many lines are told behind the first.
+const MOST_LINES: usize = 19;
+
+/// As many bytes are written, and one line more.
+const MOST_BYTES: usize = 3_072;
+
+/// How many tokens are looked at behind the first fault.
+const MOST_TOKENS: usize = 4_096;
+
+/// What is said of a token that stands where no source has it.
+#[derive(Clone, Copy)]
+struct Said<'a> {
+    around: Around<'a>,
+    says: &'static str,
+}
+
+impl fmt::Display for Said<'_> {
+    fn fmt<W: fmt::Write>(&self, f: &mut fmt::Formatter<W>) -> fmt::Result {
+        self.around.write(f, self.says)
+    }
+}
+
+// What is said of the token, if no source has it there, whatever stands before its statement.
+fn said_of(around: &Around<'_>) -> Option<&'static str> {
+    let rows = if around.is_inside { WORDS } else { OUTSIDE };
+    for (front, before, from, says) in rows {
+        let is_here = around.is_at_front() || !before.is_empty() || !from.is_empty();
+        if is_here && around.is_like(front, before, from) {
+            return Some(*says);
+        }
+    }
+    if around.is_inside && around.is_bare() {
+        return Some(BARE);
+    }
+    None
+}
+
+/// Adds what is said of lines behind this one, each with its source and line in front.
+pub fn add_tokens(
+    alloc: Global,
+    out: &mut String,
+    file: Named<'_>,
+    text: &[u8],
+    tokens: &[Token],
+    line: u32,
+) -> Result<(), Fault> {
+    let mut opened = Opened::new(alloc);
+    let mut last = line;
+    let mut lines = 0;
+    let mut left = MOST_TOKENS;
+    for token in tokens {
+        if token.line > last && left > 0 && lines < MOST_LINES && out.len() < MOST_BYTES {
+            left -= 1;
+            let around = Around::behind(text, tokens, &opened);
+            if let Some(says) = said_of(&around) {
+                let said = Said { around, says };
+                last = token.line;
+                lines += 1;
+                write!(out, "{file}:{last}: {said}\n")?;
+            }
+        }
+        opened.add(*token)?;
+    }
+    Ok(())
+}
+
+// Why the text of a line is no row of tokens.
+fn unread_of(text: &[u8]) -> Option<Unreadable<'_>> {
+    match not_ascii(text).or(no_token(text)) {
+        Some(Unreadable::LongName(_)) => None,
+        found => found,
+    }
+}
+
+/// Adds why lines behind this one are no rows of tokens, each with its source and line in front.
+pub fn add_text(out: &mut String, file: Named<'_>, text: &[u8], line: u32) -> Result<(), Fault> {
+    let mut last: u32 = 1;
+    let mut start = 0;
+    let mut lines = 0;
+    for place in 0..text.len() {
+        if text[place] == b'\n' {
+            let inside = text.get(start..place).unwrap_or(&[]);
+            if last > line && lines < MOST_LINES && out.len() < MOST_BYTES {
+                if let Some(reason) = unread_of(inside) {
+                    lines += 1;
+                    write!(out, "{file}:{last}: {reason}\n")?;
+                }
+            }
+            start = place.saturating_add(1);
+            last = last.saturating_add(1);
+        }
+    }
+    Ok(())
+}
+
+/// Adds what is told of names and types, or of ownership, behind the first line, each line with its source in front.
+pub fn add_refusals<R: Refusals>(out: &mut String, file: Named<'_>, told: &R) -> Result<(), Fault> {
+    for place in 1..MOST_TOLD {
+        if out.len() < MOST_BYTES {
+            if let Some(refusal) = told.at(place) {
+                let line = refusal.line;
+                let phrase = refusal.phrase;
+                write!(out, "{file}:{line}: {phrase}\n")?;
+            }
+        }
+    }
+    Ok(())
+}

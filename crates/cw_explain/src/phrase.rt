@@ -1,0 +1,81 @@
+//! Texts with names and numbers in them.
+
+use crate::word::Word;
+use std::fmt;
+
+/// No name.
+pub const NO_NAME: Word<'static> = Word { text: b"" };
+
+/// Pieces of a text, one behind the other, with what stands in place of their marks, each behind an `@`: `a` and `b` for
+/// names, `1`, `2` and `3` for numbers.
+#[derive(Clone, Copy)]
+pub struct Phrase<'a> {
+    pub pieces: [&'static str; 6],
+    pub names: [Word<'a>; 2],
+    pub numbers: [u64; 3],
+}
+
+impl<'a> Phrase<'a> {
+    /// One piece, with these names and numbers.
+    pub fn of(says: &'static str, names: [Word<'a>; 2], numbers: [u64; 3]) -> Phrase<'a> {
+        Phrase {
+            pieces: [says, "", "", "", "", ""],
+            names,
+            numbers,
+        }
+    }
+
+    /// One piece without marks.
+    pub fn plain(says: &'static str) -> Phrase<'a> {
+        Phrase::of(says, [NO_NAME; 2], [0; 3])
+    }
+
+    /// One piece with a name and a number.
+    pub fn named(says: &'static str, name: Word<'a>, number: u64) -> Phrase<'a> {
+        Phrase::of(says, [name, NO_NAME], [number, 0, 0])
+    }
+
+    // Writes a piece.
+    fn write<W: fmt::Write>(&self, f: &mut fmt::Formatter<W>, piece: &str) -> fmt::Result {
+        let mut is_mark = false;
+        for byte in piece.as_bytes() {
+            if is_mark {
+                self.write_mark(f, *byte)?;
+                is_mark = false;
+            } else if *byte == b'@' {
+                is_mark = true;
+            } else {
+                let shown = char::from(*byte);
+                write!(f, "{shown}")?;
+            }
+        }
+        Ok(())
+    }
+
+    // Writes what a mark stands for.
+    fn write_mark<W: fmt::Write>(&self, f: &mut fmt::Formatter<W>, mark: u8) -> fmt::Result {
+        let name = if mark == b'a' {
+            self.names[0]
+        } else {
+            self.names[1]
+        };
+        let number = match mark {
+            b'1' => self.numbers[0],
+            b'2' => self.numbers[1],
+            _ => self.numbers[2],
+        };
+        if mark == b'a' || mark == b'b' {
+            return write!(f, "{name}");
+        }
+        write!(f, "{number}")
+    }
+}
+
+impl fmt::Display for Phrase<'_> {
+    fn fmt<W: fmt::Write>(&self, f: &mut fmt::Formatter<W>) -> fmt::Result {
+        for piece in &self.pieces[..] {
+            self.write(f, piece)?;
+        }
+        Ok(())
+    }
+}

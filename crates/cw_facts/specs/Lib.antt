@@ -1,0 +1,4 @@
+pub mod Tests
+pub mod Options
+pub mod Lists
+pub mod Integers

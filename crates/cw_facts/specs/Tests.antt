@@ -1,0 +1,40 @@
+-- Booleans, and tests on numbers: what a test answers where a fact holds, and what holds where it answers so.
+use Rattle.std.proofs.Common.{◌≡◌, ℕ, ◌+◌, ◌<◌, Bool, true, false, ◌&&◌, ◌||◌, nat_eq, refl, arith}
+use Rattle.std.proofs.lemmas.Bool.Decides.{nat_tests}
+-- both hold: (a && b) is true, or is false for the first's or the second's sake
+pub use Rattle.std.proofs.lemmas.Bool.{and_from as both_true, and_left as first_false, and_right as second_false}
+-- a conditional goes the way of its test, or the other way
+pub use Rattle.std.proofs.lemmas.Bool.{cond-true as taken, cond-false as not_taken}
+pub use Rattle.std.proofs.lemmas.Bool.{not-true as not_true}
+-- the test on a and b answers true, or false
+pub use Rattle.std.proofs.lemmas.Bool.{le-leb as at_most, lt-leb as not_at_most, lt-ltb as below, le-ltb as not_below, eq-eqb as equal, ne_eqb as not_equal}
+-- what holds of a and b where the test answers true, or false
+pub use Rattle.std.proofs.lemmas.Bool.{leb-true as le_of, leb-false as not_le_of, ltb-true as lt_of, ltb-false as not_lt_of, eqb-true as eq_of, eqb-false as ne_of}
+
+pub first_true : (a b : Bool) → (a && b) ≡ true → a ≡ true
+first_true true b h = refl
+first_true false b h = h
+
+pub second_true : (a b : Bool) → (a && b) ≡ true → b ≡ true
+second_true true b h = h
+second_true false b h = cc
+
+pub neither_first : (a b : Bool) → (a || b) ≡ false → a ≡ false
+neither_first true b h = h
+neither_first false b h = refl
+
+pub neither_second : (a b : Bool) → (a || b) ≡ false → b ≡ false
+neither_second true b h = cc
+neither_second false b h = h
+
+pub less_differs : (a b : ℕ) → a < b → nat_eq a b ≡ false
+less_differs a b h = grind (arith, nat_tests)
+
+pub less_where_it_differs : (a b : ℕ) → b < a + 1 → nat_eq a b ≡ false → b < a
+less_where_it_differs a b h e = grind (arith, nat_tests)
+
+pub four_and : (a b c d : Bool) → ((a && b) && (c && d)) ≡ ((a && c) && (b && d))
+four_and false b c d = refl
+four_and true false true d = refl
+four_and true false false d = refl
+four_and true true c d = refl

@@ -1,0 +1,2 @@
+-- Lemmas on totals, which the proofs of crates above cite.
+pub mod Totals

@@ -1,0 +1,2 @@
+-- Lemmas on what meters are told, which the proofs of crates above cite.
+pub mod Events

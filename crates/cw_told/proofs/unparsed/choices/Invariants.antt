@@ -1,7 +1,0 @@
--- With each choice so far a source goes on.
-use Rattle.std.specs.Prelude.{All}
-use Rattle.cw_told.specs.Going.{CanFollow}
-use Rattle.cw_told.proofs.unparsed.choices.Given as goal
-
-abbrev pub invariant-loop-choice : goal.invariant-loop-choice
-invariant-loop-choice l = All (λ choice. CanFollow l.text choice.word.now) l.expected.items
