@@ -1,29 +1,45 @@
 //! Parts that are cut, lent and shared, and joined again, by one thread and by two.
 
-ghost use Rattle.std.specs.Prelude.{◌≡◌, ◌<◌, length, pos, Some, slice_get, slice_set};
+ghost use Rattle.std.specs.Prelude.{◌≡◌, ◌<◌, ◌∷◌, [], ℤ, length, replicate, pos, None, Some, slice_get, slice_set};
 ghost use Rattle.cw_slices.specs.Placed.{IsOwn};
-ghost use Rattle.cw_slices.specs.Blocks.{IsIn};
+ghost use Rattle.cw_slices.specs.Blocks.{IsIn, IsWhole};
 
 use cw_slices::{Block, Slice};
 use std::test::Fail;
 use std::thread;
 
-// Cut at its beginning, at its end, and where nothing is left.
-#[test]
-fn parts_may_be_empty(rt: HostRuntime) -> Result<(), Fail> {
-    let mut whole = Slice::zeros(rt.alloc(), 3)?;
+// Whether three zeros are cut at their beginning, at their end, and where nothing is left, and joined again.
+fn is_cut_at_its_ends(mut whole: Slice) -> bool
+    requires own { IsOwn whole }
+    requires items { whole.items ≡ replicate 3 (pos 0) }
+{
     whole.set(2, 9);
     let (none, all) = whole.cut(0);
-    assert_eq!(rt; none.len(), 0);
+    let is_none = none.len() == 0;
     let (none, nothing) = none.cut(0);
     let (all, end) = all.cut(3);
-    assert_eq!(rt; end.len(), 0);
+    let is_end = end.len() == 0;
     let mut whole = Slice::join(Slice::join(none, nothing), Slice::join(all, end));
     let moved = whole.take();
-    assert_eq!(rt; whole.len(), 0);
-    assert_eq!(rt; moved.get(2), 9);
-    let (left, right) = Slice::zeros(rt.alloc(), 0)?.cut(0);
-    assert_eq!(rt; Slice::join(left, right).len(), 0);
+    let last = moved.get(2);
+    is_none && is_end && whole.len() == 0 && last == 9
+}
+
+// Whether no number is cut into none and none.
+fn is_cut_into_none(whole: Slice) -> bool
+    requires own { IsOwn whole }
+    requires items { whole.items ≡ [] }
+{
+    let (left, right) = whole.cut(0);
+    Slice::join(left, right).len() == 0
+}
+
+#[test]
+fn parts_may_be_empty(rt: HostRuntime) -> Result<(), Fail> {
+    let three = Slice::zeros(rt.alloc(), 3)?;
+    assert!(rt; is_cut_at_its_ends(three));
+    let none = Slice::zeros(rt.alloc(), 0)?;
+    assert!(rt; is_cut_into_none(none));
     Ok(())
 }
 
@@ -172,26 +188,57 @@ fn a_part_is_lent(rt: HostRuntime) -> Result<(), Fail> {
     Ok(())
 }
 
+// Whether none at the end and the last of three numbers are lent and given back, while the first one is out.
+fn are_lent_at_the_end(block: &mut Block) -> bool
+    requires cells { (x y : ℤ) × (block.old.cells ≡ None ∷ Some x ∷ Some y ∷ []) }
+    requires whole { IsWhole block.old }
+    ensures cells { (x y : ℤ) × (block.new.cells ≡ None ∷ Some x ∷ Some y ∷ []) }
+    ensures whole { IsWhole block.new }
+    ensures spot { block.new.spot ≡ block.old.spot }
+{
+    let end = block.lend(3, 0);
+    let last = block.lend(2, 1);
+    let is_end = end.len() == 0;
+    block.give_back(2, last);
+    block.give_back(3, end);
+    is_end
+}
+
+// The same of the first number, which is 4, and of none at the beginning, while the others are lent too.
+fn are_lent_at_both_ends(block: &mut Block) -> bool
+    requires cells { (x y z : ℤ) × (block.old.cells ≡ Some x ∷ Some y ∷ Some z ∷ []) }
+    requires whole { IsWhole block.old }
+    ensures cells { (x y z : ℤ) × (block.new.cells ≡ Some x ∷ Some y ∷ Some z ∷ []) }
+    ensures whole { IsWhole block.new }
+{
+    let first = block.lend(0, 1);
+    let none = block.lend(0, 0);
+    let is_end = are_lent_at_the_end(block);
+    let is_none = none.len() == 0;
+    let number = first.get(0);
+    block.give_back(0, none);
+    block.give_back(0, first);
+    is_end && is_none && number == 4
+}
+
+// Whether all is taken out after that.
+fn is_taken_whole(mut slice: Slice) -> bool
+    requires own { IsOwn slice }
+    requires items { slice.items ≡ replicate 3 (pos 0) }
+{
+    slice.set(0, 4);
+    let mut block = Block::of(slice);
+    let are_lent = are_lent_at_both_ends(&mut block);
+    let whole = block.take();
+    let first = whole.get(0);
+    are_lent && block.len() == 0 && whole.len() == 3 && first == 4
+}
+
 // Lent at the beginning, at the end, and none at all; then all is taken out.
 #[test]
 fn parts_are_lent_at_the_ends(rt: HostRuntime) -> Result<(), Fail> {
-    let mut slice = Slice::zeros(rt.alloc(), 3)?;
-    slice.set(0, 4);
-    let mut block = Block::of(slice);
-    let first = block.lend(0, 1);
-    let none = block.lend(0, 0);
-    let end = block.lend(3, 0);
-    let last = block.lend(2, 1);
-    assert_eq!(rt; first.get(0), 4);
-    assert_eq!(rt; none.len() + end.len(), 0);
-    block.give_back(2, last);
-    block.give_back(3, end);
-    block.give_back(0, none);
-    block.give_back(0, first);
-    let whole = block.take();
-    assert_eq!(rt; block.len(), 0);
-    assert_eq!(rt; whole.len(), 3);
-    assert_eq!(rt; whole.get(0), 4);
+    let slice = Slice::zeros(rt.alloc(), 3)?;
+    assert!(rt; is_taken_whole(slice));
     Ok(())
 }
 
