@@ -18,8 +18,8 @@ use cw_runnable::verified::Verified;
 use cw_slices::Slice;
 use cw_text::Fault;
 use std::alloc::Global;
+use std::process::Abort;
 use std::sync::Arc;
-use std::test::Fail;
 
 // A program on its arguments, with what each charged edge of a spawn costs, and what it comes to at this cost, having
 // spawned so many calls.
@@ -47,7 +47,7 @@ impl Row<'_> {
 
 // What becomes of rests: all the same; or in turn; twice by one instruction at a time, where each strand is
 // asked for its end before each.
-const WAYS: [Way<'static>; 7] = [
+static WAYS: [Way<'static>; 7] = [
     Way {
         fates: &[Fate::TakenBack],
         asks_ends: false,
@@ -86,7 +86,7 @@ const WAYS: [Way<'static>; 7] = [
 ];
 
 // The same where some spawns are done in place, within few instructions and within many.
-const MIXED: [Way<'static>; 3] = [
+static MIXED: [Way<'static>; 3] = [
     Way {
         fates: &[Fate::TakenBack, Fate::ApartAtJoin],
         asks_ends: false,
@@ -103,23 +103,6 @@ const MIXED: [Way<'static>; 3] = [
         pace: Pace::InPlace(40),
     },
 ];
-
-// The tables by functions, so that a proof has each of them before it once.
-fn ways() -> [Way<'static>; 7] {
-    WAYS
-}
-
-fn mixed() -> [Way<'static>; 3] {
-    MIXED
-}
-
-fn ending() -> [Row<'static>; 12] {
-    ENDING
-}
-
-fn trapping() -> [Row<'static>; 6] {
-    TRAPPING
-}
 
 // A run with one worker. The error is want of memory.
 fn alone(
@@ -169,10 +152,10 @@ fn holds(
 // Whether a row holds within a limit, all ways.
 fn holds_within(alloc: Global, code: &Arc<Verified>, row: &Row, limit: u64) -> Result<bool, Fault> {
     let mut all = true;
-    for way in &ways() {
+    for way in &WAYS {
         all = holds(alloc, code, row, way, limit)? && all;
     }
-    for way in &mixed() {
+    for way in &MIXED {
         all = holds(alloc, code, row, way, limit)? && all;
     }
     Ok(all)
@@ -218,7 +201,7 @@ fn breaks_whole(
     broken: Break,
 ) -> Result<bool, Fault> {
     let mut all = true;
-    for way in &ways() {
+    for way in &WAYS {
         let effect = apart(alloc, code, row, way, row.cost, broken)?;
         all = is_broken(&effect, broken.is_given_up) && all;
     }
@@ -239,7 +222,7 @@ fn fails_whole(alloc: Global, row: &Row) -> Result<bool, Fault> {
 }
 
 // Programs that end.
-const ENDING: [Row<'static>; 12] = [
+static ENDING: [Row<'static>; 12] = [
     // 18, then a sum of three elements, at most 68 in a row, beside 5; then 9: only the rests of calls that neither lend
     // nor read are handed out
     Row {
@@ -481,7 +464,7 @@ const ENDING: [Row<'static>; 12] = [
 ];
 
 // Programs that trap: in a spawned call whose rest is out, or in a rest.
-const TRAPPING: [Row<'static>; 6] = [
+static TRAPPING: [Row<'static>; 6] = [
     Row {
         name: "a division by 0 beside a print",
         program: DIVIDED,
@@ -568,37 +551,39 @@ const TRAPPING: [Row<'static>; 6] = [
     },
 ];
 
-#[test]
-fn programs_end_as_with_one_worker(rt: HostRuntime) -> Result<(), Fail> {
-    for row in &ending() {
-        assert!(rt; holds_all_ways(rt.alloc(), row)?, "{}", row.name);
+// Each of these rows holds at its cost all ways.
+fn all_hold<R: Abort>(rt: &R, alloc: Global, rows: &[Row]) {
+    for row in rows {
+        assert!(rt; matches!(holds_all_ways(alloc, row), Ok(true)), "{}", row.name);
     }
-    Ok(())
 }
 
 #[test]
-fn programs_trap_as_with_one_worker(rt: HostRuntime) -> Result<(), Fail> {
-    for row in &trapping() {
-        assert!(rt; holds_all_ways(rt.alloc(), row)?, "{}", row.name);
-    }
-    Ok(())
+fn programs_end_as_with_one_worker(rt: HostRuntime) {
+    all_hold(&rt, rt.alloc(), &ENDING);
 }
 
 #[test]
-fn a_strand_without_memory_takes_all_with_it(rt: HostRuntime) -> Result<(), Fail> {
-    for row in &ending() {
-        assert!(rt; fails_whole(rt.alloc(), row)?, "{}", row.name);
-    }
-    Ok(())
+fn programs_trap_as_with_one_worker(rt: HostRuntime) {
+    all_hold(&rt, rt.alloc(), &TRAPPING);
 }
 
 #[test]
-fn limits_are_passed_as_with_one_worker(rt: HostRuntime) -> Result<(), Fail> {
-    for row in &ending() {
-        assert!(rt; holds_within_limits(rt.alloc(), row)?, "{}", row.name);
+fn a_strand_without_memory_takes_all_with_it(rt: HostRuntime) {
+    for row in &ENDING {
+        assert!(rt; matches!(fails_whole(rt.alloc(), row), Ok(true)), "{}", row.name);
     }
-    for row in &trapping() {
-        assert!(rt; holds_within_limits(rt.alloc(), row)?, "{}", row.name);
+}
+
+// Each of these rows holds within each limit.
+fn all_hold_within_limits<R: Abort>(rt: &R, alloc: Global, rows: &[Row]) {
+    for row in rows {
+        assert!(rt; matches!(holds_within_limits(alloc, row), Ok(true)), "{}", row.name);
     }
-    Ok(())
+}
+
+#[test]
+fn limits_are_passed_as_with_one_worker(rt: HostRuntime) {
+    all_hold_within_limits(&rt, rt.alloc(), &ENDING);
+    all_hold_within_limits(&rt, rt.alloc(), &TRAPPING);
 }
