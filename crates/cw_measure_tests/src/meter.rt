@@ -8,6 +8,7 @@ use cw_model::burden::{Burden, Edges};
 use cw_regions::RegionRow;
 use cw_sites::table::SiteRow;
 use std::alloc::{AllocError, Global};
+use std::process::Abort;
 
 /// What a meter is told, after a count of instructions.
 #[derive(Clone, Copy)]
@@ -442,53 +443,51 @@ static INSIDE_ITSELF: [Run; 2] = [
     },
 ];
 
-#[test]
-fn whole_runs(rt: HostRuntime) -> Result<(), AllocError> {
-    for run in &WHOLE_RUNS {
-        assert_eq!(rt; wrong_of(rt.alloc(), run)?, None, "{}", run.name);
+/// Each of these runs is counted so.
+fn all_are_counted<R: Abort>(rt: &R, alloc: Global, runs: &[Run]) {
+    for run in runs {
+        assert!(rt; matches!(wrong_of(alloc, run), Ok(None)), "{}", run.name);
     }
-    Ok(())
 }
 
 #[test]
-fn scopes(rt: HostRuntime) -> Result<(), AllocError> {
-    for run in &SCOPES {
-        assert_eq!(rt; wrong_of(rt.alloc(), run)?, None, "{}", run.name);
-    }
-    Ok(())
+fn whole_runs(rt: HostRuntime) {
+    all_are_counted(&rt, rt.alloc(), &WHOLE_RUNS);
 }
 
 #[test]
-fn regions(rt: HostRuntime) -> Result<(), AllocError> {
-    for run in &REGIONS {
-        assert_eq!(rt; wrong_of(rt.alloc(), run)?, None, "{}", run.name);
-    }
-    Ok(())
+fn scopes(rt: HostRuntime) {
+    all_are_counted(&rt, rt.alloc(), &SCOPES);
 }
 
 #[test]
-fn nests(rt: HostRuntime) -> Result<(), AllocError> {
-    for run in &NESTS {
-        assert_eq!(rt; wrong_of(rt.alloc(), run)?, None, "{}", run.name);
-    }
-    Ok(())
+fn regions(rt: HostRuntime) {
+    all_are_counted(&rt, rt.alloc(), &REGIONS);
 }
 
 #[test]
-fn inside_itself(rt: HostRuntime) -> Result<(), AllocError> {
-    for run in &INSIDE_ITSELF {
-        assert_eq!(rt; wrong_of(rt.alloc(), run)?, None, "{}", run.name);
-    }
-    Ok(())
+fn nests(rt: HostRuntime) {
+    all_are_counted(&rt, rt.alloc(), &NESTS);
 }
 
 #[test]
-fn values_alone_count_no_call(rt: HostRuntime) -> Result<(), AllocError> {
-    for run in &WHOLE_RUNS {
-        assert_eq!(rt; counts_a_call(rt.alloc(), run)?, false, "{}", run.name);
+fn inside_itself(rt: HostRuntime) {
+    all_are_counted(&rt, rt.alloc(), &INSIDE_ITSELF);
+}
+
+/// Of none of these runs does a meter of values alone count a call.
+fn none_counts_a_call<R: Abort>(rt: &R, alloc: Global, runs: &[Run]) {
+    for run in runs {
+        assert!(rt;
+            matches!(counts_a_call(alloc, run), Ok(false)),
+            "{}",
+            run.name
+        );
     }
-    for run in &NESTS {
-        assert_eq!(rt; counts_a_call(rt.alloc(), run)?, false, "{}", run.name);
-    }
-    Ok(())
+}
+
+#[test]
+fn values_alone_count_no_call(rt: HostRuntime) {
+    none_counts_a_call(&rt, rt.alloc(), &WHOLE_RUNS);
+    none_counts_a_call(&rt, rt.alloc(), &NESTS);
 }

@@ -24,11 +24,11 @@ fn sums(alloc: Global, ours: &[i64], theirs: &[i64]) -> Result<(i128, i128), All
 
 // A sum goes past 64 bits and comes back below 0.
 #[test]
-fn a_sum_past_64_bits(rt: HostRuntime) -> Result<(), AllocError> {
+fn a_sum_past_64_bits(rt: HostRuntime) {
     let ours = [9_223_372_036_854_775_807, 9_223_372_036_854_775_807];
     let theirs = [-9_223_372_036_854_775_808, -9_223_372_036_854_775_808, -5];
-    assert!(rt; sums(rt.alloc(), &ours, &theirs)? == (18_446_744_073_709_551_614, -7));
-    Ok(())
+    let sums = sums(rt.alloc(), &ours, &theirs);
+    assert!(rt; matches!(sums, Ok((18_446_744_073_709_551_614, -7))));
 }
 
 fn greatest_of(numbers: &[i64]) -> Max {
@@ -117,11 +117,14 @@ fn is_greatest(alloc: Global, row: &Greatest) -> Result<bool, AllocError> {
 
 // The greatest number of two pieces, of which either may have none.
 #[test]
-fn the_greatest_of_two_pieces(rt: HostRuntime) -> Result<(), AllocError> {
+fn the_greatest_of_two_pieces(rt: HostRuntime) {
     for row in &GREATEST {
-        assert!(rt; is_greatest(rt.alloc(), row)?, "{}", row.name);
+        assert!(rt;
+            matches!(is_greatest(rt.alloc(), row), Ok(true)),
+            "{}",
+            row.name
+        );
     }
-    Ok(())
 }
 
 fn lines_of(alloc: Global, numbers: &[i64]) -> Result<Lines, AllocError> {
@@ -137,12 +140,15 @@ fn joined_lines(alloc: Global, ours: &[i64], theirs: &[i64]) -> Result<Lines, Al
     both.join(Lines::unit(alloc))
 }
 
+fn are_in_order(alloc: Global) -> Result<bool, AllocError> {
+    let whole = joined_lines(alloc, &[1, -2], &[3])?;
+    Ok(whole.values() == [1, -2, 3].as_slice())
+}
+
 // The lines of the left piece stand first.
 #[test]
-fn lines_in_order(rt: HostRuntime) -> Result<(), AllocError> {
-    let whole = joined_lines(rt.alloc(), &[1, -2], &[3])?;
-    assert_eq!(rt; whole.values(), [1, -2, 3].as_slice());
-    Ok(())
+fn lines_in_order(rt: HostRuntime) {
+    assert!(rt; matches!(are_in_order(rt.alloc()), Ok(true)));
 }
 
 /// What views are told.
@@ -207,18 +213,28 @@ static TOTALS: [(u32, Reduction, Total); 7] = [
     (5, Reduction::Max, Total::Max(None)),
 ];
 
+/// The first reducer that comes to another total.
+fn wrong_total(alloc: Global) -> Result<Option<u32>, AllocError> {
+    let whole = joined_views(alloc)?;
+    for (reducer, how, total) in &TOTALS {
+        if whole.total(*reducer, *how) != *total {
+            return Ok(Some(*reducer));
+        }
+    }
+    Ok(None)
+}
+
 // Views with totals of different reducers, the fewer on either side.
 #[test]
-fn totals_of_joined_views(rt: HostRuntime) -> Result<(), AllocError> {
-    let whole = joined_views(rt.alloc())?;
-    for (reducer, how, total) in &TOTALS {
-        assert_eq!(rt; whole.total(*reducer, *how), *total, "reducer {reducer}");
-    }
-    Ok(())
+fn totals_of_joined_views(rt: HostRuntime) {
+    assert!(rt; matches!(wrong_total(rt.alloc()), Ok(None)));
+}
+
+fn has_both_lines(alloc: Global) -> Result<bool, AllocError> {
+    Ok(joined_views(alloc)?.lines() == [1, 2].as_slice())
 }
 
 #[test]
-fn lines_of_joined_views(rt: HostRuntime) -> Result<(), AllocError> {
-    assert_eq!(rt; joined_views(rt.alloc())?.lines(), [1, 2].as_slice());
-    Ok(())
+fn lines_of_joined_views(rt: HostRuntime) {
+    assert!(rt; matches!(has_both_lines(rt.alloc()), Ok(true)));
 }

@@ -3,6 +3,7 @@
 use Told::{EndChild, EndHalf, Enter, Join, Leave, Note, Spawn, SpawnHalf};
 use cw_sites::table::SiteTable;
 use std::alloc::{AllocError, Global};
+use std::process::Abort;
 
 /// What a table is told, at a count of instructions.
 #[derive(Clone, Copy)]
@@ -446,49 +447,53 @@ static PAGED_RUNS: [Run; 2] = [
     },
 ];
 
-#[test]
-fn whole_runs(rt: HostRuntime) -> Result<(), AllocError> {
-    for run in &WHOLE_RUNS {
-        assert_eq!(rt; wrong_row_of(rt.alloc(), run)?, None, "{}", run.name);
-    }
-    Ok(())
-}
-
-#[test]
-fn long_runs(rt: HostRuntime) -> Result<(), AllocError> {
-    for run in &LONG_RUNS {
-        assert_eq!(rt; wrong_row_of(rt.alloc(), run)?, None, "{}", run.name);
-    }
-    Ok(())
-}
-
-#[test]
-fn joined_runs(rt: HostRuntime) -> Result<(), AllocError> {
-    for run in &JOINED_RUNS {
-        assert_eq!(rt; wrong_row_of(rt.alloc(), run)?, None, "{}", run.name);
-    }
-    Ok(())
-}
-
-#[test]
-fn rows_in_pages(rt: HostRuntime) -> Result<(), AllocError> {
-    for run in &PAGED_RUNS {
-        assert_eq!(rt; wrong_row_of(rt.alloc(), run)?, None, "{}", run.name);
-        assert_eq!(rt;
-            wrong_row_apart(rt.alloc(), run)?,
-            None,
-            "{}, in a piece",
+/// Each of these runs has these rows.
+fn all_have_rows<R: Abort>(rt: &R, alloc: Global, runs: &[Run]) {
+    for run in runs {
+        assert!(rt;
+            matches!(wrong_row_of(alloc, run), Ok(None)),
+            "{}",
             run.name
         );
     }
-    Ok(())
+}
+
+#[test]
+fn whole_runs(rt: HostRuntime) {
+    all_have_rows(&rt, rt.alloc(), &WHOLE_RUNS);
+}
+
+#[test]
+fn long_runs(rt: HostRuntime) {
+    all_have_rows(&rt, rt.alloc(), &LONG_RUNS);
+}
+
+#[test]
+fn joined_runs(rt: HostRuntime) {
+    all_have_rows(&rt, rt.alloc(), &JOINED_RUNS);
+}
+
+/// So has each of these in a piece.
+fn all_have_rows_apart<R: Abort>(rt: &R, alloc: Global, runs: &[Run]) {
+    for run in runs {
+        assert!(rt;
+            matches!(wrong_row_apart(alloc, run), Ok(None)),
+            "{}",
+            run.name
+        );
+    }
+}
+
+#[test]
+fn rows_in_pages(rt: HostRuntime) {
+    all_have_rows(&rt, rt.alloc(), &PAGED_RUNS);
+    all_have_rows_apart(&rt, rt.alloc(), &PAGED_RUNS);
 }
 
 // The path of the first run weighs as much as its span.
 #[test]
-fn the_path_of_a_run(rt: HostRuntime) -> Result<(), AllocError> {
-    assert_eq!(rt; path_of(rt.alloc(), &WHOLE_RUNS[0])?, 8);
-    Ok(())
+fn the_path_of_a_run(rt: HostRuntime) {
+    assert!(rt; matches!(path_of(rt.alloc(), &WHOLE_RUNS[0]), Ok(8)));
 }
 
 /// A turn of a loop, of 15 instructions, that calls site 1, which calls site 2.
@@ -524,13 +529,17 @@ static ROWS_OF_TURNS: [(u32, [u64; 5]); 3] = [
     (2, [2_000, 6_000, 6_000, 6_000, 6_000]),
 ];
 
+/// The greatest count of steps, and the first site whose row is another one after that.
+fn after_turns(alloc: Global) -> Result<(usize, Option<u32>), AllocError> {
+    let mut table = SiteTable::new(alloc, 0);
+    let most = run_with_turns(&mut table)?;
+    Ok((most, wrong_row(&table, &ROWS_OF_TURNS)))
+}
+
 // A path through many calls of two sites stays as short as twice the sites and a constant.
 #[test]
-fn a_long_loop_of_calls(rt: HostRuntime) -> Result<(), AllocError> {
-    let mut table = SiteTable::new(rt.alloc(), 0);
-    assert!(rt; run_with_turns(&mut table)? <= 71);
-    assert_eq!(rt; wrong_row(&table, &ROWS_OF_TURNS), None);
-    Ok(())
+fn a_long_loop_of_calls(rt: HostRuntime) {
+    assert!(rt; matches!(after_turns(rt.alloc()), Ok((most, None)) if most <= 71));
 }
 
 /// 300 children of 2 instructions each, with 9 before each.
@@ -557,19 +566,24 @@ static ROWS_OF_MANY_SPAWNS: [(u32, [u64; 5]); 2] = [
     (1, [300, 600, 2, 600, 600]),
 ];
 
+/// That count, and the first site whose row is another one after that.
+fn after_many_spawns(alloc: Global) -> Result<(usize, Option<u32>), AllocError> {
+    let mut table = SiteTable::new(alloc, 0);
+    let steps = run_with_many_spawns(&mut table)?;
+    Ok((steps, wrong_row(&table, &ROWS_OF_MANY_SPAWNS)))
+}
+
 // 300 spawns without a join, 9 instructions before each and 2 in its child: the last child is chosen, with all that lies
 // before it, and the steps of that are added up before there are many.
 #[test]
-fn many_spawns_without_a_join(rt: HostRuntime) -> Result<(), AllocError> {
-    let mut table = SiteTable::new(rt.alloc(), 0);
-    assert!(rt; run_with_many_spawns(&mut table)? < 100);
-    assert_eq!(rt; wrong_row(&table, &ROWS_OF_MANY_SPAWNS), None);
-    Ok(())
+fn many_spawns_without_a_join(rt: HostRuntime) {
+    assert!(rt; matches!(after_many_spawns(rt.alloc()), Ok((steps, None)) if steps < 100));
 }
 
 /// Instructions of one call of each of three sites, or 0 where it is not called, in ours and in a piece that is joined
 /// to it: the calls and the sums of both.
 struct Merged {
+    name: &'static str,
     ours: [u32; 3],
     piece: [u32; 3],
     calls: [u32; 3],
@@ -578,24 +592,28 @@ struct Merged {
 
 static MERGED: [Merged; 4] = [
     Merged {
+        name: "more sites of ours",
         ours: [5, 7, 0],
         piece: [20, 0, 0],
         calls: [2, 1, 0],
         sums: [25, 7, 0],
     },
     Merged {
+        name: "more sites of the piece",
         ours: [5, 0, 0],
         piece: [20, 30, 40],
         calls: [2, 1, 1],
         sums: [25, 30, 40],
     },
     Merged {
+        name: "one site of the piece alone",
         ours: [0, 0, 0],
         piece: [20, 0, 40],
         calls: [1, 0, 1],
         sums: [20, 0, 40],
     },
     Merged {
+        name: "no site of the piece",
         ours: [5, 0, 9],
         piece: [0, 0, 0],
         calls: [1, 0, 1],
@@ -657,9 +675,12 @@ fn wrong_sum_of(alloc: Global, row: &Merged) -> Result<Option<u32>, AllocError> 
 // What a piece ran is added to what ours did, site by site, whichever of the two has rows for more sites; and a call that
 // begins later is summed as ever.
 #[test]
-fn rows_of_more_sites_stay(rt: HostRuntime) -> Result<(), AllocError> {
-    for (k, row) in MERGED.iter().enumerate() {
-        assert_eq!(rt; wrong_sum_of(rt.alloc(), row)?, None, "row {k}");
+fn rows_of_more_sites_stay(rt: HostRuntime) {
+    for row in &MERGED {
+        assert!(rt;
+            matches!(wrong_sum_of(rt.alloc(), row), Ok(None)),
+            "{}",
+            row.name
+        );
     }
-    Ok(())
 }

@@ -6,8 +6,8 @@ mod readers;
 
 use Step::{Call, Just, Spawn};
 use codes::{
-    Frame, GIVING, NOTHING, Placed, add_frame, add_reducer, end_function, no_code, place,
-    place_all, refusal_of,
+    Frame, GIVING, NOTHING, Placed, add_frame, add_reducer, end_function, no_code, none_is_wrong,
+    place, place_all, refusal_of,
 };
 use cw_code::code::{BlockKind, Callee, Code, Func, Instr, UnaryOperator};
 use cw_model::syntax::{CallKind, Name, Operator, Reduction};
@@ -213,20 +213,30 @@ fn refusal_alone(alloc: Global, alone: &Alone) -> Result<u8, AllocError> {
     refusal_of(alloc, code)
 }
 
-#[test]
-fn mains_alone(rt: HostRuntime) -> Result<(), AllocError> {
-    for (k, alone) in ALONE.iter().enumerate() {
-        assert_eq!(rt; refusal_alone(rt.alloc(), alone)?, alone.number, "row {k}");
+/// The index of the first of these that comes out otherwise.
+fn wrong_alone(alloc: Global, all: &[Alone]) -> Result<Option<usize>, AllocError> {
+    for (k, alone) in all.iter().enumerate() {
+        if refusal_alone(alloc, alone)? != alone.number {
+            return Ok(Some(k));
+        }
     }
-    Ok(())
+    Ok(None)
 }
 
 #[test]
-fn no_function(rt: HostRuntime) -> Result<(), AllocError> {
-    let mut code = no_code(rt.alloc());
-    add_all_but_functions(rt.alloc(), &mut code)?;
-    assert_eq!(rt; refusal_of(rt.alloc(), code)?, 6);
-    Ok(())
+fn mains_alone(rt: HostRuntime) {
+    none_is_wrong(&rt, wrong_alone(rt.alloc(), &ALONE));
+}
+
+fn refusal_without_functions(alloc: Global) -> Result<u8, AllocError> {
+    let mut code = no_code(alloc);
+    add_all_but_functions(alloc, &mut code)?;
+    refusal_of(alloc, code)
+}
+
+#[test]
+fn no_function(rt: HostRuntime) {
+    assert!(rt; matches!(refusal_without_functions(rt.alloc()), Ok(6)));
 }
 
 /// The names of reducers, and the number of the refusal.
@@ -265,16 +275,19 @@ fn refusal_of_reducers(alloc: Global, names: &[&[u8]]) -> Result<u8, AllocError>
     refusal_of(alloc, code)
 }
 
-#[test]
-fn reducers(rt: HostRuntime) -> Result<(), AllocError> {
+/// The index of the first row of reducers that comes out otherwise.
+fn wrong_reducers(alloc: Global) -> Result<Option<usize>, AllocError> {
     for (k, (names, number)) in REDUCERS.iter().enumerate() {
-        assert_eq!(rt;
-            refusal_of_reducers(rt.alloc(), *names)?,
-            *number,
-            "row {k}"
-        );
+        if refusal_of_reducers(alloc, *names)? != *number {
+            return Ok(Some(k));
+        }
     }
-    Ok(())
+    Ok(None)
+}
+
+#[test]
+fn reducers(rt: HostRuntime) {
+    none_is_wrong(&rt, wrong_reducers(rt.alloc()));
 }
 
 static FUNCTIONS: [Case; 3] = [
@@ -286,9 +299,8 @@ static FUNCTIONS: [Case; 3] = [
 ];
 
 #[test]
-fn functions(rt: HostRuntime) -> Result<(), AllocError> {
-    assert_eq!(rt; wrong_case(rt.alloc(), &FUNCTIONS)?, None);
-    Ok(())
+fn functions(rt: HostRuntime) {
+    none_is_wrong(&rt, wrong_case(rt.alloc(), &FUNCTIONS));
 }
 
 static JUMPS: [Case; 10] = [
@@ -309,9 +321,8 @@ static JUMPS: [Case; 10] = [
 ];
 
 #[test]
-fn jumps(rt: HostRuntime) -> Result<(), AllocError> {
-    assert_eq!(rt; wrong_case(rt.alloc(), &JUMPS)?, None);
-    Ok(())
+fn jumps(rt: HostRuntime) {
+    none_is_wrong(&rt, wrong_case(rt.alloc(), &JUMPS));
 }
 
 const PLUS: Step = Just(Instr::Binary(Operator::Plus, 1));
@@ -341,9 +352,8 @@ static OPERANDS: [Case; 13] = [
 ];
 
 #[test]
-fn operands(rt: HostRuntime) -> Result<(), AllocError> {
-    assert_eq!(rt; wrong_case(rt.alloc(), &OPERANDS)?, None);
-    Ok(())
+fn operands(rt: HostRuntime) {
+    none_is_wrong(&rt, wrong_case(rt.alloc(), &OPERANDS));
 }
 
 static NAMES: [Case; 16] = [
@@ -376,9 +386,8 @@ static NAMES: [Case; 16] = [
 ];
 
 #[test]
-fn names(rt: HostRuntime) -> Result<(), AllocError> {
-    assert_eq!(rt; wrong_case(rt.alloc(), &NAMES)?, None);
-    Ok(())
+fn names(rt: HostRuntime) {
+    none_is_wrong(&rt, wrong_case(rt.alloc(), &NAMES));
 }
 
 static BLOCKS: [Case; 12] = [
@@ -413,9 +422,8 @@ static BLOCKS: [Case; 12] = [
 ];
 
 #[test]
-fn blocks(rt: HostRuntime) -> Result<(), AllocError> {
-    assert_eq!(rt; wrong_case(rt.alloc(), &BLOCKS)?, None);
-    Ok(())
+fn blocks(rt: HostRuntime) {
+    none_is_wrong(&rt, wrong_case(rt.alloc(), &BLOCKS));
 }
 
 /// Past an operand and a spawn.
@@ -462,7 +470,6 @@ static BRANCHES: [Case; 6] = [
 ];
 
 #[test]
-fn branches(rt: HostRuntime) -> Result<(), AllocError> {
-    assert_eq!(rt; wrong_case(rt.alloc(), &BRANCHES)?, None);
-    Ok(())
+fn branches(rt: HostRuntime) {
+    none_is_wrong(&rt, wrong_case(rt.alloc(), &BRANCHES));
 }

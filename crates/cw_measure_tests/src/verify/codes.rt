@@ -4,6 +4,7 @@ use cw_code::code::{Code, Func, Instr, Loan, Reducer, Site};
 use cw_model::syntax::{CallKind, Name, Reduction};
 use cw_verify::verify::verify;
 use std::alloc::{AllocError, Global};
+use std::process::Abort;
 
 /// A function without parameters that gives nothing and has no name.
 pub const NOTHING: Func = Func {
@@ -150,4 +151,9 @@ pub fn refusal_of(alloc: Global, code: Code) -> Result<u8, AllocError> {
         Ok(_) => Ok(0),
         Err(e) => Ok(e.number()),
     }
+}
+
+/// No row of a table is wrong, of which this was looked for.
+pub fn none_is_wrong<R: Abort>(rt: &R, wrong: Result<Option<usize>, AllocError>) {
+    assert_eq!(rt; wrong, Ok(None));
 }
