@@ -26,6 +26,7 @@ use cw_model::total::Total;
 use cw_runnable::verified::Verified;
 use cw_text::Fault;
 use std::alloc::{AllocError, Global};
+use std::process::Abort;
 use std::sync::Arc;
 
 /// The greatest limit.
@@ -245,10 +246,17 @@ fn holds_on_all(alloc: Global, code: &Arc<Verified>, row: &Row) -> bool {
     true
 }
 
-/// Whether a row holds.
-pub(crate) fn holds(alloc: Global, row: &Row) -> bool {
+// Whether a row holds.
+fn holds(alloc: Global, row: &Row) -> bool {
     match code_in(alloc, row.setting, row.body) {
         Ok(code) => holds_on_all(alloc, &code, row),
         Err(_) => false,
+    }
+}
+
+/// Each of these rows holds.
+pub(crate) fn all_hold<R: Abort>(rt: &R, alloc: Global, rows: &[Row]) {
+    for row in rows {
+        assert!(rt; holds(alloc, row), "{}", row.name);
     }
 }

@@ -1,6 +1,6 @@
 //! Mains with arrays, and what their reducers come to.
 
-use crate::machine::{Row, Setting, Wanted, holds};
+use crate::machine::{Row, Setting, Wanted, all_hold};
 use crate::programs::{Around, Part};
 use cw_code::code::Instr;
 use cw_model::syntax::{Operator, Reduction};
@@ -201,14 +201,10 @@ static SUMS: [Row; 2] = [
 
 #[test]
 fn one_array(rt: HostRuntime) {
-    for row in &ONE_ARRAY {
-        assert!(rt; holds(rt.alloc(), row), "{}", row.name);
-    }
+    all_hold(&rt, rt.alloc(), &ONE_ARRAY);
 }
 
 #[test]
 fn sums(rt: HostRuntime) {
-    for row in &SUMS {
-        assert!(rt; holds(rt.alloc(), row), "{}", row.name);
-    }
+    all_hold(&rt, rt.alloc(), &SUMS);
 }

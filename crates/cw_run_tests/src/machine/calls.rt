@@ -1,6 +1,6 @@
 //! Mains that call and spawn small functions.
 
-use crate::machine::{Row, Setting, UNTOLD, Wanted, holds};
+use crate::machine::{Row, Setting, UNTOLD, Wanted, all_hold};
 use crate::programs::{CALLED, SPAWNED};
 use cw_code::code::{BlockKind, Callee, Instr};
 use cw_model::syntax::{CallKind, Operator};
@@ -142,7 +142,5 @@ static CALLS: [Row; 5] = [
 
 #[test]
 fn calls(rt: HostRuntime) {
-    for row in &CALLS {
-        assert!(rt; holds(rt.alloc(), row), "{}", row.name);
-    }
+    all_hold(&rt, rt.alloc(), &CALLS);
 }

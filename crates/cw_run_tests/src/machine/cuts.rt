@@ -1,7 +1,7 @@
 //! Mains whose arrays are cut, or passed to functions.
 
 use crate::machine::arrays::{ALONE, NEITHER};
-use crate::machine::{Row, Setting, Wanted, holds};
+use crate::machine::{Row, Setting, Wanted, all_hold};
 use crate::programs::{Around, CALLED, Part, SPAWNED};
 use cw_code::code::{Callee, Halves, Instr};
 use cw_model::syntax::{CallKind, Operator};
@@ -289,14 +289,10 @@ static PASSING: [Row; 2] = [
 
 #[test]
 fn cuts(rt: HostRuntime) {
-    for row in &CUTS {
-        assert!(rt; holds(rt.alloc(), row), "{}", row.name);
-    }
+    all_hold(&rt, rt.alloc(), &CUTS);
 }
 
 #[test]
 fn passing(rt: HostRuntime) {
-    for row in &PASSING {
-        assert!(rt; holds(rt.alloc(), row), "{}", row.name);
-    }
+    all_hold(&rt, rt.alloc(), &PASSING);
 }

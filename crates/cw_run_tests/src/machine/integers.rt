@@ -1,6 +1,6 @@
 //! Mains on integers alone: values, loops and traps.
 
-use crate::machine::{Row, Setting, UNTOLD, Wanted, holds};
+use crate::machine::{Row, Setting, UNTOLD, Wanted, all_hold};
 use cw_code::code::{Callee, Instr, UnaryOperator};
 use cw_model::syntax::{CallKind, Operator};
 
@@ -214,21 +214,15 @@ static TRAPS: [Row; 6] = [
 
 #[test]
 fn values(rt: HostRuntime) {
-    for row in &VALUES {
-        assert!(rt; holds(rt.alloc(), row), "{}", row.name);
-    }
+    all_hold(&rt, rt.alloc(), &VALUES);
 }
 
 #[test]
 fn loops(rt: HostRuntime) {
-    for row in &LOOPS {
-        assert!(rt; holds(rt.alloc(), row), "{}", row.name);
-    }
+    all_hold(&rt, rt.alloc(), &LOOPS);
 }
 
 #[test]
 fn traps(rt: HostRuntime) {
-    for row in &TRAPS {
-        assert!(rt; holds(rt.alloc(), row), "{}", row.name);
-    }
+    all_hold(&rt, rt.alloc(), &TRAPS);
 }

@@ -1,7 +1,7 @@
 //! Loops by halves over an array.
 
 use crate::machine::arrays::{ALONE, MAIN, NEITHER};
-use crate::machine::{Row, Setting, Wanted, holds};
+use crate::machine::{Row, Setting, Wanted, all_hold};
 use crate::programs::{Around, Part};
 use cw_code::code::{BlockKind, Halves, Inner, Instr};
 use cw_model::syntax::{CallKind, Operator};
@@ -183,7 +183,5 @@ static TURNS: [Row; 7] = [
 
 #[test]
 fn turns(rt: HostRuntime) {
-    for row in &TURNS {
-        assert!(rt; holds(rt.alloc(), row), "{}", row.name);
-    }
+    all_hold(&rt, rt.alloc(), &TURNS);
 }

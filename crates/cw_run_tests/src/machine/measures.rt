@@ -11,6 +11,7 @@ use cw_model::burden::{Burden, Edges};
 use cw_model::syntax::{CallKind, Operator};
 use cw_text::Fault;
 use std::alloc::Global;
+use std::process::Abort;
 
 /// The calls of a site, their own work and span, and their work and span.
 type Site = (u64, u64, u64, u64, u64);
@@ -432,42 +433,38 @@ static LOOPS: [Counted; 2] = [
     },
 ];
 
-#[test]
-fn fib(rt: HostRuntime) -> Result<(), Fault> {
-    for counted in &FIBS {
-        assert!(rt; holds(rt.alloc(), counted)?, "{}", counted.name);
+// Each of these runs comes to what was worked out.
+fn all_hold<R: Abort>(rt: &R, alloc: Global, all: &[Counted]) {
+    for counted in all {
+        assert!(rt;
+            matches!(holds(alloc, counted), Ok(true)),
+            "{}",
+            counted.name
+        );
     }
-    Ok(())
 }
 
 #[test]
-fn blocks(rt: HostRuntime) -> Result<(), Fault> {
-    for counted in &BLOCKS {
-        assert!(rt; holds(rt.alloc(), counted)?, "{}", counted.name);
-    }
-    Ok(())
+fn fib(rt: HostRuntime) {
+    all_hold(&rt, rt.alloc(), &FIBS);
 }
 
 #[test]
-fn regions(rt: HostRuntime) -> Result<(), Fault> {
-    for counted in &REGIONS {
-        assert!(rt; holds(rt.alloc(), counted)?, "{}", counted.name);
-    }
-    Ok(())
+fn blocks(rt: HostRuntime) {
+    all_hold(&rt, rt.alloc(), &BLOCKS);
 }
 
 #[test]
-fn cuts(rt: HostRuntime) -> Result<(), Fault> {
-    for counted in &CUTS {
-        assert!(rt; holds(rt.alloc(), counted)?, "{}", counted.name);
-    }
-    Ok(())
+fn regions(rt: HostRuntime) {
+    all_hold(&rt, rt.alloc(), &REGIONS);
 }
 
 #[test]
-fn loops(rt: HostRuntime) -> Result<(), Fault> {
-    for counted in &LOOPS {
-        assert!(rt; holds(rt.alloc(), counted)?, "{}", counted.name);
-    }
-    Ok(())
+fn cuts(rt: HostRuntime) {
+    all_hold(&rt, rt.alloc(), &CUTS);
+}
+
+#[test]
+fn loops(rt: HostRuntime) {
+    all_hold(&rt, rt.alloc(), &LOOPS);
 }

@@ -121,9 +121,12 @@ fn is_answered(alloc: Global, request: &Request) -> Result<bool, Fault> {
 }
 
 #[test]
-fn requests(rt: HostRuntime) -> Result<(), Fault> {
+fn requests(rt: HostRuntime) {
     for request in &REQUESTS {
-        assert!(rt; is_answered(rt.alloc(), request)?, "{}", request.name);
+        assert!(rt;
+            matches!(is_answered(rt.alloc(), request), Ok(true)),
+            "{}",
+            request.name
+        );
     }
-    Ok(())
 }

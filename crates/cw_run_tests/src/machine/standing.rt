@@ -10,6 +10,7 @@ use cw_model::syntax::{CallKind, Operator};
 use cw_runnable::verified::Verified;
 use cw_text::Fault;
 use std::alloc::Global;
+use std::process::Abort;
 
 const END: Instr = Instr::ReturnValue;
 
@@ -245,18 +246,21 @@ fn is_stood(alloc: Global, row: &Stood) -> bool {
     }
 }
 
-#[test]
-fn operators(rt: HostRuntime) {
-    for row in &OPERATORS {
-        assert!(rt; is_stood(rt.alloc(), row), "{}", row.name);
+// Each of these rows holds.
+fn all_are_stood<R: Abort>(rt: &R, alloc: Global, rows: &[Stood]) {
+    for row in rows {
+        assert!(rt; is_stood(alloc, row), "{}", row.name);
     }
 }
 
 #[test]
+fn operators(rt: HostRuntime) {
+    all_are_stood(&rt, rt.alloc(), &OPERATORS);
+}
+
+#[test]
 fn arrays(rt: HostRuntime) {
-    for row in &ARRAYS {
-        assert!(rt; is_stood(rt.alloc(), row), "{}", row.name);
-    }
+    all_are_stood(&rt, rt.alloc(), &ARRAYS);
 }
 
 // The number of the fault that a run on this argument has, and 0 where it ends.
@@ -269,11 +273,15 @@ fn number_of(alloc: Global, args: &[i64], limit: u64) -> Result<u8, Fault> {
     }
 }
 
+// The arguments, the limit and that number.
+static NUMBERS: [(&[i64], u64, u8); 4] = [(&[5], 2, 0), (&[5], 1, 7), (&[5], 0, 11), (&[], 2, 11)];
+
 #[test]
-fn runs_that_do_not_trap(rt: HostRuntime) -> Result<(), Fault> {
-    let rows: &[(&[i64], u64, u8)] = &[(&[5], 2, 0), (&[5], 1, 7), (&[5], 0, 11), (&[], 2, 11)];
-    for (args, limit, number) in rows {
-        assert_eq!(rt; number_of(rt.alloc(), args, *limit)?, *number);
+fn runs_that_do_not_trap(rt: HostRuntime) {
+    for (args, limit, number) in &NUMBERS {
+        assert!(rt;
+            matches!(number_of(rt.alloc(), args, *limit), Ok(n) if n == *number),
+            "{number}"
+        );
     }
-    Ok(())
 }

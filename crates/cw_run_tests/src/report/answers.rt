@@ -88,9 +88,12 @@ static ANSWERS: [Answer; 3] = [
 ];
 
 #[test]
-fn runs_are_answered(rt: HostRuntime) -> Result<(), Fault> {
+fn runs_are_answered(rt: HostRuntime) {
     for told in &ANSWERS {
-        assert!(rt; is_answered(rt.alloc(), told)?, "{}", told.name);
+        assert!(rt;
+            matches!(is_answered(rt.alloc(), told), Ok(true)),
+            "{}",
+            told.name
+        );
     }
-    Ok(())
 }

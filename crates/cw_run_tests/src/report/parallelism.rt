@@ -109,14 +109,13 @@ fn is_scaled(alloc: Global, measure: Readings, text: &'static [u8]) -> Result<bo
 }
 
 #[test]
-fn parallelism_is_rounded_down(rt: HostRuntime) -> Result<(), Fault> {
+fn parallelism_is_rounded_down(rt: HostRuntime) {
     for (measure, text) in &SCALES {
         assert!(rt;
-            is_scaled(rt.alloc(), *measure, text)?,
+            matches!(is_scaled(rt.alloc(), *measure, text), Ok(true)),
             "{} {}",
             measure.work,
             measure.span
         );
     }
-    Ok(())
 }
