@@ -9,9 +9,7 @@ use cw_pool::gate::{Gate, Quiet};
 use cw_pool::run::run;
 use cw_text::Fault;
 use std::alloc::Global;
-use std::process::Abort;
 use std::sync::{Arc, Wait};
-use std::test::Fail;
 use std::thread::Threads;
 
 const MOST: u64 = 1_000_000;
@@ -170,6 +168,14 @@ fn fails<R: Threads + Wait + Copy + Send + Drop + 'static>(
     Ok(all_answer && fault_of(&wanted) == Some(number))
 }
 
+// Whether the reducers of a run by one worker come to these totals.
+fn are_totals(alloc: Global, run: &Run, totals: &[Total]) -> Result<bool, Fault> {
+    match alone(alloc, run)? {
+        Ok(ended) => Ok(ended.totals.as_slice() == totals),
+        Err(_) => Ok(false),
+    }
+}
+
 // The tenth of the Fibonacci numbers.
 const TENTH: Run = Run {
     source: FIB,
@@ -178,19 +184,15 @@ const TENTH: Run = Run {
 };
 
 #[test]
-fn spawns_and_regions(rt: HostRuntime) -> Result<(), Fail> {
-    let gives = gives(rt, rt.alloc(), &TENTH, 55)?;
-    assert!(rt; gives);
-    Ok(())
+fn spawns_and_regions(rt: HostRuntime) {
+    assert!(rt; matches!(gives(rt, rt.alloc(), &TENTH, 55), Ok(true)));
 }
 
 // Of 89 leaves each gives 0 or 1, and of the others the root gives most.
 #[test]
-fn reducers(rt: HostRuntime) -> Result<(), Fail> {
+fn reducers(rt: HostRuntime) {
     let totals = [Total::Sum(89), Total::Max(Some(55))];
-    let ended = alone(rt.alloc(), &TENTH)?;
-    assert!(rt; ended.is_ok_and(|ended| ended.totals.as_slice() == totals.as_slice()));
-    Ok(())
+    assert!(rt; matches!(are_totals(rt.alloc(), &TENTH, &totals), Ok(true)));
 }
 
 const LENT: Run = Run {
@@ -200,10 +202,8 @@ const LENT: Run = Run {
 };
 
 #[test]
-fn arrays_are_lent(rt: HostRuntime) -> Result<(), Fail> {
-    let gives = gives(rt, rt.alloc(), &LENT, 780)?;
-    assert!(rt; gives);
-    Ok(())
+fn arrays_are_lent(rt: HostRuntime) {
+    assert!(rt; matches!(gives(rt, rt.alloc(), &LENT, 780), Ok(true)));
 }
 
 const READ_TOGETHER: Run = Run {
@@ -214,10 +214,8 @@ const READ_TOGETHER: Run = Run {
 
 // Twice the sum of 0 to 39, and the last one.
 #[test]
-fn arrays_are_read_together(rt: HostRuntime) -> Result<(), Fail> {
-    let gives = gives(rt, rt.alloc(), &READ_TOGETHER, 1599)?;
-    assert!(rt; gives);
-    Ok(())
+fn arrays_are_read_together(rt: HostRuntime) {
+    assert!(rt; matches!(gives(rt, rt.alloc(), &READ_TOGETHER, 1599), Ok(true)));
 }
 
 const TRAPPING: Run = Run {
@@ -227,10 +225,8 @@ const TRAPPING: Run = Run {
 };
 
 #[test]
-fn traps(rt: HostRuntime) -> Result<(), Fail> {
-    let fails = fails(rt, rt.alloc(), &TRAPPING, 8)?;
-    assert!(rt; fails);
-    Ok(())
+fn traps(rt: HostRuntime) {
+    assert!(rt; matches!(fails(rt, rt.alloc(), &TRAPPING, 8), Ok(true)));
 }
 
 const OVER: Run = Run {
@@ -240,43 +236,50 @@ const OVER: Run = Run {
 };
 
 #[test]
-fn limits(rt: HostRuntime) -> Result<(), Fail> {
-    let fails = fails(rt, rt.alloc(), &OVER, 7)?;
-    assert!(rt; fails);
-    Ok(())
+fn limits(rt: HostRuntime) {
+    assert!(rt; matches!(fails(rt, rt.alloc(), &OVER, 7), Ok(true)));
 }
 
-// What a crew of so many bodies that return at once answers.
-fn idly<R: Threads + Wait + Copy + Send + Drop + 'static>(
+// Whether a crew of so many bodies that return at once answers this.
+fn idly_answers<R: Threads + Wait + Copy + Send + Drop + 'static>(
     rt: R,
     alloc: Global,
     run: &Run,
     bodies: usize,
-) -> Result<Result<Ended, Fault>, Fault> {
+    wanted: &Result<Ended, Fault>,
+) -> Result<bool, Fault> {
     let crew = idle(alloc, bodies)?;
     let gate = Arc::new(alloc, Quiet)?;
-    together(rt, alloc, run, crew, gate)
+    let got = together(rt, alloc, run, crew, gate)?;
+    Ok(is_same(&got, wanted))
+}
+
+// Whether it answers what one worker does.
+fn idly_answers_as_alone<R: Threads + Wait + Copy + Send + Drop + 'static>(
+    rt: R,
+    alloc: Global,
+    run: &Run,
+    bodies: usize,
+) -> Result<bool, Fault> {
+    let wanted = alone(alloc, run)?;
+    idly_answers(rt, alloc, run, bodies, &wanted)
 }
 
 // The others do the work of bodies that return at once.
 #[test]
-fn crews_that_do_nothing(rt: HostRuntime) -> Result<(), Fail> {
-    let wanted = alone(rt.alloc(), &TENTH)?;
-    let got = idly(rt, rt.alloc(), &TENTH, 63)?;
-    assert!(rt; is_same(&got, &wanted));
-    Ok(())
+fn crews_that_do_nothing(rt: HostRuntime) {
+    assert!(rt; matches!(idly_answers_as_alone(rt, rt.alloc(), &TENTH, 63), Ok(true)));
 }
 
 // A crew of more than 63 bodies is refused.
 #[test]
-fn crews_of_too_many(rt: HostRuntime) -> Result<(), Fail> {
-    let got = idly(rt, rt.alloc(), &TENTH, 64)?;
-    assert!(rt; is_same(&got, &Err(Fault::Arguments)));
-    Ok(())
+fn crews_of_too_many(rt: HostRuntime) {
+    let refused = Err(Fault::Arguments);
+    assert!(rt; matches!(idly_answers(rt, rt.alloc(), &TENTH, 64, &refused), Ok(true)));
 }
 
 // What came of a run by two workers, of which worker 0 is held.
-#[derive(Drop)]
+#[derive(Clone, Copy)]
 pub struct Held {
     // Whether it answered what one worker does.
     pub is_same: bool,
@@ -289,7 +292,7 @@ pub struct Held {
 }
 
 // Worker 0 is held at its first offer, or at each.
-pub fn run_held<R: Threads + Wait + Copy + Send + Drop + 'static>(
+fn run_held<R: Threads + Wait + Copy + Send + Drop + 'static>(
     rt: R,
     alloc: Global,
     run: &Run,
@@ -309,6 +312,29 @@ pub fn run_held<R: Threads + Wait + Copy + Send + Drop + 'static>(
     })
 }
 
+// Whether two workers answer what one does, where worker 0 is held at its first offer until that job is settled.
+pub fn is_settled_while_held<R: Threads + Wait + Copy + Send + Drop + 'static>(
+    rt: R,
+    alloc: Global,
+    run: &Run,
+) -> Result<bool, Fault> {
+    let held = run_held(rt, alloc, run, true)?;
+    Ok(held.is_same && held.used_up == 0 && held.settled >= 1)
+}
+
+// Whether they come to this value, where worker 0 is held at each of so many offers.
+fn is_settled_at_each<R: Threads + Wait + Copy + Send + Drop + 'static>(
+    rt: R,
+    alloc: Global,
+    run: &Run,
+    value: i64,
+    offered: u64,
+) -> Result<bool, Fault> {
+    let held = run_held(rt, alloc, run, false)?;
+    let is_answered = held.is_same && held.value == Some(value);
+    Ok(is_answered && held.used_up == 0 && held.offered == offered)
+}
+
 const THREE_STEPS: Run = Run {
     source: STEPS,
     arg: 3,
@@ -317,10 +343,13 @@ const THREE_STEPS: Run = Run {
 
 // While worker 0 is held at its first offer, worker 1 steals that job and settles it.
 #[test]
-fn a_job_is_settled_while_its_owner_is_held(rt: HostRuntime) -> Result<(), Fail> {
-    let held = run_held(rt, rt.alloc(), &THREE_STEPS, true)?;
-    assert!(rt; held.is_same && held.used_up == 0 && held.settled >= 1);
-    Ok(())
+fn a_job_is_settled_while_its_owner_is_held(rt: HostRuntime) {
+    assert!(rt;
+        matches!(
+            is_settled_while_held(rt, rt.alloc(), &THREE_STEPS),
+            Ok(true)
+        )
+    );
 }
 
 const TWELFTH: Run = Run {
@@ -331,11 +360,13 @@ const TWELFTH: Run = Run {
 
 // Worker 0 is held at each offer until as many jobs were settled by worker 1: all work of its rests is done there.
 #[test]
-fn each_rest_is_run_by_the_other(rt: HostRuntime) -> Result<(), Fail> {
-    let held = run_held(rt, rt.alloc(), &TWELFTH, false)?;
-    assert!(rt; held.is_same && held.value == Some(144));
-    assert!(rt; held.used_up == 0 && held.offered == 232);
-    Ok(())
+fn each_rest_is_run_by_the_other(rt: HostRuntime) {
+    assert!(rt;
+        matches!(
+            is_settled_at_each(rt, rt.alloc(), &TWELFTH, 144, 232),
+            Ok(true)
+        )
+    );
 }
 
 const TWELVE_READ: Run = Run {
@@ -346,11 +377,13 @@ const TWELVE_READ: Run = Run {
 
 // The same where each rest has a share of what the call beside it reads: 11 spawns in each of two sums, and that of main.
 #[test]
-fn each_rest_that_reads_is_run_by_the_other(rt: HostRuntime) -> Result<(), Fail> {
-    let held = run_held(rt, rt.alloc(), &TWELVE_READ, false)?;
-    assert!(rt; held.is_same && held.value == Some(143));
-    assert!(rt; held.used_up == 0 && held.offered == 23);
-    Ok(())
+fn each_rest_that_reads_is_run_by_the_other(rt: HostRuntime) {
+    assert!(rt;
+        matches!(
+            is_settled_at_each(rt, rt.alloc(), &TWELVE_READ, 143, 23),
+            Ok(true)
+        )
+    );
 }
 
 // How often a crew of so many bodies, each held at random, was held, if it answers this.
@@ -389,27 +422,32 @@ fn all_answer_held<R: Threads + Wait + Copy + Send + Drop + 'static>(
     Ok(true)
 }
 
-// The same of all these runs, by these seeds.
-fn all_runs_answer_held<R: Abort + Threads + Wait + Copy + Send + Drop + 'static>(
+// Whether they do by each of these seeds.
+fn all_answer_by_seeds<R: Threads + Wait + Copy + Send + Drop + 'static>(
     rt: R,
     alloc: Global,
-    runs: &[Run],
+    run: &Run,
     seeds: &[u64],
-) -> Result<(), Fault> {
-    for run in runs {
-        for seed in seeds {
-            let all_answer = all_answer_held(rt, alloc, run, *seed)?;
-            assert!(rt; all_answer, "{} within {} by {seed}", run.arg, run.n);
+) -> Result<bool, Fault> {
+    for seed in seeds {
+        if !all_answer_held(rt, alloc, run, *seed)? {
+            return Ok(false);
         }
     }
-    Ok(())
+    Ok(true)
 }
 
 pub const SEEDS: [u64; 3] = [1, 36, 2026];
 
 // Whatever workers are held, and wherever, they answer what one worker does.
 #[test]
-fn workers_that_are_held_at_random(rt: HostRuntime) -> Result<(), Fail> {
-    all_runs_answer_held(rt, rt.alloc(), RUNS, &SEEDS)?;
-    Ok(())
+fn workers_that_are_held_at_random(rt: HostRuntime) {
+    for run in RUNS {
+        assert!(rt;
+            matches!(all_answer_by_seeds(rt, rt.alloc(), run, &SEEDS), Ok(true)),
+            "{} within {}",
+            run.arg,
+            run.n
+        );
+    }
 }

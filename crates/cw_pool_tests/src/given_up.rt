@@ -1,7 +1,7 @@
 //! Runs by crews that are given up: what one worker answers, in the time of one worker.
 
 use crate::crews::{
-    Run, SEEDS, alone, answers, fault_of, held_of_same, is_same, run_held, together,
+    Run, SEEDS, alone, answers, fault_of, held_of_same, is_same, is_settled_while_held, together,
 };
 use crate::gates::{Robbed, serving};
 use crate::programs::{
@@ -11,9 +11,7 @@ use cw_model::burden::{Burden, Edges};
 use cw_pool::run::values;
 use cw_text::Fault;
 use std::alloc::Global;
-use std::process::Abort;
 use std::sync::{Arc, Wait};
-use std::test::Fail;
 use std::thread::Threads;
 
 // The numbers of the faults: the limit is passed, and a trap.
@@ -123,27 +121,17 @@ fn fails_with_all<R: Threads + Wait + Copy + Send + Drop + 'static>(
     Ok(true)
 }
 
-// The same of all these rows.
-fn all_fail<R: Abort + Threads + Wait + Copy + Send + Drop + 'static>(
-    rt: R,
-    alloc: Global,
-    rows: &[Row],
-) -> Result<(), Fault> {
-    for row in rows {
-        let fails = fails_with_all(rt, alloc, row)?;
+#[test]
+fn crews_answer_what_one_worker_does(rt: HostRuntime) {
+    for row in ROWS {
         assert!(rt;
-            fails,
+            matches!(fails_with_all(rt, rt.alloc(), row), Ok(true)),
             "fault {} on {} within {}",
-            row.fault, row.run.arg, row.run.n
+            row.fault,
+            row.run.arg,
+            row.run.n
         );
     }
-    Ok(())
-}
-
-#[test]
-fn crews_answer_what_one_worker_does(rt: HostRuntime) -> Result<(), Fail> {
-    all_fail(rt, rt.alloc(), ROWS)?;
-    Ok(())
 }
 
 // Whether two workers answer what one does, where the first job was stolen before worker 0 went on.
@@ -168,10 +156,8 @@ const STOLEN_ENDLESS: Run = Run {
 };
 
 #[test]
-fn a_stolen_rest_without_an_end_is_given_up(rt: HostRuntime) -> Result<(), Fail> {
-    let answers = answers_robbed(rt, rt.alloc(), &STOLEN_ENDLESS)?;
-    assert!(rt; answers);
-    Ok(())
+fn a_stolen_rest_without_an_end_is_given_up(rt: HostRuntime) {
+    assert!(rt; matches!(answers_robbed(rt, rt.alloc(), &STOLEN_ENDLESS), Ok(true)));
 }
 
 // The rest traps, or passes the limit, while worker 0 is held at its first offer: the call that it spawned is given up
@@ -189,12 +175,19 @@ const OVER_IN_THE_REST: Run = Run {
 };
 
 #[test]
-fn a_run_whose_root_is_given_up_is_answered_by_one_worker(rt: HostRuntime) -> Result<(), Fail> {
-    let trap = run_held(rt, rt.alloc(), &TRAP_IN_THE_REST, true)?;
-    assert!(rt; trap.is_same && trap.used_up == 0 && trap.settled >= 1);
-    let over = run_held(rt, rt.alloc(), &OVER_IN_THE_REST, true)?;
-    assert!(rt; over.is_same && over.used_up == 0 && over.settled >= 1);
-    Ok(())
+fn a_run_whose_root_is_given_up_is_answered_by_one_worker(rt: HostRuntime) {
+    assert!(rt;
+        matches!(
+            is_settled_while_held(rt, rt.alloc(), &TRAP_IN_THE_REST),
+            Ok(true)
+        )
+    );
+    assert!(rt;
+        matches!(
+            is_settled_while_held(rt, rt.alloc(), &OVER_IN_THE_REST),
+            Ok(true)
+        )
+    );
 }
 
 const BURDEN: Burden = Burden {
@@ -220,9 +213,17 @@ fn fault_of_values<R: Threads + Wait + Copy + Send + Drop + 'static>(
 }
 
 #[test]
-fn values_of_a_run_that_is_given_up(rt: HostRuntime) -> Result<(), Fail> {
-    let trap = fault_of_values(rt, rt.alloc(), &TRAP_IN_THE_REST)?;
-    let over = fault_of_values(rt, rt.alloc(), &OVER_IN_THE_REST)?;
-    assert!(rt; trap == Some(TRAP) && over == Some(OVER));
-    Ok(())
+fn values_of_a_run_that_is_given_up(rt: HostRuntime) {
+    assert!(rt;
+        matches!(
+            fault_of_values(rt, rt.alloc(), &TRAP_IN_THE_REST),
+            Ok(Some(TRAP))
+        )
+    );
+    assert!(rt;
+        matches!(
+            fault_of_values(rt, rt.alloc(), &OVER_IN_THE_REST),
+            Ok(Some(OVER))
+        )
+    );
 }
