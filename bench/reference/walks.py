@@ -28,7 +28,7 @@ pub struct Generated<'a> {
 }
 
 /// Programs that end and programs that trap, each with some spawns.
-pub const GENERATED: [Generated<'static>; %d] = [
+pub static GENERATED: [Generated<'static>; %d] = [
 '''
 
 

@@ -8,7 +8,7 @@ pub struct Generated<'a> {
 }
 
 /// Programs that end and programs that trap, each with some spawns.
-pub const GENERATED: [Generated<'static>; 14] = [
+pub static GENERATED: [Generated<'static>; 14] = [
     Generated {
         source: b"
 reducer max s0;

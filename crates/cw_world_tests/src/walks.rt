@@ -10,7 +10,6 @@ use cw_world::event::Event;
 use cw_world::event::Event::{Collect, Inline, Offer, Retake, Run, Settle, Steal};
 use cw_world::world::World;
 use std::alloc::Global;
-use std::test::Fail;
 
 // Each rest costs 100 to begin.
 const BURDEN: Burden = Burden {
@@ -88,10 +87,8 @@ const KEPT: &[Event] = &[
 const KEPT_LAST: &[Event] = &[Run(0), Run(0), Run(0), Run(0), Run(0)];
 
 #[test]
-fn one_worker_keeps_each_rest(rt: HostRuntime) -> Result<(), Fail> {
-    let prints = prints(rt.alloc(), 1, KEPT, KEPT_LAST)?;
-    assert!(rt; prints);
-    Ok(())
+fn one_worker_keeps_each_rest(rt: HostRuntime) {
+    assert!(rt; matches!(prints(rt.alloc(), 1, KEPT, KEPT_LAST), Ok(true)));
 }
 
 const STOLEN: &[Event] = &[
@@ -123,8 +120,6 @@ const STOLEN: &[Event] = &[
 const STOLEN_LAST: &[Event] = &[Run(0), Run(0), Run(0)];
 
 #[test]
-fn two_workers_steal_each_rest(rt: HostRuntime) -> Result<(), Fail> {
-    let prints = prints(rt.alloc(), 2, STOLEN, STOLEN_LAST)?;
-    assert!(rt; prints);
-    Ok(())
+fn two_workers_steal_each_rest(rt: HostRuntime) {
+    assert!(rt; matches!(prints(rt.alloc(), 2, STOLEN, STOLEN_LAST), Ok(true)));
 }

@@ -11,9 +11,7 @@ use cw_text::Fault;
 use cw_world::event::Event::{self, Collect, Inline, Offer, Retake, Run, Settle, Steal};
 use cw_world::world::World;
 use std::alloc::Global;
-use std::process::Abort;
 use std::sync::Arc;
-use std::test::Fail;
 
 // Both edges of a spawn cost 3.
 const BURDEN: Burden = Burden {
@@ -186,22 +184,19 @@ fn is_case_serial(alloc: Global, case: &Case, seeds: &[u64]) -> Result<bool, Fau
 
 const SEEDS: [u64; 3] = [1, 12345, 987654321];
 
-fn all_cases_are_serial<R: Abort>(rt: &R, alloc: Global, cases: &[Case]) -> Result<(), Fault> {
-    for case in cases {
-        let is_serial = is_case_serial(alloc, case, &SEEDS)?;
-        assert!(rt; is_serial, "within {} instructions", case.n);
-    }
-    Ok(())
-}
-
 #[test]
-fn walks_are_serial(rt: HostRuntime) -> Result<(), Fail> {
-    all_cases_are_serial(&rt, rt.alloc(), CASES)?;
-    Ok(())
+fn walks_are_serial(rt: HostRuntime) {
+    for case in CASES {
+        assert!(rt;
+            matches!(is_case_serial(rt.alloc(), case, &SEEDS), Ok(true)),
+            "within {} instructions",
+            case.n
+        );
+    }
 }
 
 // Whether walks of a random program are serial within so many instructions.
-fn is_random_serial(alloc: Global, program: &Generated, n: u64) -> Result<bool, Fault> {
+fn is_random_serial_within(alloc: Global, program: &Generated, n: u64) -> Result<bool, Fault> {
     let case = Case {
         source: program.source,
         args: program.args,
@@ -210,26 +205,24 @@ fn is_random_serial(alloc: Global, program: &Generated, n: u64) -> Result<bool, 
     is_case_serial(alloc, &case, &[program.cost])
 }
 
-// Within just what each costs, within one instruction less, and within half of it.
-fn all_random_are_serial<R: Abort>(
-    rt: &R,
-    alloc: Global,
-    programs: &[Generated],
-) -> Result<(), Fault> {
-    for program in programs {
-        let cost = program.cost;
-        for n in [cost, cost.wrapping_sub(1), cost / 2] {
-            let is_serial = is_random_serial(alloc, program, n)?;
-            assert!(rt; is_serial, "cost {cost} within {n}");
-        }
-    }
-    Ok(())
+// Within just what it costs, within one instruction less, and within half of it.
+fn is_random_serial(alloc: Global, program: &Generated) -> Result<bool, Fault> {
+    let cost = program.cost;
+    let all = is_random_serial_within(alloc, program, cost)?;
+    let less = is_random_serial_within(alloc, program, cost.wrapping_sub(1))?;
+    let half = is_random_serial_within(alloc, program, cost / 2)?;
+    Ok(all && less && half)
 }
 
 #[test]
-fn walks_of_random_programs_are_serial(rt: HostRuntime) -> Result<(), Fail> {
-    all_random_are_serial(&rt, rt.alloc(), &GENERATED)?;
-    Ok(())
+fn walks_of_random_programs_are_serial(rt: HostRuntime) {
+    for program in &GENERATED {
+        assert!(rt;
+            matches!(is_random_serial(rt.alloc(), program), Ok(true)),
+            "cost {}",
+            program.cost
+        );
+    }
 }
 
 // Whether a world of so many workers is refused.
@@ -249,16 +242,12 @@ fn starts(alloc: Global, workers: usize) -> Result<bool, Fault> {
 }
 
 #[test]
-fn workers_out_of_range(rt: HostRuntime) -> Result<(), Fail> {
-    let is_none_refused = is_refused(rt.alloc(), 0)?;
-    let is_more_refused = is_refused(rt.alloc(), 65)?;
-    assert!(rt; is_none_refused && is_more_refused);
-    Ok(())
+fn workers_out_of_range(rt: HostRuntime) {
+    assert!(rt; matches!(is_refused(rt.alloc(), 0), Ok(true)));
+    assert!(rt; matches!(is_refused(rt.alloc(), 65), Ok(true)));
 }
 
 #[test]
-fn the_most_workers(rt: HostRuntime) -> Result<(), Fail> {
-    let starts = starts(rt.alloc(), 64)?;
-    assert!(rt; starts);
-    Ok(())
+fn the_most_workers(rt: HostRuntime) {
+    assert!(rt; matches!(starts(rt.alloc(), 64), Ok(true)));
 }
