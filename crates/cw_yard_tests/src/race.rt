@@ -2,13 +2,13 @@
 ghost use Rattle.std.specs.Prelude.{◌≡◌, ◌<◌, IfOk};
 ghost use Rattle.cw_yard.specs.Seats.{IsSeatOf, workers_of};
 
-use crate::jobs::{argument, job};
-use crate::walk::{offer_once, rob, spend};
+use crate::jobs::job;
+use crate::walk::{given_back, offer_once, rob, spend, taken_back};
+use cw_jobs::job::Job;
 use cw_text::Fault;
 use cw_yard::seat::{Seat, Yard};
 use std::alloc::Global;
 use std::sync::Wait;
-use std::test::Fail;
 use std::thread;
 use std::thread::Threads;
 
@@ -97,62 +97,149 @@ fn two(alloc: Global, cells: usize) -> Result<(Yard, Seat, Seat), Fault>
     Ok((yard, one, other))
 }
 
+// The same in a yard of four cells for each.
+fn race_of<R: Wait + Threads + Sync>(
+    rt: &R,
+    alloc: Global,
+    count: u16,
+) -> Result<(i64, i64, i64), Fault> {
+    let (yard, one, other) = two(alloc, 4)?;
+    match race(rt, alloc, &yard, one, other, count) {
+        (Ok((back, came)), stolen) => Ok((back, came, stolen)),
+        (Err(fault), _) => Err(fault),
+    }
+}
+
 // Each job came back or was stolen, none did both, and the effect of each that was stolen came once.
 #[test]
-fn each_job_is_done_once(rt: HostRuntime) -> Result<(), Fail> {
-    let (yard, one, other) = two(rt.alloc(), 4)?;
-    let (own, stolen) = race(&rt, rt.alloc(), &yard, one, other, 1000);
-    let (back, came) = own?;
-    assert_eq!(rt; back.wrapping_add(came), 500_500);
-    assert_eq!(rt; came, stolen);
-    Ok(())
+fn each_job_is_done_once(rt: HostRuntime) {
+    assert!(rt;
+        matches!(
+        race_of(&rt, rt.alloc(), 1000),
+        Ok((back, came, stolen)) if back.wrapping_add(came) == 500_500 && came == stolen
+    )
+    );
+}
+
+// The arguments of what comes back of three jobs: the first, while which is out the second is offered, and the third.
+fn three_offered<R: Wait>(
+    rt: &R,
+    yard: &Yard,
+    seat: &mut Seat,
+    jobs: (Job, Job, Job),
+) -> (Option<i64>, Option<i64>, Option<i64>)
+    requires { IsSeatOf yard.now seat.old }
+{
+    let (first, second, third) = jobs;
+    match yard.offer(seat, first) {
+        Ok(ticket) => {
+            let given_back = given_back(rt, yard, seat, second);
+            let spent = spend(rt, yard, seat, ticket);
+            let taken_back = taken_back(rt, yard, seat, third);
+            (spent.argument(), given_back, taken_back)
+        }
+        Err(_) => (None, None, None),
+    }
+}
+
+fn jobs(alloc: Global) -> Result<(Job, Job, Job), Fault> {
+    Ok((job(alloc, 7)?, job(alloc, 8)?, job(alloc, 9)?))
+}
+
+// The same where the yard has one cell for each worker.
+fn three_in_one_cell<R: Wait>(
+    rt: &R,
+    alloc: Global,
+) -> Result<(Option<i64>, Option<i64>, Option<i64>), Fault> {
+    let jobs = jobs(alloc)?;
+    let (yard, mut one, _other) = two(alloc, 1)?;
+    Ok(three_offered(rt, &yard, &mut one, jobs))
 }
 
 // With one cell the first job is taken, the second given back whole, and after a retake the next is taken.
 #[test]
-fn one_cell_takes_one_job(rt: HostRuntime) -> Result<(), Fail> {
-    let (yard, mut one, _other) = two(rt.alloc(), 1)?;
-    let (first, second, third) = (
-        job(rt.alloc(), 7)?,
-        job(rt.alloc(), 8)?,
-        job(rt.alloc(), 9)?,
-    );
-    let Ok(ticket) = yard.offer(&mut one, first) else {
-        panic!(rt; "the first job was given back")
-    };
-    match yard.offer(&mut one, second) {
-        Ok(_) => panic!(rt; "one cell took two jobs"),
-        Err(back) => assert_eq!(rt; argument(&back), 8),
+fn one_cell_takes_one_job(rt: HostRuntime) {
+    let came = three_in_one_cell(&rt, rt.alloc());
+    assert!(rt; matches!(came, Ok((Some(7), Some(8), Some(9)))));
+}
+
+// Of two jobs that are offered the argument of that which is stolen then, that of the newer one, which is taken back, and
+// the value of the effect of the older one.
+fn two_offered<R: Wait>(
+    rt: &R,
+    yard: &Yard,
+    one: &mut Seat,
+    other: &mut Seat,
+    older: Job,
+    newer: Job,
+) -> (i64, Option<i64>, Option<i64>)
+    requires one { IsSeatOf yard.now one.old }
+    requires other { IsSeatOf yard.now other.old }
+    requires many { 0 < workers_of yard.now }
+    ensures one { IsSeatOf yard.now one.new }
+    ensures other { IsSeatOf yard.now other.new }
+{
+    match yard.offer(one, older) {
+        Ok(ticket) => {
+            let (stolen, back) = rob_before(rt, yard, one, other, newer);
+            let spent = spend(rt, yard, one, ticket);
+            (stolen, back, spent.value())
+        }
+        Err(_) => (0, None, None),
     }
-    let spent = spend(&rt, &yard, &mut one, ticket);
-    assert_eq!(rt; spent.argument(), Some(7));
-    let Ok(ticket) = yard.offer(&mut one, third) else {
-        panic!(rt; "the third job was given back")
-    };
-    let spent = spend(&rt, &yard, &mut one, ticket);
-    assert_eq!(rt; spent.argument(), Some(9));
-    Ok(())
+}
+
+// The argument of what is stolen once a job is offered, and that of the job where it is taken back.
+fn rob_before<R: Wait>(
+    rt: &R,
+    yard: &Yard,
+    one: &mut Seat,
+    other: &mut Seat,
+    job: Job,
+) -> (i64, Option<i64>)
+    requires one { IsSeatOf yard.now one.old }
+    requires other { IsSeatOf yard.now other.old }
+    requires many { 0 < workers_of yard.now }
+    ensures one { IsSeatOf yard.now one.new }
+    ensures other { IsSeatOf yard.now other.new }
+{
+    match yard.offer(one, job) {
+        Ok(ticket) => {
+            let stolen = rob(yard, other, 0);
+            let spent = spend(rt, yard, one, ticket);
+            (stolen, spent.argument())
+        }
+        Err(_) => (0, None),
+    }
+}
+
+// Whether nothing is left to be stolen, and the end is seen at both once it is marked, and not before.
+fn ends_at_both(yard: &Yard, one: &mut Seat, other: &mut Seat) -> bool
+    requires one { IsSeatOf yard.now one.old }
+    requires other { IsSeatOf yard.now other.old }
+    requires many { 0 < workers_of yard.now }
+{
+    let left = rob(yard, other, 0);
+    let is_early = yard.ended(other);
+    yard.end(one);
+    let is_seen = yard.ended(one) && yard.ended(other);
+    left == 0 && !is_early && is_seen
+}
+
+// The same of two jobs in a yard of two cells for each, and whether it ends so.
+fn two_in_two_cells<R: Wait>(
+    rt: &R,
+    alloc: Global,
+) -> Result<((i64, Option<i64>, Option<i64>), bool), Fault> {
+    let (older, newer, _) = jobs(alloc)?;
+    let (yard, mut one, mut other) = two(alloc, 2)?;
+    let came = two_offered(rt, &yard, &mut one, &mut other, older, newer);
+    Ok((came, ends_at_both(&yard, &mut one, &mut other)))
 }
 
 // Worker 1 steals the oldest of two jobs, its effect comes to worker 0, and the end is seen at both.
 #[test]
-fn the_oldest_is_stolen(rt: HostRuntime) -> Result<(), Fail> {
-    let (yard, mut one, mut other) = two(rt.alloc(), 2)?;
-    let (first, second) = (job(rt.alloc(), 7)?, job(rt.alloc(), 8)?);
-    let Ok(older) = yard.offer(&mut one, first) else {
-        panic!(rt; "the first job was given back")
-    };
-    let Ok(newer) = yard.offer(&mut one, second) else {
-        panic!(rt; "the second job was given back")
-    };
-    assert_eq!(rt; rob(&yard, &mut other, 0), 7);
-    let spent = spend(&rt, &yard, &mut one, newer);
-    assert_eq!(rt; spent.argument(), Some(8));
-    let spent = spend(&rt, &yard, &mut one, older);
-    assert_eq!(rt; spent.value(), Some(7));
-    assert_eq!(rt; rob(&yard, &mut other, 0), 0);
-    assert!(rt; !yard.ended(&mut other));
-    yard.end(&mut one);
-    assert!(rt; yard.ended(&mut one) && yard.ended(&mut other));
-    Ok(())
+fn the_oldest_is_stolen(rt: HostRuntime) {
+    let came = two_in_two_cells(&rt, rt.alloc());
+    assert!(rt; matches!(came, Ok(((7, Some(8), Some(7)), true))));
 }

@@ -82,3 +82,28 @@ pub fn offer_once<R: Wait>(rt: &R, yard: &Yard, seat: &mut Seat, job: Job) -> Sp
         Err(job) => Spent::Back(job),
     }
 }
+
+/// The argument of a job that is offered and given back, or none where it is taken.
+pub fn given_back<R: Wait>(rt: &R, yard: &Yard, seat: &mut Seat, job: Job) -> Option<i64>
+    requires seat { IsSeatOf yard.now seat.old }
+    ensures { IsSeatOf yard.now seat.new }
+{
+    match yard.offer(seat, job) {
+        Ok(ticket) => {
+            let _spent = spend(rt, yard, seat, ticket);
+            None
+        }
+        Err(back) => Some(argument(&back)),
+    }
+}
+
+/// The argument of a job that is offered, taken and taken back, or none.
+pub fn taken_back<R: Wait>(rt: &R, yard: &Yard, seat: &mut Seat, job: Job) -> Option<i64>
+    requires seat { IsSeatOf yard.now seat.old }
+    ensures { IsSeatOf yard.now seat.new }
+{
+    match yard.offer(seat, job) {
+        Ok(ticket) => spend(rt, yard, seat, ticket).argument(),
+        Err(_) => None,
+    }
+}
