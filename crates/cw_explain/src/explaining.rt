@@ -3,10 +3,10 @@
 ghost use Rattle.std.specs.Prelude.{IfOk};
 ghost use Rattle.cw_model.specs.Tokens.{IsTokenCut};
 
-use crate::excerpt::{add_lines, line_of};
+use crate::excerpt::add_lines;
 use crate::further::{add_refusals, add_text, add_tokens};
 use crate::hinting::{closed_return, hint_in, near_main};
-use crate::lexical::{Unreadable, no_token, not_ascii};
+use crate::lexical::OfText;
 use crate::others::{Named, of_run, parameters_of_main};
 use crate::owning::Text;
 use crate::refusals::{OfOwnership, OfTypes, Refusals};
@@ -15,9 +15,8 @@ use crate::unparsed::{Unparsed, first_unparsed};
 use crate::words::BYTES;
 use crate::{limits, parts};
 use cw_gen::excess_of;
-use cw_lex::lex;
+use cw_lex::{Uncut, first_uncut, lex};
 use cw_loops::lower;
-use cw_model::limits::MOST_SOURCE_BYTES;
 use cw_model::token::Token;
 use cw_model::trap::Trap;
 use cw_own::{disowned, own};
@@ -125,19 +124,31 @@ fn add_place(out: &mut String, file: &str, line: u32) -> Result<(), Fault> {
     Ok(())
 }
 
-// Of bytes and tokens.
+// Of bytes that are not cut into tokens.
 fn of_text(out: &mut String, bytes: &[u8], line: u32) -> Result<(), Fault> {
-    let text = line_of(bytes, line);
-    let reason = not_ascii(text).or(no_token(text));
-    match reason {
-        Some(reason) => write!(out, "{reason}")?,
-        None => out.push_str("a byte that starts no token, or a number that is too great")?,
+    match first_uncut(bytes) {
+        Some(found) => add_uncut(out, bytes, &found),
+        None => {
+            out.push_str("a rule is broken here\n")?;
+            add_lines(out, bytes, line, None)?;
+            Ok(())
+        }
     }
-    if let Some(Unreadable::NoToken(byte)) = reason {
+}
+
+// Adds why bytes are not cut into tokens, and the line that matters, unless they are too many.
+fn add_uncut(out: &mut String, bytes: &[u8], found: &At<Uncut<'_>>) -> Result<(), Fault> {
+    let reason = found.reason;
+    let said = OfText { reason };
+    write!(out, "{said}")?;
+    if let Uncut::NoToken(byte) = reason {
         of_byte(out, byte)?;
     }
     out.push('\n')?;
-    add_lines(out, bytes, line, None)?;
+    if let Uncut::TooLong(_) = reason {
+        return Ok(());
+    }
+    add_lines(out, bytes, found.line, None)?;
     Ok(())
 }
 
@@ -292,32 +303,12 @@ fn add_first<R: Refusals>(
 
 // Of limits: of the bytes, a name, the tokens, the program's parts, and its code, in this order.
 fn of_size(alloc: Global, out: &mut String, bytes: &[u8], line: u32) -> Result<(), Fault> {
-    if bytes.len() > MOST_SOURCE_BYTES {
-        let reason = Unreadable::TooLong(bytes.len());
-        write!(out, "{reason}\n")?;
-        return Ok(());
+    if let Some(found) = first_uncut(bytes) {
+        return add_uncut(out, bytes, &found);
     }
-    match of_read(alloc, out, bytes) {
-        Ok(()) => {}
-        Err(Fault::Size(_place)) => of_name(out, bytes, line)?,
-        Err(fault) => return Err(fault),
-    }
-    add_lines(out, bytes, line, None)?;
-    Ok(())
-}
-
-// Of what the bytes are cut into; `Size` where a name among them is too long.
-fn of_read(alloc: Global, out: &mut String, bytes: &[u8]) -> Result<(), Fault> {
     let (source, tokens) = tokens_of(alloc, bytes)?;
-    of_tokens(alloc, out, &source, tokens.as_slice())
-}
-
-// Of a name.
-fn of_name(out: &mut String, bytes: &[u8], line: u32) -> Result<(), Fault> {
-    match no_token(line_of(bytes, line)) {
-        Some(reason) => write!(out, "{reason}\n")?,
-        None => out.push_str("a name is too long\n")?,
-    }
+    of_tokens(alloc, out, &source, tokens.as_slice())?;
+    add_lines(out, bytes, line, None)?;
     Ok(())
 }
 

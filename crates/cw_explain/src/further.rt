@@ -2,11 +2,12 @@
 //! types and ownership what their stages tell.
 
 use crate::around::{Around, Opened};
-use crate::lexical::{Unreadable, no_token, not_ascii};
+use crate::lexical::OfText;
 use crate::others::Named;
 use crate::refusals::Refusals;
 use crate::unparsed::BARE;
 use crate::words::{OUTSIDE, WORDS};
+use cw_lex::{Uncut, first_uncut};
 use cw_model::token::Token;
 use cw_reasons::MOST_TOLD;
 use cw_text::Fault;
@@ -79,15 +80,16 @@ pub fn add_tokens(
     Ok(())
 }
 
-// Why the text of a line is no row of tokens.
-fn unread_of(text: &[u8]) -> Option<Unreadable<'_>> {
-    match not_ascii(text).or(no_token(text)) {
-        Some(Unreadable::LongName(_)) => None,
-        found => found,
+// Why the text of a line is not cut into tokens, unless it is for a name that is too long.
+fn uncut_in(text: &[u8]) -> Option<OfText<'_>> {
+    let found = first_uncut(text)?;
+    match found.reason {
+        Uncut::LongName(_) => None,
+        reason => Some(OfText { reason }),
     }
 }
 
-/// Adds why lines behind this one are no rows of tokens, each with its source and line in front.
+/// Adds why the texts of lines behind this one are not cut into tokens, each with its source and line in front.
 pub fn add_text(out: &mut String, file: Named<'_>, text: &[u8], line: u32) -> Result<(), Fault> {
     let mut last: u32 = 1;
     let mut start = 0;
@@ -96,7 +98,7 @@ pub fn add_text(out: &mut String, file: Named<'_>, text: &[u8], line: u32) -> Re
         if text[place] == b'\n' {
             let inside = text.get(start..place).unwrap_or(&[]);
             if last > line && lines < MOST_LINES && out.len() < MOST_BYTES {
-                if let Some(reason) = unread_of(inside) {
+                if let Some(reason) = uncut_in(inside) {
                     lines += 1;
                     write!(out, "{file}:{last}: {reason}\n")?;
                 }

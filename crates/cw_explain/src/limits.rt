@@ -1,4 +1,5 @@
-//! Limits of tokens, of loops and of code, in words.
+//! Limits of tokens, of loops and of code, in words. Those of parts of a program, as functions and names, stand in
+//! `parts.rt`.
 
 use crate::phrase::{NO_NAME, Phrase};
 use cw_gen::Excess;

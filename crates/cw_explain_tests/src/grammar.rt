@@ -32,6 +32,11 @@ static TOKENS: &[(&str, &str)] = &[
         "int main() {\n  // caf\u{80}\n  return 0;\n}",
         "refused 1 line 2\nt:2: the byte 194 is above 127: a source is ASCII, its comments too\n  2 |   // caf\\xc2\\x80\n",
     ),
+    // of later lines too, each by itself, but for a name that is too long
+    (
+        "int main() {\n  // \u{80}\n  return @ \u{80};\n  n0123456789012345678901234567890123456789012345678901234567890123;\n  return 9223372036854775808 @;\n}\n",
+        "refused 1 line 2\nt:2: the byte 194 is above 127: a source is ASCII, its comments too\n  2 |   // \\xc2\\x80\nt:3: the byte 194 is above 127: a source is ASCII, its comments too\nt:5: the number 9223372036854775808 is above 9223372036854775807\n",
+    ),
     // bytes that a terminal would act on are shown by their codes, a tab as a space; a CR at the end is not shown
     (
         "int main() {\n\tint x = \u{1b}[2J;\r\n  return 0;\n}",

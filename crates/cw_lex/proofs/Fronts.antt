@@ -1,5 +1,5 @@
 -- What stands at the front, from what the code knows.
-use Rattle.std.proofs.Common.{◌≡◌, ℕ, zero, suc, [], ◌∷◌, cond, ◌<◌, ◌≤◌, Bool, true, false, ◌&&◌, List, length, get_or, take, Option, Some, None, sym, ap, ◌∙◌, arith, eqb, inl, inr, ◌⊎◌}
+use Rattle.std.proofs.Common.{◌≡◌, ℕ, zero, suc, [], ◌∷◌, cond, ◌<◌, ◌≤◌, Bool, true, false, ◌&&◌, List, length, get_or, take, Option, Some, None, refl, sym, ap, ◌∙◌, arith, eqb, inl, inr, ◌⊎◌}
 use Rattle.std.proofs.lemmas.List.{length-take}
 use Rattle.std.proofs.lemmas.Bool.{eqb-true, false_from_ne_true, and_parts}
 use Rattle.std.specs.List.{list_all, prefix_len}
@@ -8,15 +8,16 @@ use Rattle.cw_model.specs.declared.token.Kind.TheVariants as kind
 use Rattle.cw_lex.specs.declared.front.Front.TheVariants as front
 use Rattle.cw_model.specs.declared.limits.TheConstants.{MOST_NAME_BYTES, MOST_NUMBER}
 use Rattle.cw_model.specs.Pieces.{is_separator, is_digit, is_letter, is_word_byte, is_inner, one_byte, two_bytes, is_empty, is_number, decimal_value}
-use Rattle.cw_model.specs.Tokens.{IsLongest, IsSpelled, word, number, mark, word_kind, HasLongName}
+use Rattle.cw_model.specs.Tokens.{IsLongest, IsSpelled, word, number, mark, word_kind, HasLargeNumber, HasLongName}
+use Rattle.cw_lex.specs.declared.reason.Uncut.TheVariants as reason
 use Rattle.cw_lex.specs.Front.{IsFront}
 use Rattle.cw_lex.proofs.Longest.{word_longest, comment_longest, NoComment, two_longest, one_longest, starts_nothing}
 
 module _ (bs : List ℕ) (len : ℕ) (some : 0 < length bs) (letter : is_letter (get_or bs 0 0) ≡ true) (is : len ≡ prefix_len is_word_byte bs) where
-  pub long_word : word_kind (take len bs) ≡ kind.Name → MOST_NAME_BYTES < len → HasLongName bs
+  pub long_word : word_kind (take len bs) ≡ kind.Name → MOST_NAME_BYTES < len → (f : HasLongName bs) × (take len bs ≡ take f.len bs)
   long_word name long =
       let w = word_longest bs some letter in
-      record { len = len; longest = rw is w.0; word = rw is w.1; name = name; long = long }
+      (record { len = len; longest = rw is w.0; word = rw is w.1; name = name; long = long }, refl)
 
   pub token_word : (k : Kind) → k ≡ word_kind (take len bs) → (word_kind (take len bs) ≡ kind.Name → len ≤ MOST_NAME_BYTES) → IsFront bs (front.Token k len)
   token_word k k-is short =
@@ -29,8 +30,8 @@ token_number bs len n some longest h n-is small =
     let spelled : IsSpelled (kind.Number (decimal_value (take len bs))) (take len bs) = number h (omega arith) in
     (some, longest, rw n-is spelled)
 
-pub large_number : (bs : List ℕ) (len : ℕ) → IsLongest bs len → is_number (take len bs) ≡ true → MOST_NUMBER < decimal_value (take len bs) → IsFront bs front.Faulty
-large_number bs len longest h large = inr (record { len = len; longest = longest; number = h; large = large })
+pub large_number : (bs : List ℕ) (len : ℕ) → IsLongest bs len → is_number (take len bs) ≡ true → MOST_NUMBER < decimal_value (take len bs) → (f : HasLargeNumber bs) × (take len bs ≡ take f.len bs)
+large_number bs len longest h large = (record { len = len; longest = longest; number = h; large = large }, refl)
 
 pub comment_front : (bs : List ℕ) (len : ℕ) → get_or bs 0 0 ≡ 47 → get_or bs 1 0 ≡ 47 → len ≡ prefix_len is_inner bs → IsFront bs (front.Comment len)
 comment_front bs len b c is = let w = comment_longest bs b c in (rw is w.2, rw is w.0, rw is w.1)
@@ -70,5 +71,5 @@ module _ (bs : List ℕ) (second : ℕ) (some : 0 < length bs) (plain : is_word_
   pub one_front : (o p : Option Kind) (k : Kind) → o ≡ two_bytes (get_or bs 0 0) second → o ≡ None → p ≡ one_byte (get_or bs 0 0) → p ≡ Some k → IsFront bs (front.Token k 1)
   one_front o p k e f g h = let w = one_longest bs k some plain none_here (no_two o e f) (sym g ∙ h) in (omega arith, w.0, mark w.1)
 
-  pub none_front : (o p : Option Kind) → o ≡ two_bytes (get_or bs 0 0) second → o ≡ None → p ≡ one_byte (get_or bs 0 0) → p ≡ None → is_separator (get_or bs 0 0) ≡ false → IsFront bs front.Faulty
-  none_front o p e f g h sep = inl (starts_nothing bs some sep plain none_here (no_two o e f) (sym g ∙ h))
+  pub none_front : (o p : Option Kind) → o ≡ two_bytes (get_or bs 0 0) second → o ≡ None → p ≡ one_byte (get_or bs 0 0) → p ≡ None → is_separator (get_or bs 0 0) ≡ false → IsFront bs (front.Uncut (reason.NoToken (get_or bs 0 0)))
+  none_front o p e f g h sep = (starts_nothing bs some sep plain none_here (no_two o e f) (sym g ∙ h), refl)

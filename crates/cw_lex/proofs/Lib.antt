@@ -4,7 +4,9 @@ pub mod Grow
 pub mod Lines
 pub mod Longest
 pub mod Reached
+pub mod Reasons
 pub mod Values
 pub mod Walks
 pub mod OneAnswer
+pub mod OneReason
 pub mod Spans

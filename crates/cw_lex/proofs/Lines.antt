@@ -1,10 +1,11 @@
 -- No token and no comment has an LF.
-use Rattle.std.proofs.Common.{◌≡◌, ℕ, ◌+◌, ◌<◌, Bool, true, false, cond, ◌&&◌, ◌||◌, List, [], ◌∷◌, length, get_or, take, drop, refl, sym, ap, ◌∙◌, arith, eqb, inl, inr}
+use Rattle.std.proofs.Common.{◌≡◌, ℕ, ◌+◌, ◌<◌, ◌≤◌, Bool, true, false, cond, ◌&&◌, ◌||◌, List, [], ◌∷◌, length, get_or, take, drop, refl, sym, ap, ◌∙◌, arith, eqb, inl, inr}
 use Rattle.std.specs.Prelude.{is_some, count_by}
 use Rattle.std.specs.List.{list_all}
 use Rattle.std.proofs.lemmas.Bool.{eqb-true, or_cases, false_from_ne_true, and_parts}
 use Rattle.std.proofs.Math.Bool.{and-false}
-use Rattle.std.proofs.lemmas.List.Sums.{sum_by-append, count_by_more_no, count_by_more_yes}
+use Rattle.std.proofs.lemmas.List.{length-take}
+use Rattle.std.proofs.lemmas.List.Sums.{sum_by-append, count_by-le-length, count_by_more_no, count_by_more_yes}
 use Rattle.std.proofs.Math.Seq.{take-add}
 use Rattle.cw_model.specs.Text.{line_at}
 use Rattle.cw_model.specs.Pieces.{is_digit, is_letter, is_word_byte, is_inner, one_byte, two_bytes, symbol, is_comment, is_word, is_empty, is_number, is_piece}
@@ -85,3 +86,7 @@ line_same text at lt h =
     let other = false_from_ne_true (is_lf (get_or text at 0)) (λ e. h (eqb-true (get_or text at 0) 10 e)) in
     let n = count_by_more_no is_lf text at 0 lt other in
     omega (arith, n)
+
+-- no line is counted before its LF
+pub line_few : (text : List ℕ) (at : ℕ) → line_at text at ≤ at + 1
+line_few text at = omega (arith, count_by-le-length is_lf (take at text), length-take at text)

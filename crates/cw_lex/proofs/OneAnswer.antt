@@ -7,7 +7,7 @@ use Rattle.cw_lex.proofs.Apart.{word_no_number}
 use Rattle.cw_lex.proofs.Walks.{same_longest, piece_some, walk_of, same_walk, Stops, stops_at_end, stops_at_lexical, stops_at_name}
 
 -- tokens that stand before places where a walk stops are the same, and so are the places
-same_before : (text : List ℕ) (ts us : List Token) (at to : ℕ) → AreTokens text 0 ts at → AreTokens text 0 us to → Stops text at → Stops text to → (ts ≡ us) × (at ≡ to)
+pub same_before : (text : List ℕ) (ts us : List Token) (at to : ℕ) → AreTokens text 0 ts at → AreTokens text 0 us to → Stops text at → Stops text to → (ts ≡ us) × (at ≡ to)
 same_before text ts us at to a b s r = same_walk (walk_of text 0 ts at a) (walk_of text 0 us to b) s r
 
 pub one_cut : (text : List ℕ) (ts us : List Token) → IsTokenCut text ts → IsTokenCut text us → ts ≡ us

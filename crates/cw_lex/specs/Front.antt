@@ -1,11 +1,12 @@
 -- What stands at the front of a text.
-use Rattle.std.specs.Prelude.{◌≡◌, ℕ, ◌<◌, Bool, true, List, take, slice_index, ◌⊎◌}
+use Rattle.std.specs.Prelude.{◌≡◌, ℕ, ◌<◌, Bool, true, List, take, slice_index}
 use Rattle.cw_lex.specs.declared.front.Front.{Front}
 use Rattle.cw_lex.specs.declared.front.Front.TheVariants as front
 use Rattle.cw_lex.specs.declared.bytes.Class.{Class}
 use Rattle.cw_lex.specs.declared.bytes.Class.TheVariants as class
 use Rattle.cw_model.specs.Pieces.{is_separator, is_digit, is_word_byte, is_inner, is_comment}
-use Rattle.cw_model.specs.Tokens.{IsLongest, IsSpelled, StartsNothing, HasLargeNumber, HasLongName}
+use Rattle.cw_model.specs.Tokens.{IsLongest, IsSpelled}
+use Rattle.cw_lex.specs.Uncut.{IsNoToken}
 
 -- whether a byte is of a class
 abbrev pub passes : Class → ℕ → Bool
@@ -18,5 +19,4 @@ abbrev pub IsFront : List ℕ → Front → Type 0
 IsFront bytes front.Separator = is_separator (slice_index bytes 0) ≡ true
 IsFront bytes (front.Comment len) = (0 < len) × IsLongest bytes len × (is_comment (take len bytes) ≡ true)
 IsFront bytes (front.Token k len) = (0 < len) × IsLongest bytes len × IsSpelled k (take len bytes)
-IsFront bytes front.Faulty = StartsNothing bytes ⊎ HasLargeNumber bytes
-IsFront bytes front.LongName = HasLongName bytes
+IsFront bytes (front.Uncut reason) = IsNoToken reason bytes

@@ -1,4 +1,6 @@
-pub mod Front
 pub mod Faults
+pub mod Uncut
+pub mod Front
+pub mod Walk
 pub mod Laws
 pub mod lemmas

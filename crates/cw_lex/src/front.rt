@@ -7,23 +7,22 @@ ghost use Rattle.cw_lex.specs.Front.{IsFront};
 
 use crate::bytes::{Class, is_digit, is_letter, is_separator, run};
 use crate::numbers::value_of_digits;
+use crate::reason::Uncut;
 use crate::tables::{one_byte, two_bytes, word_kind};
 use cw_model::limits::MOST_NAME_BYTES;
 use cw_model::token::Kind;
 
 /// What stands at the front of a text.
-#[derive(Clone, Copy, Debug)]
-pub enum Front {
+#[derive(Clone, Copy)]
+pub enum Front<'a> {
     /// A space, a tab, a CR or an LF.
     Separator,
     /// A comment, with its length in bytes up to the LF or the end of the text.
     Comment(usize),
     /// A token's kind, and its length in bytes.
     Token(Kind, usize),
-    /// A byte that starts nothing, or a number that is too great.
-    Faulty,
-    /// A name that is too long.
-    LongName,
+    /// No token, for this reason.
+    Uncut(Uncut<'a>),
 }
 
 // The second byte, or 0.
@@ -34,7 +33,8 @@ fn second(bytes: &[u8]) -> u8
 }
 
 // A symbol or a comment.
-fn symbol(bytes: &[u8]) -> Front
+#[inline(always)]
+fn symbol(bytes: &[u8]) -> Front<'_>
     requires some { 0 < length bytes.now }
     requires mark { spec.is_word_byte (slice_index bytes.now 0) ≡ false }
     requires separator { spec.is_separator (slice_index bytes.now 0) ≡ false }
@@ -50,7 +50,7 @@ fn symbol(bytes: &[u8]) -> Front
     }
     match one_byte(first) {
         Some(kind) => Front::Token(kind, 1),
-        None => Front::Faulty,
+        None => Front::Uncut(Uncut::NoToken(first)),
     }
 }
 
@@ -70,29 +70,33 @@ fn digits_len(bytes: &[u8]) -> usize
 }
 
 // A number.
-fn digits(bytes: &[u8]) -> Front
+#[inline(always)]
+fn digits(bytes: &[u8]) -> Front<'_>
     requires some { 0 < length bytes.now }
     requires digit { spec.is_digit (slice_index bytes.now 0) ≡ true }
     ensures { IsFront bytes.now result }
 {
     let len = digits_len(bytes);
-    match value_of_digits(&bytes[..len]) {
+    let number = &bytes[..len];
+    match value_of_digits(number) {
         Some(value) => Front::Token(Kind::Number(value), len),
-        None => Front::Faulty,
+        None => Front::Uncut(Uncut::LargeNumber(number)),
     }
 }
 
 // A keyword or a name.
-fn word(bytes: &[u8]) -> Front
+#[inline(always)]
+fn word(bytes: &[u8]) -> Front<'_>
     requires some { 0 < length bytes.now }
     requires letter { spec.is_letter (slice_index bytes.now 0) ≡ true }
     ensures { IsFront bytes.now result }
 {
     let len = run(Class::Word, bytes);
-    match word_kind(&bytes[..len]) {
+    let name = &bytes[..len];
+    match word_kind(name) {
         Kind::Name => {
             if len > MOST_NAME_BYTES {
-                Front::LongName
+                Front::Uncut(Uncut::LongName(name))
             } else {
                 Front::Token(Kind::Name, len)
             }
@@ -102,7 +106,8 @@ fn word(bytes: &[u8]) -> Front
 }
 
 /// What stands at the front of a text that is not empty.
-pub fn front_of(bytes: &[u8]) -> Front
+#[inline(always)]
+pub fn front_of(bytes: &[u8]) -> Front<'_>
     requires { 0 < length bytes.now }
     ensures { IsFront bytes.now result }
 {

@@ -1,21 +1,17 @@
-//! The walk over a text from its first byte to its last.
+//! The tokens of a text, or why it has none.
 
-ghost use Rattle.std.specs.Prelude.{◌<◌, length, drop, MatchResult};
+ghost use Rattle.std.specs.Prelude.{◌≤◌, length, MatchOption, MatchResult};
+ghost use Rattle.cw_model.specs.Text.{IsAscii, IsSourceText};
 ghost use Rattle.cw_lex.specs.Faults.{IsCut, HasNoCut};
-ghost use Rattle.cw_lex.specs.Front.{IsFront};
+ghost use Rattle.cw_lex.specs.Uncut.{HasCut, IsUncut};
 
-use crate::front::{Front, front_of};
+use crate::reason::{Uncut, fault_of};
+use crate::walk::{Next, next_in};
+use cw_model::limits::MOST_SOURCE_BYTES;
 use cw_model::token::Token;
-use cw_text::{Fault, Place, Source};
+use cw_reasons::At;
+use cw_text::{Fault, Source};
 use std::alloc::Global;
-
-// What stands at a place of the text.
-fn front_at(text: &[u8], at: usize) -> Front
-    requires { at < length text.now }
-    ensures { IsFront (drop at text.now) result }
-{
-    front_of(&text[at..])
-}
 
 /// The tokens of a source: at each place the longest that stands there, with its kind, the bytes
 /// that spell it and the line, from 1, that it begins in. Separators and comments give none.
@@ -30,27 +26,67 @@ pub fn lex(alloc: Global, source: &Source) -> Result<Vec<Token>, Fault>
     let mut tokens = Vec::new(alloc);
     let mut at = 0;
     let mut line = 1;
-    while at < text.len() {
-        match front_at(text, at) {
-            Front::Separator => {
-                if text[at] == b'\n' {
-                    line += 1;
-                }
-                at += 1;
+    loop {
+        match next_in(text, at, line) {
+            Next::Token(token) => {
+                tokens.push(token)?;
+                at = token.end as usize;
+                line = token.line;
             }
-            Front::Comment(len) => at += len,
-            Front::Token(kind, len) => {
-                tokens.push(Token {
-                    kind,
-                    start: at as u32,
-                    end: (at + len) as u32,
-                    line,
-                })?;
-                at += len;
-            }
-            Front::Faulty => return Err(Fault::Lexical(Place { line })),
-            Front::LongName => return Err(Fault::Size(Place { line })),
+            Next::End => return Ok(tokens),
+            Next::Uncut(found) => return Err(fault_of(&found.reason, found.line)),
         }
     }
-    Ok(tokens)
+}
+
+/// Why bytes are not cut into tokens, and in which line, from 1; none exactly where they are a source that `lex` cuts. Too many
+/// bytes come before a byte above 127, and this before the first fault of the text.
+pub fn first_uncut(bytes: &[u8]) -> Option<At<Uncut<'_>>>
+    ensures { MatchOption result (HasCut bytes.now) (IsUncut bytes.now) }
+{
+    if bytes.len() > MOST_SOURCE_BYTES {
+        let reason = Uncut::TooLong(bytes.len());
+        return Some(At { line: 1, reason });
+    }
+    match first_above(bytes) {
+        Some(found) => Some(found),
+        None => first_fault(bytes),
+    }
+}
+
+// The first byte above 127, and its line.
+fn first_above(bytes: &[u8]) -> Option<At<Uncut<'_>>>
+    requires { length bytes.now ≤ MOST_SOURCE_BYTES }
+    ensures { MatchOption result (IsAscii bytes.now) (IsUncut bytes.now) }
+{
+    let mut line = 1;
+    for byte in bytes {
+        if *byte > 127 {
+            let reason = Uncut::NotAscii(*byte);
+            return Some(At { line, reason });
+        }
+        if *byte == b'\n' {
+            line += 1;
+        }
+    }
+    None
+}
+
+// The first fault of a text, and its line.
+fn first_fault(text: &[u8]) -> Option<At<Uncut<'_>>>
+    requires { IsSourceText text.now }
+    ensures { MatchOption result (HasCut text.now) (IsUncut text.now) }
+{
+    let mut at = 0;
+    let mut line = 1;
+    loop {
+        match next_in(text, at, line) {
+            Next::Token(token) => {
+                at = token.end as usize;
+                line = token.line;
+            }
+            Next::End => return None,
+            Next::Uncut(found) => return Some(found),
+        }
+    }
 }

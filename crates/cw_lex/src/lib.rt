@@ -6,6 +6,9 @@ mod front;
 pub mod laws;
 mod lexer;
 mod numbers;
+mod reason;
 mod tables;
+mod walk;
 
-pub use lexer::lex;
+pub use lexer::{first_uncut, lex};
+pub use reason::Uncut;

@@ -32,6 +32,7 @@ const KEYWORDS: [(&[u8], Kind); 22] = [
 ];
 
 // The kind that the table has for a word, or a name.
+#[inline(always)]
 fn lookup(mut table: &[(&[u8], Kind)], word: &[u8]) -> Kind
     ensures { result ≡ lookup (map (λ k. (k.0.now, k.1)) table.entry.now) word.now }
 {
@@ -45,6 +46,7 @@ fn lookup(mut table: &[(&[u8], Kind)], word: &[u8]) -> Kind
 }
 
 /// The keyword that a word is, or a name.
+#[inline(always)]
 pub fn word_kind(word: &[u8]) -> Kind
     ensures { result ≡ word_kind word.now }
 {
@@ -52,6 +54,7 @@ pub fn word_kind(word: &[u8]) -> Kind
 }
 
 /// The symbol of one byte, if it is one.
+#[inline(always)]
 pub fn one_byte(byte: u8) -> Option<Kind>
     ensures { result ≡ spec.one_byte byte }
 {

@@ -1,6 +1,6 @@
 use Rattle.std.proofs.Common.{◌≡◌, ◌-◌, length, take, drop, arith, length-drop}
 use Rattle.std.proofs.lemmas.List.{take_all, length-take}
-use Rattle.cw_lex.proofs.lexer.front_at.Goals as goal
+use Rattle.cw_lex.proofs.walk.front_at.Goals as goal
 
 pub front_of-requires : goal.front_of-requires
 front_of-requires c = omega (arith, length-take (length c.args.text.now - c.args.at) (drop c.args.at c.args.text.now), length-drop c.args.at c.args.text.now)
