@@ -34,6 +34,10 @@ const ENOUGH: usize = 3;
 /// It does so by at most so many instructions before it is looked whether the deque is still as long.
 const STINT: u64 = 20_000;
 
+/// And by no more than it has done before, and so many: a strand that has just begun may go very deep by a few thousand
+/// instructions, in a run that is given up.
+const FIRST_STINT: u64 = 512;
+
 /// A job that a strand has out.
 pub enum Kept {
     /// The job itself: it could not be offered.
@@ -202,7 +206,7 @@ impl Post {
         if is_at_first || yard.waiting(seat) < ENOUGH {
             (Spawns::HandedOut, QUANTUM)
         } else {
-            (Spawns::InPlace, STINT)
+            (Spawns::InPlace, STINT.min(done.saturating_add(FIRST_STINT)))
         }
     }
 
