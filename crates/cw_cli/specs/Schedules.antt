@@ -1,4 +1,4 @@
--- What is told of the greedy schedule of a run.
+-- The text of the greedy schedule of a run, and what is promised of it.
 use Rattle.std.specs.Prelude.{◌≤◌, ◌<◌, ℕ, List, [], ◌∷◌, ◌++◌, decimal}
 use Rattle.cw_model.specs.Trees.{Tree, work, span}
 use Rattle.cw_model.specs.Answers.{Answer, Ended, TrappedAt, OverLimit}

@@ -1,35 +1,28 @@
 -- What is frozen in the outermost call stays as it is.
-use Rattle.std.proofs.Common.{◌≡◌, ◌⊎◌, inl, inr, ⊎_elim, ℕ, suc, ◌+◌, ◌-◌, ◌<◌, ℤ, ◌+ℤ◌, Bool, true, false, if◌then◌else◌, nat_lt, Option, Some, None, List, [], ◌∷◌, ◌++◌, length, refl, sym, ap, ◌∙◌, subst, arith}
+use Rattle.std.proofs.Common.{◌≡◌, inl, inr, ⊎_elim, ℕ, suc, ◌+◌, ◌<◌, ℤ, Bool, true, false, if◌then◌else◌, Option, Some, None, List, [], ◌∷◌, ◌++◌, length, refl, sym, ap, ◌∙◌, subst, arith}
 use Rattle.std.specs.Coded.{Coded, Coded-set, code_by, coded×, coded_option, coded_ℕ, coded_bool}
 use Rattle.std.specs.Prelude.{take, drop, map, slice_get, slice_set, is_none}
 use Rattle.std.proofs.lemmas.Option.{same_Some}
 use Rattle.cw_facts.specs.Lists.{set_other}
 use Rattle.cw_facts.specs.Tests.{first_true, second_true}
 use Rattle.cw_code.specs.lemmas.Slots.{not_in_first, whole_slots, covers_true, set_frozen}
-use Rattle.cw_model.specs.declared.trap.Trap.TheVariants as trap
-use Rattle.cw_model.specs.declared.limits.TheConstants.{MOST_DEPTH}
 use Rattle.cw_model.specs.declared.syntax.CallKind.{CallKind}
 use Rattle.cw_model.specs.declared.syntax.CallKind.TheVariants.{Plain, Spawned}
-use Rattle.cw_model.specs.Syntax.{Name}
-use Rattle.cw_model.specs.Ints.{Result, Value, Fails, is_zero, natural}
-use Rattle.cw_model.specs.Expressions.{apply, element, in_bounds, written}
-use Rattle.cw_model.specs.Loops.{loop_turns}
-use Rattle.cw_model.specs.Meaning.{new_length, cut_place}
+use Rattle.cw_model.specs.Ints.{natural}
 use Rattle.cw_model.specs.Outcome.{Trace}
-use Rattle.cw_code.specs.declared.code.BlockKind.{BlockKind}
 use Rattle.cw_code.specs.declared.code.BlockKind.TheVariants.{Scope, Region}
-use Rattle.cw_code.specs.declared.code.Callee.{Callee}
 use Rattle.cw_code.specs.declared.code.Func.{Func}
 use Rattle.cw_code.specs.declared.code.Halves.{Halves}
 use Rattle.cw_code.specs.declared.code.Instr.{Instr}
 use Rattle.cw_code.specs.declared.code.Loan.{Loan}
 use Rattle.cw_code.specs.declared.code.Instr.TheVariants as instr
-use Rattle.cw_code.specs.Code.{Code, reducer_names}
-use Rattle.cw_code.specs.Run.{Slots, Results, Waiting, Around, Caller, Block, Taken, Whole, State, Transition, On, Ends, Stops, Stuck, on_top, on_two, on_slot, is_full, settled, operated, set_array, apply_unary, adds, put_in, slot_taken, Entering, arguments_of, may_begin, begun, begins, call_of, arrays_in, moved_out, reader, lent_in, on_arrays, enter, recur, parts_of, looped, on_range, start, given, and_result, restored, given_back, awaited, result_of, going_on, returns_to, back, opened_region, opens, may_cut, cuts, resumes, closed, resumes_uncut, cut_ends, passed_by, lent_by, jumped, act, step}
-use Rattle.cw_code.specs.Fits.{Row, Outer, Shape, frozen_rows, is_full_in, full_in_all, none_frozen, slots_cut, slots_uncut, changes_back, is_thawed, with_gone, slots_lent, with_lent, closed_shape, uncut_shape, leaves, nexts, CoversEach, Table, FlowsInto, FlowsIntoEach, Fits}
+use Rattle.cw_code.specs.Code.{Code}
+use Rattle.cw_code.specs.Run.{Slots, Results, Waiting, Around, Caller, Block, Taken, Whole, State, Transition, On, Ends, Stops, Stuck, on_slot, is_full, settled, put_in, slot_taken, Entering, begun, call_of, moved_out, parts_of, given, and_result, restored, given_back, awaited, result_of, going_on, returns_to, back, resumes, closed, resumes_uncut, cut_ends, cut_arrays, synced, passed_by, lent_by, act, step}
+use Rattle.cw_code.specs.Fits.{Row, Outer, Shape, frozen_rows, is_full_in, full_in_all, none_frozen, slots_cut, slots_uncut, changes, changes_back, is_thawed, with_gone, slots_lent, with_lent, closed_shape, uncut_shape, leaves, nexts, CoversEach, Table, FlowsInto, FlowsIntoEach, Fits}
 use Rattle.cw_code.specs.Good.{IsNotAmong, slots_in, arrays_round, all_of, CutsAgree, Seat, AllResume, GoodState, Facts}
 use Rattle.cw_code.specs.Staying.{outermost}
 use Rattle.cw_code.specs.Frozen.{is_join, all_frozen, IsFrozenIn, IsFrozenAt, outermost_arrays, AreBlocks, JoinsInside, changed_by, FrozenStay, FrozenSpared}
+use Rattle.cw_code.specs.lemmas.Acts.{IsLocal, IsOneOf, recur_of, start_of, acts_both}
 use Rattle.cw_code.proofs.Staying.{seats_lie}
 use Rattle.cw_code.proofs.Unstuck.{facts}
 
@@ -184,21 +177,6 @@ module _ (code : Code) (fits : Fits code) where
     slot_stays (Some None) go h = tt
     slot_stays (Some (Some x)) go h = h x
 
-    top_stays : (s : State) (go : ℤ → List ℤ → Transition) → ((v : ℤ) (rest : List ℤ) → Stays (go v rest)) → Stays (on_top s go)
-    top_stays s go h = cases s.operands
-      where
-        cases : (ops : List ℤ) → Stays (on_top (record s { operands = ops }) go)
-        cases [] = tt
-        cases (v ∷ rest) = h v rest
-
-    two_stay : (s : State) (go : ℤ → ℤ → List ℤ → Transition) → ((v w : ℤ) (rest : List ℤ) → Stays (go v w rest)) → Stays (on_two s go)
-    two_stay s go h = cases s.operands
-      where
-        cases : (ops : List ℤ) → Stays (on_two (record s { operands = ops }) go)
-        cases [] = tt
-        cases (w ∷ []) = tt
-        cases (w ∷ v ∷ rest) = h v w rest
-
     -- a call that waited goes on: what comes back goes into slots that are empty
     module _ (w : Waiting) (around : List Around) (h : Still w.place w.arrays around) (apart : is_full (slice_get w.arrays a) ≡ true → IsNotAmong a (map slot_taken w.taken)) where
       given_stays : (target : Option ℕ) (v : Option ℤ) (s : State) → Still s.place s.arrays s.around → Stays (given target v s)
@@ -268,104 +246,26 @@ module _ (code : Code) (fits : Fits code) where
         on p out l f = goes s.around p out s.arrays l (λ blocks t. f t) (λ blocks t has. has) here
 
         -- an array slot beside it was written
-        written_on : (p : ℕ) (out : Shape) (b : ℕ) (ys : List ℤ) → FlowsInto table p out → (Frozen shape → Frozen out) → (Frozen shape → IsNotAmong a (b ∷ [])) → Still p (slice_set s.arrays b (Some ys)) s.around
-        written_on p out b ys l f apart =
-            goes s.around p out (slice_set s.arrays b (Some ys)) l (λ blocks t. f t)
+        written_on : (b : ℕ) (ys : List ℤ) (out : Shape) → FlowsInto table (s.place + 1) out → (Frozen shape → Frozen out) → (Frozen shape → IsNotAmong a (b ∷ [])) → Still (s.place + 1) (slice_set s.arrays b (Some ys)) s.around
+        written_on b ys out l f apart =
+            goes s.around (s.place + 1) out (slice_set s.arrays b (Some ys)) l (λ blocks t. f t)
             (λ blocks t has. set_other s.arrays b a (Some ys) (apart t).0 ∙ has) here
 
         -- a call begins
-        module _ (out : Shape) (l : FlowsInto table (s.place + 1) out) (f : Frozen shape → Frozen out) (passed : List ℕ) (apart : Frozen shape → IsNotAmong a passed) where
-          begins_stays : (e : Entering) → (Frozen shape → IsNotAmong a (map slot_taken e.taken)) → Stays (begins s e)
-          begins_stays e none = if_stays (may_begin s e) (On (begun s e)) Stuck
-              (goes s.around (s.place + 1) out (moved_out (map slot_taken e.taken) s.arrays) l (λ blocks t. f t)
-              (λ blocks t has. moved_other (map slot_taken e.taken) s.arrays a (none t) ∙ has) here) tt
+        begun_stays : (out : Shape) → FlowsInto table (s.place + 1) out → (Frozen shape → Frozen out) → (e : Entering) → (Frozen shape → IsNotAmong a (map slot_taken e.taken)) → Stays (On (begun s e))
+        begun_stays out l f e none =
+            goes s.around (s.place + 1) out (moved_out (map slot_taken e.taken) s.arrays) l (λ blocks t. f t)
+            (λ blocks t has. moved_other (map slot_taken e.taken) s.arrays a (none t) ∙ has) here
 
-          whole_apart : Frozen shape → IsNotAmong a (map slot_taken (map (λ a. Whole a) passed))
-          whole_apart t = subst (λ ks. IsNotAmong a ks) (sym (whole_slots passed)) (apart t)
+        whole_apart : (passed : List ℕ) → IsNotAmong a passed → IsNotAmong a (map slot_taken (map (λ x. Whole x) passed))
+        whole_apart passed n = subst (λ ks. IsNotAmong a ks) (sym (whole_slots passed)) n
 
-          arrays_stay : (o : Option (List (List ℤ))) (go : List (List ℤ) → Transition) → ((given : List (List ℤ)) → Stays (go given)) → Stays (on_arrays o go)
-          arrays_stay None go h = tt
-          arrays_stay (Some given) go h = h given
-
-          enter_stays : (kind : CallKind) (c : Callee) (loans : List Loan) (o : Option Func) → Stays (enter s kind c passed loans o)
-          enter_stays kind c loans None = tt
-          enter_stays kind c loans (Some g) =
-              if_stays (nat_lt MOST_DEPTH (s.depth + 1)) (Stops trap.TooDeep c.line s.trace.lines) _ tt
-              (arrays_stay (arrays_in passed s.arrays) _ (λ given.
-              arrays_stay (lent_in loans (moved_out passed s.arrays) s.readers) _ (λ lent. begins_stays (call_of s kind c passed g given lent) whole_apart)))
-
-          recur_stays : (kind : CallKind) (o : Option Func) → Stays (recur s kind passed o)
-          recur_stays kind None = tt
-          recur_stays kind (Some g) = arrays_stay (arrays_in passed s.arrays) _ (λ given. begins_stays (record {
-            kind = kind;
-            site = None;
-            target = None;
-            depth = s.depth;
-            func = g;
-            arguments = arguments_of g s.operands;
-            given = given;
-            taken = map (λ a. Whole a) passed;
-            lent = [];
-          }) whole_apart)
-
-          looped_stays : (line : ℕ) (g : Func) (given : List (List ℤ)) (low : ℤ) (captured : List ℤ) (r : Result) → Stays (looped s line passed g given low captured r)
-          looped_stays line g given low captured (Fails trap) = tt
-          looped_stays line g given low captured (Value n) =
-              begins_stays (record {
-                kind = Plain;
-                site = None;
-                target = None;
-                depth = s.depth;
-                func = g;
-                arguments = low ∷ (low +ℤ n) ∷ captured;
-                given = map (λ xs. take (natural n) (drop (natural low) xs)) given;
-                taken = parts_of (natural low) passed given;
-                lent = [];
-              }) (λ t. parts_apart (natural low) passed given a (apart t))
-
-          range_stays : (ops : List ℤ) (go : ℤ → ℤ → List ℤ → Transition) → ((low high : ℤ) (captured : List ℤ) → Stays (go low high captured)) → Stays (on_range ops go)
-          range_stays [] go h = tt
-          range_stays (low ∷ []) go h = tt
-          range_stays (low ∷ high ∷ captured) go h = h low high captured
-
-          start_stays : (line : ℕ) (o : Option Func) → Stays (start s line passed o)
-          start_stays line None = tt
-          start_stays line (Some g) =
-              arrays_stay (arrays_in passed s.arrays) _ (λ given.
-              range_stays (arguments_of g s.operands) _ (λ low high captured. looped_stays line g given low captured (loop_turns low high given)))
-
-        -- an instruction that changes no array
-        module _ (out : Shape) (l : FlowsInto table (s.place + 1) out) (f : Frozen shape → Frozen out) where
-          operated_stays : (line : ℕ) (rest : List ℤ) (r : Result) → Stays (operated s line rest r)
-          operated_stays line rest (Value v) = on (s.place + 1) out l f
-          operated_stays line rest (Fails trap) = tt
-
-          adds_stays : (o : Option Name) (v : ℤ) (rest : List ℤ) → Stays (adds s o v rest)
-          adds_stays None v rest = tt
-          adds_stays (Some name) v rest = on (s.place + 1) out l f
-
-          region_stays : (o : Option Name) → Stays (opened_region s o)
-          region_stays None = tt
-          region_stays (Some tag) = on (s.place + 1) out l f
-
-          opens_stays : (kind : BlockKind) → Stays (opens code s kind)
-          opens_stays Scope = on (s.place + 1) out l f
-          opens_stays (Region n) = region_stays (slice_get code.tags n)
-
-          set_stays : (b line : ℕ) (rest : List ℤ) (make : ℤ → List ℤ) (r : Result) → (Frozen shape → IsNotAmong a (b ∷ [])) → Stays (set_array s b line rest make r)
-          set_stays b line rest make (Value v) apart = written_on (s.place + 1) out b (make v) l f apart
-          set_stays b line rest make (Fails trap) apart = tt
-
-          cuts_stays : (h : Halves) (line : ℕ) (ys rest : List ℤ) (r : Result) → (Frozen shape → IsNotAmong a (slots_cut h)) → Stays (cuts s h line ys rest r)
-          cuts_stays h line ys rest (Fails trap) apart = tt
-          cuts_stays h line ys rest (Value v) apart =
-              let gone = slice_set s.arrays h.array None in
-              let left = slice_set gone h.left (Some (take (natural v) ys)) in
-              if_stays (may_cut h s.arrays) _ Stuck
-              (goes s.around (s.place + 1) out (slice_set left h.right (Some (drop (natural v) ys))) l (λ blocks t. f t)
-              (λ blocks t has.
-              let n = apart t in
-              set_other left h.right a (Some (drop (natural v) ys)) n.1.1.0 ∙ set_other gone h.left a (Some (take (natural v) ys)) n.1.0 ∙ set_other s.arrays h.array a None n.0 ∙ has) here) tt
+        -- a cut begins: its slots are beside it
+        cut_apart : (h : Halves) (ys : List ℤ) (at : ℕ) → IsNotAmong a (slots_cut h) → slice_get s.arrays a ≡ Some (Some xs) → slice_get (cut_arrays h ys at s.arrays) a ≡ Some (Some xs)
+        cut_apart h ys at n has =
+            let gone = slice_set s.arrays h.array None in
+            let left = slice_set gone h.left (Some (take at ys)) in
+            set_other left h.right a (Some (drop at ys)) n.1.1.0 ∙ set_other gone h.left a (Some (take at ys)) n.1.0 ∙ set_other s.arrays h.array a None n.0 ∙ has
 
         -- a block inside the frozen ones ends
         module _ (outer : List Outer) (is : shape.outer ≡ outer) where
@@ -419,48 +319,67 @@ module _ (code : Code) (fits : Fits code) where
         spares : (slots : List ℕ) → none_frozen (all_frozen shape) slots ≡ true → Frozen shape → IsNotAmong a slots
         spares slots th t = spared depth (all_frozen shape) a slots t th
 
-        acts_stay : (i : Instr) → is_thawed code shape i ≡ true → (is_join i ≡ true → depth < length s.around) → FlowsIntoEach table (leaves code shape i) (nexts s.place i) → Stays (act code s (Some i))
-        acts_stay (instr.Push v) th j l = on _ _ l.0 (λ t. t)
-        acts_stay (instr.Load b) th j l = slot_stays (slice_get s.slots b) _ (λ v. on _ _ l.0 (λ t. t))
-        acts_stay (instr.Store b) th j l = top_stays s _ (λ v rest. if_stays (is_full (slice_get s.slots b)) _ Stuck (on _ _ l.0 (λ t. t)) tt)
-        acts_stay (instr.Unary operator line) th j l = top_stays s _ (λ v rest. operated_stays _ l.0 (λ t. t) line rest (apply_unary operator v))
-        acts_stay (instr.Binary operator line) th j l = two_stay s _ (λ v w rest. operated_stays _ l.0 (λ t. t) line rest (apply operator v w))
-        acts_stay (instr.Skip n) th j l = on _ _ l.0 (λ t. t)
-        acts_stay (instr.SkipIfZero n) th j l = top_stays s _ (λ v rest. either (is_zero v) rest)
-          where
-            either : (b : Bool) (rest : List ℤ) → Stays (jumped (record s { operands = rest }) (if b then s.place + 1 + n else s.place + 1))
-            either true rest = on _ _ l.1.0 (λ t. t)
-            either false rest = on _ _ l.0 (λ t. t)
-        acts_stay (instr.GoBack n) th j l = on _ _ l.0 (λ t. t)
-        acts_stay (instr.Call kind c) th j l = enter_stays _ l.0 (lends kind (lent_by code c.lent)) (passed_by code c.passed) (spares (passed_by code c.passed) th) kind c (lent_by code c.lent) (slice_get code.funcs c.function)
-        acts_stay (instr.Recur kind c) th j l = recur_stays _ l.0 (λ t. t) (passed_by code c.passed) (spares (passed_by code c.passed) th) kind (slice_get code.funcs c.function)
-        acts_stay (instr.Start c line) th j l = start_stays _ l.0 (λ t. t) (passed_by code c.passed) (spares (passed_by code c.passed) th) line (slice_get code.funcs c.function)
-        acts_stay (instr.NewArray b line) th j l =
-            slot_stays (slice_get s.arrays b) _ (λ old. top_stays s _ (λ v rest. set_stays _ l.0 (λ t. t) b line rest _ (new_length v) (spares (b ∷ []) th)))
-        acts_stay (instr.Length b) th j l = slot_stays (slice_get s.arrays b) _ (λ ys. on _ _ l.0 (λ t. t))
-        acts_stay (instr.Element b line) th j l =
-            slot_stays (slice_get s.arrays b) _ (λ ys. top_stays s _ (λ v rest. operated_stays _ l.0 (λ t. t) line rest (in_bounds (element ys v))))
-        acts_stay (instr.SetElement b line) th j l =
-            slot_stays (slice_get s.arrays b) _ (λ ys. two_stay s _ (λ i v rest. set_stays _ l.0 (λ t. t) b line rest _ (written ys i v) (spares (b ∷ []) th)))
-        acts_stay (instr.ReadLength r) th j l = slot_stays (reader s.readers r) _ (λ ys. on _ _ l.0 (λ t. t))
-        acts_stay (instr.ReadElement r line) th j l =
-            slot_stays (reader s.readers r) _ (λ ys. top_stays s _ (λ v rest. operated_stays _ l.0 (λ t. t) line rest (in_bounds (element ys v))))
-        acts_stay (instr.Cut h line) th j l =
-            slot_stays (slice_get s.arrays h.array) _ (λ ys. top_stays s _ (λ v rest. cuts_stays _ l.0 (λ t. inr t) h line ys rest (cut_place ys v) (spares (slots_cut h) th)))
-        acts_stay instr.EndCut th j l = uncut_stays shape.outer refl s.around (inside_all (j refl)) good.call.cuts th l.0 here
-        acts_stay instr.Sync th j l =
-            goes s.around (s.place + 1) _ (settled s.arrived s.arrays) l.0
-            (λ blocks t. inr (further_out depth shape.frozen (frozen_rows shape.outer) a (inside_all (j refl) blocks) t))
-            (λ blocks t has. joined_has has) here
-        acts_stay (instr.Open kind) th j l = opens_stays _ l.0 (λ t. inr t) kind
-        acts_stay instr.Close th j l = closed_stays shape.outer refl s.around (inside_all (j refl)) good.call.cuts l.0 here
-        acts_stay instr.Print th j l = top_stays s _ (λ v rest. on _ _ l.0 (λ t. t))
-        acts_stay (instr.Reduce n) th j l = top_stays s _ (λ v rest. adds_stays _ l.0 (λ t. t) (slice_get (reducer_names code.reducers) n) v rest)
-        acts_stay instr.ReturnValue th j l = top_stays (put_in s) _ (λ v rest. back_stays good.seat.func s.place s.arrays s.around (Some v) (put_in s).arrays _ good.others here)
-        acts_stay instr.Return th j l = back_stays good.seat.func s.place s.arrays s.around None (put_in s).arrays _ good.others here
+        -- what an instruction that goes on in its block leaves has the same rows frozen
+        kept_rows : (i : Instr) → IsLocal i → all_frozen (leaves code shape i) ≡ all_frozen shape
+        kept_rows (instr.Call kind c) here = absurd here
+        kept_rows (instr.Recur kind c) here = absurd here
+        kept_rows (instr.Start c line) here = absurd here
+        kept_rows (instr.NewArray b line) here = absurd here
+        kept_rows (instr.SetElement b line) here = absurd here
+        kept_rows (instr.Cut h line) here = absurd here
+        kept_rows instr.EndCut here = absurd here
+        kept_rows instr.Sync here = absurd here
+        kept_rows (instr.Open kind) here = absurd here
+        kept_rows instr.Close here = absurd here
+        kept_rows instr.ReturnValue here = absurd here
+        kept_rows instr.Return here = absurd here
+        kept_rows _ here = refl
+
+        one_flows : (out : Shape) (p : ℕ) (places : List ℕ) → IsOneOf p places → FlowsIntoEach table out places → FlowsInto table p out
+        one_flows out p [] o l = absurd o
+        one_flows out p (q ∷ places) o l = ⊎_elim (λ (e : p ≡ q). subst (λ x. FlowsInto table x out) (sym e) l.0) (λ (r : IsOneOf p places). one_flows out p places r l.1) o
+
+        -- what an instruction must leave alone, and where it leads
+        abbrev Asks : Option Instr → Type 0
+        Asks None = ⊥
+        Asks (Some i) = (is_thawed code shape i ≡ true) × (is_join i ≡ true → depth < length s.around) × FlowsIntoEach table (leaves code shape i) (nexts s.place i)
+
+        acts_stay : (o : Option Instr) → Asks o → Stays (act code s o)
+        acts_stay o = acts_both code s s.results s.arrived s.around s.trace (λ o w w'. Asks o → Stays w) (record {
+          stuck = λ o q. tt;
+          stops = λ o trap line q. tt;
+          local = λ i place operands slots lines updates plain next few q.
+              on place (leaves code shape i) (one_flows (leaves code shape i) place (nexts s.place i) next q.2) (λ t. subst (λ rows. IsFrozenIn depth rows a) (sym (kept_rows i plain)) t);
+          makes = λ b line rest ys q. written_on b ys (leaves code shape (instr.NewArray b line)) q.2.0 (λ t. t) (spares (b ∷ []) q.0);
+          sets = λ b line rest ys q. written_on b ys (leaves code shape (instr.SetElement b line)) q.2.0 (λ t. t) (spares (b ∷ []) q.0);
+          calls = λ kind c g given lent q.
+              begun_stays (leaves code shape (instr.Call kind c)) q.2.0 (lends kind (lent_by code c.lent)) (call_of s kind c (passed_by code c.passed) g given lent)
+              (λ t. whole_apart (passed_by code c.passed) (spares (passed_by code c.passed) q.0 t));
+          recurs = λ kind c g given q.
+              begun_stays (leaves code shape (instr.Recur kind c)) q.2.0 (λ t. t) (recur_of s kind (passed_by code c.passed) g given)
+              (λ t. whole_apart (passed_by code c.passed) (spares (passed_by code c.passed) q.0 t));
+          starts = λ c line g given low captured turns q.
+              begun_stays (leaves code shape (instr.Start c line)) q.2.0 (λ t. t) (start_of s (passed_by code c.passed) g given low captured turns)
+              (λ t. parts_apart (natural low) (passed_by code c.passed) given a (spares (passed_by code c.passed) q.0 t));
+          scopes = λ q. on (s.place + 1) (leaves code shape (instr.Open Scope)) q.2.0 (λ t. inr t);
+          regions = λ k tag e q. on (s.place + 1) (leaves code shape (instr.Open (Region k))) q.2.0 (λ t. inr t);
+          cuts = λ h line ys rest at q.
+              goes s.around (s.place + 1) (leaves code shape (instr.Cut h line)) (cut_arrays h ys at s.arrays) q.2.0 (λ blocks t. inr t)
+              (λ blocks t has. cut_apart h ys at (spares (slots_cut h) q.0 t) has) here;
+          uncuts = λ q. uncut_stays shape.outer refl s.around (inside_all (q.1 refl)) good.call.cuts q.0 q.2.0 here;
+          syncs = λ q.
+              goes s.around (s.place + 1) (leaves code shape instr.Sync) (settled s.arrived s.arrays) q.2.0
+              (λ blocks t. inr (further_out depth shape.frozen (frozen_rows shape.outer) a (inside_all (q.1 refl) blocks) t))
+              (λ blocks t has. joined_has has) here;
+          closes = λ q. closed_stays shape.outer refl s.around (inside_all (q.1 refl)) good.call.cuts q.2.0 here;
+          gives = λ v q. back_stays good.seat.func s.place s.arrays s.around (Some v) (settled s.arrived s.arrays) (synced s.trace) good.others here;
+          returns = λ q. back_stays good.seat.func s.place s.arrays s.around None (settled s.arrived s.arrays) (synced s.trace) good.others here;
+        }) o
 
         step_stays : JoinsInside code depth s → Stays (step code s)
-        step_stays inside = let h = facts code fits s good in subst (λ o. Stays (act code s o)) (sym h.is) (acts_stay h.instr h.thawed (inside h.instr h.is) h.leads)
+        step_stays inside =
+            let h = facts code fits s good in
+            acts_stay (slice_get code.instrs s.place) (subst Asks (sym h.is) (h.thawed, inside h.instr h.is, h.leads))
 
       -- none of its own instructions changes it
       its_own_spared : AreBlocks s.around → (h : Facts code fits s good) → JoinsInside code depth s → IsFrozenAt code fits s.place depth a → IsNotAmong a (changed_by code shape h.instr)
@@ -470,31 +389,7 @@ module _ (code : Code) (fits : Fits code) where
           cases instr.EndCut j th =
               spared depth (frozen_rows shape.outer) a (changes_back shape.outer)
               (further_out depth shape.frozen (frozen_rows shape.outer) a (omega (arith, j refl, as_many_blocks shape.outer s.around good.call.cuts blocks)) (in_shape t)) th
-          cases (instr.Call kind c) j th = spared depth (all_frozen shape) a (passed_by code c.passed) (in_shape t) th
-          cases (instr.Recur kind c) j th = spared depth (all_frozen shape) a (passed_by code c.passed) (in_shape t) th
-          cases (instr.Start c line) j th = spared depth (all_frozen shape) a (passed_by code c.passed) (in_shape t) th
-          cases (instr.NewArray b line) j th = spared depth (all_frozen shape) a (b ∷ []) (in_shape t) th
-          cases (instr.SetElement b line) j th = spared depth (all_frozen shape) a (b ∷ []) (in_shape t) th
-          cases (instr.Cut c line) j th = spared depth (all_frozen shape) a (slots_cut c) (in_shape t) th
-          cases (instr.Push v) j th = tt
-          cases (instr.Load b) j th = tt
-          cases (instr.Store b) j th = tt
-          cases (instr.Unary operator line) j th = tt
-          cases (instr.Binary operator line) j th = tt
-          cases (instr.Skip n) j th = tt
-          cases (instr.SkipIfZero n) j th = tt
-          cases (instr.GoBack n) j th = tt
-          cases (instr.Length b) j th = tt
-          cases (instr.Element b line) j th = tt
-          cases (instr.ReadLength r) j th = tt
-          cases (instr.ReadElement r line) j th = tt
-          cases instr.Sync j th = tt
-          cases (instr.Open kind) j th = tt
-          cases instr.Close j th = tt
-          cases instr.Print j th = tt
-          cases (instr.Reduce n) j th = tt
-          cases instr.ReturnValue j th = tt
-          cases instr.Return j th = tt
+          cases i j th = spared depth (all_frozen shape) a (changes code i) (in_shape t) th
 
 pub frozen_stay : (code : Code) (fits : Fits code) → FrozenStay code fits
 frozen_stay code fits s s' depth a xs good e inside frozen has =

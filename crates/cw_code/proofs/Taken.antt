@@ -1,6 +1,7 @@
 -- What is taken out of slots, and goes back into them.
 use Rattle.std.proofs.Common.{◌≡◌, ℕ, zero, suc, ◌<◌, ◌≤◌, ℤ, true, false, Option, Some, None, List, [], ◌∷◌, length, refl, ap, ◌∙◌, subst, arith}
 use Rattle.std.specs.Prelude.{map, slice_get}
+use Rattle.std.proofs.lemmas.Bool.{false≢true}
 use Rattle.cw_facts.specs.Tests.{taken}
 use Rattle.cw_code.specs.declared.code.Func.{Func}
 use Rattle.cw_code.specs.declared.code.Loan.{Loan}
@@ -9,15 +10,12 @@ use Rattle.cw_code.specs.Fits.{Shape, empty_rows, gone_rows, cleared, CoversEach
 use Rattle.cw_code.specs.Good.{slots_in, ints_round, arrays_round, Holds, Good, FitSettles}
 use Rattle.cw_code.proofs.Slots.{covered_row, covered_empty, covered_gone, covered_cuts, slots_in_both}
 use Rattle.cw_code.proofs.Keeps.{AllThere, still_full, with_rows, with_settled, with_joined}
+use Rattle.cw_code.specs.lemmas.Lying.{lie_up}
 
 -- a place among functions that lie one after another
 pub lie_within : (from : ℕ) (fs : List Func) (to k : ℕ) (f : Func) → LieFrom from fs to → slice_get fs k ≡ Some f → f.end ≤ to
 lie_within from [] to k f h e = cc
 lie_within from (g ∷ fs) to zero f h e = let same : g ≡ f = cc in omega (arith, lie_up g.end fs to h.2, ap (λ (x : Func). x.end) same)
-  where
-    lie_up : (from : ℕ) (fs : List Func) (to : ℕ) → LieFrom from fs to → from ≤ to
-    lie_up from [] to h = omega (arith, h)
-    lie_up from (g ∷ fs) to h = omega (arith, h.1, lie_up g.end fs to h.2)
 lie_within from (g ∷ fs) to (suc k) f h e = lie_within g.end fs to k f h.2 e
 
 -- what a call gives back of the arrays that were taken, where its array slots are full
@@ -25,10 +23,7 @@ pub gives_back : (taken : List Taken) (arrays : Slots (List ℤ)) → length tak
     → (results : Results (List ℤ)) × (given_back taken arrays ≡ Some results) × (slots_in results ≡ map slot_taken taken)
 gives_back [] arrays le h = ([], refl, refl)
 gives_back (x ∷ taken) [] le h = absurd (omega (arith, le))
-gives_back (x ∷ taken) (None ∷ arrays) le h = absurd (never (h 0 (omega arith)))
-  where
-    never : false ≡ true → ⊥
-    never k = cc
+gives_back (x ∷ taken) (None ∷ arrays) le h = absurd (false≢true (h 0 (omega arith)))
 gives_back (x ∷ taken) (Some xs ∷ arrays) le h =
     let r = gives_back taken arrays (omega (arith, le)) (λ a lt. h (suc a) (omega (arith, lt))) in
     ((slot_taken x, restored x xs) ∷ r.0, ap (and_result x (Some xs)) r.1, ap (λ ks. slot_taken x ∷ ks) r.2)

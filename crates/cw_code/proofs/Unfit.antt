@@ -1,6 +1,7 @@
 -- The unruly codes do not fit.
-use Rattle.std.proofs.Common.{◌≡◌, ◌&&◌, pos, true, false, None, ◌∷◌, refl, arith}
+use Rattle.std.proofs.Common.{◌&&◌, pos, true, false, None, ◌∷◌, refl, arith}
 use Rattle.std.specs.Prelude.{nat_eq, slice_get}
+use Rattle.std.proofs.lemmas.Bool.{false≢true}
 use Rattle.cw_facts.specs.Tests.{first_true, eq_of}
 use Rattle.cw_model.specs.declared.syntax.CallKind.TheVariants.{Plain, Spawned}
 use Rattle.cw_code.specs.declared.code.Instr.TheVariants.{Push, Call, SetElement, Sync}
@@ -35,10 +36,7 @@ littered_unfit fits =
 pub mistaken_unfit : Fits mistaken → ⊥
 mistaken_unfit fits =
     let h = fits.each 0 (nameless 0 4) refl in
-    never (h.names 0 (Call Spawned call_it) (omega arith) (omega arith) refl)
-  where
-    never : false ≡ true → ⊥
-    never k = cc
+    false≢true (h.names 0 (Call Spawned call_it) (omega arith) (omega arith) refl)
 
 pub overwritten_unfit : Fits overwritten → ⊥
 overwritten_unfit fits =
@@ -56,7 +54,4 @@ overwritten_unfit fits =
 pub overlent_unfit : Fits overlent → ⊥
 overlent_unfit fits =
     let h = fits.each 0 (record (nameless 0 2) { arrays = 1 }) refl in
-    never (h.names 0 (Call Plain call_it) (omega arith) (omega arith) refl)
-  where
-    never : false ≡ true → ⊥
-    never k = cc
+    false≢true (h.names 0 (Call Plain call_it) (omega arith) (omega arith) refl)

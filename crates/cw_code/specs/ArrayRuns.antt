@@ -3,7 +3,7 @@ use Rattle.std.specs.Prelude.{◌≡◌, ℕ, pos, true, false, [], ◌∷◌, S
 use Rattle.cw_model.specs.declared.syntax.CallKind.TheVariants.{Plain, Spawned}
 use Rattle.cw_model.specs.declared.syntax.NameKind.TheVariants.{Array}
 use Rattle.cw_model.specs.declared.syntax.Operator.TheVariants.{Plus, Minus, Less, AtMost, Divide}
-use Rattle.cw_model.specs.Syntax.{Name, Expr, Stmt, Block, End, Then, Param, Function, Program}
+use Rattle.cw_model.specs.Syntax.{Name, Stmt, Block, End, Then, Program}
 use Rattle.cw_model.specs.Syntax as source
 use Rattle.cw_model.specs.Sites.{Of}
 use Rattle.cw_model.specs.Answers.{OverLimit, main_name, serial_answer}

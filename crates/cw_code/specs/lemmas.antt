@@ -2,3 +2,4 @@
 pub mod Slots
 pub mod Lying
 pub mod Runs
+pub mod Acts

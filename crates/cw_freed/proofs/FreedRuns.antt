@@ -1,7 +1,7 @@
 -- Runs in which what belongs to freed sites weighs nothing have the freed trees.
 use Rattle.std.specs.Prelude.{ℕ, ◌≡◌, ◌+◌, ◌≤◌, Bool, true, false, List, [], ◌∷◌, ◌++◌, Option, Some, None, refl}
 use Rattle.std.proofs.Common.{sym, ◌∙◌, ap, arith}
-use Rattle.cw_model.specs.Trees.{Mark, Tree, Leaf, Seq, Par, Marked, Event, Work, Series, Join, parts_of, tree_of, normal}
+use Rattle.cw_model.specs.Trees.{Mark, Tree, Leaf, Seq, Par, Event, Work, Series, Join, parts_of, tree_of}
 use Rattle.cw_model.specs.Trees as e
 use Rattle.cw_model.specs.TreeLaws.{Regrouped, same, back, further, to_the_right, as_one_strand, nothing_before, nothing_after, in_series, in_fork, in_mark}
 use Rattle.cw_model.specs.Rows.{site_inside}

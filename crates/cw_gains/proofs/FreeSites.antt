@@ -1,9 +1,8 @@
 -- The sites that are free by a list are those of a function.
 use Rattle.std.proofs.Common.{◌≡◌, ℕ, zero, suc, ◌+◌, ◌≤◌, Bool, true, false, ◌&&◌, ◌||◌, ◌<◌, List, [], ◌∷◌, ◌++◌, length, map, take, get_or, arith, refl, sym, ap, ap₂, ◌∙◌}
 use Rattle.std.proofs.lemmas.List.{map-append, take_more}
-use Rattle.std.specs.Prelude.{nat_eq, ◌==◌, if◌then◌else◌}
-use Rattle.std.specs.List.{list_any}
-use Rattle.std.proofs.lemmas.Bool.{and_parts, eqb-false}
+use Rattle.std.specs.Prelude.{nat_eq, ◌==◌}
+use Rattle.std.proofs.lemmas.Bool.{and_parts}
 use Rattle.std.proofs.lemmas.Bool.Decides.{nat_tests}
 use Rattle.cw_model.specs.declared.burden.Burden.{Burden}
 use Rattle.cw_model.specs.Syntax.{Name}
@@ -92,11 +91,3 @@ pub told_more : {A B C : Type 0} (view : B → C) (F : A → C) (old new : List 
 told_more view F old new one all i d is within before one_is =
     ap (map view) is ∙ map-append view old (one ∷ []) ∙ ap₂ (λ xs x. xs ++ x ∷ []) before one_is
     ∙ sym (map-append F (take i all) (get_or all i d ∷ [])) ∙ ap (map F) (sym (take_more all i d within))
-
--- and those of two lists, one after the other
-pub told_both : {A B C : Type 0} (view : B → C) (F : A → C) (first later gains : List B) (share rest all : List A)
-    → gains ≡ first ++ later → all ≡ share ++ rest → map view first ≡ map F share → map view later ≡ map F rest
-    → map view gains ≡ map F all
-told_both view F first later gains share rest all is parts of_share of_rest =
-    ap (map view) is ∙ map-append view first later ∙ ap₂ (λ xs ys. xs ++ ys) of_share of_rest
-    ∙ sym (map-append F share rest) ∙ ap (map F) (sym parts)

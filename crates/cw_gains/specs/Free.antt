@@ -1,5 +1,5 @@
 -- The sites that are free if a function is, as the run is told them.
-use Rattle.std.specs.Prelude.{◌≡◌, ℕ, ℤ, true, Bool, List, [], ◌∷◌, map, Some}
+use Rattle.std.specs.Prelude.{◌≡◌, ℕ, ℤ, true, Bool, List, ◌∷◌, map, Some}
 use Rattle.std.specs.Global.{Vec}
 use Rattle.cw_model.specs.declared.burden.Burden.{Burden}
 use Rattle.cw_model.specs.declared.total.Total.{Total}

@@ -4,7 +4,7 @@ use Rattle.std.specs.Prelude.{slice_get, slice_set, replicate, take, drop, map, 
 use Rattle.std.proofs.lemmas.Slice.Eq.{bytes_eq-Decides}
 use Rattle.cw_facts.specs.Tests.{taken, both_true, at_most, equal}
 use Rattle.cw_model.specs.Names.{same_name, is_among, differ}
-use Rattle.std.proofs.lemmas.List.{length-set, length-map}
+use Rattle.std.proofs.lemmas.List.{length-set, length-map, drop_all}
 use Rattle.cw_model.specs.declared.trap.Trap.TheVariants as trap
 use Rattle.cw_model.specs.declared.limits.TheConstants.{MOST_DEPTH}
 use Rattle.cw_model.specs.declared.syntax.CallKind.{CallKind}
@@ -30,7 +30,7 @@ use Rattle.cw_gen.proofs.Names.{Entries, AgreesOf, can_write}
 use Rattle.cw_gen.proofs.Names as holding
 use Rattle.cw_gen.proofs.Stores.{Store, Outside, int_waits, array_waits, Agrees, Fills, writes}
 use Rattle.cw_gen.proofs.Passing.{slots_for, all_usable, backs_own, backs, put_backs, with_arrays, settled_moved, agree_back, agree_await, arrays_after, arrived_after, arrays_count, frame_came}
-use Rattle.cw_gen.proofs.Codes.{drop_all, Bound, first_store, here, GivesBack, GivenBy}
+use Rattle.cw_gen.proofs.Codes.{Bound, first_store, here, GivesBack, GivenBy}
 use Rattle.cw_gen.proofs.Texts.{Compiled}
 use Rattle.cw_gen.proofs.Simple.{Onwards}
 
@@ -248,7 +248,7 @@ module _ (code : Code) (fs : List Function) (lists : Lists) where
         let none : List ℤ = [] in
         let more = replicate (fn.arrays - fn.array_params) none in
         let e = entering kind mark slot inner fn vs given outs read in
-        let left_over : drop fn.params ops ≡ [] = drop_all ops fn.params (sym n) in
+        let left_over : drop fn.params ops ≡ [] = drop_all fn.params ops (omega (arith, n)) in
         let keeps : may_keep kind (drop fn.params ops) ≡ true = ap (may_keep kind) left_over ∙ may_keep_none kind in
         let nothing : kept_by kind (drop fn.params ops) ≡ [] = ap (kept_by kind) left_over ∙ none_kept kind in
         let rest : (may_take kind slot store.slots && may_keep kind (drop fn.params ops)) ≡ true = both_true (may_take kind slot store.slots) (may_keep kind (drop fn.params ops)) take keeps in

@@ -1,8 +1,8 @@
 -- The code of each part of a program, and what its calls find.
 use Rattle.std.proofs.Common.{◌≡◌, ℕ, suc, ◌≤◌, Bool, not, cond, filter, List, [], ◌∷◌, ◌++◌, length, true, false, if◌then◌else◌, Option, Some, None, refl, sym, ap, ◌∙◌, arith, append_assoc, ℤ}
-use Rattle.std.specs.Prelude.{reverse, take, drop, map, min, is_none}
+use Rattle.std.specs.Prelude.{reverse, take, map, min, is_none}
 use Rattle.std.proofs.lemmas.List.{append-nil, length-reverse, reverse-reverse}
-use Rattle.cw_facts.specs.Tests.{first_true, second_true}
+use Rattle.cw_facts.specs.Tests.{first_true, second_true, not_true}
 use Rattle.cw_model.specs.Syntax.{Name, Expr, Variable, Stmt, Block, End, Then, Param, Function, wants_array}
 use Rattle.std.specs.List.{list_all}
 use Rattle.cw_model.specs.Frames.{Frame, new_int, new_array, set_result}
@@ -24,14 +24,6 @@ use Rattle.cw_gen.proofs.Marked.{owned, read_in, told_at, AllOwn, settle_owned}
 use Rattle.cw_gen.proofs.Fine.{NoArray, ArrayAlone, Room, Begins}
 use Rattle.cw_gen.proofs.Stores.{Store, Outside, array_waits, Agrees}
 use Rattle.cw_gen.proofs.Names.{names_in, values_in, names_more, values_more, all_of}
-
--- all are dropped
-pub drop_all : (xs : List ℤ) (n : ℕ) → n ≡ length xs → drop n xs ≡ []
-drop_all xs n e = ap (λ m. drop m xs) e ∙ none xs
-  where
-    none : (xs : List ℤ) → drop (length xs) xs ≡ []
-    none [] = refl
-    none (x ∷ xs) = none xs
 
 -- all are taken
 pub take_all : (xs : List ℤ) (n : ℕ) → n ≡ length xs → take n xs ≡ xs
@@ -106,11 +98,7 @@ bound_main [] (v ∷ vs) g ints n = absurd (omega (arith, n))
 bound_main (p ∷ ps) [] g ints n = absurd (omega (arith, n))
 bound_main (p ∷ ps) (v ∷ vs) g ints n =
     let rest = list_all (λ q. not (wants_array q)) ps in
-    bound_int p ps v vs [] g (main_frame ps vs (new_int p.name v g)) (negated (wants_array p) (first_true (not (wants_array p)) rest ints)) (bound_main ps vs (new_int p.name v g) (second_true (not (wants_array p)) rest ints) (omega (arith, n)))
-  where
-    negated : (b : Bool) → not b ≡ true → b ≡ false
-    negated true h = cc
-    negated false h = refl
+    bound_int p ps v vs [] g (main_frame ps vs (new_int p.name v g)) (not_true (wants_array p) (first_true (not (wants_array p)) rest ints)) (bound_main ps vs (new_int p.name v g) (second_true (not (wants_array p)) rest ints) (omega (arith, n)))
 
 -- main takes no array, and an integer for each parameter
 pub main_locals : (ps : List Param) → list_all (λ p. not (wants_array p)) ps ≡ true → (length (locals_of ps).ints ≡ length ps) × (length (locals_of ps).arrays ≡ 0)

@@ -9,6 +9,7 @@ use Rattle.cw_model.specs.Frames.{Frame}
 use Rattle.cw_model.specs.Names.{is_among}
 use Rattle.cw_model.specs.Syntax.{Name, Expr}
 use Rattle.cw_model.specs.Outcome.{Outcome, Done, Trapped, Over, Trace, shows, after, then_do, pay, pay_for}
+use Rattle.cw_loops.specs.lemmas.Outcomes.{then_same}
 
 -- instructions are counted one after another
 pub works_more : (a b : ℕ) → works (a + b) ≡ works a ++ works b
@@ -17,11 +18,6 @@ works_more (suc a) b = let e : suc a + b ≡ suc (a + b) = omega arith in ap wor
 
 two_tests : (left c c' : ℕ) → nat_lt left (c + c') ≡ (if nat_lt left c then true else nat_lt (left - c) c')
 two_tests left c c' = grind (arith, nat_tests)
-
-then_same : {A B : Type 0} (o : Outcome A) (go go' : A → ℕ → Outcome B) → ((a : A) (l : ℕ) → go a l ≡ go' a l) → then_do o go ≡ then_do o go'
-then_same (Done a l t) go go' h = ap (after t) (h a l)
-then_same (Trapped trap line lines) go go' h = refl
-then_same Over go go' h = refl
 
 abbrev over_int : Outcome ℤ
 over_int = Over

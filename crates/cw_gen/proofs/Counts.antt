@@ -2,6 +2,7 @@
 use Rattle.std.proofs.Common.{◌≡◌, ℕ, suc, ◌+◌, List, [], ◌∷◌, ◌++◌, length, Bool, true, false, if◌then◌else◌, Some, None, refl, sym, ap, ◌∙◌, arith, length-append}
 use Rattle.std.specs.Prelude.{sum_by, map}
 use Rattle.std.proofs.lemmas.List.Sums.{sum_by-cons}
+use Rattle.std.proofs.lemmas.List.{length_push}
 use Rattle.cw_model.specs.Syntax.{wants_array, Name, Expr, Number, Variable, Element, Length, Negative, Not, Binary, Stmt, Declare, DeclareArray, Assign, AssignElement, Reduce, Call, Start, Begin, Sync, If, IfElse, While, Scope, Cut, Region, Print, Return, Block, End, Then, Param, Function, Program}
 use Rattle.cw_model.specs.Meaning.{function_named}
 use Rattle.cw_model.specs.Typing.{Returns, Nowhere, WithInt, Alone}
@@ -10,7 +11,6 @@ use Rattle.cw_model.specs.Sizes.{size_of, arguments_size, stmt_size, block_size,
 use Rattle.cw_tree.specs.Resolved.{Lists, Locals, params_of, slot_of, with_array, locals_after, locals_of}
 use Rattle.cw_loops.specs.Lowered.{lowered}
 use Rattle.cw_loops.specs.Slotted.{slotted_argument, slotted_block, slotted_function, lowered_lists}
-use Rattle.cw_code.specs.declared.code.Instr.{Instr}
 use Rattle.cw_code.specs.declared.code.Instr.TheVariants as instr
 use Rattle.cw_gen.specs.Emit as emit
 use Rattle.cw_gen.specs.Emit.{element_at, Tables, first_list, distance, past, whole_of, emitted_arg, emitted_loads, emitted_end, emitted_instrs, emitted_over}
@@ -20,21 +20,18 @@ use Rattle.cw_gen.proofs.Fine.{Room, room_of, marks_for, ExprFine, ArgKept, arg_
 use Rattle.cw_gen.proofs.Codes.{arg_code, array_code}
 use Rattle.cw_gen.proofs.Texts.{expr_code, args_code, stmt_code, block_code, function_code, tables_in, code_of}
 
-one_more : (is : List Instr) (i : Instr) → length (is ++ i ∷ []) ≡ length is + 1
-one_more is i = length-append is (i ∷ [])
-
 expr_count : (marks : Marks) (locals : Locals) (taken : Taken) (line : ℕ) (e : Expr) → ExprFine locals taken e → length (expr_code marks locals line e) ≡ size_of [] e
 expr_count marks locals taken line (Number n) fine = refl
 expr_count marks locals taken line (Variable x) fine = refl
-expr_count marks locals taken line (Element a e) fine = omega (arith, one_more (expr_code marks locals line e) (element_at (place_of marks (slot_of a locals.arrays)) line), expr_count marks locals taken line e fine.1)
+expr_count marks locals taken line (Element a e) fine = omega (arith, length_push (expr_code marks locals line e) (element_at (place_of marks (slot_of a locals.arrays)) line), expr_count marks locals taken line e fine.1)
 expr_count marks locals taken line (Length a) fine = refl
-expr_count marks locals taken line (Negative e) fine = one_more (expr_code marks locals line e) _ ∙ ap (λ k. k + 1) (expr_count marks locals taken line e fine)
-expr_count marks locals taken line (Not e) fine = one_more (expr_code marks locals line e) _ ∙ ap (λ k. k + 1) (expr_count marks locals taken line e fine)
+expr_count marks locals taken line (Negative e) fine = length_push (expr_code marks locals line e) _ ∙ ap (λ k. k + 1) (expr_count marks locals taken line e fine)
+expr_count marks locals taken line (Not e) fine = length_push (expr_code marks locals line e) _ ∙ ap (λ k. k + 1) (expr_count marks locals taken line e fine)
 expr_count marks locals taken line (Binary operator d e) fine =
     let cd = expr_code marks locals line d in
     let ce = expr_code marks locals line e in
     let i = instr.Binary operator line in
-    omega (arith, length-append cd (ce ++ i ∷ []), one_more ce i, expr_count marks locals taken line d fine.0, expr_count marks locals taken line e fine.1)
+    omega (arith, length-append cd (ce ++ i ∷ []), length_push ce i, expr_count marks locals taken line d fine.0, expr_count marks locals taken line e fine.1)
 
 args_count : (marks : Marks) (locals : Locals) (taken : Taken) (line : ℕ) (ps : List Param) (es : List Expr) → ArgsFine marks locals taken ps es → length (args_code marks locals line ps es) ≡ arguments_size [] ps es
 args_count marks locals taken line [] [] fine = refl
@@ -68,27 +65,27 @@ module _ (fs : List Function) (lists : Lists) (tables : Tables) where
 
   mutual
     stmt_count : (size : Room) (returns : Returns) (level : ℕ) (locals : Locals) (taken : Taken) (line : ℕ) (s : Stmt) → StmtFine fs lists tables size.marks size returns level locals taken s → length (stmt_code first size.marks lists locals line s) ≡ stmt_size fs [] s
-    stmt_count size returns level locals taken line (Declare x e) fine = one_more (expr_code size.marks locals line e) _ ∙ ap (λ k. k + 1) (expr_count size.marks locals taken line e fine.1)
-    stmt_count size returns level locals taken line (DeclareArray x e) fine = one_more (expr_code size.marks locals line e) _ ∙ ap (λ k. k + 1) (expr_count size.marks locals taken line e fine.1)
+    stmt_count size returns level locals taken line (Declare x e) fine = length_push (expr_code size.marks locals line e) _ ∙ ap (λ k. k + 1) (expr_count size.marks locals taken line e fine.1)
+    stmt_count size returns level locals taken line (DeclareArray x e) fine = length_push (expr_code size.marks locals line e) _ ∙ ap (λ k. k + 1) (expr_count size.marks locals taken line e fine.1)
     stmt_count size returns level locals taken line (AssignElement a i e) fine =
         let ci = expr_code size.marks locals line i in
         let ce = expr_code size.marks locals line e in
-        omega (arith, length-append ci (ce ++ instr.SetElement (array_at size.marks (slot_of a locals.arrays)) line ∷ []), one_more ce (instr.SetElement (array_at size.marks (slot_of a locals.arrays)) line), expr_count size.marks locals taken line i fine.1, expr_count size.marks locals taken line e fine.2)
-    stmt_count size returns level locals taken line (Assign x e) fine = one_more (expr_code size.marks locals line e) _ ∙ ap (λ k. k + 1) (expr_count size.marks locals taken line e fine.1)
-    stmt_count size returns level locals taken line (Reduce how s e) fine = one_more (expr_code size.marks locals line e) _ ∙ ap (λ k. k + 1) (expr_count size.marks locals taken line e fine.1)
-    stmt_count size returns level locals taken line (Print e) fine = one_more (expr_code size.marks locals line e) _ ∙ ap (λ k. k + 1) (expr_count size.marks locals taken line e fine)
+        omega (arith, length-append ci (ce ++ instr.SetElement (array_at size.marks (slot_of a locals.arrays)) line ∷ []), length_push ce (instr.SetElement (array_at size.marks (slot_of a locals.arrays)) line), expr_count size.marks locals taken line i fine.1, expr_count size.marks locals taken line e fine.2)
+    stmt_count size returns level locals taken line (Assign x e) fine = length_push (expr_code size.marks locals line e) _ ∙ ap (λ k. k + 1) (expr_count size.marks locals taken line e fine.1)
+    stmt_count size returns level locals taken line (Reduce how s e) fine = length_push (expr_code size.marks locals line e) _ ∙ ap (λ k. k + 1) (expr_count size.marks locals taken line e fine.1)
+    stmt_count size returns level locals taken line (Print e) fine = length_push (expr_code size.marks locals line e) _ ∙ ap (λ k. k + 1) (expr_count size.marks locals taken line e fine)
     stmt_count size returns level locals taken line (Call kind site target f es) fine =
-        one_more (args_code size.marks locals line (params_of lists f) es) _
+        length_push (args_code size.marks locals line (params_of lists f) es) _
         ∙ ap (λ k. k + 1) (ap (λ ps. length (args_code size.marks locals line ps es)) fine.8 ∙ args_count size.marks locals taken line (function_named f fs).params es fine.2)
     stmt_count size returns level locals taken line (Start kind f es) fine =
-        one_more (args_code size.marks locals line (params_of lists f) es) _
+        length_push (args_code size.marks locals line (params_of lists f) es) _
         ∙ ap (λ k. k + 1) (ap (λ ps. length (args_code size.marks locals line ps es)) fine.6 ∙ args_count size.marks locals taken line (function_named f fs).params es fine.2)
     stmt_count size returns level locals taken line (Begin f from to captured over) fine =
         let cf = expr_code size.marks locals line from in
         let ct = expr_code size.marks locals line to in
         let loads = emitted_loads (map (λ x. slot_of x locals.ints) captured) in
         let i = instr.Start (whole_of first (slot_of f lists.functions)) line in
-        omega (arith, length-append cf (ct ++ (loads ++ i ∷ [])), length-append ct (loads ++ i ∷ []), one_more loads i, expr_count size.marks locals taken line from fine.2, expr_count size.marks locals taken line to fine.3, loads_count locals captured)
+        omega (arith, length-append cf (ct ++ (loads ++ i ∷ [])), length-append ct (loads ++ i ∷ []), length_push loads i, expr_count size.marks locals taken line from fine.2, expr_count size.marks locals taken line to fine.3, loads_count locals captured)
     stmt_count size returns level locals taken line Sync fine = refl
     stmt_count size returns level locals taken line (If e b) fine =
         let ce = expr_code size.marks locals line e in
@@ -99,27 +96,27 @@ module _ (fs : List Function) (lists : Lists) (tables : Tables) where
         let cb = block_code first size.marks lists locals b in
         let other = block_code first size.marks lists locals c in
         let j = instr.Skip (past (emit.returns (slotted_block lists locals b)) (length other)) in
-        omega (arith, length-append ce (emitted_over (cb ++ j ∷ []) ++ other), length-append (emitted_over (cb ++ j ∷ [])) other, one_more cb j, expr_count size.marks locals taken line e fine.0, block_count size returns level locals taken b fine.1.0, block_count size returns level locals taken c fine.2.0)
+        omega (arith, length-append ce (emitted_over (cb ++ j ∷ []) ++ other), length-append (emitted_over (cb ++ j ∷ [])) other, length_push cb j, expr_count size.marks locals taken line e fine.0, block_count size returns level locals taken b fine.1.0, block_count size returns level locals taken c fine.2.0)
     stmt_count size returns level locals taken line (While e b) fine =
         let all = held_after fs level (While e b) taken in
         let ce = expr_code size.marks locals line e in
         let cb = block_code first size.marks lists locals b in
         let j = instr.GoBack (distance (length ce + 1 + length cb)) in
-        omega (arith, length-append ce (emitted_over (cb ++ j ∷ [])), one_more cb j, expr_count size.marks locals all line e fine.0, block_count size returns level locals all b fine.1)
+        omega (arith, length-append ce (emitted_over (cb ++ j ∷ [])), length_push cb j, expr_count size.marks locals all line e fine.0, block_count size returns level locals all b fine.1)
     stmt_count size returns level locals taken line (Scope b) fine =
         let cb = block_code first size.marks lists locals b in
-        omega (arith, one_more cb instr.Close, block_count size Nowhere (level + 1) locals taken b fine.0)
+        omega (arith, length_push cb instr.Close, block_count size Nowhere (level + 1) locals taken b fine.0)
     stmt_count size returns level locals taken line (Cut a e l r b) fine =
         let ce = expr_code size.marks locals line e in
         let inner = with_array r (with_array l locals) in
         let cb = block_code first size.marks lists inner b in
         let h = emit.halves_at size.marks (slot_of a locals.arrays) (length locals.arrays) (suc (length locals.arrays)) in
-        omega (arith, length-append ce (instr.Cut h line ∷ (cb ++ instr.EndCut ∷ [])), one_more cb instr.EndCut, expr_count size.marks locals taken line e fine.1, block_count size Nowhere (level + 1) inner ((a, CutOf) ∷ taken) b fine.3)
+        omega (arith, length-append ce (instr.Cut h line ∷ (cb ++ instr.EndCut ∷ [])), length_push cb instr.EndCut, expr_count size.marks locals taken line e fine.1, block_count size Nowhere (level + 1) inner ((a, CutOf) ∷ taken) b fine.3)
     stmt_count size returns level locals taken line (Region tag b) fine =
         let cb = block_code first size.marks lists locals b in
-        omega (arith, one_more cb instr.Close, block_count size Nowhere (level + 1) locals taken b fine.1)
+        omega (arith, length_push cb instr.Close, block_count size Nowhere (level + 1) locals taken b fine.1)
     stmt_count size returns level locals taken line (Return None) fine = refl
-    stmt_count size returns level locals taken line (Return (Some e)) fine = one_more (expr_code size.marks locals line e) _ ∙ ap (λ k. k + 1) (expr_count size.marks locals taken line e (returned_count returns locals taken e fine.0))
+    stmt_count size returns level locals taken line (Return (Some e)) fine = length_push (expr_code size.marks locals line e) _ ∙ ap (λ k. k + 1) (expr_count size.marks locals taken line e (returned_count returns locals taken e fine.0))
     stmt_count size returns level locals taken line _ fine = absurd fine
 
     block_count : (size : Room) (returns : Returns) (level : ℕ) (locals : Locals) (taken : Taken) (b : Block) → BlockFine fs lists tables size.marks size returns level locals taken b → length (block_code first size.marks lists locals b) ≡ block_size fs [] b

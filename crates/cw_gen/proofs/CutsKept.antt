@@ -1,5 +1,5 @@
 -- A cut that is open stays so up to its end.
-use Rattle.std.proofs.Common.{◌≡◌, ℕ, ◌+◌, List, [], ◌∷◌, ◌++◌, Bool, true, false, not, cond, refl, sym, ap, ◌∙◌, subst, filter, inl, inr, true≢false}
+use Rattle.std.proofs.Common.{◌≡◌, ℕ, ◌+◌, List, [], ◌∷◌, ◌++◌, Bool, true, false, not, refl, sym, ap, ◌∙◌, subst, inr, true≢false}
 use Rattle.std.specs.Prelude.{map}
 use Rattle.std.proofs.lemmas.List.{append-nil}
 use Rattle.std.proofs.lemmas.Slice.Eq.{bytes_eq-Decides}
@@ -8,33 +8,14 @@ use Rattle.cw_model.specs.declared.syntax.CallKind.TheVariants.{Plain, Spawned}
 use Rattle.cw_model.specs.Syntax.{Name, Stmt, Declare, DeclareArray, Assign, AssignElement, Reduce, Call, Start, Begin, Sync, If, IfElse, While, Scope, Cut, Region, Print, Return, Block, End, Then, Function}
 use Rattle.cw_model.specs.Names.{same_name, is_among}
 use Rattle.cw_model.specs.Typing.{Nowhere, surely_returns, block_returns}
-use Rattle.cw_model.specs.Ownership.{Holder, SpawnIn, ReaderIn, CutOf, Taken, is_taken, is_held, is_spawn_in, is_cut_of, freed, taken_by, without, own_names, where_it_goes_on, target_names, given, lent, Closing, Joins, Leaves, at_end}
+use Rattle.cw_model.specs.Ownership.{SpawnIn, ReaderIn, CutOf, Taken, is_taken, is_held, is_spawn_in, is_cut_of, freed, taken_by, without, own_names, where_it_goes_on, target_names, given, lent, Closing, Joins, Leaves, at_end}
 use Rattle.cw_tree.specs.Resolved.{Lists, Locals, with_array, locals_after}
 use Rattle.cw_gen.specs.Emit.{Tables}
 use Rattle.cw_gen.proofs.Held.{held_after, held_after_all}
 use Rattle.cw_gen.proofs.Fine.{Room, StmtFine, BlockFine}
-use Rattle.cw_gen.proofs.FreeMembers.{In, in_taken, in_held}
+use Rattle.cw_gen.proofs.FreeMembers.{In, in_taken, in_held, in_kept, in_left as in_before, in_right}
 use Rattle.cw_gen.specs.Marks.{Marks}
 use Rattle.cw_gen.proofs.Rows.{Opened, CutsOpen, cuts_kept}
-
-in_kept : (p : (Name × Holder) → Bool) (t : Name × Holder) (us : Taken) → In t us → p t ≡ true → In t (filter p us)
-in_kept p t [] h e = h
-in_kept p t (u ∷ us) h e = test (in_kept p t us) (p u) refl h
-  where
-    test : (In t us → p t ≡ true → In t (filter p us)) → (b : Bool) → p u ≡ b → In t (u ∷ us) → In t (cond b (u ∷ filter p us) (filter p us))
-    test more true e' (inl same) = inl same
-    test more true e' (inr k) = inr (more k e)
-    test more false e' (inl same) = absurd (true≢false (sym (ap p same ∙ e) ∙ e'))
-    test more false e' (inr k) = more k e
-
-in_behind : (t : Name × Holder) (a b : Taken) → In t b → In t (a ++ b)
-in_behind t [] b h = h
-in_behind t (u ∷ a) b h = inr (in_behind t a b h)
-
-in_before : (t : Name × Holder) (a b : Taken) → In t a → In t (a ++ b)
-in_before t [] b h = absurd h
-in_before t (u ∷ a) b (inl e) = inl e
-in_before t (u ∷ a) b (inr h) = inr (in_before t a b h)
 
 -- a cut is none of the names of a block that ends free
 in_left : (q : Name) (own : List Name) (closing : Closing) (depth : ℕ) (after_it : Taken) → ((x : Name) → is_among x own ≡ true → is_held (at_end closing depth after_it) x ≡ false) → In (q, CutOf) after_it → In (q, CutOf) (without own after_it)
@@ -74,12 +55,12 @@ module _ (fs : List Function) (lists : Lists) (tables : Tables) (size : Room) wh
     stmt_keeps level locals taken (Print e) q fine h = h
     stmt_keeps level locals taken (Call Plain site target f es) q fine h = h
     stmt_keeps level locals taken (Call Spawned site target f es) q fine h =
-        in_behind (q, CutOf) (map (λ x. (x, ReaderIn level)) (lent fs f es)) (taken_by level (target_names target ++ given fs f es) taken) (in_behind (q, CutOf) (map (λ x. (x, SpawnIn level)) (target_names target ++ given fs f es)) taken h)
+        in_right (q, CutOf) (map (λ x. (x, ReaderIn level)) (lent fs f es)) (taken_by level (target_names target ++ given fs f es) taken) (in_right (q, CutOf) (map (λ x. (x, SpawnIn level)) (target_names target ++ given fs f es)) taken h)
     stmt_keeps level locals taken (Start Plain f es) q fine h = h
-    stmt_keeps level locals taken (Start Spawned f es) q fine h = in_behind (q, CutOf) (map (λ x. (x, SpawnIn level)) (given fs f es)) taken h
+    stmt_keeps level locals taken (Start Spawned f es) q fine h = in_right (q, CutOf) (map (λ x. (x, SpawnIn level)) (given fs f es)) taken h
     stmt_keeps level locals taken (Begin f from to captured over) q fine h = h
     stmt_keeps level locals taken Sync q fine h = in_freed q level taken h
-    stmt_keeps level locals taken (If e b) q fine h = in_behind (q, CutOf) (where_it_goes_on (block_returns b) (without (own_names b) (held_after_all fs level b taken))) taken h
+    stmt_keeps level locals taken (If e b) q fine h = in_right (q, CutOf) (where_it_goes_on (block_returns b) (without (own_names b) (held_after_all fs level b taken))) taken h
     stmt_keeps level locals taken (IfElse e b c) q fine h =
         let left = without (own_names b) (held_after_all fs level b taken) in
         in_before (q, CutOf) (where_it_goes_on (block_returns b) left) (where_it_goes_on (block_returns c) (without (own_names c) (held_after_all fs level c taken)))

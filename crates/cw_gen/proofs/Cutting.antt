@@ -14,13 +14,13 @@ use Rattle.cw_code.specs.Run.{is_full, settled, cut_arrays, may_cut, uncut_array
 use Rattle.cw_code.specs.lemmas.Slots.{settled_count}
 use Rattle.cw_tree.specs.Resolved.{Locals, slot_of, with_array}
 use Rattle.cw_tree.specs.lemmas.NamedSlots.{slot_stays, slot_in}
-use Rattle.cw_tree.specs.lemmas.Names.{later_among}
+use Rattle.cw_tree.specs.lemmas.Names.{front_among, later_among}
 use Rattle.cw_loops.specs.lemmas.Naming.{among_left}
 use Rattle.cw_gen.specs.Marks.{Marks}
 use Rattle.cw_gen.proofs.Marked.{AllOwn}
 use Rattle.cw_gen.proofs.Fine.{IsUsable, Room}
 use Rattle.cw_gen.proofs.Takens.{holds, holds_behind, freed_without, spawn_past_cut}
-use Rattle.cw_gen.proofs.Names.{Entries, names_in, names_more, get-other, AgreesOf, is_free}
+use Rattle.cw_gen.proofs.Names.{Entries, names_in, names_more, get-other, AgreesOf, is_free, slot_new}
 use Rattle.cw_gen.proofs.Names as names
 use Rattle.cw_gen.proofs.Scopes.{extended, same_locals}
 use Rattle.cw_gen.proofs.Stores.{Store, Waits, Outside, int_waits, array_waits, joined_with, Agrees, Fills, finds, new_array_is_there, exits, leaves_block}
@@ -113,15 +113,6 @@ cut_enters locals taken x y z n frame store outer u room a =
       whole = a.whole;
     }
 
--- a name behind others, and none of them
-slot_here : (x : Name) (ns : List Name) → is_among x ns ≡ false → slot_of x (ns ++ x ∷ []) ≡ length ns
-slot_here x [] h = ap (λ b. if b then 0 else 1) ((bytes_eq-Decides x x).1 refl)
-slot_here x (y ∷ ns) h = test (slot_here x ns) (same_name x y) h
-  where
-    test : (is_among x ns ≡ false → slot_of x (ns ++ x ∷ []) ≡ length ns) → (b : Bool) → (if b then true else is_among x ns) ≡ false → (if b then 0 else suc (slot_of x (ns ++ x ∷ []))) ≡ suc (length ns)
-    test more true h' = cc
-    test more false h' = ap suc (more h')
-
 among_end : (x : Name) (ns : List Name) → is_among x (ns ++ x ∷ []) ≡ true
 among_end x [] = ap (λ b. if b then true else false) ((bytes_eq-Decides x x).1 refl)
 among_end x (y ∷ ns) = test (among_end x ns) (same_name x y)
@@ -132,7 +123,7 @@ among_end x (y ∷ ns) = test (among_end x ns) (same_name x y)
 
 -- the same with names behind it
 pub slot_first : (x : Name) (ns more : List Name) → is_among x ns ≡ false → slot_of x (ns ++ x ∷ more) ≡ length ns
-slot_first x ns more h = ap (slot_of x) (sym (append_assoc ns (x ∷ []) more)) ∙ slot_stays x (ns ++ x ∷ []) more (among_end x ns) ∙ slot_here x ns h
+slot_first x ns more h = ap (slot_of x) (sym (append_assoc ns (x ∷ []) more)) ∙ slot_stays x (ns ++ x ∷ []) more (among_end x ns) ∙ slot_new x ns h
 
 pub among_first : (x : Name) (ns more : List Name) → is_among x (ns ++ x ∷ more) ≡ true
 among_first x ns more = ap (is_among x) (sym (append_assoc ns (x ∷ []) more)) ∙ among_left x (ns ++ x ∷ []) more (among_end x ns)
@@ -203,10 +194,10 @@ cut_exits locals taken x y z xs n own more more_arrays all frame g st store oute
     let same : inner ≡ extended locals [] (y ∷ z ∷ []) = same_locals locals.ints (locals.ints ++ []) inner.arrays (locals.arrays ++ y ∷ z ∷ []) (sym (append-nil locals.ints)) (append_assoc locals.arrays (y ∷ []) (z ∷ [])) in
     let b3 = leaves_block locals [] (y ∷ z ∷ []) (y ∷ z ∷ []) t1 frame left_inner j outer a.ints.named a.arrays.named a.whole (λ q h. cc) (λ q h. h)
     (λ q h. free_without own (freed depth all) q (free q (among_left q (y ∷ z ∷ []) own h))) (subst (λ ls. Agrees ls t1 left_inner j outer) same b2) in
-    let use_y : IsUsable inner.arrays t1 y = record { declared = among_left y (locals.arrays ++ y ∷ []) (z ∷ []) (among_end y locals.arrays); free = free_without own (freed depth all) y (free y (first y (z ∷ own))) } in
-    let use_z : IsUsable inner.arrays t1 z = record { declared = among_end z (locals.arrays ++ y ∷ []); free = free_without own (freed depth all) z (free z (later_among z y (z ∷ own) (first z own))) } in
-    let at_y : slot_of y inner.arrays ≡ length locals.arrays = slot_stays y (locals.arrays ++ y ∷ []) (z ∷ []) (among_end y locals.arrays) ∙ slot_here y locals.arrays new_y in
-    let at_z : slot_of z inner.arrays ≡ length (locals.arrays ++ y ∷ []) = slot_here z (locals.arrays ++ y ∷ []) new_z in
+    let use_y : IsUsable inner.arrays t1 y = record { declared = among_left y (locals.arrays ++ y ∷ []) (z ∷ []) (among_end y locals.arrays); free = free_without own (freed depth all) y (free y (front_among y (z ∷ own))) } in
+    let use_z : IsUsable inner.arrays t1 z = record { declared = among_end z (locals.arrays ++ y ∷ []); free = free_without own (freed depth all) z (free z (later_among z y (z ∷ own) (front_among z own))) } in
+    let at_y : slot_of y inner.arrays ≡ length locals.arrays = slot_stays y (locals.arrays ++ y ∷ []) (z ∷ []) (among_end y locals.arrays) ∙ slot_new y locals.arrays new_y in
+    let at_z : slot_of z inner.arrays ≡ length (locals.arrays ++ y ∷ []) = slot_new z (locals.arrays ++ y ∷ []) new_z in
     let next : length (locals.arrays ++ y ∷ []) ≡ length locals.arrays + 1 = length-append locals.arrays (y ∷ []) in
     let entries = (leave frame left_inner).arrays in
     let ws = ((i, xs) ∷ store.arrived) ∷ array_waits outer in
@@ -224,6 +215,3 @@ cut_exits locals taken x y z xs n own more more_arrays all frame g st store oute
       right = ap (slice_get j.arrays) (sym at_z) ∙ finds inner t1 z left_inner j outer use_z b2;
       agrees = subst (λ t. Agrees locals (cut_ended x t) (uncut x y z frame left_inner) after_it outer) both (record { ints = ints'; arrays = arrays'; whole = a.whole });
     }
-  where
-    first : (q : Name) (ns : List Name) → is_among q (q ∷ ns) ≡ true
-    first q ns = ap (λ b. if b then true else is_among q ns) ((bytes_eq-Decides q q).1 refl)

@@ -1,5 +1,5 @@
 -- What the entry of a function keeps of its text, and where main's stands.
-use Rattle.std.proofs.Common.{◌≡◌, ℕ, ◌+◌, ◌-◌, ◌≤◌, List, [], ◌∷◌, ◌++◌, length, Bool, true, false, if◌then◌else◌, refl, sym, ap, ◌∙◌, arith}
+use Rattle.std.proofs.Common.{◌≡◌, ℕ, ◌≤◌, List, [], ◌∷◌, ◌++◌, length, Bool, true, false, if◌then◌else◌, refl, sym, ap, ◌∙◌, arith}
 use Rattle.std.specs.Prelude.{map}
 use Rattle.std.proofs.lemmas.List.{map-append}
 use Rattle.cw_model.specs.Syntax.{Name, Param, Function, Program}
@@ -38,7 +38,7 @@ as_counted lists g first start array_room =
     room ints arrays = record { ints = ints; arrays = arrays; given = (locals_of g.params).arrays; marks = marks_for g.params }
 
 -- the name of a function is one of the names
-named : (x : Name) (fs : List Function) → is_function x fs ≡ true → is_among x (function_names fs) ≡ true
+pub named : (x : Name) (fs : List Function) → is_function x fs ≡ true → is_among x (function_names fs) ≡ true
 named x [] h = h
 named x (f ∷ fs) h = test (named x fs) (same_name x f.name) h
   where

@@ -1,6 +1,7 @@
 -- A function's code has few array slots: each that is no parameter's has an instruction of its own, and so has each array of a loop.
 use Rattle.std.proofs.Common.{ℕ, suc, ◌+◌, ◌≤◌, Bool, true, false, cond, filter, List, [], ◌∷◌, ◌++◌, length, map, max, pos, ap, ◌≡◌, arith, length-append}
 use Rattle.std.specs.Prelude.{flat_map}
+use Rattle.std.proofs.lemmas.List.{length_push}
 use Rattle.cw_model.specs.declared.limits.TheConstants.{MOST_DECLARED}
 use Rattle.cw_model.specs.declared.syntax.Operator.TheVariants.{AtMost, Plus, Divide}
 use Rattle.cw_model.specs.Syntax.{wants_array, Name, Param, Number, Variable, Binary, Stmt, Declare, DeclareArray, Assign, AssignElement, Reduce, Call, Start, Begin, Sync, If, IfElse, While, For, Scope, Cut, Region, Print, Return, Block, End, Then, Function, Program}
@@ -12,7 +13,6 @@ use Rattle.cw_tree.specs.lemmas.Few.{heads_small, small_head}
 use Rattle.cw_loops.specs.Lowered.{low, middle, range, left_part, right_part, leaf_block, node_block, both_halves, left_arguments, right_arguments, in_cuts, loop_name, loop_function, loop_count, loop_count_in, lower_block, lower_functions, made_by, made_in, made_of, lowered}
 use Rattle.cw_loops.specs.SlotLaws.{IsWithinLimits}
 use Rattle.cw_loops.specs.Slotted.{slotted_stmt, slotted_block}
-use Rattle.cw_code.specs.declared.code.Instr.{Instr}
 use Rattle.cw_code.specs.declared.code.Instr.TheVariants as instr
 use Rattle.cw_gen.specs.Emit as emit
 use Rattle.cw_gen.specs.Emit.{distance, past, halves_at, emitted_over, emitted_end, arrays_in, arrays_in_block}
@@ -21,19 +21,16 @@ use Rattle.cw_gen.proofs.Fine.{marks_for}
 use Rattle.cw_gen.proofs.KnownParams.{loop_arrays}
 use Rattle.cw_gen.proofs.Texts.{expr_code, stmt_code, block_code, function_code}
 
-one_more : (is : List Instr) (i : Instr) → length (is ++ i ∷ []) ≡ length is + 1
-one_more is i = length-append is (i ∷ [])
-
 module _ (first : ℕ) (marks : Marks) (lists : Lists) where
   -- a statement declares no more arrays than it has instructions
   few_after : (locals : Locals) (line : ℕ) (s : Stmt) → length (locals_after locals s).arrays ≤ length locals.arrays + length (stmt_code first marks lists locals line s)
-  few_after locals line (DeclareArray a e) = omega (arith, length-append locals.arrays (a ∷ []), one_more (expr_code marks locals line e) (instr.NewArray (array_at marks (length locals.arrays)) line))
+  few_after locals line (DeclareArray a e) = omega (arith, length-append locals.arrays (a ∷ []), length_push (expr_code marks locals line e) (instr.NewArray (array_at marks (length locals.arrays)) line))
   few_after locals line _ = omega arith
 
   mutual
     -- no slot that it needs is beyond these
     few_here : (n most : ℕ) (locals : Locals) (line : ℕ) (s : Stmt) → n ≤ most → length locals.arrays + length (stmt_code first marks lists locals line s) ≤ most → arrays_in n (slotted_stmt lists locals s) ≤ most
-    few_here n most locals line (DeclareArray a e) h k = omega (arith, h, k, one_more (expr_code marks locals line e) (instr.NewArray (array_at marks (length locals.arrays)) line))
+    few_here n most locals line (DeclareArray a e) h k = omega (arith, h, k, length_push (expr_code marks locals line e) (instr.NewArray (array_at marks (length locals.arrays)) line))
     few_here n most locals line (If e b) h k =
         let ce = expr_code marks locals line e in
         few_in n most locals b h (omega (arith, k, length-append ce (emitted_over (block_code first marks lists locals b))))
@@ -44,14 +41,14 @@ module _ (first : ℕ) (marks : Marks) (lists : Lists) where
         let j = instr.Skip (past (emit.returns (slotted_block lists locals b)) (length other)) in
         let all = length-append ce (emitted_over (cb ++ j ∷ []) ++ other) in
         let both = length-append (emitted_over (cb ++ j ∷ [])) other in
-        let one = few_in n most locals b h (omega (arith, k, all, both, one_more cb j)) in
+        let one = few_in n most locals b h (omega (arith, k, all, both, length_push cb j)) in
         few_in (arrays_in_block n (slotted_block lists locals b)) most locals c one (omega (arith, k, all, both))
     few_here n most locals line (While e b) h k =
         let ce = expr_code marks locals line e in
         let cb = block_code first marks lists locals b in
         let j = instr.GoBack (distance (length ce + 1 + length cb)) in
-        few_in n most locals b h (omega (arith, k, length-append ce (emitted_over (cb ++ j ∷ [])), one_more cb j))
-    few_here n most locals line (Scope b) h k = few_in n most locals b h (omega (arith, k, one_more (block_code first marks lists locals b) instr.Close))
+        few_in n most locals b h (omega (arith, k, length-append ce (emitted_over (cb ++ j ∷ [])), length_push cb j))
+    few_here n most locals line (Scope b) h k = few_in n most locals b h (omega (arith, k, length_push (block_code first marks lists locals b) instr.Close))
     few_here n most locals line (Cut a e l r b) h k =
         let ce = expr_code marks locals line e in
         let inner = with_array r (with_array l locals) in
@@ -59,8 +56,8 @@ module _ (first : ℕ) (marks : Marks) (lists : Lists) where
         let cut = instr.Cut (halves_at marks (slot_of a locals.arrays) (length locals.arrays) (suc (length locals.arrays))) line in
         let all = length-append ce (cut ∷ (cb ++ instr.EndCut ∷ [])) in
         let parts : length inner.arrays ≡ length locals.arrays + 2 = omega (arith, length-append (locals.arrays ++ l ∷ []) (r ∷ []), length-append locals.arrays (l ∷ [])) in
-        few_in (max n (suc (suc (length locals.arrays)))) most inner b (omega (arith, h, k, all, one_more cb instr.EndCut)) (omega (arith, k, all, one_more cb instr.EndCut, parts))
-    few_here n most locals line (Region tag b) h k = few_in n most locals b h (omega (arith, k, one_more (block_code first marks lists locals b) instr.Close))
+        few_in (max n (suc (suc (length locals.arrays)))) most inner b (omega (arith, h, k, all, length_push cb instr.EndCut)) (omega (arith, k, all, length_push cb instr.EndCut, parts))
+    few_here n most locals line (Region tag b) h k = few_in n most locals b h (omega (arith, k, length_push (block_code first marks lists locals b) instr.Close))
     few_here n most locals line _ h k = h
 
     -- nor one that a block needs

@@ -1,6 +1,7 @@
 -- Generated code fits: each place finds what its instruction needs, and leads on to places that take what it leaves.
 use Rattle.std.proofs.Common.{◌≡◌, ℕ, ◌+◌, ◌-◌, ◌≤◌, [], ◌∷◌, ◌++◌, length, true, false, ◌&&◌, not, nat_lt, Some, None, refl, sym, ap, ◌∙◌, subst, arith, append_assoc, length-append}
 use Rattle.std.specs.Prelude.{nat_le, option_map}
+use Rattle.std.proofs.lemmas.List.{append-nil}
 use Rattle.cw_facts.specs.Tests.{both_true, first_false, second_false, at_most, below}
 use Rattle.cw_model.specs.Syntax.{Stmt, Declare, DeclareArray, Assign, AssignElement, Reduce, Call, Start, Begin, Sync, If, IfElse, While, Scope, Cut, Region, Print, Return, Block, End, Then}
 use Rattle.cw_model.specs.Meaning.{function_named}
@@ -48,9 +49,6 @@ five p a b c = omega arith
 
 six : (p a b m : ℕ) → m ≡ b + 1 → p + a + 1 + b + 1 ≡ p + a + 1 + m
 six p a b m e = omega (arith, e)
-
-plus_zero : (a : ℕ) → a + 0 ≡ a
-plus_zero a = omega arith
 
 module _ (setting : Setting) where
   mutual
@@ -295,7 +293,7 @@ module _ (setting : Setting) where
     block_fits returns level opened locals taken (Then line s End) place at room cuts returning fine short stands leads =
         let cs = stmt_code (first setting) setting.marks setting.lists locals line s in
         let ss = stmt_shapes setting.fs (size setting) opened locals taken s in
-        let n_all : length (cs ++ []) ≡ length cs = length-append cs [] ∙ plus_zero (length cs) in
+        let n_all : length (cs ++ []) ≡ length cs = ap length (append-nil cs) in
         both_fit setting place ss [] cs []
         (stmt_fits returns level opened locals taken line s place at room cuts returning fine.0 (omega (arith, short, n_all)) (stands_front setting.tab place ss [] stands)
         (λ goes. subst (λ m. FlowsInto (table setting) (place + m) (made setting opened (locals_after locals s) (held_after setting.fs (depth_in opened) s taken) 0)) n_all (leads goes)))

@@ -24,6 +24,7 @@ use Rattle.cw_code.specs.declared.code.Instr.TheVariants as instr
 use Rattle.cw_code.specs.declared.code.Loan.{Loan}
 use Rattle.cw_code.specs.Run.{slots_named, loans_named, passed_by, lent_by}
 use Rattle.cw_code.specs.Fits.{params_of, array_params_of, readers_of, gives_value, is_kind, is_site, names_target, is_none_of, names_arrays, names_passed, names_loan, names_loans, names_lent, names_callee, has_array, has_arrays, has_loan, has_loans, has_target, has_arguments, full_in_all, none_frozen, frozen_rows, with_target, with_gone, with_passed, with_lent, slots_lent, leaves, Covers, CoversEach, FlowsInto}
+use Rattle.cw_code.specs.lemmas.Slots.{covers_itself, each_covers_itself}
 use Rattle.cw_gen.specs.Emit.{callee_of}
 use Rattle.cw_gen.proofs.Held.{held_after}
 use Rattle.cw_gen.specs.Marks.{Marks, place_of, array_at, count_readers, readers_in}
@@ -34,7 +35,7 @@ use Rattle.cw_gen.proofs.Texts.{taken_params}
 use Rattle.cw_gen.proofs.Fine.{marks_for, Room, IsUsable, AllUsable, AllWritable, NotBoth, HasSite, ArgFine, ArgsFine, TargetFine, is_function, StmtFine}
 use Rattle.cw_gen.proofs.Takens.{holds, holds_behind, held_by_spawn}
 use Rattle.cw_gen.proofs.Names.{slots_apart}
-use Rattle.cw_gen.proofs.Rows.{row, array_row, array_covers, row_more, covers_itself, covers_name, covers_array, outers, outers_more, each_covers_itself, CutsOpen, slot_is_full, array_is_full, array_is_thawed}
+use Rattle.cw_gen.proofs.Rows.{row, array_row, array_covers, row_more, covers_name, covers_array, outers, outers_more, CutsOpen, slot_is_full, array_is_full, array_is_thawed}
 use Rattle.cw_gen.proofs.Passing.{slots_for, all_usable, own_slots, writable_args, usable_lent, passed_slots, lent_slots, as_many_arrays, not_same}
 use Rattle.cw_gen.proofs.Shapes.{Opened, depth_in, after_arg, args_after}
 use Rattle.cw_gen.proofs.Settings.{Setting, takes_less, tables, table, size, HasRoom, FitsAt, made}

@@ -14,6 +14,7 @@ use Rattle.std.proofs.lemmas.Slice.Eq.{bytes_eq-Decides}
 use Rattle.cw_code.specs.declared.code.Instr.TheVariants as instr
 use Rattle.cw_code.specs.Fits.{names_halves, gone_rows, frozen_rows, none_frozen, is_thawed, is_full_in, full_in_all, has_array, has_arrays, is_no_part, are_no_parts, is_ready, leaves, Covers, CoversEach, FlowsInto}
 use Rattle.cw_loops.specs.lemmas.Naming.{among_left}
+use Rattle.cw_code.specs.lemmas.Slots.{covers_after, covers_set, each_covers_after}
 use Rattle.cw_gen.proofs.Held.{held_after, held_after_all}
 use Rattle.cw_gen.specs.Marks.{array_at}
 use Rattle.cw_gen.proofs.Marked.{IsOwn, at_apart, at_behind, own_behind}
@@ -24,7 +25,7 @@ use Rattle.cw_gen.proofs.Fine.{IsWritable, Begins, ExprFine, PartsFine, FreeAtEn
 use Rattle.cw_gen.proofs.Takens.{holds, holds_behind, spawn_past_cut}
 use Rattle.cw_gen.proofs.Scopes.{locals_after_all, extended, same_locals, names_extend}
 use Rattle.cw_gen.proofs.Texts.{expr_code, stmt_code, block_code}
-use Rattle.cw_gen.proofs.Rows.{row, array_row, array_covers, row_of, row_more, length-row, length_array_row, covers_after, covers_none, covers_declared, covers_set, covers_lower, outers, Over, outers_more, outers_array, each_covers_after, CutsOpen, own_cuts, halves_at, cuts_kept, array_is_full, next_array_is_full, array_is_thawed, next_array_is_thawed, not_cut_behind, outside_full, outside_thawed, no_part}
+use Rattle.cw_gen.proofs.Rows.{row, array_row, array_covers, row_of, row_more, length-row, length_array_row, covers_none, covers_declared, covers_lower, outers, Over, outers_more, outers_array, CutsOpen, own_cuts, halves_at, cuts_kept, array_is_full, next_array_is_full, array_is_thawed, next_array_is_thawed, not_cut_behind, outside_full, outside_thawed, no_part}
 use Rattle.cw_gen.proofs.Cutting.{slot_first, among_first}
 use Rattle.cw_gen.proofs.Shapes.{Opened, depth_in, shape_at, expr_shapes, reached, end_shape, stmt_shapes, block_shapes, expr_as_many, block_as_many}
 use Rattle.cw_gen.proofs.Settings.{Setting, StandsAt, stands_front, stands_back, exact, takes_less, tables, first, table, size, HasRoom, FitsAt, AllFit, both_fit, made}

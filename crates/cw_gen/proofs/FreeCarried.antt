@@ -16,7 +16,7 @@ use Rattle.cw_tree.specs.lemmas.Names.{front_among, later_among}
 use Rattle.cw_loops.specs.Lowered.{is_plain}
 use Rattle.cw_loops.specs.SourceLike.{is_source_expr, is_source_target}
 use Rattle.cw_loops.specs.lemmas.Tests.{told, yes_is, no_is, Told, never, refuted, either_left, either_right}
-use Rattle.cw_loops.specs.lemmas.Naming.{Placed, at_front, after_it, placed, Side, in_first, in_second, side, among_left, among_right}
+use Rattle.cw_loops.specs.lemmas.Naming.{Placed, at_front, after_it, placed, Side, in_first, in_second, side, among_left, among_right, among_split}
 use Rattle.cw_loops.specs.lemmas.Seeing.{SameKnown, CallKept}
 use Rattle.cw_gen.proofs.FreeMembers.{In, in_append, in_left, in_right, in_filter, in_kept, in_taken, not_in, in_held, not_held, by_holder, holder_has, Outer, either_way}
 
@@ -107,19 +107,11 @@ freed_carried shift depth source names held taken e all t h =
     let one = in_filter (λ u. not (is_spawn_in depth u.1)) t held h in
     carried_in shift depth names taken (freed source taken) t (all t one.0) (λ i. in_kept (λ u. not (is_spawn_in source u.1)) (t.0, deeper shift t.1) taken i (ap not (spawn_moved shift depth source t.1 e (not_true (is_spawn_in depth t.1) one.1))))
 
--- of names with these in front, without these
-drop_own : (x : Name) (own names : List Name) → is_among x own ≡ false → is_among x (own ++ names) ≡ true → is_among x names ≡ true
-drop_own x own names n h = go (side x own names h)
-  where
-    go : Side x own names → is_among x names ≡ true
-    go (in_first o) = never (is_among x own) o n
-    go (in_second o) = o
-
 -- the end of a block's names on both sides
 pub without_carried : (shift depth : ℕ) (own names : List Name) (held taken : Taken) → AllCarried shift depth (own ++ names) held taken → AllCarried shift depth names (without own held) (without own taken)
 without_carried shift depth own names held taken all t h =
     let one = in_filter (λ u. not (is_among u.0 own)) t held h in
-    renamed shift depth (own ++ names) names (without own taken) t (drop_own t.0 own names (not_true (is_among t.0 own) one.1))
+    renamed shift depth (own ++ names) names (without own taken) t (among_split t.0 own names (not_true (is_among t.0 own) one.1))
     (carried_in shift depth (own ++ names) taken (without own taken) t (all t one.0) (λ i. in_kept (λ u. not (is_among u.0 own)) (t.0, deeper shift t.1) taken i one.1))
 
 -- out of an inner sync block on both sides

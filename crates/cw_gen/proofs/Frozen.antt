@@ -5,7 +5,7 @@ use Rattle.std.proofs.lemmas.Slice.Eq.{bytes_eq-Decides}
 use Rattle.cw_facts.specs.Tests.{first_true, second_true}
 use Rattle.cw_model.specs.Syntax.{Name}
 use Rattle.cw_model.specs.Names.{same_name, is_among}
-use Rattle.cw_model.specs.Ownership.{Holder, SpawnIn, ReaderIn, CutOf, Taken, is_taken, is_held, freed, without, cut_ended, taken_by, frozen_by, where_it_goes_on, IsLeastClosed}
+use Rattle.cw_model.specs.Ownership.{Holder, SpawnIn, ReaderIn, CutOf, Taken, is_taken, is_held, freed, without, cut_ended, taken_by, frozen_by, IsLeastClosed}
 use Rattle.cw_gen.proofs.Takens.{holds}
 use Rattle.cw_gen.proofs.FreeMembers.{In, in_contains, contains_in}
 
@@ -74,10 +74,6 @@ frozen_taken depth (x ∷ xs) taken = frozen_taken depth xs taken
 pub frozen_read : (depth : ℕ) (xs : List Name) (taken : Taken) → frozen_of (frozen_by depth xs taken) ≡ taken_by depth xs (frozen_of taken)
 frozen_read depth [] taken = refl
 frozen_read depth (x ∷ xs) taken = ap (λ l. (x, SpawnIn depth) ∷ l) (frozen_read depth xs taken)
-
-pub frozen_goes : (returns : Bool) (taken : Taken) → frozen_of (where_it_goes_on returns taken) ≡ where_it_goes_on returns (frozen_of taken)
-frozen_goes true taken = refl
-frozen_goes false taken = refl
 
 -- what nothing holds is not frozen
 pub loose_thawed : (x : Name) (taken : Taken) → is_held taken x ≡ false → is_taken (frozen_of taken) x ≡ false

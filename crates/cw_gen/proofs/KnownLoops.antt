@@ -15,12 +15,13 @@ use Rattle.cw_model.specs.lemmas.Kept.{kept, left_none, right_none}
 use Rattle.cw_tree.specs.Resolved.{Locals, with_int, with_array, locals_after, locals_of}
 use Rattle.cw_tree.specs.lemmas.Names.{same_are, front_among, later_among}
 use Rattle.cw_loops.specs.Lowered.{is_plain, low, high, middle, left_part, right_part, loop_name, int_params, array_params, variables, leaf_block, left_arguments, right_arguments, both_halves, in_cuts, node_block, loop_function, loop_count, loop_count_in, lower_block, made_by, made_in}
-use Rattle.cw_loops.specs.Lowerable.{Surroundings, can_read, is_local, can_evaluate, new_integers, new_arrays, can_capture, can_slice, inside, can_lower, can_lower_all}
+use Rattle.cw_loops.specs.Lowerable.{Surroundings, is_local, can_evaluate, new_integers, new_arrays, inside, can_lower, can_lower_all}
 use Rattle.cw_loops.specs.lemmas.Tests.{never, refuted}
 use Rattle.cw_loops.specs.lemmas.Apart.{plain_apart}
 use Rattle.cw_loops.specs.lemmas.Naming.{among_left, among_right, Placed, at_front, after_it, placed, none_among}
 use Rattle.cw_loops.specs.lemmas.Knowing.{not_both}
 use Rattle.cw_loops.specs.lemmas.Heads.{names_of}
+use Rattle.cw_loops.specs.lemmas.Capturing.{each_captured, each_sliced}
 use Rattle.cw_gen.proofs.Held.{has_no_half_in}
 use Rattle.cw_gen.proofs.Fine.{Begins, marks_for}
 use Rattle.cw_gen.proofs.Kept.{ArgsKnown, StmtKnown, BlockKnown, FunctionKnown, AllFunctionsKnown}
@@ -227,35 +228,6 @@ module _ (all : List Function) (name : Name) (line : ℕ) (x : Name) (grain : �
     returns = λ e. absurd cc;
   }
 
--- what is tested of each name that a loop takes along, and of each of its arrays
-capture_each : (c : Surroundings) (ints xs : List Name) → can_capture c ints xs ≡ true → (v : Name) → is_among v xs ≡ true → (is_plain v ≡ true) × (is_among v (c.outer ++ ints) ≡ true)
-capture_each c ints [] can v o = absurd cc
-capture_each c ints (x ∷ xs) can v o = go (placed v x xs o) (capture_each c ints xs three.1 v)
-  where
-    one : (is_plain x ≡ true) × ((can_read c x && (is_among x (c.outer ++ ints) && can_capture c ints xs)) ≡ true)
-    one = and_parts (is_plain x) (can_read c x && (is_among x (c.outer ++ ints) && can_capture c ints xs)) can
-
-    three : (is_among x (c.outer ++ ints) ≡ true) × (can_capture c ints xs ≡ true)
-    three = and_parts (is_among x (c.outer ++ ints)) (can_capture c ints xs) (and_parts (can_read c x) (is_among x (c.outer ++ ints) && can_capture c ints xs) one.1).1
-
-    go : Placed v x xs → (is_among v xs ≡ true → (is_plain v ≡ true) × (is_among v (c.outer ++ ints) ≡ true)) → (is_plain v ≡ true) × (is_among v (c.outer ++ ints) ≡ true)
-    go (at_front same) more = (ap is_plain same ∙ one.0, ap (λ z. is_among z (c.outer ++ ints)) same ∙ three.0)
-    go (after_it other p) more = more p
-
-slice_each : (c : Surroundings) (arrays xs : List Name) → can_slice c arrays xs ≡ true → (a : Name) → is_among a xs ≡ true → (is_plain a ≡ true) × (is_among a arrays ≡ true)
-slice_each c arrays [] can a o = absurd cc
-slice_each c arrays (x ∷ xs) can a o = go (placed a x xs o) (slice_each c arrays xs three.1 a)
-  where
-    one : (is_plain x ≡ true) × ((is_local c x && (is_among x arrays && can_slice c arrays xs)) ≡ true)
-    one = and_parts (is_plain x) (is_local c x && (is_among x arrays && can_slice c arrays xs)) can
-
-    three : (is_among x arrays ≡ true) × (can_slice c arrays xs ≡ true)
-    three = and_parts (is_among x arrays) (can_slice c arrays xs) (and_parts (is_local c x) (is_among x arrays && can_slice c arrays xs) one.1).1
-
-    go : Placed a x xs → (is_among a xs ≡ true → (is_plain a ≡ true) × (is_among a arrays ≡ true)) → (is_plain a ≡ true) × (is_among a arrays ≡ true)
-    go (at_front same) more = (ap is_plain same ∙ one.0, ap (λ z. is_among z arrays) same ∙ three.0)
-    go (after_it other p) more = more p
-
 -- functions of two lists
 pub both_known : (all xs ys : List Function) → AllFunctionsKnown all xs → AllFunctionsKnown all ys → AllFunctionsKnown all (xs ++ ys)
 both_known all [] ys h g = g
@@ -297,8 +269,8 @@ module _ (program : Program) (all : List Function) (calls : (f : Name) (g : Func
         let agree' = agree_inside agree x taken over head.no_array in
         let body_known = block_known program all calls over Nowhere inner [] [] known' locals' agree' (record { more = []; is = sym (append-nil over) }) k b typed_body keeps.body found_body in
         both_known all made (g ∷ []) (made_in_known Nowhere inner [] [] known' locals' agree' k b typed_body keeps.body found_body) (
-          loop_known all name line x grain taken over body here (λ v o. (capture_each c ints taken keeps.captures v o).0) (λ a o. (slice_each c arrays over keeps.slices a o).0)
-              (λ v o. both_kinds v (capture_each c ints taken keeps.captures v o).1 (λ p. (slice_each c arrays over keeps.slices v p).1)) keeps.taken_differ keeps.over_differ body_known (no_half_in inner [] [] over k b keeps.body),
+          loop_known all name line x grain taken over body here (λ v o. (each_captured c ints taken keeps.captures v o).0) (λ a o. (each_sliced c arrays over keeps.slices a o).0)
+              (λ v o. both_kinds v (each_captured c ints taken keeps.captures v o).2 (λ p. (each_sliced c arrays over keeps.slices v p).2)) keeps.taken_differ keeps.over_differ body_known (no_half_in inner [] [] over k b keeps.body),
           tt,
         )
       where

@@ -19,6 +19,7 @@ use Rattle.cw_tree.specs.Resolved.{Locals, with_array, locals_after}
 use Rattle.cw_loops.specs.Lowered.{is_plain, loop_name, loop_function, loop_count, loop_count_in, lower_exprs, lower_stmt, lower_block, made_by, made_in}
 use Rattle.cw_loops.specs.Lowerable.{Surroundings, can_write, is_local, can_evaluate, can_pass_all, can_target, new_integers, new_arrays, can_capture, can_slice, can_loop, inside, can_lower, can_lower_all}
 use Rattle.cw_loops.specs.lemmas.Naming.{none_among}
+use Rattle.cw_loops.specs.lemmas.Declaring.{same_after}
 use Rattle.cw_gen.proofs.Ordered.{range_order}
 use Rattle.cw_gen.proofs.Held.{has_no_half, has_no_half_in}
 use Rattle.cw_gen.proofs.Fine.{Begins, TakesRange, is_function}
@@ -93,27 +94,6 @@ mutual
   returns_same over k End = refl
   returns_same over k (Then line s End) = surely_same over k s
   returns_same over k (Then line s (Then m t b)) = returns_same over (k + loop_count s) (Then m t b)
-
--- a lowered statement declares what its source does
-same_after : (over : List Name) (k : ℕ) (locals : Locals) (s : Stmt) → locals_after locals (lower_stmt over k s) ≡ locals_after locals s
-same_after over k locals (Declare x e) = refl
-same_after over k locals (DeclareArray a e) = refl
-same_after over k locals (Assign x e) = refl
-same_after over k locals (AssignElement a i e) = refl
-same_after over k locals (Reduce how s e) = refl
-same_after over k locals (Call kind site target f es) = refl
-same_after over k locals (Start kind f es) = refl
-same_after over k locals (Begin f from to captured' over') = refl
-same_after over k locals Sync = refl
-same_after over k locals (If e b) = refl
-same_after over k locals (IfElse e b c) = refl
-same_after over k locals (While e b) = refl
-same_after over k locals (For x y z from to grain over' b) = refl
-same_after over k locals (Scope b) = refl
-same_after over k locals (Cut a e l r b) = refl
-same_after over k locals (Region tag b) = refl
-same_after over k locals (Print e) = refl
-same_after over k locals (Return e) = refl
 
 -- the arrays of the parameters stay the first
 pub begins_next : (given : List Name) (locals : Locals) (s : Stmt) → Begins given locals.arrays → Begins given (locals_after locals s).arrays

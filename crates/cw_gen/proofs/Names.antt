@@ -108,14 +108,14 @@ slots_apart x y (z ∷ names) hx hy other = test (slots_apart x y names) (same_n
     test more false true ex ey hx hy = λ e. omega (arith, e)
     test more false false ex ey hx hy = λ e. more hx hy other (omega (arith, e))
 
--- a name that was not there has a slot behind those that were
-pub slot_new : (x : Name) (names more : List Name) → is_among x names ≡ false → length names ≤ slot_of x (names ++ more)
-slot_new x [] more h = omega arith
-slot_new x (y ∷ names) more h = test (slot_new x names more) (same_name x y) h
+-- a name that was not there has the slot behind those that were
+pub slot_new : (x : Name) (names : List Name) → is_among x names ≡ false → slot_of x (names ++ x ∷ []) ≡ length names
+slot_new x [] h = ap (λ b. if b then 0 else 1) ((bytes_eq-Decides x x).1 refl)
+slot_new x (y ∷ names) h = test (slot_new x names) (same_name x y) h
   where
-    test : (is_among x names ≡ false → length names ≤ slot_of x (names ++ more)) → (b : Bool) → (if b then true else is_among x names) ≡ false → length (y ∷ names) ≤ (if b then 0 else suc (slot_of x (names ++ more)))
-    test step true h' = cc
-    test step false h' = omega (arith, step h')
+    test : (is_among x names ≡ false → slot_of x (names ++ x ∷ []) ≡ length names) → (b : Bool) → (if b then true else is_among x names) ≡ false → (if b then 0 else suc (slot_of x (names ++ x ∷ []))) ≡ suc (length names)
+    test more true h' = cc
+    test more false h' = ap suc (more h')
 
 both_apart : {A : Type 0} (a : ℕ) (r s : Results A) → NotAwaited a r → NotAwaited a s → NotAwaited a (r ++ s)
 both_apart a [] s h k = k

@@ -24,6 +24,8 @@ use Rattle.cw_gen.proofs.Texts.{taken_params}
 use Rattle.cw_gen.proofs.Fine.{marks_for}
 use Rattle.cw_gen.proofs.KnownFunctions.{CallFound}
 use Rattle.cw_model.specs.Answers.{main_name}
+use Rattle.cw_loops.specs.lemmas.Declaring.{same_after}
+use Rattle.cw_gen.proofs.Names.{slot_new}
 
 -- the slot of a name is not only read
 abbrev pub OwnName : Marks → Locals → Name → Type 0
@@ -124,15 +126,6 @@ pub record Written (marks : Marks) (known : Known) (locals : Locals) : Type 0 wh
   pub same : (x : Name) → is_array known x ≡ is_among x locals.arrays
   pub short : length marks ≤ length locals.arrays
   pub own : (x : Name) → is_writable known x ≡ true → OwnName marks locals x
-
--- a slot at the end
-slot_new : (x : Name) (names : List Name) → is_among x names ≡ false → slot_of x (names ++ x ∷ []) ≡ length names
-slot_new x [] h = ap (λ b. if b then 0 else 1) ((bytes_eq-Decides x x).1 refl)
-slot_new x (y ∷ names) h = test (slot_new x names) (same_name x y) h
-  where
-    test : (is_among x names ≡ false → slot_of x (names ++ x ∷ []) ≡ length names) → (b : Bool) → (if b then true else is_among x names) ≡ false → (if b then 0 else suc (slot_of x (names ++ x ∷ []))) ≡ suc (length names)
-    test more true h' = cc
-    test more false h' = ap suc (more h')
 
 among_last : (x y : Name) (names : List Name) → is_among x (names ++ y ∷ []) ≡ (if same_name x y then true else is_among x names)
 among_last x y [] = refl
@@ -269,27 +262,6 @@ after_written program returns marks known locals line (Declare x e) typed w =
 after_written program returns marks known locals line (DeclareArray x e) typed w =
     array_written marks known locals x (new_array program known x (and_parts (is_fine known e) (is_new program known x) (kept (is_fine known e && is_new program known x) line typed)).1) w
 after_written program returns marks known locals line _ typed w = w
-
--- a lowered statement declares what its source does
-same_after : (over : List Name) (k : ℕ) (locals : Locals) (s : Stmt) → locals_after locals (lower_stmt over k s) ≡ locals_after locals s
-same_after over k locals (Declare x e) = refl
-same_after over k locals (DeclareArray a e) = refl
-same_after over k locals (Assign x e) = refl
-same_after over k locals (AssignElement a i e) = refl
-same_after over k locals (Reduce how s e) = refl
-same_after over k locals (Call kind site target f es) = refl
-same_after over k locals (Start kind f es) = refl
-same_after over k locals (Begin f from to captured over') = refl
-same_after over k locals Sync = refl
-same_after over k locals (If e b) = refl
-same_after over k locals (IfElse e b c) = refl
-same_after over k locals (While e b) = refl
-same_after over k locals (For x y z from to grain over' b) = refl
-same_after over k locals (Scope b) = refl
-same_after over k locals (Cut a e l r b) = refl
-same_after over k locals (Region tag b) = refl
-same_after over k locals (Print e) = refl
-same_after over k locals (Return e) = refl
 
 -- what types keep at a cut
 record CutTyped (program : Program) (known : Known) (a l r : Name) : Type 0 where

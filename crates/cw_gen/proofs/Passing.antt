@@ -1,11 +1,10 @@
 -- Arrays as arguments: what a call takes, and what it gives back.
-use Rattle.std.proofs.Common.{◌≡◌, ℕ, suc, List, [], ◌∷◌, ◌++◌, length, Bool, true, false, not, ◌&&◌, if◌then◌else◌, cond, filter, Option, Some, None, refl, sym, ap, ◌∙◌, arith, append_assoc, ℤ, true≢false}
+use Rattle.std.proofs.Common.{◌≡◌, ℕ, suc, List, [], ◌∷◌, ◌++◌, length, Bool, true, false, not, ◌&&◌, if◌then◌else◌, cond, filter, Option, Some, None, refl, sym, ap, ◌∙◌, arith, append_assoc, ℤ}
 use Rattle.std.specs.Prelude.{slice_get, slice_set, map}
 use Rattle.std.proofs.lemmas.List.{length-set, set-set, set_comm}
 use Rattle.std.proofs.lemmas.Slice.Eq.{bytes_eq-Decides}
 use Rattle.std.specs.List.{list_any}
-use Rattle.std.specs.Prelude.{◌||◌}
-use Rattle.cw_facts.specs.Tests.{first_true, second_true, not_true}
+use Rattle.cw_facts.specs.Tests.{first_true, second_true, not_true, neither_first, neither_second}
 use Rattle.cw_model.specs.declared.syntax.NameKind.{NameKind}
 use Rattle.cw_model.specs.declared.syntax.NameKind.TheVariants.{Integer, Array, Const}
 use Rattle.cw_model.specs.Syntax.{Name, Expr, Number, Variable, Element, Length, Negative, Not, Binary, Param, takes_array, is_written_kind, is_const_kind}
@@ -19,8 +18,10 @@ use Rattle.cw_code.specs.Run as run
 use Rattle.cw_code.specs.Run.{Slots, Results, Whole, moved_out, and_array, arrays_in, and_result, settled, full, given_back}
 use Rattle.cw_code.specs.lemmas.Slots.{settled_count, settled_append}
 use Rattle.cw_tree.specs.Resolved.{Locals, slot_of}
+use Rattle.cw_tree.specs.lemmas.Names.{front_among, later_among}
 use Rattle.cw_loops.specs.Slotted.{slotted_expr, slotted_argument, slotted_arguments}
 use Rattle.cw_loops.specs.Slotted as slotted
+use Rattle.cw_loops.specs.lemmas.Naming.{other_than}
 use Rattle.cw_gen.specs.Emit.{passed_in, lent_in}
 use Rattle.cw_gen.specs.Marks.{Marks, place_of, array_at}
 use Rattle.cw_gen.proofs.Marked.{owned, read_in, OwnSlots, numbers_at, AllOwn, loan_found}
@@ -198,17 +199,9 @@ pub loans_found : (marks : Marks) (names : List Name) (taken : Taken) (entries :
 loans_found marks names taken entries slots waits given [] agrees ws us apart = refl
 loans_found marks names taken entries slots waits given (a ∷ read) agrees ws us apart =
     let us' = all_usable marks names taken given ws in
-    let here = get-moved names taken a given slots us.0 us' (first_no (is_among a given) (list_any (λ b. is_among b given) read) apart) ∙ holding.loads true [] names taken a entries slots waits us.0 agrees in
+    let here = get-moved names taken a given slots us.0 us' (neither_first (is_among a given) (list_any (λ b. is_among b given) read) apart) ∙ holding.loads true [] names taken a entries slots waits us.0 agrees in
     ap (λ o. and_array o (run.lent_in (map (place_of marks) (slots_for names read)) (moved_out (numbers_at marks (slots_for names given)) (owned marks slots)) (read_in marks slots))) (loan_found marks (slots_for names given) (slot_of a names) slots (find [] a entries) (own_slots marks names taken given ws) here)
-    ∙ ap (and_array (Some (Some (find [] a entries)))) (loans_found marks names taken entries slots waits given read agrees ws us.1 (second_no (is_among a given) (list_any (λ b. is_among b given) read) apart))
-  where
-    first_no : (b c : Bool) → (b || c) ≡ false → b ≡ false
-    first_no true c h = cc
-    first_no false c h = refl
-
-    second_no : (b c : Bool) → (b || c) ≡ false → c ≡ false
-    second_no true c h = cc
-    second_no false c h = h
+    ∙ ap (and_array (Some (Some (find [] a entries)))) (loans_found marks names taken entries slots waits given read agrees ws us.1 (neither_second (is_among a given) (list_any (λ b. is_among b given) read) apart))
 
 -- these values go back into the slots of these names
 abbrev pub backs : (names given : List Name) → List (List ℤ) → Results (List ℤ)
@@ -274,22 +267,8 @@ firsts names (a ∷ given) (q ∷ qs) more g (e ∷ entries) rest n named apart 
     let here : array_of g q ≡ e.1 = same q (ap (λ b. if b then true else is_among q qs) ((bytes_eq-Decides q q).1 refl)) ∙ ap (λ b. if b then e.1 else find [] q entries) ((bytes_eq-Decides q e.0).1 (sym head)) in
     ap (λ o. and_result (Whole (slot_of a names)) (Some e.1) o)
     (firsts names given qs more g entries rest (omega (arith, n)) tail (second_true (not (is_among q qs)) (differ qs) apart)
-    (λ z h. same z (further z q qs h) ∙ ap (λ b. if b then e.1 else find [] z entries) (ap (same_name z) head ∙ apart_from z q qs other h)))
+    (λ z h. same z (later_among z q qs h) ∙ ap (λ b. if b then e.1 else find [] z entries) (ap (same_name z) head ∙ other_than z q qs other h)))
     ∙ ap (λ v. Some ((slot_of a names, v) ∷ backs names given (left_in g qs))) (sym here)
-  where
-    further : (x y : Name) (ns : List Name) → is_among x ns ≡ true → is_among x (y ∷ ns) ≡ true
-    further x y ns h = test (same_name x y)
-      where
-        test : (b : Bool) → (if b then true else is_among x ns) ≡ true
-        test true = refl
-        test false = h
-
-    apart_from : (z q : Name) (qs : List Name) → is_among q qs ≡ false → is_among z qs ≡ true → same_name z q ≡ false
-    apart_from z q qs none h = cases (same_name z q) refl
-      where
-        cases : (b : Bool) → same_name z q ≡ b → b ≡ false
-        cases true e = absurd (true≢false (sym h ∙ ap (λ y. is_among y qs) ((bytes_eq-Decides z q).0 e) ∙ none))
-        cases false e = refl
 
 -- what goes back fills the slots that were moved out
 pub settled_moved : (names : List Name) (taken : Taken) (given : List Name) (vs : List (List ℤ)) (slots : Slots (List ℤ)) → AllUsable names taken given → differ given ≡ true → length given ≡ length vs → settled (backs names given vs) (moved_out (slots_for names given) slots) ≡ settled (backs names given vs) slots
@@ -326,20 +305,10 @@ agree_await names taken taken' given vs entries slots arrived outer us apart n m
       levels = (each given vs us is kept.0, kept.1);
     }
   where
-    among_here : (y : Name) (ns : List Name) → is_among y (y ∷ ns) ≡ true
-    among_here y ns = ap (λ b. if b then true else is_among y ns) ((bytes_eq-Decides y y).1 refl)
-
-    further : (x y : Name) (ns : List Name) → is_among x ns ≡ true → is_among x (y ∷ ns) ≡ true
-    further x y ns h = test (same_name x y)
-      where
-        test : (b : Bool) → (if b then true else is_among x ns) ≡ true
-        test true = refl
-        test false = h
-
     each : (given : List Name) (vs : List (List ℤ)) → AllUsable names taken given → ((y : Name) → is_among y given ≡ true → holds true (suc (length outer)) y taken' ≡ true) → AllHeld true names taken' (suc (length outer)) arrived → AllHeld true names taken' (suc (length outer)) (backs names given vs ++ arrived)
     each [] vs us is h = h
     each (x ∷ given) [] us is h = h
-    each (x ∷ given) (v ∷ vs) us is h = (record { name = x; declared = us.0.declared; slot = refl; held = is x (among_here x given) }, each given vs us.1 (λ y k. is y (further y x given k)) h)
+    each (x ∷ given) (v ∷ vs) us is h = (record { name = x; declared = us.0.declared; slot = refl; held = is x (front_among x given) }, each given vs us.1 (λ y k. is y (later_among y x given k)) h)
 
 pub none_of_some : (p : Param → Bool) (x : Name) (ps : List Param) → is_among x (map (λ (z : Param). z.name) ps) ≡ false → is_among x (map (λ (z : Param). z.name) (filter p ps)) ≡ false
 none_of_some p x [] h = refl

@@ -56,12 +56,6 @@ place_beyond (m ∷ marks) zero h = absurd (omega (arith, h))
 place_beyond (true ∷ marks) (suc s) h = ap (behind_place true) (place_beyond marks s (omega (arith, h))) ∙ array_eq (omega arith)
 place_beyond (false ∷ marks) (suc s) h = ap (behind_place false) (place_beyond marks s (omega (arith, h))) ∙ array_eq (omega (arith, h, few_readers marks))
 
--- as many places as marks
-pub as_many_places : (a r : ℕ) (marks : Marks) → length (places_from a r marks) ≡ length marks
-as_many_places a r [] = refl
-as_many_places a r (true ∷ marks) = ap suc (as_many_places a (suc r) marks)
-as_many_places a r (false ∷ marks) = ap suc (as_many_places (suc a) r marks)
-
 -- and they tell the marks
 pub told_from : (a r : ℕ) (marks : Marks) → marks_told (places_from a r marks) ≡ marks
 told_from a r [] = refl
@@ -74,10 +68,6 @@ told_table items marks h = ap marks_told h ∙ told_from 0 0 marks
 
 pub table_counted : (items : List Loan) (marks : Marks) → items ≡ places_from 0 0 marks → items ≡ places_from 0 0 (marks_told items)
 table_counted items marks h = h ∙ ap (places_from 0 0) (sym (told_table items marks h))
-
--- no mark where none is read, all of them where one is
-pub none_kept : (marks : Marks) → readers_in marks ≡ 0 → unless_none marks ≡ []
-none_kept marks h = ap (λ n. if n == 0 then [] else marks) h
 
 pub some_kept : (marks : Marks) → 0 < readers_in marks → unless_none marks ≡ marks
 some_kept marks h = test (readers_in marks == 0) refl

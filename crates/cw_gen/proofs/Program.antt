@@ -1,7 +1,7 @@
 -- The code of a program does what its lowered program does.
 use Rattle.std.proofs.Common.{◌≡◌, ℕ, suc, ◌+◌, ◌-◌, ◌≤◌, List, [], ◌∷◌, ◌++◌, length, Bool, true, false, ◌&&◌, if◌then◌else◌, Some, refl, sym, ap, ◌∙◌, subst, arith, append_assoc, length-append, true≢false, ℤ}
 use Rattle.std.specs.Prelude.{slice_get, nat_eq, nat_le, option_map, map}
-use Rattle.std.proofs.lemmas.List.{map-append, nil_from_length}
+use Rattle.std.proofs.lemmas.List.{nil_from_length}
 use Rattle.cw_facts.specs.Tests.{taken, both_true, at_most, equal}
 use Rattle.cw_model.specs.Syntax.{Name, Stmt, If, IfElse, While, For, Scope, Cut, Region, Block, End, Then, Function, Program}
 use Rattle.cw_model.specs.Names.{same_name, is_among}
@@ -12,9 +12,8 @@ use Rattle.cw_model.specs.Answers.{Ended, int_given, answer_of, main_frame, main
 use Rattle.cw_model.specs.Trees.{Marked, Invocation, tree_of, normal}
 use Rattle.cw_tree.specs.Resolved.{Lists, slot_of, locals_of, function_names}
 use Rattle.cw_tree.specs.lemmas.NamedSlots.{slot_stays}
-use Rattle.cw_loops.specs.Lowered.{lower_functions, made_by, made_in, made_of, loop_count, loop_count_in, lowered}
+use Rattle.cw_loops.specs.Lowered.{made_by, made_in, made_of, loop_count, loop_count_in, lowered}
 use Rattle.cw_loops.specs.Slotted.{slotted_block, slotted_function, lowered_lists}
-use Rattle.cw_loops.specs.lemmas.Numbering.{names_stay}
 use Rattle.cw_code.specs.declared.code.Func.{Func}
 use Rattle.cw_code.specs.declared.code.Instr.{Instr}
 use Rattle.cw_code.specs.Code.{Code}
@@ -33,6 +32,8 @@ use Rattle.cw_gen.proofs.Codes.{bound_main, main_locals}
 use Rattle.cw_gen.proofs.Texts.{returns_of, room_of_func, function_code, tables_in, Compiled, Table, code_of, TurnsClose}
 use Rattle.cw_gen.proofs.Laws.{calls_run}
 use Rattle.cw_gen.proofs.CodedReducers.{names_kept, same_totals}
+use Rattle.cw_gen.proofs.NamedLowered.{first_names}
+use Rattle.cw_gen.proofs.Entries.{named}
 
 module _ (code : Code) (all : List Function) (lists : Lists) where
   abbrev first : ℕ
@@ -121,15 +122,6 @@ module _ (code : Code) (all : List Function) (lists : Lists) where
 pub table_of : (program : Program) → ProgramFine (lowered program) (lowered_lists program) (tables_in (code_of program)) → Table (code_of program) (lowered program).functions (lowered_lists program)
 table_of program fine = record { entry = entries (code_of program) (lowered program).functions (lowered_lists program) [] (lowered program).functions refl fine.functions }
 
--- a function is there where its name is
-by_its_name : (name : Name) (fs : List Function) → is_function name fs ≡ true → is_among name (function_names fs) ≡ true
-by_its_name name [] h = cc
-by_its_name name (f ∷ fs) h = test (by_its_name name fs) (same_name name f.name) h
-  where
-    test : (is_function name fs ≡ true → is_among name (function_names fs) ≡ true) → (b : Bool) → (if b then true else is_function name fs) ≡ true → (if b then true else is_among name (function_names fs)) ≡ true
-    test more true h' = refl
-    test more false h' = more h'
-
 -- a name that is not among either is not among both
 neither : (name : Name) (fs gs : List Function) → is_among name (function_names fs) ≡ false → is_among name (function_names gs) ≡ false → is_among name (function_names (fs ++ gs)) ≡ false
 neither name [] gs h k = k
@@ -160,12 +152,6 @@ not_made_of : (k : ℕ) (fs : List Function) → is_among main_name (function_na
 not_made_of k [] = refl
 not_made_of k (f ∷ fs) = neither main_name (made_in k f.body) (made_of (k + loop_count_in f.body) fs) (not_made_in k f.body) (not_made_of (k + loop_count_in f.body) fs)
 
--- the names of a lowered program: those of the source, and then those of its loops
-names_are : (program : Program) → (lowered_lists program).functions ≡ function_names program.functions ++ function_names (made_of 0 program.functions)
-names_are program =
-    map-append (λ (f : Function). f.name) (lower_functions 0 program.functions) (made_of 0 program.functions)
-    ∙ ap (λ l. l ++ function_names (made_of 0 program.functions)) (names_stay 0 program.functions)
-
 -- main is one of the source
 pub main_there : (program : Program) → is_function main_name (lowered program).functions ≡ true → is_among main_name (function_names program.functions) ≡ true
 main_there program h = cases (is_among main_name (function_names program.functions)) refl
@@ -173,13 +159,13 @@ main_there program h = cases (is_among main_name (function_names program.functio
     cases : (b : Bool) → is_among main_name (function_names program.functions) ≡ b → b ≡ true
     cases true e = refl
     cases false e =
-        let among = sym (ap (is_among main_name) (names_are program)) ∙ by_its_name main_name (lowered program).functions h in
+        let among = sym (ap (is_among main_name) (first_names program)) ∙ named main_name (lowered program).functions h in
         absurd (true≢false (sym (in_second main_name (function_names program.functions) (function_names (made_of 0 program.functions)) among e) ∙ not_made_of 0 program.functions))
 
 -- main has the same place among the functions of the source
 pub main_place : (program : Program) → is_function main_name (lowered program).functions ≡ true → slot_of main_name (function_names program.functions) ≡ slot_of main_name (lowered_lists program).functions
 main_place program h =
-    sym (slot_stays main_name (function_names program.functions) (function_names (made_of 0 program.functions)) (main_there program h)) ∙ sym (ap (slot_of main_name) (names_are program))
+    sym (slot_stays main_name (function_names program.functions) (function_names (made_of 0 program.functions)) (main_there program h)) ∙ sym (ap (slot_of main_name) (first_names program))
 
 -- the answer of the code is that of the program
 same_answer : (program : Program) (o : Outcome Returned) → option_map (λ o'. answer_of (reducers_of (code_of program)) o') (resume quiet o (λ r l u. Some (Done (r.0, no_frame) l u))) ≡ Some (answer_of program.reducers o)

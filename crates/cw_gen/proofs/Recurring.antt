@@ -10,7 +10,7 @@ use Rattle.cw_model.specs.Syntax.{Name, Expr, Function, takes_array}
 use Rattle.cw_model.specs.Frames.{Frame, no_frame, array_of, set_result}
 use Rattle.cw_model.specs.Outcome.{Trapped, Trace, then_do, joined_up, pay}
 use Rattle.cw_model.specs.Meaning.{Completion, Calls, Deeper, going, SameDepth, call_event, start_event, function_named, returned_arrays}
-use Rattle.cw_model.specs.Ownership.{Holder, SpawnIn, CutOf, Taken, IsLeastClosed, arrays_given, target_names, cut_ended, is_taken, taken_by, freed, without, own_names, where_it_goes_on, Joins, Leaves}
+use Rattle.cw_model.specs.Ownership.{Taken}
 use Rattle.cw_model.specs.Ownership as ownership
 use Rattle.cw_tree.specs.Resolved.{Lists, Locals, slot_of, locals_of}
 use Rattle.cw_code.specs.declared.code.Func.{Func}

@@ -1,7 +1,7 @@
 -- Each function has a slot for each name that its text declares.
 use Rattle.std.proofs.Common.{ℕ, suc, ◌≤◌, List, [], ◌∷◌, length, arith, max}
 use Rattle.cw_model.specs.Syntax as model
-use Rattle.cw_model.specs.Syntax.{Declare, DeclareArray, Assign, AssignElement, Reduce, Call, Start, Begin, Sync, If, IfElse, While, For, Scope, Cut, Region, Print, Return, End, Then}
+use Rattle.cw_model.specs.Syntax.{Declare, DeclareArray, If, IfElse, While, Scope, Cut, Region, End, Then}
 use Rattle.cw_tree.specs.Resolved.{Lists, Locals, with_array, locals_after, locals_of}
 use Rattle.cw_loops.specs.Slotted as slotted
 use Rattle.cw_loops.specs.Slotted.{slotted_stmt, slotted_block}

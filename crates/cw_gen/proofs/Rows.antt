@@ -3,15 +3,17 @@ use Rattle.std.proofs.Common.{◌≡◌, ◌≢◌, ℕ, zero, suc, ◌+◌, ◌
 use Rattle.std.specs.Prelude.{slice_get, slice_set, nat_eq}
 use Rattle.std.proofs.lemmas.List.{append-nil}
 use Rattle.std.proofs.lemmas.Slice.Eq.{bytes_eq-Decides}
-use Rattle.cw_facts.specs.Tests.{both_true, eq_of}
+use Rattle.cw_facts.specs.Tests.{both_true, not_equal}
 use Rattle.cw_model.specs.Syntax.{Name}
 use Rattle.cw_model.specs.Names.{same_name, is_among}
 use Rattle.cw_model.specs.Ownership.{CutOf, Taken, is_taken, is_held}
 use Rattle.cw_tree.specs.Resolved.{Locals, slot_of, with_int, with_array}
 use Rattle.cw_tree.specs.lemmas.NamedSlots.{slot_stays, slot_in}
+use Rattle.cw_tree.specs.lemmas.Names.{later_among}
 use Rattle.cw_code.specs.declared.code.Halves.{Halves}
 use Rattle.cw_code.specs.Fits.{Row, Outer, Shape, empty_rows, gone_rows, is_full_in, full_in_all, has_slot, has_array, frozen_rows, is_no_part, none_empty, Covers, CoversEach}
 use Rattle.cw_loops.specs.lemmas.Naming.{among_left}
+use Rattle.cw_code.specs.lemmas.Slots.{covers_itself, covers_after, covers_set, each_covers_itself, each_covers_after}
 use Rattle.cw_gen.specs.Emit.{halves_of}
 use Rattle.cw_gen.proofs.Takens.{holds, not_held}
 use Rattle.cw_gen.proofs.Fine.{IsUsable, IsWritable, Room}
@@ -63,18 +65,6 @@ row_free size depth names taken x le u =
 pub row_behind : (size depth : ℕ) (names : List Name) (taken : Taken) (a : ℕ) → length names ≤ a → a < size → is_full_in (slice_get (row size depth names taken) a) ≡ true
 row_behind size depth names taken a le below = ap is_full_in (row_past size depth names taken a le below)
 
-pub covers_itself : (r : Row) → Covers r r
-covers_itself [] = tt
-covers_itself (b ∷ r) = (λ h. h, covers_itself r)
-
-pub covers_after : (r s t : Row) → Covers r s → Covers s t → Covers r t
-covers_after [] [] [] h k = tt
-covers_after [] [] (c ∷ t) h k = absurd k
-covers_after [] (b ∷ s) t h k = absurd h
-covers_after (a ∷ r) [] t h k = absurd h
-covers_after (a ∷ r) (b ∷ s) [] h k = absurd k
-covers_after (a ∷ r) (b ∷ s) (c ∷ t) h k = (λ e. k.0 (h.0 e), covers_after r s t h.1 k.1)
-
 -- any row covers one where nothing is empty
 pub covers_none : (r : Row) (n : ℕ) → length r ≡ n → Covers r (none_empty n)
 covers_none [] zero e = tt
@@ -87,23 +77,9 @@ pub covers_held : (n depth : ℕ) (names more : List Name) (taken taken' : Taken
     Covers (row n depth names taken') (row n depth (names ++ more) taken)
 covers_held zero depth names more taken taken' h k = tt
 covers_held (suc n) depth [] [] taken taken' h k = (λ e. refl, covers_held n depth [] [] taken taken' h k)
-covers_held (suc n) depth [] (y ∷ more) taken taken' h k = (λ e. k y (ap (λ b. if b then true else is_among y more) ((bytes_eq-Decides y y).1 refl)), covers_held n depth [] more taken taken' (λ x a. cc) (λ x a. k x (further x y more a)))
+covers_held (suc n) depth [] (y ∷ more) taken taken' h k = (λ e. k y (ap (λ b. if b then true else is_among y more) ((bytes_eq-Decides y y).1 refl)), covers_held n depth [] more taken taken' (λ x a. cc) (λ x a. k x (later_among x y more a)))
+covers_held (suc n) depth (y ∷ names) more taken taken' h k = (λ e. back (holds false depth y taken) refl e, covers_held n depth names more taken taken' (λ x a. h x (later_among x y names a)) k)
   where
-    further : (x y : Name) (names : List Name) → is_among x names ≡ true → is_among x (y ∷ names) ≡ true
-    further x y names h = test (same_name x y)
-      where
-        test : (b : Bool) → (if b then true else is_among x names) ≡ true
-        test true = refl
-        test false = h
-covers_held (suc n) depth (y ∷ names) more taken taken' h k = (λ e. back (holds false depth y taken) refl e, covers_held n depth names more taken taken' (λ x a. h x (further x y names a)) k)
-  where
-    further : (x y : Name) (names : List Name) → is_among x names ≡ true → is_among x (y ∷ names) ≡ true
-    further x y names h = test (same_name x y)
-      where
-        test : (b : Bool) → (if b then true else is_among x names) ≡ true
-        test true = refl
-        test false = h
-
     back : (b : Bool) → holds false depth y taken ≡ b → holds false depth y taken' ≡ false → b ≡ false
     back true e e' = absurd (true≢false (sym (h y (ap (λ c. if c then true else is_among y names) ((bytes_eq-Decides y y).1 refl)) e) ∙ e'))
     back false e e' = refl
@@ -139,15 +115,6 @@ row_of (suc n) depth (y ∷ names) taken x below h free = test (row_of n depth n
         is_full_in (slice_get (holds false depth y taken ∷ row n depth names taken) (if b then 0 else suc (slot_of x names))) ≡ true
     test more true e below' h' = ap (λ z. is_full_in (Some (holds false depth z taken))) (sym ((bytes_eq-Decides x y).0 e)) ∙ ap (λ b. is_full_in (Some b)) free
     test more false e below' h' = more (omega (arith, below')) h' free
-
--- a slot that is empty in both
-pub covers_set : (r s : Row) (i : ℕ) → Covers r s → Covers (slice_set r i true) (slice_set s i true)
-covers_set [] [] zero h = tt
-covers_set [] [] (suc i) h = tt
-covers_set [] (b ∷ s) i h = absurd h
-covers_set (a ∷ r) [] i h = absurd h
-covers_set (a ∷ r) (b ∷ s) zero h = (λ e. absurd (true≢false e), h.1)
-covers_set (a ∷ r) (b ∷ s) (suc i) h = (h.0, covers_set r s i h.1)
 
 -- a slot that is full in the second
 pub covers_lower : (r s : Row) (i : ℕ) → Covers r s → Covers r (slice_set s i false)
@@ -232,18 +199,6 @@ length_array_row size depth other names names' taken taken' =
 -- a shape that takes another one
 abbrev pub Over : Shape → Shape → Type 0
 Over many few = Covers many.empty few.empty × Covers many.gone few.gone × Covers many.frozen few.frozen × CoversEach many.outer few.outer
-
-pub each_covers_itself : (os : List Outer) → CoversEach os os
-each_covers_itself [] = tt
-each_covers_itself (o ∷ os) = (covers_itself o.empty, covers_itself o.gone, covers_itself o.frozen, refl, each_covers_itself os)
-
-pub each_covers_after : (rs ss ts : List Outer) → CoversEach rs ss → CoversEach ss ts → CoversEach rs ts
-each_covers_after [] [] [] h k = tt
-each_covers_after [] [] (t ∷ ts) h k = absurd k
-each_covers_after [] (s ∷ ss) ts h k = absurd h
-each_covers_after (r ∷ rs) [] ts h k = absurd h
-each_covers_after (r ∷ rs) (s ∷ ss) [] h k = absurd k
-each_covers_after (r ∷ rs) (s ∷ ss) (t ∷ ts) h k = (covers_after r.empty s.empty t.empty h.0 k.0, covers_after r.gone s.gone t.gone h.1 k.1, covers_after r.frozen s.frozen t.frozen h.2 k.2, h.3 ∙ k.3, each_covers_after rs ss ts h.4 k.4)
 
 pub over_itself : (s : Shape) → Over s s
 over_itself s = (covers_itself s.empty, covers_itself s.gone, covers_itself s.frozen, each_covers_itself s.outer)
@@ -500,10 +455,3 @@ no_part size (Some c ∷ opened) locals now taken taken' i le own h =
     (both_true (not (nat_eq n l)) (not (nat_eq n r)) (ap not (not_equal n l (at_apart size.marks i c.left own (own_behind size.marks c.left h.0.left_behind) (λ e. omega (arith, le, e, h.0.left)))))
     (ap not (not_equal n r (at_apart size.marks i c.right own (own_behind size.marks c.right h.0.right_behind) (λ e. omega (arith, le, e, h.0.right))))))
     (no_part size opened locals now taken taken' i le own h.1)
-  where
-    not_equal : (a b : ℕ) → a ≢ b → nat_eq a b ≡ false
-    not_equal a b h' = cases (nat_eq a b) refl
-      where
-        cases : (c : Bool) → nat_eq a b ≡ c → c ≡ false
-        cases true e = absurd (h' (eq_of a b e))
-        cases false e = refl

@@ -15,6 +15,8 @@ use Rattle.cw_model.specs.Ownership.{Taken}
 use Rattle.cw_code.specs.declared.code.Func.{Func}
 use Rattle.cw_code.specs.Run.{and_result, full, Part, parts_of, slot_taken, given_back}
 use Rattle.cw_tree.specs.Resolved.{Lists, Locals, slot_of, locals_of}
+use Rattle.cw_tree.specs.lemmas.Names.{later_among}
+use Rattle.cw_loops.specs.lemmas.Naming.{other_than}
 use Rattle.cw_code.specs.Code.{Code}
 use Rattle.cw_gen.specs.Marks.{Marks}
 use Rattle.cw_gen.proofs.Marked.{owned}
@@ -98,22 +100,8 @@ slices_found names (q ∷ qs) more from frame g (e ∷ entries) rest named apart
     let here : array_of g q ≡ e.1 = same q (ap (λ b. if b then true else is_among q qs) ((bytes_eq-Decides q q).1 refl)) ∙ ap (λ b. if b then e.1 else find [] q entries) ((bytes_eq-Decides q e.0).1 (sym head)) in
     ap (λ o. and_result (Part (slot_of q names) from whole) (Some e.1) o)
     (slices_found names qs more from frame g entries rest tail (second_true (not (is_among q qs)) (differ qs) apart)
-    (λ z h. same z (further z q qs h) ∙ ap (λ b. if b then e.1 else find [] z entries) (ap (same_name z) head ∙ apart_from z q qs other h)))
+    (λ z h. same z (later_among z q qs h) ∙ ap (λ b. if b then e.1 else find [] z entries) (ap (same_name z) head ∙ other_than z q qs other h)))
     ∙ ap (λ v. Some ((slot_of q names, with_slice whole from v) ∷ backs names qs (sliced_back frame from g qs))) (sym here)
-  where
-    further : (x y : Name) (ns : List Name) → is_among x ns ≡ true → is_among x (y ∷ ns) ≡ true
-    further x y ns h = test (same_name x y)
-      where
-        test : (b : Bool) → (if b then true else is_among x ns) ≡ true
-        test true = refl
-        test false = h
-
-    apart_from : (z q : Name) (qs : List Name) → is_among q qs ≡ false → is_among z qs ≡ true → same_name z q ≡ false
-    apart_from z q qs none h = cases (same_name z q) refl
-      where
-        cases : (b : Bool) → same_name z q ≡ b → b ≡ false
-        cases true e = absurd (true≢false (sym h ∙ ap (λ y. is_among y qs) ((bytes_eq-Decides z q).0 e) ∙ none))
-        cases false e = refl
 
 -- what is put under another name leaves a name
 find_other : {A : Type 0} (none : A) (b a : Name) (v : A) (es : Entries A) → same_name a b ≡ false → find none b (put a v es) ≡ find none b es

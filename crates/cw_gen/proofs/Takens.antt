@@ -4,7 +4,7 @@ use Rattle.std.specs.Prelude.{map}
 use Rattle.std.proofs.lemmas.Bool.{eqb-true, eq-eqb}
 use Rattle.std.proofs.lemmas.List.Elements.{Contains-append_right, Contains-append_cases}
 use Rattle.std.proofs.lemmas.Slice.Eq.{bytes_eq-Decides}
-use Rattle.cw_facts.specs.Tests.{first_true, second_true}
+use Rattle.cw_facts.specs.Tests.{first_true, second_true, not_true}
 use Rattle.cw_model.specs.Syntax.{Name, Stmt, Declare, DeclareArray, Block, End, Then, Function}
 use Rattle.cw_model.specs.Names.{same_name, is_among}
 use Rattle.cw_model.specs.Lines.{unless}
@@ -16,20 +16,6 @@ abbrev pub held_in : Bool → ℕ → Holder → Bool
 held_in cuts depth (SpawnIn d) = d == depth
 held_in cuts depth (ReaderIn d) = false
 held_in cuts depth CutOf = cuts
-
--- what is taken of others is taken with one more
-taken_further : (x : Name) (t : Name × Holder) (taken : Taken) → is_taken taken x ≡ true → is_taken (t ∷ taken) x ≡ true
-taken_further x (y, SpawnIn d) taken h = test (same_name x y)
-  where
-    test : (b : Bool) → (if b then true else is_taken taken x) ≡ true
-    test true = refl
-    test false = h
-taken_further x (y, CutOf) taken h = test (same_name x y)
-  where
-    test : (b : Bool) → (if b then true else is_taken taken x) ≡ true
-    test true = refl
-    test false = h
-taken_further x (y, ReaderIn d) taken h = h
 
 -- what nothing holds is not taken
 pub loose_free : (x : Name) (taken : Taken) → is_held taken x ≡ false → is_taken taken x ≡ false
@@ -229,11 +215,7 @@ left_free [] taken x h among = cc
 left_free (d ∷ declared) taken x h among = test (left_free declared taken x (more_left (not (is_held taken d.0)) d.1 (left_taken declared taken) h)) (same_name x d.0) refl among
   where
     free : is_held taken d.0 ≡ false
-    free = negated (is_held taken d.0) (none_left (not (is_held taken d.0)) d.1 (left_taken declared taken) h)
-      where
-        negated : (b : Bool) → not b ≡ true → b ≡ false
-        negated true e = cc
-        negated false e = refl
+    free = not_true (is_held taken d.0) (none_left (not (is_held taken d.0)) d.1 (left_taken declared taken) h)
 
     test : (is_among x (map (λ d'. d'.0) declared) ≡ true → is_held taken x ≡ false) → (b : Bool) → same_name x d.0 ≡ b → (if b then true else is_among x (map (λ d'. d'.0) declared)) ≡ true → is_held taken x ≡ false
     test more true e h' = ap (is_held taken) ((bytes_eq-Decides x d.0).0 e) ∙ free

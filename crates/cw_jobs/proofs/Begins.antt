@@ -4,6 +4,7 @@ use Rattle.std.specs.Prelude.{replicate, slice_get}
 use Rattle.std.proofs.lemmas.List.{length-map, length-replicate}
 use Rattle.std.proofs.lemmas.Option.{slice_get_within, same_Some}
 use Rattle.std.proofs.lemmas.Bool.Decides.{nat_tests}
+use Rattle.std.proofs.lemmas.Bool.{false≢true}
 use Rattle.cw_model.specs.declared.burden.Burden.{Burden}
 use Rattle.cw_model.specs.declared.limits.TheConstants.{MOST_LIMIT, MOST_BURDEN}
 use Rattle.cw_code.specs.declared.code.Func.{Func}
@@ -28,11 +29,8 @@ pub record Main (v : Verified) : Type 0 where
 pub main_of : (v : Verified) → Ok v → Main v
 main_of v ok = at (slice_get (code_view v.code).funcs v.code.main) refl
   where
-    gives_none : gives_value None ≡ true → ⊥
-    gives_none e = cc
-
     at : (o : Option Func) → slice_get (code_view v.code).funcs v.code.main ≡ o → Main v
-    at None e = absurd (gives_none (ap gives_value (sym e) ∙ ok.fits.main))
+    at None e = absurd (false≢true (ap gives_value (sym e) ∙ ok.fits.main))
     at (Some f) e = record { func = f; found = e }
 
 pub main_there : (v : Verified) → Ok v → v.code.main < length v.code.funcs.items

@@ -1,2 +1,3 @@
--- Lemmas on totals, which the proofs of crates above cite.
+-- Lemmas on totals and on where arrays lie, which the proofs of crates above cite.
 pub mod Totals
+pub mod Homes

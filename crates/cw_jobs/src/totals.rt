@@ -1,4 +1,5 @@
-//! What reducers come to, kept within 128 bits.
+//! What reducers come to in a run, kept within 128 bits. The same as a monoid stands in `totals.rt` of `cw_reduce`: a new
+//! kind of reducer has a case in both.
 
 ghost use Rattle.std.specs.Prelude.{◌≡◌, ◌+ℤ◌, IfOk};
 ghost use Rattle.cw_jobs.specs.Totals as totals;

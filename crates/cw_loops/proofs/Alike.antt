@@ -70,7 +70,7 @@ whole_weaken f h (whole_done r le l a e) = whole_done (f _ _ r) (omega arith) l 
 whole_weaken f h (whole_trapped e) = whole_trapped e
 whole_weaken f h whole_over = whole_over
 
-appended : {A : Type 0} {a b c d : List A} → a ≡ b → c ≡ d → a ++ c ≡ b ++ d
+pub appended : {A : Type 0} {a b c d : List A} → a ≡ b → c ≡ d → a ++ c ≡ b ++ d
 appended e f = cc
 
 pub alike_after : {A B : Type 0} {R : A → B → Type 0} {left given : ℕ} {t u : Trace} {o : Outcome A} {o' : Outcome B} →
@@ -145,12 +145,6 @@ pub then_gives : {A : Type 0} (o : Outcome A) → then_do o (λ a left. Done a l
 then_gives (Done a left t) = ap (Done a left) (same_trace t _ _ _ (append-nil t.lines) (append-nil t.updates) (append-nil t.events))
 then_gives (Trapped trap line lines) = refl
 then_gives Over = refl
-
--- the same goes on
-pub then_same : {A B : Type 0} (o : Outcome A) (go go' : A → ℕ → Outcome B) → ((a : A) (left : ℕ) → go a left ≡ go' a left) → then_do o go ≡ then_do o go'
-then_same (Done a left t) go go' h = ap (after t) (h a left)
-then_same (Trapped trap line lines) go go' h = refl
-then_same Over go go' h = refl
 
 abbrev pub spent_to : ℕ → Trace → Outcome (Unit {0})
 spent_to left t = Done tt left t

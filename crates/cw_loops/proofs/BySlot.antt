@@ -30,7 +30,7 @@ use Rattle.cw_loops.specs.Expanded.{loop_text, loop_texts}
 use Rattle.cw_loops.specs.lemmas.Tests.{Told, yes_is, no_is, told, never, refuted, either_right}
 use Rattle.cw_loops.specs.lemmas.Naming.{each_of, Side, in_first, in_second, side, among_right}
 use Rattle.cw_loops.specs.lemmas.Knowing.{new_unknown, not_both}
-use Rattle.cw_loops.specs.lemmas.Declaring.{HeadKept, head_kept, CutKept, cut_kept}
+use Rattle.cw_loops.specs.lemmas.Declaring.{HeadKept, head_kept, CutKept, cut_kept, same_after}
 use Rattle.cw_loops.proofs.Shifting.{small_slot}
 use Rattle.cw_loops.proofs.Entering.{joined, at, lowered_at, two_lists, Entered, entered, variable_can, after_stmt, after_array}
 use Rattle.cw_loops.proofs.OuterReads.{captured_in_order}
@@ -242,27 +242,6 @@ arrays_follow lists c ints arrays (Cut a e l r b) few = ap (λ w. length (c.arra
 arrays_follow lists c ints arrays (Region tag b) few = ap (λ w. length (c.arrays ++ w)) (sym (append-nil arrays))
 arrays_follow lists c ints arrays (Print e) few = ap (λ w. length (c.arrays ++ w)) (sym (append-nil arrays))
 arrays_follow lists c ints arrays (Return e) few = ap (λ w. length (c.arrays ++ w)) (sym (append-nil arrays))
-
--- what is known after a lowered statement is what is known after its source
-same_after : (over : List Name) (k : ℕ) (l : Locals) (s : Stmt) → locals_after l (lower_stmt over k s) ≡ locals_after l s
-same_after over k known (Declare x e) = refl
-same_after over k known (DeclareArray a e) = refl
-same_after over k known (Assign x e) = refl
-same_after over k known (AssignElement a i e) = refl
-same_after over k known (Reduce how s e) = refl
-same_after over k known (Call kind site target f es) = refl
-same_after over k known (Start kind f es) = refl
-same_after over k known (Begin f from to captured' over') = refl
-same_after over k known Sync = refl
-same_after over k known (If e b) = refl
-same_after over k known (IfElse e b d) = refl
-same_after over k known (While e b) = refl
-same_after over k known (For x y z from to grain over' b) = refl
-same_after over k known (Scope b) = refl
-same_after over k known (Cut a e l r b) = refl
-same_after over k known (Region tag b) = refl
-same_after over k known (Print e) = refl
-same_after over k known (Return e) = refl
 
 loop_texts-last : (n : ℕ) (xs : List Loop) (l : Loop) → loop_texts n (xs ++ l ∷ []) ≡ loop_texts n xs ++ loop_text (n + length xs) l ∷ []
 loop_texts-last n [] l = ap (λ i. loop_text i l ∷ []) (none n)

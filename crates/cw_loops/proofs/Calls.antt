@@ -2,14 +2,13 @@
 use Rattle.std.proofs.Common.{◌≡◌, ℕ, ◌-◌, ◌≤◌, ◌<◌, Bool, true, false, ℤ, List, [], ◌∷◌, ◌++◌, length, arith, refl, sym, ◌∙◌, ap, append_assoc, append-nil, subst}
 use Rattle.std.specs.Prelude.{if◌then◌else◌, Option, Some, None}
 use Rattle.std.proofs.lemmas.Bool.{and_parts}
-use Rattle.cw_model.specs.declared.syntax.NameKind.{NameKind}
 use Rattle.cw_model.specs.Trees.{Invocation}
 use Rattle.cw_model.specs.TreeLaws.{in_mark}
 use Rattle.cw_model.specs.declared.syntax.CallKind.{CallKind}
-use Rattle.cw_model.specs.declared.syntax.NameKind.TheVariants as name_kind
 use Rattle.cw_model.specs.declared.syntax.CallKind.TheVariants.{Plain, Spawned}
-use Rattle.cw_model.specs.Syntax.{Name, Expr, Number, Variable, Element, Length, Negative, Not, Binary, Call, Param, Function, wants_array, takes_array, is_written_kind, is_array_kind}
+use Rattle.cw_model.specs.Syntax.{Name, Expr, Number, Variable, Element, Length, Negative, Not, Binary, Call, Param, Function, wants_array, takes_array}
 use Rattle.cw_model.specs.Names.{is_among, find}
+use Rattle.cw_model.specs.lemmas.Fits.{written_is_array}
 use Rattle.cw_model.specs.Frames.{Frame, no_frame, array_of, new_int, new_array, set_array, set_result}
 use Rattle.cw_model.specs.Expressions.{evaluate}
 use Rattle.cw_model.specs.Outcome.{Outcome, Done, then_do, quiet, pay, pay_for, joined_up}
@@ -78,12 +77,6 @@ among_there a v t u = rw (keys-append t ((a, v) ∷ u)) (there (keys t))
     there : (xs : List Name) → is_among a (xs ++ a ∷ keys u) ≡ true
     there [] = front_among a (keys u)
     there (x ∷ xs) = later_among a x (xs ++ a ∷ keys u) (there xs)
-
--- what is given away is an array
-taken_wanted : (k : NameKind) → is_written_kind k ≡ true → is_array_kind k ≡ true
-taken_wanted name_kind.Array h = refl
-taken_wanted name_kind.Const h = refl
-taken_wanted name_kind.Integer h = cc
 
 fresh_if : (b : Bool) (p : Param) (ps : List Param) (known : List Name) → wants_array p ≡ b → Fresh known (arrays_of (p ∷ ps)) → Fresh known (if b then p.name ∷ arrays_of ps else arrays_of ps)
 fresh_if b p ps known e h = subst (λ x. Fresh known (if x then p.name ∷ arrays_of ps else arrays_of ps)) e h
@@ -179,7 +172,7 @@ module _ (c : Surroundings) (fo go : List (Name × ℤ)) (Slot : (fa ga : List (
           by_kind false q f g rel s = (rel, s)
           by_kind true q f g (related loc' fa' ga' la' slot' ki' ka' good') s =
               let here : is_local c a ≡ true = (and_parts (can_read c a) (is_local c a) h).1 in
-              let m = n (taken_wanted p.kind q) in
+              let m = n (written_is_array p.kind q) in
               let there : is_among p.name (keys (sizes t)) ≡ true = ap (λ ks. is_among p.name ks) (keys-sizes t) ∙ m.0 in
               let same : length (array_of callee p.name) ≡ length (find [] a (fa' ++ la')) =
               find-sizes p.name callee.arrays ∙ ap (λ u. find 0 p.name u) k.is ∙ find_in 0 p.name (sizes t) k.more there ∙ sym (find-sizes p.name t) ∙ m.1 ∙ find-sizes a (fa ++ la) ∙ ap (λ u. find 0 a u) (sym s) ∙ sym (find-sizes a (fa' ++ la')) in (

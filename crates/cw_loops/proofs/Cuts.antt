@@ -16,13 +16,14 @@ use Rattle.cw_model.specs.Expressions.{Gives, evaluate, also, and_then, done_at,
 use Rattle.cw_model.specs.Outcome.{Outcome, Done, then_do, ◌>>=◌, quiet, pay, pay_for, joined_up}
 use Rattle.cw_model.specs.Meaning.{Completion, Normal, onward, going, frame_of, scoped, Returned, SameDepth, Calls, function_named, arguments, returned_arrays, start_event, cut_place, uncut, run, run_all}
 use Rattle.cw_loops.specs.Lowered.{low, high, middle, left_part, right_part, int_params, array_params, variables, left_arguments, right_arguments, both_halves, in_cuts}
-use Rattle.cw_loops.proofs.Alike.{Alike, Whole, fork_keeps, series_keeps, alike_one, alike_pay, alike_then, both_done, as_whole, then_then, then_same, then_gives, after_quiet, value_pays, pay_pay, same_events}
+use Rattle.cw_loops.proofs.Alike.{Alike, Whole, fork_keeps, series_keeps, alike_one, alike_pay, alike_then, both_done, as_whole, then_then, then_gives, after_quiet, value_pays, pay_pay, same_events}
 use Rattle.cw_loops.proofs.Lags.{Lags, lag_none, lag_pay, lag_one, lag_map, lag_left, lag_right}
 use Rattle.cw_loops.proofs.Runs.{one_line}
 use Rattle.cw_loops.proofs.Numbers.{tested}
 use Rattle.cw_loops.proofs.Tables.{keys, find_last}
 use Rattle.cw_loops.proofs.Arguments.{Fresh, table, pairs, pair_names, keys-append, keys-table, keys-pairs, find_at, put_at, right_past, arg_int, args_ints, args_arrays, FreshPairs, lefts_found, rights_found, back_ints, lefts_back, rights_back}
 use Rattle.cw_loops.proofs.Leaf.{entry}
+use Rattle.cw_loops.specs.lemmas.Outcomes.{then_same}
 
 pub alike_right : {A B : Type 0} {R : A → B → Type 0} {given : ℕ} {o : Outcome A} {o' p : Outcome B} → o' ≡ p → Alike R given o p → Alike R given o o'
 alike_right {R = R} {given = given} {o = o} e h = subst (λ x. Alike R given o x) (sym e) h

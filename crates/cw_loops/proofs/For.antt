@@ -18,7 +18,7 @@ use Rattle.cw_tree.specs.lemmas.Names.{same_are, front_among, later_among}
 use Rattle.cw_loops.specs.Lowered.{is_plain, low, high, loop_function}
 use Rattle.cw_loops.specs.Lowerable.{Surroundings, can_read, is_local, can_capture, can_slice, can_loop}
 use Rattle.cw_loops.specs.lemmas.Apart.{plain_apart}
-use Rattle.cw_loops.specs.lemmas.Naming.{among_right}
+use Rattle.cw_loops.specs.lemmas.Naming.{among_right, other_than}
 use Rattle.cw_loops.proofs.Alike.{Alike, alike_then, alike_one, series_keeps}
 use Rattle.cw_loops.proofs.Tables.{keys, find_past, put_past}
 use Rattle.cw_loops.proofs.Arguments.{Fresh, table, keys-append}
@@ -30,12 +30,9 @@ use Rattle.cw_loops.proofs.Statements.{Out, goes, alike_done}
 use Rattle.cw_loops.proofs.Worlds.{World, Rel, related, source, target, reads_same, local_same, local_outer, local_given}
 use Rattle.cw_loops.proofs.Slices.{mapped, Distinct, differ_distinct, keys-mapped, mapped_alike, find_put_other, slice_none, slice_length, back_is}
 use Rattle.cw_loops.proofs.Ranges.{Agrees, Put, ranges}
-use Rattle.cw_loops.proofs.Turn.{turn_scope, BodyAlike, each_turn, table_at, other_than}
+use Rattle.cw_loops.proofs.Turn.{turn_scope, BodyAlike, each_turn, table_at}
 use Rattle.cw_loops.proofs.Fresh.{AllPlain, not_plain, fresh_from, pairs_fresh, cutting_from, taken_of, keys-taken, find-taken, frame_is}
-
-pub map_same : {B : Type 0} (f g : Name → B) (xs : List Name) → ((a : Name) → is_among a xs ≡ true → f a ≡ g a) → map f xs ≡ map g xs
-map_same f g [] h = refl
-map_same f g (x ∷ xs) h = rw (h x (front_among x xs)) (ap (λ t. g x ∷ t) (map_same f g xs (λ a o. h a (later_among a x xs o))))
+use Rattle.cw_loops.specs.lemmas.Capturing.{each_captured, each_sliced}
 
 mapped_past : (as' : List Name) (f : Name → List ℤ → List ℤ) (t u : List (Name × List ℤ)) → ((a : Name) → is_among a as' ≡ true → is_among a (keys t) ≡ false) → mapped as' f (t ++ u) ≡ t ++ mapped as' f u
 mapped_past [] f t u h = refl
@@ -75,33 +72,6 @@ up_to lo n m e h =
     let g : int_le (pos (natural lo) +ℤ pos n) (pos m) ≡ true = ap (λ z. int_le (z +ℤ pos n) (pos m)) (sym e) ∙ h in
     leb-true (natural lo + n) m g
 
--- what the tests on a loop say
-captured_plain : (c : Surroundings) (ints xs : List Name) → can_capture c ints xs ≡ true → (v : Name) → is_among v xs ≡ true → (is_plain v ≡ true) × (can_read c v ≡ true) × (is_among v (c.outer ++ ints) ≡ true)
-captured_plain c ints [] h v o = absurd cc
-captured_plain c ints (x ∷ xs) h v o =
-    let p = and_parts (is_plain x) (can_read c x && (is_among x (c.outer ++ ints) && can_capture c ints xs)) h in
-    let q = and_parts (can_read c x) (is_among x (c.outer ++ ints) && can_capture c ints xs) p.1 in
-    let r = and_parts (is_among x (c.outer ++ ints)) (can_capture c ints xs) q.1 in
-    go (same_name v x) refl o (p.0, q.0, r.0) (captured_plain c ints xs r.1 v)
-  where
-    go : (b : Bool) → same_name v x ≡ b → (if b then true else is_among v xs) ≡ true → (is_plain x ≡ true) × (can_read c x ≡ true) × (is_among x (c.outer ++ ints) ≡ true) →
-        (is_among v xs ≡ true → (is_plain v ≡ true) × (can_read c v ≡ true) × (is_among v (c.outer ++ ints) ≡ true)) → (is_plain v ≡ true) × (can_read c v ≡ true) × (is_among v (c.outer ++ ints) ≡ true)
-    go true e k t f = let vx = same_are v x e in (ap is_plain vx ∙ t.0, ap (can_read c) vx ∙ t.1, ap (λ y. is_among y (c.outer ++ ints)) vx ∙ t.2)
-    go false e k t f = f k
-
-sliced_plain : (c : Surroundings) (arrays xs : List Name) → can_slice c arrays xs ≡ true → (a : Name) → is_among a xs ≡ true → (is_plain a ≡ true) × (is_local c a ≡ true) × (is_among a arrays ≡ true)
-sliced_plain c arrays [] h a o = absurd cc
-sliced_plain c arrays (x ∷ xs) h a o =
-    let p = and_parts (is_plain x) (is_local c x && (is_among x arrays && can_slice c arrays xs)) h in
-    let q = and_parts (is_local c x) (is_among x arrays && can_slice c arrays xs) p.1 in
-    let r = and_parts (is_among x arrays) (can_slice c arrays xs) q.1 in
-    go (same_name a x) refl o (p.0, q.0, r.0) (sliced_plain c arrays xs r.1 a)
-  where
-    go : (b : Bool) → same_name a x ≡ b → (if b then true else is_among a xs) ≡ true → (is_plain x ≡ true) × (is_local c x ≡ true) × (is_among x arrays ≡ true) →
-        (is_among a xs ≡ true → (is_plain a ≡ true) × (is_local c a ≡ true) × (is_among a arrays ≡ true)) → (is_plain a ≡ true) × (is_local c a ≡ true) × (is_among a arrays ≡ true)
-    go true e k t f = let ax = same_are a x e in (ap is_plain ax ∙ t.0, ap (is_local c) ax ∙ t.1, ap (λ y. is_among y arrays) ax ∙ t.2)
-    go false e k t f = f k
-
 -- the parts of the test on a loop
 pub record LoopTests (c : Surroundings) (ints arrays : List Name) (x : Name) (taken over : List Name) : Type 0 where
   pub plain : is_plain x ≡ true
@@ -126,8 +96,8 @@ loop_tests c ints arrays x taken over h =
       untaken = not_true (is_among x taken) p3.0;
       taken_once = differ_distinct taken p4.0;
       over_once = differ_distinct over p5.0;
-      captures = captured_plain c ints taken p6.0;
-      slices = sliced_plain c arrays over p6.1;
+      captures = each_captured c ints taken p6.0;
+      slices = each_sliced c arrays over p6.1;
     }
 
 module _ (c : Surroundings) (fo go : List (Name × ℤ)) (Slot : (fa ga : List (Name × List ℤ)) → Type 0) (w : World c fo go Slot) (ints arrays : List Name)

@@ -1,5 +1,5 @@
 -- A call of the generated function does what the loop by halves does.
-use Rattle.std.proofs.Common.{◌≡◌, ℕ, zero, suc, ◌+◌, ◌-◌, ◌*◌, ◌/◌, ◌≤◌, ◌<◌, ◌^◌, Bool, true, false, ℤ, pos, ◌+ℤ◌, ◌-ℤ◌, List, [], ◌∷◌, ◌++◌, length, take, drop, arith, refl, sym, ◌∙◌, ap, append-nil, subst}
+use Rattle.std.proofs.Common.{◌≡◌, ℕ, zero, suc, ◌+◌, ◌-◌, ◌*◌, ◌/◌, ◌≤◌, ◌<◌, ◌^◌, Bool, true, false, ℤ, pos, ◌+ℤ◌, List, [], ◌∷◌, ◌++◌, length, take, drop, arith, refl, sym, ◌∙◌, ap, append-nil, subst}
 use Rattle.std.specs.Prelude.{nat_lt, nat_le, if◌then◌else◌, None}
 use Rattle.std.proofs.Math.Seq.{take-append_seam}
 use Rattle.std.proofs.lemmas.Bool.{leb-false}
@@ -17,7 +17,7 @@ use Rattle.cw_model.specs.Loops.{node_start, halves}
 use Rattle.cw_model.specs.LoopLaws.{for_body}
 use Rattle.cw_model.specs.Meaning.{Completion, frame_of, SameDepth, Calls, function_named, run_all, call}
 use Rattle.cw_loops.specs.Lowered.{is_plain, low, high, middle, range, leaf_block, node_block, in_cuts, both_halves, left_arguments, right_arguments, loop_function}
-use Rattle.cw_loops.proofs.Alike.{Whole, then_then, after_quiet, then_same, pay_pay}
+use Rattle.cw_loops.proofs.Alike.{Whole, then_then, after_quiet, pay_pay}
 use Rattle.cw_loops.proofs.Chained.{whole_pay}
 use Rattle.cw_loops.proofs.Alike.{whole_weaken}
 use Rattle.cw_loops.proofs.Lags.{lag_end}
@@ -29,6 +29,7 @@ use Rattle.cw_loops.proofs.Leaf.{entry, Turns}
 use Rattle.cw_loops.proofs.Pieces.{at_leaf, at_node}
 use Rattle.cw_loops.proofs.LeafCall.{Gone, leaf_call, grain_gives, whole_left, whole_right, first_right}
 use Rattle.cw_loops.proofs.Cuts.{Half, Both, halves_piece, Cutting, Long, cuts_lag}
+use Rattle.cw_loops.specs.lemmas.Outcomes.{then_same}
 
 pub length_of_table : (over : List Name) (s : Name → List ℤ) → length (table over s) ≡ length over
 length_of_table [] s = refl
@@ -62,9 +63,6 @@ end_after k c first second last left = sym (then_then (pay c left) _ _ ∙ then_
 split : (k a c : ℕ) (first : ℕ → Outcome Frame) (second : Frame → ℕ → Outcome Frame) (last : Frame → ℕ → Outcome Frame) (left : ℕ) →
     then_do (halves_piece k first second (a + c) left) last ≡ then_do (pay a left) (λ _ l. then_do (halves_piece k first second c l) last)
 split k a c first second last left = ap (λ o. then_do o last) (sym (pay_pay a c left _)) ∙ then_then (pay a left) _ _
-
-halfway : (lo : ℤ) (h : ℕ) → (lo +ℤ pos h) -ℤ lo ≡ pos h
-halfway lo h = range_is lo h
 
 -- the middle of a range
 middle_gives : (lo : ℤ) (n : ℕ) (cs : List (Name × ℤ)) (arrays : List (Name × List ℤ)) → n < 2 ^ 63 → fits (lo +ℤ pos (n / 2)) ≡ true →
@@ -158,7 +156,7 @@ module _ (name : Name) (line : ℕ) (x : Name) (grain : ℕ) (cs : List (Name ×
       (whole_weaken (λ frame2 returned (g : Half ((low, m) ∷ (high, m +ℤ pos (n - n / 2)) ∷ cs) over (Put m (n - n / 2) frame1) frame2 returned).
       record { slices = g.slices; gives = g.gives; ok = slicing.both lo n (n / 2) frame frame1 frame2 s s1 g.slices half agrees put g.ok }) (omega arith)
       (more m (n - n / 2) (omega arith) (omega arith) m_fits (rw hi_is hi_fits) frame1 (λ a. drop (n / 2) (s a)) (slicing.right lo n (n / 2) frame frame1 s s1 half agrees put) l bound line (omega arith) (omega arith))))
-      (halfway lo (n / 2)) (omega arith) fresh_pairs once over [] refl once cutting (slicing.long lo n (n / 2) frame s half agrees) (left - 6 - 8) (omega arith))))))))))))))
+      (range_is lo (n / 2)) (omega arith) fresh_pairs once over [] refl once cutting (slicing.long lo n (n / 2) frame s half agrees) (left - 6 - 8) (omega arith))))))))))))))
 
   pub halves_call : (d : ℕ) → CallsAsHalves d
   halves_call zero lo n deep small lo_fits hi_fits frame s agrees left bound line' h1 h2 = absurd (omega arith)

@@ -19,12 +19,13 @@ use Rattle.cw_model.specs.LoopLaws.{for_body}
 use Rattle.cw_model.specs.Meaning.{Normal, onward, going, scoped, Returned, SameDepth, Calls, turns, run_all, call, end_of_call}
 use Rattle.cw_loops.proofs.Pieces.{leaf_piece}
 use Rattle.cw_loops.specs.Lowered.{is_plain, low, high, range, on_line, leaf_turn, leaf_block, node_block, loop_function}
-use Rattle.cw_loops.proofs.Alike.{Whole, whole_done, then_then, after_quiet, then_same, pay_pay}
+use Rattle.cw_loops.proofs.Alike.{Whole, whole_done, then_then, after_quiet, pay_pay}
 use Rattle.cw_loops.proofs.Chained.{whole_pay, whole_then, whole_after, chain_nil, chain_join}
 use Rattle.cw_loops.proofs.Runs.{one_line, and_rest, declare_runs, then_taken, call_runs}
 use Rattle.cw_loops.proofs.Numbers.{range_is, tested}
 use Rattle.cw_loops.proofs.Tables.{keys}
 use Rattle.cw_loops.proofs.Leaf.{entry, at_turn, leaf_test, Turns, leaf_chained}
+use Rattle.cw_loops.specs.lemmas.Outcomes.{then_same}
 
 pub whole_left : {A B : Type 0} {R : A → B → Type 0} {given : ℕ} {o p : Outcome A} {o' : Outcome B} → o ≡ p → Whole R given p o' → Whole R given o o'
 whole_left {R = R} {given = given} {o' = o'} e h = subst (λ x. Whole R given x o') (sym e) h

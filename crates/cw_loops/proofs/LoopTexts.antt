@@ -21,7 +21,7 @@ use Rattle.cw_loops.specs.Expanded as by_slot
 use Rattle.cw_loops.specs.Moved.{Loop}
 use Rattle.cw_loops.specs.lemmas.Tests.{never, refuted}
 use Rattle.cw_loops.specs.lemmas.Apart.{plain_apart, apart_plain}
-use Rattle.cw_loops.specs.lemmas.Naming.{Placed, at_front, after_it, placed, among_right}
+use Rattle.cw_loops.specs.lemmas.Naming.{Placed, at_front, after_it, placed, among_right, map_same}
 use Rattle.cw_loops.proofs.Fresh.{left_left, right_right}
 use Rattle.cw_loops.proofs.Shifting.{slot_past}
 use Rattle.cw_loops.proofs.Readers.{reads_none, all_taken}
@@ -59,10 +59,6 @@ shifted f n (suc k) = ap (λ r. f (2 + n) ∷ r) (shifted f (suc n) k ∙ ap (λ
 twice : {A B C : Type 0} (f : B → C) (g : A → B) (ns : List A) → map f (map g ns) ≡ map (λ i. f (g i)) ns
 twice f g [] = refl
 twice f g (n ∷ ns) = ap (λ r. f (g n) ∷ r) (twice f g ns)
-
-same_each : {A : Type 0} (f g : Name → A) (vs : List Name) → ((v : Name) → is_among v vs ≡ true → f v ≡ g v) → map f vs ≡ map g vs
-same_each f g [] h = refl
-same_each f g (v ∷ vs) h = ap (λ y. y ∷ map f vs) (h v (front_among v vs)) ∙ ap (λ r. g v ∷ r) (same_each f g vs (λ w o. h w (later_among w v vs o)))
 
 -- the two parts of each array
 
@@ -231,13 +227,13 @@ module _ (lists : Lists) (line : ℕ) (name x : Name) (grain : ℕ) (taken over 
   taken_given : map (slotted_argument (joined [] [] node_ints all) []) (variables taken) ≡ map (λ s. Int (Variable s)) (numbers 2 (length taken))
   taken_given =
       names_are (joined [] [] node_ints all) taken
-      ∙ same_each (slotted_name (joined [] [] node_ints all) []) (λ v. Int (Variable (2 + slot_of v taken))) taken (λ v o. as_int v node_ints all (2 + slot_of v taken) (taken_no_array v o) (given_slot v (middle ∷ []) o))
+      ∙ map_same (slotted_name (joined [] [] node_ints all) []) (λ v. Int (Variable (2 + slot_of v taken))) taken (λ v o. as_int v node_ints all (2 + slot_of v taken) (taken_no_array v o) (given_slot v (middle ∷ []) o))
       ∙ in_turn (λ n. Int (Variable (2 + n))) taken [] taken refl taken_differ ∙ shifted (λ n. Int (Variable n)) 0 (length taken)
 
   lefts_given : map (slotted_argument (joined [] [] node_ints all) []) (variables (map left_part over)) ≡ map Array (map (left_slot (length over)) (numbers 0 (length over)))
   lefts_given =
       names_are (joined [] [] node_ints all) (map left_part over) ∙ twice (slotted_name (joined [] [] node_ints all) []) left_part over
-      ∙ same_each (λ a. slotted_name (joined [] [] node_ints all) [] (left_part a)) (λ a. Array (left_slot (length over) (slot_of a over))) over
+      ∙ map_same (λ a. slotted_name (joined [] [] node_ints all) [] (left_part a)) (λ a. Array (left_slot (length over) (slot_of a over))) over
       (λ a o. as_array (left_part a) node_ints all (left_slot (length over) (slot_of a over)) (among_right (left_part a) over (parts over) (left_among a over o))
       (slot_past (left_part a) over (parts over) (left_no_over a) ∙ ap (λ n. length over + n) (left_place a over o)))
       ∙ in_turn (λ n. Array (left_slot (length over) n)) over [] over refl over_differ ∙ sym (twice Array (left_slot (length over)) (numbers 0 (length over)))
@@ -245,7 +241,7 @@ module _ (lists : Lists) (line : ℕ) (name x : Name) (grain : ℕ) (taken over 
   rights_given : map (slotted_argument (joined [] [] node_ints all) []) (variables (map right_part over)) ≡ map Array (map (right_slot (length over)) (numbers 0 (length over)))
   rights_given =
       names_are (joined [] [] node_ints all) (map right_part over) ∙ twice (slotted_name (joined [] [] node_ints all) []) right_part over
-      ∙ same_each (λ a. slotted_name (joined [] [] node_ints all) [] (right_part a)) (λ a. Array (right_slot (length over) (slot_of a over))) over
+      ∙ map_same (λ a. slotted_name (joined [] [] node_ints all) [] (right_part a)) (λ a. Array (right_slot (length over) (slot_of a over))) over
       (λ a o. as_array (right_part a) node_ints all (right_slot (length over) (slot_of a over)) (among_right (right_part a) over (parts over) (right_among a over o))
       (slot_past (right_part a) over (parts over) (right_no_over a) ∙ ap (λ n. length over + n) (right_place a over o) ∙ omega arith))
       ∙ in_turn (λ n. Array (right_slot (length over) n)) over [] over refl over_differ ∙ sym (twice Array (right_slot (length over)) (numbers 0 (length over)))

@@ -9,7 +9,8 @@ use Rattle.cw_model.specs.Expressions.{Evaluated, Gives, evaluate}
 use Rattle.cw_model.specs.Outcome.{quiet, Outcome, Done, Trapped, Over, then_do, Piece, ◌>>=◌, pay, pay_for}
 use Rattle.cw_model.specs.Meaning.{Completion, Normal, ByReturn, onward, going, scoped, SameDepth, Calls, turns, run, run_all, end_of_call, call}
 use Rattle.cw_loops.specs.Lowered.{on_line}
-use Rattle.cw_loops.proofs.Alike.{then_then, then_gives, value_pays, pay_pay, after_quiet, then_same}
+use Rattle.cw_loops.proofs.Alike.{then_then, then_gives, value_pays, pay_pay, after_quiet}
+use Rattle.cw_loops.specs.lemmas.Outcomes.{then_same}
 
 -- a value, one instruction, and what goes on from there
 value_and_pay : {A : Type 0} (e : Evaluated) (v : ℤ) (k line left : ℕ) (go : ℤ → ℕ → Outcome A) → e ≡ Gives v k →

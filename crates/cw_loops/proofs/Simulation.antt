@@ -26,9 +26,10 @@ use Rattle.cw_loops.proofs.Control.{if_alike, if_else_alike, while_alike, scope_
 use Rattle.cw_loops.proofs.Fresh.{taken_of, keys-taken}
 use Rattle.cw_loops.proofs.Turn.{turn_scope}
 use Rattle.cw_loops.proofs.Loop.{such_paid, Counted, turns_counted}
-use Rattle.cw_loops.proofs.For.{LoopTests, loop_tests, begun, map_same}
+use Rattle.cw_loops.proofs.For.{LoopTests, loop_tests, begun}
 use Rattle.cw_loops.proofs.CutStatement.{cut_alike}
 use Rattle.cw_loops.proofs.Calls.{CallSame, call_alike}
+use Rattle.cw_loops.specs.lemmas.Naming.{map_same}
 
 -- nothing is declared
 no_more : {c : Surroundings} {fo go : List (Name × ℤ)} {Slot : (fa ga : List (Name × List ℤ)) → Type 0} {ints arrays : List Name} {before : Frame} {given : ℕ} {o o' : Outcome Completion} →

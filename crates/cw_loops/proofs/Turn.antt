@@ -13,8 +13,8 @@ use Rattle.cw_model.specs.Meaning.{Completion, Normal, onward, going, Calls, run
 use Rattle.cw_tree.specs.lemmas.Names.{same_itself, same_are, front_among, later_among}
 use Rattle.cw_loops.specs.Lowered.{is_plain, low, high}
 use Rattle.cw_loops.specs.Lowerable.{Surroundings}
-use Rattle.cw_loops.specs.lemmas.Apart.{not_first, not_later, apart, plain_apart}
-use Rattle.cw_loops.specs.lemmas.Naming.{among_left}
+use Rattle.cw_loops.specs.lemmas.Apart.{plain_apart}
+use Rattle.cw_loops.specs.lemmas.Naming.{among_left, among_split, other_than}
 use Rattle.cw_loops.proofs.Alike.{Alike, alike_then, then_gives}
 use Rattle.cw_loops.proofs.Numbers.{tested, between}
 use Rattle.cw_loops.proofs.Tables.{keys}
@@ -27,10 +27,6 @@ use Rattle.cw_loops.proofs.Statements.{Out, goes, returns, OutAll, alike_done, l
 use Rattle.cw_loops.proofs.Worlds.{World, Rel, related, source, target, find_in}
 use Rattle.cw_loops.proofs.Slices.{mapped, Distinct, keys-mapped, find_mapped, mapped_alike, find_put_other, put_put, put_unmapped, swapped}
 use Rattle.cw_loops.proofs.Ranges.{Agrees, Put, get_slice, set_slice}
-
-pub among_split : (x : Name) (xs ys : List Name) → is_among x xs ≡ false → is_among x (xs ++ ys) ≡ true → is_among x ys ≡ true
-among_split x [] ys h g = g
-among_split x (y ∷ xs) ys h g = among_split x xs ys (not_later x y xs h) (ap (λ b. if b then true else is_among x (xs ++ ys)) (sym (not_first x y xs h)) ∙ g)
 
 pub among_one : (x y : Name) → is_among x (y ∷ []) ≡ true → x ≡ y
 among_one x y h = go (same_name x y) refl h
@@ -62,9 +58,6 @@ changed_other s a v b h = ap (λ x. if x then v else s b) h
 table_same : (over : List Name) (s s' : Name → List ℤ) → ((b : Name) → is_among b over ≡ true → s b ≡ s' b) → table over s ≡ table over s'
 table_same [] s s' h = refl
 table_same (a ∷ over) s s' h = rw (h a (front_among a over)) (ap (λ t. (a, s' a) ∷ t) (table_same over s s' (λ b o. h b (later_among b a over o))))
-
-pub other_than : (a b : Name) (bs : List Name) → is_among b bs ≡ false → is_among a bs ≡ true → same_name a b ≡ false
-other_than a b bs h o = apart a b (λ e. let q : true ≡ false = sym o ∙ ap (λ y. is_among y bs) e ∙ h in absurd cc)
 
 table_put : (over : List Name) (s : Name → List ℤ) (a : Name) (v : List ℤ) → Distinct over → is_among a over ≡ true → put a v (table over s) ≡ table over (changed s a v)
 table_put [] s a v d h = absurd cc

@@ -8,3 +8,5 @@ pub mod Seeing
 pub mod Heads
 pub mod Numbering
 pub mod Finding
+pub mod Outcomes
+pub mod Capturing

@@ -38,7 +38,6 @@ pub mod Goes
 pub mod Entering
 pub mod Starting
 pub mod Totals
-pub mod Going
 pub mod Updates
 pub mod Metering
 pub mod Told

@@ -2,18 +2,19 @@
 use Rattle.std.proofs.Common.{◌≡◌, ◌≢◌, ◌⊎◌, inl, inr, ⊎_elim, ℕ, zero, suc, ◌+◌, ◌-◌, ◌<◌, ◌≤◌, ℤ, pos, Bool, true, false, Option, Some, None, List, [], ◌∷◌, ◌++◌, length, map, refl, sym, ap, ◌∙◌, subst, arith, if◌then◌else◌, nat_lt}
 use Rattle.std.specs.Prelude.{reverse, drop, nat_eq, nat_le, slice_get, slice_index_or}
 use Rattle.std.proofs.lemmas.List.{reverse-reverse, get_or-reverse, length-reverse}
-use Rattle.std.proofs.lemmas.Option.{same_Some}
+use Rattle.std.proofs.lemmas.Option.{same_Some, none-some}
+use Rattle.std.proofs.lemmas.Bool.{true≢false}
 use Rattle.cw_facts.specs.Tests.{taken, not_taken, below, not_below, equal, not_equal, not_le_of}
 use Rattle.cw_model.specs.declared.syntax.CallKind.TheVariants.{Spawned}
 use Rattle.cw_model.specs.Outcome.{quiet}
 use Rattle.cw_code.specs.declared.code.Func.{Func}
 use Rattle.cw_code.specs.declared.code.Halves.{Halves}
 use Rattle.cw_code.specs.Code.{code_view}
-use Rattle.cw_code.specs.Run.{Results, Taken, slot_taken, Waiting, Around, Caller, Block, State, On, Stuck, is_full, awaited, result_of, going_on}
+use Rattle.cw_code.specs.Run.{Results, Taken, slot_taken, Waiting, Around, Caller, Block, State, On, is_full, awaited, result_of, going_on}
 use Rattle.cw_code.specs.Fits.{Shape, gone_rows}
 use Rattle.cw_code.specs.Good.{IsNotAmong, slots_in, slot_cut, arrays_round, all_of, IsGiven, Resumed, Resumes, AllResume}
 use Rattle.cw_code.specs.Good.{Holds as HoldsSlots}
-use Rattle.cw_code.specs.lemmas.Runs.{same_state}
+use Rattle.cw_code.specs.lemmas.Runs.{same_state, stuck_on}
 use Rattle.cw_code.specs.lemmas.Slots.{not_in_first, not_in_second, not_in_both}
 use Rattle.cw_runnable.specs.declared.verified.Verified.{Verified}
 use Rattle.cw_machine.specs.declared.machine.Frame.{Frame}
@@ -26,14 +27,11 @@ use Rattle.cw_machine.specs.Hands.{is_cut_among, stays_here, lent_count, ComesRo
 use Rattle.cw_machine.proofs.Order.{full_value}
 use Rattle.cw_machine.proofs.Places.{same_or}
 
-never : true ≡ false → ⊥
-never e = cc
-
 -- a slot that is not found among some is none of them, and the other way round
 among_not : (a : ℕ) (bs : List ℕ) → is_among a bs ≡ false → IsNotAmong a bs
 among_not a [] e = tt
 among_not a (b ∷ bs) e = ⊎_elim
-    (λ q. absurd (never (sym (taken (nat_eq b a) true (is_among a bs) (equal b a (sym q))) ∙ e)))
+    (λ q. absurd (true≢false (sym (taken (nat_eq b a) true (is_among a bs) (equal b a (sym q))) ∙ e)))
     (λ n. (n, among_not a bs (sym (not_taken (nat_eq b a) true (is_among a bs) (not_equal b a (λ r. n (sym r)))) ∙ e)))
     (same_or a b)
 
@@ -42,10 +40,7 @@ not_among a [] h = refl
 not_among a (b ∷ bs) h = not_taken (nat_eq b a) true (is_among a bs) (not_equal b a (λ r. h.0 (sym r))) ∙ not_among a bs h.1
 
 pub is_there : (a : ℕ) (bs : List ℕ) (k : ℕ) → slice_get bs k ≡ Some a → is_among a bs ≡ true
-is_there a [] k e = absurd (none e)
-  where
-    none : None ≡ Some a → ⊥
-    none e = cc
+is_there a [] k e = absurd (none-some a e)
 is_there a (b ∷ bs) zero e = taken (nat_eq b a) true (is_among a bs) (equal b a (same e))
   where
     same : Some b ≡ Some a → b ≡ a
@@ -104,7 +99,7 @@ module _ (v : Verified) (ok : Ok v) (m : Memory) where
       own true q =
           let is : is_cut_among (first + a) first ((first + h.array) ∷ rest) ≡ false = sym (ap (λ l. is_cut_among (first + a) first (l ++ rest)) (taken (nat_le ok.outer round) ((first + h.array) ∷ []) [] q)) ∙ e in
           ⊎_elim
-          (λ r. absurd (never (sym (found_cut (first + a) first rest (omega arith)) ∙ ap (λ k. is_cut_among (first + a) first ((first + k) ∷ rest)) r ∙ is)))
+          (λ r. absurd (true≢false (sym (found_cut (first + a) first rest (omega arith)) ∙ ap (λ k. is_cut_among (first + a) first ((first + k) ∷ rest)) r ∙ is)))
           (λ ne. ((ne, tt), sym (past_cut (first + a) (first + h.array) first rest (omega arith) (λ r. ne (omega (arith, r)))) ∙ is))
           (same_or a h.array)
       own false q =
@@ -229,12 +224,9 @@ pub empties_slots : (all : List Taken) → slots_in (empties all) ≡ map slot_t
 empties_slots [] = refl
 empties_slots (x ∷ all) = ap (λ l. slot_taken x ∷ l) (empties_slots all)
 
-stuck : (s : State) → Stuck ≡ On s → ⊥
-stuck s e = cc
-
 awaited_arrays : (target : Option ℕ) (x : Option ℤ) (s s' : State) → awaited target x s ≡ On s' → (s'.arrays ≡ s.arrays) × (s'.arrived ≡ s.arrived)
 awaited_arrays None x s s' e = let same = same_state s s' e in (ap (λ (z : State). z.arrays) (sym same), ap (λ (z : State). z.arrived) (sym same))
-awaited_arrays (Some a) None s s' e = absurd (stuck s' e)
+awaited_arrays (Some a) None s s' e = absurd (stuck_on s' e)
 awaited_arrays (Some a) (Some x) s s' e =
     let same = same_state (record s { results = (a, x) ∷ s.results }) s' e in (ap (λ (z : State). z.arrays) (sym same), ap (λ (z : State). z.arrived) (sym same))
 
@@ -334,7 +326,7 @@ module _ (v : Verified) (ok : Ok v) (m : Machine) (s : State) (w : Waiting) (aro
   lies_here a lt e some = cases (is_among a passed) refl
     where
       cases : (t : Bool) → is_among a passed ≡ t → (xs : List ℤ) × Has memory (waiting_frame.first_array + a) xs
-      cases true q = absurd (never (sym (taken (is_among a passed) true (is_cut_among (waiting_frame.first_array + a) waiting_frame.first_array (reverse m.cuts.items)) q) ∙ e))
+      cases true q = absurd (true≢false (sym (taken (is_among a passed) true (is_cut_among (waiting_frame.first_array + a) waiting_frame.first_array (reverse m.cuts.items)) q) ∙ e))
       cases false q = ⊎_elim
           (λ none. ⊎_elim
           (λ more.

@@ -65,7 +65,8 @@ pub fn values_of(effect: Effect) -> Result<Values, Fault>
     requires { ∥ IsOfRun effect ∥₁ }
     ensures { (v : verified.Verified) (args : List ℤ) (n : ℕ) (burden : Burden) (d : details.Detail)
         (root : jobs.Job)
-        → IsRootOf v args n burden d root.parts.value → IsMeaningOf root effect → GivesAsCode (code_view v.code) args n burden result }
+        → IsRootOf v args n burden d root.parts.value
+        → IsMeaningOf root effect → GivesAsCode (code_view v.code) args n burden result }
 {
     the_root_answers_what_the_code_gives();
     match effect {

@@ -1,4 +1,5 @@
-//! A rest that ran elsewhere comes back, and the machine goes on from where it came to.
+//! A rest that ran elsewhere comes back: its arrays and numbers come home, and the machine goes on from where it came to.
+//! Its lines, totals and measures are joined in `giving.rt` of `cw_strand`.
 
 ghost use Rattle.std.specs.Prelude.{◌≡◌, ◌≢◌, ℕ, ◌+◌, ◌<◌, ◌≤◌, length, Some, slice_get, MatchBool};
 ghost use Rattle.std.specs.Option.{option_flatten};

@@ -10,6 +10,7 @@ use Rattle.cw_measure.specs.SumLaws.{up_to_is, exactly_is}
 use Rattle.cw_measure.specs.lemmas.BlockWeights.{child_charge}
 use Rattle.cw_measure.specs.CounterLaws.{ticked_onward, forked_onward, onward-fresh_last, synced_onward, of_events-append, heaviest-of_events}
 use Rattle.cw_measure.proofs.Holding.{held-sum, held-onward, held-heaviest}
+use Rattle.cw_measure.specs.lemmas.OpenParts.{work-append}
 
 -- the work of each event
 abbrev pub work_of : Event → ℕ
@@ -23,13 +24,6 @@ work_parts (Work k) events = omega arith
 work_parts (Series t) events = omega arith
 work_parts (Fork t) events = omega arith
 work_parts Join events = omega arith
-
-pub work-append : (a b : List Event) → work (tree_of (a ++ b)) ≡ work (tree_of a) + work (tree_of b)
-work-append [] b = omega arith
-work-append (e ∷ a) b =
-    let one = work_parts e (a ++ b) in
-    let two = work_parts e a in
-    let three = work-append a b in omega arith
 
 pub reads_tree : (burden : Burden) (es : List Event) → ReadsTree burden (measure_of burden es) (tree_of es)
 reads_tree burden es = record {

@@ -1,16 +1,13 @@
 -- Runs so far that are alike stay so.
 use Rattle.std.specs.Prelude.{◌≡◌, Bool, ℕ, true, false, ◌&&◌, ◌||◌, List, [], ◌∷◌, ◌++◌, Option, Some, None, refl}
 use Rattle.std.proofs.Common.{sym, ◌∙◌, ap, subst}
+use Rattle.std.proofs.lemmas.List.{append-nil, append_assoc}
 use Rattle.cw_model.specs.Trees.{Mark, Tree, Leaf, Event, Work, Series, Fork, Join, parts_of, tree_of}
 use Rattle.cw_model.specs.TreeLaws.{Regrouped, same, back, further, nothing_before, in_series, in_fork, in_mark}
 use Rattle.cw_measure.specs.OpenParts.{Open, marked, part_of, closed, spawned_after, has_spawned, has_spawned_from, no_joins}
-use Rattle.cw_measure.specs.lemmas.OpenParts.{append_none, spawned_append}
+use Rattle.cw_measure.specs.lemmas.OpenParts.{spawned_append}
 use Rattle.cw_sites.specs.OpenPaths.{inside, here_in}
 use Rattle.cw_meter.specs.Alike.{AreAlike, AreOpenAlike, SameParts}
-
-pub append_twice : (a b c : List Event) → (a ++ b) ++ c ≡ a ++ (b ++ c)
-append_twice [] b c = refl
-append_twice (e ∷ a) b c = ap (λ (x : List Event). e ∷ x) (append_twice a b c)
 
 after_event : (e : Event) (es fs : List Event) → SameParts es fs → SameParts (e ∷ es) (e ∷ fs)
 after_event (Work k) es fs h = (in_series (same (Leaf k)) h.0, h.1)
@@ -62,13 +59,13 @@ alike_itself es = record { parts = λ more. same_parts (es ++ more); spawned = r
 
 pub alike_more : (es fs gs : List Event) → AreAlike es fs → AreAlike (es ++ gs) (fs ++ gs)
 alike_more es fs gs h = record {
-  parts = λ more. same_lists (es ++ (gs ++ more)) ((es ++ gs) ++ more) (fs ++ (gs ++ more)) ((fs ++ gs) ++ more) (sym (append_twice es gs more)) (sym (append_twice fs gs more)) (h.parts (gs ++ more));
+  parts = λ more. same_lists (es ++ (gs ++ more)) ((es ++ gs) ++ more) (fs ++ (gs ++ more)) ((fs ++ gs) ++ more) (sym (append_assoc es gs more)) (sym (append_assoc fs gs more)) (h.parts (gs ++ more));
   spawned = spawned_append false es gs ∙ ap (λ (b : Bool). has_spawned_from b gs) h.spawned ∙ sym (spawned_append false fs gs);
   joins = joins_append es gs ∙ ap (λ (b : Bool). b && no_joins gs) h.joins ∙ sym (joins_append fs gs);
 }
 
 pub alike_trees : (es fs : List Event) → AreAlike es fs → Regrouped (tree_of es) (tree_of fs)
-alike_trees es fs h = same_tree es fs (same_lists (es ++ []) es (fs ++ []) fs (append_none es) (append_none fs) (h.parts []))
+alike_trees es fs h = same_tree es fs (same_lists (es ++ []) es (fs ++ []) fs (append-nil es) (append-nil fs) (h.parts []))
 
 pub alike_joined : (es fs : List Event) → AreAlike es fs → Regrouped (tree_of es) (tree_of (fs ++ Join ∷ []))
 alike_joined es fs h = further (alike_trees es fs h) (same_tree fs (fs ++ Join ∷ []) (joined_parts fs))
@@ -85,7 +82,7 @@ in_marked (Some m) t u h = in_mark m h
 alike_part : (s : Bool) (a b : List Event) (t u : Tree) → AreAlike a b → Regrouped t u → AreAlike (a ++ part_of s t ∷ []) (b ++ part_of s u ∷ [])
 alike_part s a b t u h r = record {
   parts = λ more.
-      same_lists (a ++ (part_of s t ∷ more)) ((a ++ part_of s t ∷ []) ++ more) (b ++ (part_of s u ∷ more)) ((b ++ part_of s u ∷ []) ++ more) (sym (append_twice a (part_of s t ∷ []) more)) (sym (append_twice b (part_of s u ∷ []) more))
+      same_lists (a ++ (part_of s t ∷ more)) ((a ++ part_of s t ∷ []) ++ more) (b ++ (part_of s u ∷ more)) ((b ++ part_of s u ∷ []) ++ more) (sym (append_assoc a (part_of s t ∷ []) more)) (sym (append_assoc b (part_of s u ∷ []) more))
       (and_further (a ++ (part_of s t ∷ more)) (b ++ (part_of s t ∷ more)) (b ++ (part_of s u ∷ more)) (h.parts (part_of s t ∷ more)) (after_events b (part_of s t ∷ more) (part_of s u ∷ more) (after_part s t u more r)));
   spawned =
       spawned_append false a (part_of s t ∷ []) ∙ ap (λ (x : Bool). spawned_after x (part_of s t)) h.spawned ∙ spawned_part s (has_spawned b) t u
@@ -118,7 +115,7 @@ spawned_same false fs gs j s = s
 pub alike_both : (es es' fs fs' : List Event) → AreAlike es es' → AreAlike fs fs' → AreAlike (es ++ fs) (es' ++ fs')
 alike_both es es' fs fs' h g = record {
   parts = λ more.
-      same_lists (es ++ (fs ++ more)) ((es ++ fs) ++ more) (es' ++ (fs' ++ more)) ((es' ++ fs') ++ more) (sym (append_twice es fs more)) (sym (append_twice es' fs' more))
+      same_lists (es ++ (fs ++ more)) ((es ++ fs) ++ more) (es' ++ (fs' ++ more)) ((es' ++ fs') ++ more) (sym (append_assoc es fs more)) (sym (append_assoc es' fs' more))
       (and_further (es ++ (fs ++ more)) (es' ++ (fs ++ more)) (es' ++ (fs' ++ more)) (h.parts (fs ++ more)) (after_events es' (fs ++ more) (fs' ++ more) (g.parts more)));
   spawned = spawned_append false es fs ∙ ap (λ (b : Bool). has_spawned_from b fs) h.spawned ∙ spawned_same (has_spawned es') fs fs' g.joins g.spawned ∙ sym (spawned_append false es' fs');
   joins = joins_append es fs ∙ ap (λ (b : Bool). b && no_joins fs) h.joins ∙ ap (λ (b : Bool). no_joins es' && b) g.joins ∙ sym (joins_append es' fs');

@@ -1,13 +1,14 @@
 -- A part of a run ends, and the tables are told of it.
 use Rattle.std.specs.Prelude.{◌≡◌, ℕ, ◌≤◌, Bool, true, false, List, [], ◌∷◌, Option, Some, None, refl}
 use Rattle.std.proofs.Common.{sym, ◌∙◌, subst}
+use Rattle.std.proofs.lemmas.List.{append-nil}
 use Rattle.cw_model.specs.declared.burden.Burden.{Burden}
 use Rattle.cw_model.specs.declared.limits.TheConstants.{MOST_LIMIT, MOST_BURDEN}
 use Rattle.cw_model.specs.Trees.{Mark, Invocation, Execution, Event, Series, Fork, tree_of}
 use Rattle.cw_measure.specs.declared.burdened_path.BurdenedPath.{BurdenedPath}
 use Rattle.cw_measure.specs.OpenParts.{Open, marked, closed, has_spawned}
 use Rattle.cw_measure.specs.StrandWeights.{TellsWeight, LatePathsWait, NotesLate, EndsChildWeight}
-use Rattle.cw_measure.specs.lemmas.OpenParts.{append_none, spawned_append}
+use Rattle.cw_measure.specs.lemmas.OpenParts.{spawned_append}
 use Rattle.cw_measure.specs.lemmas.StrandWeights.{series_need_no_call, late_ended}
 use Rattle.cw_sites.specs.declared.table.SiteTable.{SiteTable}
 use Rattle.cw_sites.specs.Tables.{Leaves, EndsChild, EndsHalf, ReadsPath}
@@ -74,7 +75,7 @@ child_path burden tags from count mark before os es t m p notes ends joined smal
     let P : List Event → Type 0 = λ x. TellsWeight burden os (closed o x) p in
     let E : Burden → Type 0 = λ x. EndsChildWeight m p count x in
     let told = path_told burden tags from count here es t m notes small light h in
-    subst P (append_none es) (subst E h.burden_is ends o os es [] (none_since burden from count here es m h.counted told) (fits_now burden tags from count here es t h small light) refl (joined_now burden tags from count here es t joined h) told)
+    subst P (append-nil es) (subst E h.burden_is ends o os es [] (none_since burden from count here es m h.counted told) (fits_now burden tags from count here es t h small light) refl (joined_now burden tags from count here es t joined h) told)
 
 pub spawned_call_closed : (t : Tables) (s : SiteTable) (m p : BurdenedPath) (count : ℕ) (part : Part) → EndsChild t.sites s count part.site → NotesLate t.path m count → EndsChildWeight m p count t.burden → part.kind ≡ kind.SpawnedCall → Closes t (with_tables t s p true) count part
 spawned_call_closed t s m p count part ends notes heavier e = λ burden tags from o os es is joined small light.

@@ -1,6 +1,7 @@
 -- What each call on a meter does, however much is kept.
 use Rattle.std.specs.Prelude.{◌≡◌, ℕ, ◌+◌, ◌≤◌, ◌<◌, ◌^◌, Bool, true, false, nat_eq, List, [], ◌∷◌, length, Option, Some, refl}
 use Rattle.std.proofs.Common.{sym, ◌∙◌, ap, arith}
+use Rattle.std.proofs.lemmas.Bool.{true≢false}
 use Rattle.cw_model.specs.declared.burden.Burden.{Burden}
 use Rattle.cw_model.specs.declared.limits.TheConstants.{MOST_LIMIT}
 use Rattle.cw_model.specs.Trees.{Mark, Execution, Event}
@@ -20,15 +21,12 @@ use Rattle.cw_meter.proofs.MeterLaws.{Counts, CountsBegin, CountsRegion, CountsE
 use Rattle.cw_meter.proofs.RestLaws.{CountsRest, meter_rest_starts, meter_here}
 use Rattle.cw_meter.proofs.OutsideLaws.{parts_many}
 
-never : true ≡ false → ⊥
-never e = cc
-
 -- a meter that counts is none of values, and the other way round
 not_values : (d : Detail) → keeps_values d ≡ false → d ≡ Values → ⊥
-not_values d not_so e = never (sym (ap keeps_values e) ∙ not_so)
+not_values d not_so e = true≢false (sym (ap keeps_values e) ∙ not_so)
 
 not_measures : (d : Detail) (burden : Burden) → keeps_values d ≡ true → d ≡ Measures burden → ⊥
-not_measures d burden so e = never (sym so ∙ ap keeps_values e)
+not_measures d burden so e = true≢false (sym so ∙ ap keeps_values e)
 
 counted_tells : (old new : Meter) (count : ℕ) → keeps_values old.detail ≡ false → new.detail ≡ old.detail → (d : Detail) (tags : Tags) (from : Origin) (os os' : List Open) (es es' : List Event) → ((burden : Burden) → Counts old new count burden tags from os os' es es') → Tells old new count d tags from os os' es es'
 counted_tells old new count not_so kept Values tags from os os' es es' f = λ small light h. absurd (not_values old.detail not_so h.0)

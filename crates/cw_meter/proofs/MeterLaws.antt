@@ -1,6 +1,7 @@
 -- What each call on a meter does to what it tells.
 use Rattle.std.specs.Prelude.{◌≡◌, ℕ, ◌+◌, ◌≤◌, ◌<◌, Bool, false, List, [], ◌∷◌, ◌++◌, length, reverse, Option, Some, refl}
 use Rattle.std.proofs.Common.{sym, ◌∙◌, ap, subst, arith}
+use Rattle.std.proofs.lemmas.List.{append_assoc}
 use Rattle.cw_facts.specs.Lists.{reverse_pushed}
 use Rattle.cw_model.specs.declared.burden.Burden.{Burden}
 use Rattle.cw_model.specs.declared.limits.TheConstants.{MOST_LIMIT, MOST_BURDEN}
@@ -31,7 +32,7 @@ use Rattle.cw_meter.specs.Meters.{Measured, IsCounted, TablesTell, nothing_open,
 use Rattle.cw_meter.specs.Moves.{ClosesPart, JoinsBlock, Stacks, part_in}
 use Rattle.cw_meter.specs.Parts.{AreParts, IsOfKind, IsPart}
 use Rattle.cw_meter.specs.Tables.{Closes, Opens, OpensRegion, StartsTables, opened}
-use Rattle.cw_meter.proofs.AlikeLaws.{append_twice, alike_itself, alike_more, alike_trees, alike_joined, alike_closed}
+use Rattle.cw_meter.proofs.AlikeLaws.{alike_itself, alike_more, alike_trees, alike_joined, alike_closed}
 use Rattle.cw_meter.proofs.Counting.{counted_opened, one_at_most, small_run}
 use Rattle.cw_meter.proofs.TableLaws.{tables_ticked, tables_told, tags_opened}
 
@@ -142,7 +143,7 @@ meter_begins_region old mid t count next tag stacks opens sat = λ burden tags f
 -- the block that runs joins
 synced_alike : (es fs : List Event) → AreAlike es fs → AreAlike (synced es) (ticked (fs ++ Join ∷ []))
 synced_alike es fs h =
-    let P : List Event → Type 0 = λ x. AreAlike (synced es) x in subst P (sym (append_twice fs (Join ∷ []) (Work 1 ∷ []))) (alike_more es fs (Join ∷ Work 1 ∷ []) h)
+    let P : List Event → Type 0 = λ x. AreAlike (synced es) x in subst P (sym (append_assoc fs (Join ∷ []) (Work 1 ∷ []))) (alike_more es fs (Join ∷ Work 1 ∷ []) h)
 
 same_parts : (from : Origin) (tags : Tags) (os : List Open) (old new : List Part) → new ≡ old → AreParts from tags os (reverse old) → AreParts from tags os (reverse new)
 same_parts from tags os old new e h = let P : List Part → Type 0 = λ x. AreParts from tags os (reverse x) in subst P (sym e) h

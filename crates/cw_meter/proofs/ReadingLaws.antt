@@ -36,7 +36,7 @@ use Rattle.cw_meter.specs.Whole.{AreMeasures, HasNames, Reads}
 use Rattle.cw_meter.proofs.AlikeLaws.{alike_trees}
 use Rattle.cw_meter.proofs.Counting.{small_run}
 
-nothing_alike : (ps : List Open) → AreOpenAlike [] ps → ps ≡ []
+pub nothing_alike : (ps : List Open) → AreOpenAlike [] ps → ps ≡ []
 nothing_alike [] h = refl
 nothing_alike (p ∷ ps) h = absurd h
 

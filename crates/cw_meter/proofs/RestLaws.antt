@@ -1,5 +1,5 @@
 -- The rest of a block ran apart, with a meter of its own.
-use Rattle.std.specs.Prelude.{◌≡◌, ℕ, ◌+◌, ◌≤◌, Bool, true, false, not, ◌||◌, List, [], ◌∷◌, ◌++◌, reverse, refl}
+use Rattle.std.specs.Prelude.{◌≡◌, ℕ, ◌+◌, ◌≤◌, Bool, true, false, not, ◌||◌, List, [], ◌++◌, reverse, refl}
 use Rattle.std.proofs.Common.{sym, ◌∙◌, ap, subst, arith}
 use Rattle.cw_model.specs.declared.burden.Burden.{Burden}
 use Rattle.cw_model.specs.declared.limits.TheConstants.{MOST_LIMIT, MOST_BURDEN}
@@ -19,7 +19,6 @@ use Rattle.cw_regions.specs.Regions.{Readings, Tags, JoinsRegions, StartsRegions
 use Rattle.cw_meter.specs.declared.meter.Meter.{Meter}
 use Rattle.cw_meter.specs.declared.tables.Tables.{Tables}
 use Rattle.cw_meter.specs.declared.parts.Part.{Part}
-use Rattle.cw_meter.specs.Alike.{AreOpenAlike}
 use Rattle.cw_meter.specs.Origins.{Origin, Rest, base_of}
 use Rattle.cw_meter.specs.Meters.{AreTold, Measured, nothing_open}
 use Rattle.cw_meter.specs.Parts.{AreParts}
@@ -27,6 +26,7 @@ use Rattle.cw_meter.specs.Tables.{Settles, StartsTablesOfRest, TakesIn}
 use Rattle.cw_meter.proofs.AlikeLaws.{alike_itself, alike_both, here_alike, spawned_either}
 use Rattle.cw_meter.proofs.Counting.{counted_rest, small_run, fits_run, small_tags}
 use Rattle.cw_meter.proofs.TableLaws.{tables_told}
+use Rattle.cw_meter.proofs.ReadingLaws.{nothing_alike}
 
 -- a rest begins
 pub rest_tables_start : (burden : Burden) (site : ℕ) (s : SiteTable) (p : BurdenedPath) (r : RegionTable) → sites.Tells site (λ q. 0) [] [] s → ((b : Burden) → TellsWeight b [] [] p) → StartsRegions r → StartsTablesOfRest burden site (record { sites = s; path = p; regions = r; burden = burden; spawned = false })
@@ -91,11 +91,6 @@ rest_taken_in old rest new first f joins appends regions b s = λ burden tags fr
       burden_is = b ∙ h.burden_is;
       spawned_is = s ∙ spawned_either old.spawned rest.spawned es fs n h.spawned_is g.spawned_is;
     }
-
--- of a rest no part is open
-nothing_alike : (ps : List Open) → AreOpenAlike [] ps → ps ≡ []
-nothing_alike [] h = refl
-nothing_alike (p ∷ ps) h = absurd h
 
 -- what is told of a rest that is taken in, where all is counted
 abbrev pub CountsRest : (old rest new : Meter) → (count cost : ℕ) → Type 0

@@ -1,32 +1,32 @@
 -- The tables of a run are told of it together.
 use Rattle.std.specs.Prelude.{◌≡◌, ℕ, ◌+◌, ◌-◌, ◌≤◌, Bool, true, false, not, List, [], ◌∷◌, ◌++◌, Option, Some, None, refl}
 use Rattle.std.proofs.Common.{sym, ◌∙◌, ap, subst, arith}
+use Rattle.std.proofs.lemmas.List.{append-nil, append_assoc}
 use Rattle.cw_model.specs.declared.burden.Burden.{Burden}
 use Rattle.cw_model.specs.declared.limits.TheConstants.{MOST_LIMIT, MOST_BURDEN}
 use Rattle.cw_model.specs.Trees.{Mark, Invocation, Execution, Event, Work, Series, Fork, Join}
 use Rattle.cw_measure.specs.declared.burdened_path.BurdenedPath.{BurdenedPath}
 use Rattle.cw_measure.specs.OpenParts.{Open, closed, has_spawned, IsSince, Since, work_in}
 use Rattle.cw_measure.specs.StrandWeights.{TellsLate, TellsWeight, FitsRun, LatePathsWait, NotesLate, SpawnsWeight, JoinsWeight}
-use Rattle.cw_measure.specs.lemmas.OpenParts.{append_none, spawned_append, has_spawned-work, has_spawned_since}
+use Rattle.cw_measure.specs.lemmas.OpenParts.{spawned_append, has_spawned-work, has_spawned_since}
 use Rattle.cw_measure.specs.lemmas.StrandWeights.{series_need_no_call, told_late, late_begun}
 use Rattle.cw_sites.specs.declared.table.SiteTable.{SiteTable}
-use Rattle.cw_sites.specs.Tables.{Small, Notes, Enters, Spawns, SpawnsHalf, Leaves, EndsChild, EndsHalf, Joins, ReadsPath}
+use Rattle.cw_sites.specs.Tables.{Small, Notes, Enters, Spawns, SpawnsHalf, Joins, ReadsPath}
 use Rattle.cw_sites.specs.Tables as sites
 use Rattle.cw_sites.specs.lemmas.Tables.{quiet_parts}
 use Rattle.cw_regions.specs.declared.table.RegionTable.{RegionTable}
-use Rattle.cw_regions.specs.Regions.{Readings, Tags, TellsRegions, StartsRegions, IsNoExecution, SmallRegions}
+use Rattle.cw_regions.specs.Regions.{Tags, IsNoExecution}
 use Rattle.cw_regions.specs.Regions as regions
 use Rattle.cw_regions.specs.lemmas.Regions.{regions_need_no_call}
 use Rattle.cw_meter.specs.Origins.{Origin, base_of}
 use Rattle.cw_meter.specs.declared.tables.Tables.{Tables}
 use Rattle.cw_meter.specs.Meters.{AreTold, IsCounted, TablesTell, TellsTags, nothing_open, ticked}
 use Rattle.cw_meter.specs.Tables.{JoinsSpawned, Opens, OpensRegion, Settles, opened}
-use Rattle.cw_meter.proofs.AlikeLaws.{append_twice}
 use Rattle.cw_meter.proofs.Counting.{counted_ticked, counted_joined, small_run, fits_run, small_tags}
 
 -- what has not been told goes on
 more_is : (told since gs es : List Event) → told ++ since ≡ es → told ++ (since ++ gs) ≡ es ++ gs
-more_is told since gs es e = sym (append_twice told since gs) ∙ ap (λ (x : List Event). x ++ gs) e
+more_is told since gs es e = sym (append_assoc told since gs) ∙ ap (λ (x : List Event). x ++ gs) e
 
 since_work : (b : Bool) (fs : List Event) (k j : ℕ) → IsSince b fs k → IsSince b (fs ++ Work j ∷ []) (k + j)
 since_work b [] k j s = (omega arith, omega arith)
@@ -107,7 +107,7 @@ pub tables_late : (burden : Burden) (tags : Tags) (from : Origin) (count : ℕ) 
 tables_late burden tags from count os es t rows path regions counted b s = record {
   told = es;
   since = [];
-  all = append_none es;
+  all = append-nil es;
   waits = let w = counted.work in record { goes_on = omega arith; instructions = omega arith };
   sites = rows;
   path = path;
@@ -146,7 +146,7 @@ pub none_since : (burden : Burden) (from : Origin) (count : ℕ) (os : List Open
 none_since burden from count os es p counted h = let w = counted.work in let n = h.noted_is in record { goes_on = omega arith; instructions = omega arith }
 
 pub fits_now : (burden : Burden) (tags : Tags) (from : Origin) (count : ℕ) (os : List Open) (es : List Event) (t : Tables) → TablesTell burden tags from count os es t → count ≤ MOST_LIMIT → burden.charge ≤ MOST_BURDEN → FitsRun burden os (es ++ [])
-fits_now burden tags from count os es t h small light = let P : List Event → Type 0 = λ x. FitsRun burden os x in subst P (sym (append_none es)) (fits_run burden from count os es small light h.counted)
+fits_now burden tags from count os es t h small light = let P : List Event → Type 0 = λ x. FitsRun burden os x in subst P (sym (append-nil es)) (fits_run burden from count os es small light h.counted)
 
 -- tables with these sites, this path, and this of the block that runs
 abbrev pub with_tables : Tables → SiteTable → BurdenedPath → (spawned : Bool) → Tables
@@ -188,7 +188,7 @@ spawned_path : (burden : Burden) (tags : Tags) (from : Origin) (count : ℕ) (os
 spawned_path burden tags from count os es t m p mark notes spawns small light h =
     let P : List Event → Type 0 = λ x. TellsWeight burden (opened true mark x os) [] p in
     let told = path_told burden tags from count os es t m notes small light h in
-    subst P (append_none es) (spawns burden mark os es [] (none_since burden from count os es m h.counted told) (fits_now burden tags from count os es t h small light) (sym h.spawned_is ∙ sym (not_twice t.spawned)) told)
+    subst P (append-nil es) (spawns burden mark os es [] (none_since burden from count os es m h.counted told) (fits_now burden tags from count os es t h small light) (sym h.spawned_is ∙ sym (not_twice t.spawned)) told)
 
 pub spawned_call_opened : (t : Tables) (s : SiteTable) (m p : BurdenedPath) (count site : ℕ) → Spawns t.sites s count site (not t.spawned) → NotesLate t.path m count → SpawnsWeight m p count (not t.spawned) → Opens t (with_tables t s p false) count true (Some (Invocation site))
 spawned_call_opened t s m p count site spawns notes heavier = λ burden tags from os es k small light h.
@@ -258,7 +258,7 @@ tables_joined t s m p count joins notes heavier = λ burden tags from os es e sm
     let now = path_told burden tags from count os es t m notes small light h in
     tables_told burden tags from count os (es ++ Join ∷ []) (with_tables t s p false) (record {
       sites = subst S h.all (joins (base_of from) nothing_open os h.told h.since (sites_since burden tags from count os es t h) told (told_small burden tags from count os es t h small) h.sites);
-      path = subst P (append_none es) (heavier burden os es [] (none_since burden from count os es m h.counted now) (fits_now burden tags from count os es t h small light) (sym h.spawned_is ∙ e) now);
+      path = subst P (append-nil es) (heavier burden os es [] (none_since burden from count os es m h.counted now) (fits_now burden tags from count os es t h small light) (sym h.spawned_is ∙ e) now);
       regions = tags_joined burden tags from os es t.regions h.regions;
       counted = counted_joined burden from count os es h.counted;
       burden_is = h.burden_is;

@@ -1,5 +1,5 @@
 -- What is kept of the open parts of a run.
-use Rattle.std.specs.Prelude.{◌≡◌, ℕ, ◌<◌, Bool, true, false, List, [], ◌∷◌, Option, Some, None}
+use Rattle.std.specs.Prelude.{◌≡◌, ℕ, ◌<◌, true, false, List, [], ◌∷◌, Option, Some, None}
 use Rattle.cw_model.specs.Trees.{Mark, Invocation, Execution}
 use Rattle.cw_measure.specs.OpenParts.{Open, has_spawned}
 use Rattle.cw_sites.specs.OpenPaths.{here_in}
@@ -20,12 +20,6 @@ IsOfKind tags o SpawnedCall = (o.spawned ≡ true) × IsInvocation o.mark
 IsOfKind tags o Quiet = (o.spawned ≡ false) × (o.mark ≡ None)
 IsOfKind tags o Half = (o.spawned ≡ true) × (o.mark ≡ None)
 IsOfKind tags o (Region tag) = (o.spawned ≡ false) × (tag < tags.count) × (o.mark ≡ Some (Execution (tags.name tag)))
-
--- a part of this kind was spawned
-abbrev pub is_spawned : PartKind → Bool
-is_spawned SpawnedCall = true
-is_spawned Half = true
-is_spawned _ = false
 
 -- what is kept of an open part, inside of these
 pub record IsPart (from : Origin) (tags : Tags) (o : Open) (os : List Open) (p : Part) : Type 0 where

@@ -1,6 +1,6 @@
 -- Up to the join of the block that a rest begins in, the events of that block have no join.
-use Rattle.std.proofs.Common.{◌≡◌, ℕ, ℤ, Bool, true, false, if◌then◌else◌, Option, Some, None, List, [], ◌∷◌, ◌++◌, refl, subst}
-use Rattle.std.specs.Prelude.{◌&&◌, slice_get, slice_set}
+use Rattle.std.proofs.Common.{◌≡◌, ℕ, ℤ, true, false, Option, Some, None, List, [], ◌∷◌, ◌++◌, refl, subst}
+use Rattle.std.specs.Prelude.{◌&&◌}
 use Rattle.cw_model.specs.declared.syntax.CallKind.{CallKind}
 use Rattle.cw_model.specs.declared.syntax.CallKind.TheVariants.{Plain, Spawned}
 use Rattle.cw_model.specs.Syntax.{Name}
@@ -8,7 +8,8 @@ use Rattle.cw_model.specs.Trees.{Tree, Event, Work, Series, Fork, Join, works, t
 use Rattle.cw_model.specs.Outcome.{Trace}
 use Rattle.cw_code.specs.declared.code.Instr.{Instr}
 use Rattle.cw_code.specs.Code.{Code}
-use Rattle.cw_code.specs.Run.{Slots, Results, Waiting, Around, Caller, Block, State, Transition, On, Ends, Stops, Stuck, is_full, settled, synced, event_of, block_event, given_back, going_on, result_of, returns_to, back, act}
+use Rattle.cw_code.specs.Run.{Slots, Around, Caller, Block, State, Transition, On, Ends, Stops, Stuck, settled, synced, event_of, block_event, back, act}
+use Rattle.cw_code.specs.lemmas.Acts.{returning}
 use Rattle.cw_measure.specs.OpenParts.{no_joins}
 use Rattle.cw_strand_laws.specs.Jobs.{joins, is_first}
 use Rattle.cw_strand_laws.specs.lemmas.Acts.{acts_by}
@@ -55,26 +56,9 @@ call_event_none Spawned None t = refl
 call_event_none Plain (Some site) t = refl
 call_event_none Spawned (Some site) t = refl
 
-either : (b : Bool) (x y : Transition) → After x → After y → After (if b then x else y)
-either true x y h k = h
-either false x y h k = k
-
-gives_result : (kind : CallKind) (target : Option ℕ) (v : Option ℤ) (xs : Results (List ℤ)) (w : Waiting) (around : List Around) (t : Trace) → Joinless around t.events → After (result_of kind target v xs (going_on w around t))
-gives_result Plain None v xs w around t h = h
-gives_result Plain (Some a) None xs w around t h = tt
-gives_result Plain (Some a) (Some x) xs w around t h = either (is_full (slice_get w.slots a)) (On (record (going_on w around t) { arrays = settled xs w.arrays; slots = slice_set w.slots a (Some x) })) Stuck h tt
-gives_result Spawned None v xs w around t h = h
-gives_result Spawned (Some a) None xs w around t h = tt
-gives_result Spawned (Some a) (Some x) xs w around t h = h
-
 goes_back : (around : List Around) (v : Option ℤ) (arrays : Slots (List ℤ)) (t : Trace) (es : List Event) → Joinless around es → After (back around v arrays t)
-goes_back [] v arrays t es h = tt
-goes_back (Block o ∷ around) v arrays t es h = tt
-goes_back (Caller w ∷ around) v arrays t es h = cases (given_back w.taken arrays)
-  where
-    cases : (o : Option (Results (List ℤ))) → After (returns_to w around v o t)
-    cases None = tt
-    cases (Some xs) = gives_result w.kind w.target v xs w around _ (grown around w.events (event_of w.kind w.site (tree_of t.events) ∷ []) h (call_event_none w.kind w.site (tree_of t.events)))
+goes_back around v arrays t es h = returning After tt around v arrays t (λ e. tt) (λ w others e slots homes results arrived.
+    grown others w.events (event_of w.kind w.site (tree_of t.events) ∷ []) (subst (λ a. Joinless a es) e h) (call_event_none w.kind w.site (tree_of t.events)))
 
 pub stays_joinless : (code : Code) (s : State) (o : Option Instr) → Joinless s.around s.trace.events → is_first s.around && joins o ≡ false → After (act code s o)
 stays_joinless code s o h come = acts_by code s (λ j turn w. is_first s.around && j ≡ false → After w) (record {

@@ -1,6 +1,4 @@
-pub mod Going
 pub mod Joinless
 pub mod RestSites
 pub mod Strands
 pub mod Telling
-pub mod Told

@@ -31,7 +31,7 @@ use Rattle.cw_meter_laws.specs.Opens.{opens_round, whole, Gauge, IsToldOf}
 use Rattle.cw_meter_laws.specs.Strands.{site_at, StartsFrom, Metered, Started, Ran, TakenBack, Given, TellsStrand, TellsAll, MeansMeasured, MetersKeep, CallsKeepMeters, StrandsTell, MetersTellStrands, IsMeasured, RootsAreMeasured, RestsHaveNoJoins}
 use Rattle.cw_meter_laws.proofs.Joinless.{Joinless, stays_joinless}
 use Rattle.cw_meter_laws.proofs.Joinless as joinless
-use Rattle.cw_meter_laws.proofs.Told.{After}
+use Rattle.cw_meter_laws.specs.lemmas.Told.{After}
 use Rattle.cw_meter_laws.proofs.Telling.{Telling, acts_told}
 
 -- Up to the join nothing joins.

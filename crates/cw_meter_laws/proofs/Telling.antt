@@ -14,7 +14,7 @@ use Rattle.cw_meter.specs.declared.meter.Meter.{Meter}
 use Rattle.cw_meter.specs.Origins.{Origin}
 use Rattle.cw_meter.specs.Meters.{Meters, Ends, Returns, InstructionsNeedNoCall, begun, ticked}
 use Rattle.cw_meter_laws.specs.Opens.{opens_round, Gauge, BeginsBlock, IsTold, IsToldOf}
-use Rattle.cw_meter_laws.proofs.Told.{After, BlockEnds, CallEnds, BlockBegins, Tells, told}
+use Rattle.cw_meter_laws.specs.lemmas.Told.{After, BlockEnds, CallEnds, BlockBegins, Tells, told}
 
 module _ (quiet : InstructionsNeedNoCall) (code : Code) (g : Gauge code) (from : Origin) (count : ℕ) (small : count < MOST_LIMIT) (m m' : Meter) where
   abbrev pub Telling : List Open → List Event → Type 0
@@ -38,32 +38,17 @@ module _ (quiet : InstructionsNeedNoCall) (code : Code) (g : Gauge code) (from :
         subst (λ n. Telling (begun false (Some (Execution n)) es os) []) (g.named.are k tag e) (begins g.detail g.tags from os es (omega (arith, lt, all)) small g.light h)
 
     tells : (i : Instr) → IsTold m m' count i → Tells Telling from code i os es
-    tells (instr.Push v) e = ticks e
-    tells (instr.Load a) e = ticks e
-    tells (instr.Store a) e = ticks e
-    tells (instr.Unary operator line) e = ticks e
-    tells (instr.Binary operator line) e = ticks e
-    tells (instr.Skip n) e = ticks e
-    tells (instr.SkipIfZero n) e = ticks e
-    tells (instr.GoBack n) e = ticks e
     tells (instr.Call kind c) e = e g.detail g.tags from os es small g.light h
     tells (instr.Recur kind c) e = e g.detail g.tags from os es small g.light h
     tells (instr.Start c line) e = e g.detail g.tags from os es small g.light h
-    tells (instr.NewArray a line) e = ticks e
-    tells (instr.Length a) e = ticks e
-    tells (instr.Element a line) e = ticks e
-    tells (instr.SetElement a line) e = ticks e
-    tells (instr.ReadLength r) e = ticks e
-    tells (instr.ReadElement r line) e = ticks e
     tells (instr.Cut c line) e = e g.detail g.tags from os es small g.light h
     tells instr.EndCut e = block_ends e
     tells instr.Sync e = e g.detail g.tags from os es small g.light h
     tells (instr.Open kind) e = block_begins kind e
     tells instr.Close e = block_ends e
-    tells instr.Print e = ticks e
-    tells (instr.Reduce k) e = ticks e
     tells instr.ReturnValue e = call_ends e
     tells instr.Return e = call_ends e
+    tells _ e = ticks e
 
   pub acts_told : (s : State) (o : Option Instr) → IsToldOf m m' count o → Meters g.detail g.tags from count (opens_round from s.around) s.trace.events m → After Telling from (act code s o)
   acts_told s None e h = absurd e

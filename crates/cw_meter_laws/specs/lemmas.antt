@@ -1,2 +1,3 @@
 -- Lemmas on what meters are told, which the proofs of crates above cite.
 pub mod Events
+pub mod Told

@@ -14,7 +14,8 @@ ghost use Rattle.cw_model.specs.WorkLaw.{CallsTakeTheirWork};
 
 /// The burdened span of a tree is the weight of a heaviest path, at every burden, and so is its span without a burden.
 pub fn span_is_heaviest()
-    ensures burdened { (burden : Burden) (t : Tree) → IsBurdenedSpan burden t (burdened_span burden t) }
+    ensures burdened { (burden : Burden) (t : Tree)
+        → IsBurdenedSpan burden t (burdened_span burden t) }
     ensures plain { (t : Tree) → IsSpan t (span t) }
 {}
 

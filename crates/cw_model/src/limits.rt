@@ -1,4 +1,5 @@
-//! The limits of a source, a program and a run, and what a run is given where nothing else is asked.
+//! The limits of a source, a program and a run, and what a run is given where nothing else is asked. Some proofs, tests and
+//! texts spell such a number; docs/DEVELOPING.md says which.
 
 /// Bytes of a source.
 pub const MOST_SOURCE_BYTES: usize = 1_048_576;

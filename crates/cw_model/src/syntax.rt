@@ -50,7 +50,7 @@ impl Name {
     }
 }
 
-/// An operator between two operands.
+/// An operator between two operands. What a new one touches stands in docs/DEVELOPING.md.
 #[derive(Clone, Copy, Debug, PartialEq, Eq)]
 pub enum Operator {
     Equal,
@@ -66,7 +66,8 @@ pub enum Operator {
     Modulo,
 }
 
-/// How a reducer makes one total of the values that the parts of a run tell it.
+/// How a reducer makes one total of the values that the parts of a run tell it. What a new kind touches stands in
+/// docs/DEVELOPING.md.
 #[derive(Clone, Copy, Debug, PartialEq, Eq)]
 pub enum Reduction {
     /// The sum of the values.

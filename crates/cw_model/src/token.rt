@@ -1,4 +1,5 @@
-//! Tokens, as the lexer gives them and the grammar reads them.
+//! Tokens, as the lexer gives them and the grammar reads them. What a new word or sign touches stands in
+//! docs/DEVELOPING.md.
 
 /// What a token is.
 #[derive(Clone, Copy, Debug, PartialEq, Eq)]

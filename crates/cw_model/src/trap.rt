@@ -1,4 +1,4 @@
-//! Traps.
+//! Traps. What a new one touches stands in docs/DEVELOPING.md.
 
 ghost use Rattle.std.specs.Prelude.{◌≡◌};
 ghost use Rattle.cw_model.specs.Ints.{trap_number};

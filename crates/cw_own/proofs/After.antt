@@ -2,7 +2,7 @@
 use Rattle.std.proofs.Common.{◌≡◌, ℕ, pos, ◌+◌, ◌≤◌, ◌==◌, nat_lt, Bool, true, false, not, ◌&&◌, ◌||◌, if◌then◌else◌, List, [], ◌∷◌, ◌++◌, length, map, Option, Some, None, option_map, ◌⊎◌, inl, inr, ⊎_elim, subst, refl, sym, ap, ◌∙◌}
 use Rattle.std.specs.List.{list_all}
 use Rattle.std.proofs.Math.Bool.{and-false}
-use Rattle.cw_facts.specs.Tests.{neither_first, neither_second, not_lt_of}
+use Rattle.cw_facts.specs.Tests.{neither_first, neither_second, not_lt_of, not_true}
 use Rattle.cw_model.specs.declared.syntax.CallKind.TheVariants.{Plain, Spawned}
 use Rattle.cw_model.specs.declared.syntax.NameKind.{NameKind}
 use Rattle.cw_model.specs.declared.syntax.NameKind.TheVariants as name_kind
@@ -21,7 +21,7 @@ use Rattle.cw_tree.specs.lemmas.NamedSlots.{turned}
 use Rattle.cw_tree.specs.lemmas.Names.{called_is}
 use Rattle.cw_own.specs.Sets.{Slots, with_slot, Row, no_local, either_row, both_rows}
 use Rattle.cw_own.specs.Taken.{Held, none_held, taking_int, taking_array, freezing, either_held, held_within, with_target, with_arrays, known_after, after, after_all, gain, cuts_after, cuts_after_all}
-use Rattle.cw_own.proofs.Words.{or_turn}
+use Rattle.cw_own.proofs.Words.{or_turn, or_swap, none_of_both}
 use Rattle.cw_own.proofs.Keeping.{same_rows, same_held, turn_law, cuts_stay, no_more, no_more_all}
 use Rattle.cw_own.proofs.Holding.{held, held_without}
 use Rattle.cw_own.proofs.Holding as holding
@@ -46,16 +46,11 @@ int_later (spec.Int e ∷ es) slot row = int_later es slot row
 int_later (spec.Array u ∷ es) slot row = int_later es slot (taking_array u.slot row)
 int_later (spec.Shared u ∷ es) slot row = int_later es slot (freezing u.slot row)
 
-swap_or : (a b c : Bool) → (a || (b || c)) ≡ (b || (a || c))
-swap_or true true c = refl
-swap_or true false c = refl
-swap_or false b c = refl
-
 array_later : (es : List spec.Argument) (slot : ℕ) (row : Held) → with_arrays es (taking_array slot row) ≡ taking_array slot (with_arrays es row)
 array_later [] slot row = refl
 array_later (spec.Int e ∷ es) slot row = array_later es slot row
 array_later (spec.Array u ∷ es) slot row =
-    ap (with_arrays es) (same_held (taking_array u.slot (taking_array slot row)) (taking_array slot (taking_array u.slot row)) (λ k. refl) (λ k. swap_or (k == u.slot) (k == slot) (row.arrays k)) (λ k. refl))
+    ap (with_arrays es) (same_held (taking_array u.slot (taking_array slot row)) (taking_array slot (taking_array u.slot row)) (λ k. refl) (λ k. or_swap (k == u.slot) (k == slot) (row.arrays k)) (λ k. refl))
     ∙ array_later es slot (taking_array u.slot row)
 array_later (spec.Shared u ∷ es) slot row = array_later es slot (freezing u.slot row)
 
@@ -64,7 +59,7 @@ frozen_later [] slot row = refl
 frozen_later (spec.Int e ∷ es) slot row = frozen_later es slot row
 frozen_later (spec.Array u ∷ es) slot row = frozen_later es slot (taking_array u.slot row)
 frozen_later (spec.Shared u ∷ es) slot row =
-    ap (with_arrays es) (same_held (freezing u.slot (freezing slot row)) (freezing slot (freezing u.slot row)) (λ k. refl) (λ k. refl) (λ k. swap_or (k == u.slot) (k == slot) (row.frozen k)))
+    ap (with_arrays es) (same_held (freezing u.slot (freezing slot row)) (freezing slot (freezing u.slot row)) (λ k. refl) (λ k. refl) (λ k. or_swap (k == u.slot) (k == slot) (row.frozen k)))
     ∙ frozen_later es slot (freezing u.slot row)
 
 -- an integer's name alone is no array
@@ -94,7 +89,7 @@ holds_among locals depth outside xs t taken here cuts h p =
     moved [] z = refl
     moved (x ∷ xs) z =
         ap (λ b. (same_name z x && p (ReaderIn depth)) || b) (moved xs z)
-        ∙ swap_or (same_name z x && p (ReaderIn depth)) (same_name z t.0 && p t.1) (held p (frozen_by depth xs taken) z)
+        ∙ or_swap (same_name z x && p (ReaderIn depth)) (same_name z t.0 && p t.1) (held p (frozen_by depth xs taken) z)
 
 holds_given : (known : Known) (locals : Locals) (depth : ℕ) (outside : Outside) (ps : List Param) (es : List Expr) (taken : Taken) (here : Held) (cuts : Slots) → Knows known locals →
     are_arguments known ps es ≡ true → Holds locals depth outside taken here cuts →
@@ -209,9 +204,6 @@ holds_goes program lists returns known locals depth outside b here cuts taken to
     none_and : (q d n c : Bool) → (((q && (n && false)) || (d && (n && false))) || (c && false)) ≡ false
     none_and q d n c = ap (λ x. ((q && x) || (d && x)) || (c && false)) (and-false n) ∙ all_none q d c
 
-    none_ints : (q n : Bool) → (q && (n && false)) ≡ false
-    none_ints q n = ap (λ x. q && x) (and-false n) ∙ and-false q
-
     nothing : block_returns b ≡ true → ((p : Holder → Bool) → outside p ≡ no_local) × ((k : ℕ) → cuts k ≡ false) →
         Holds locals depth outside [] (held_within (known_row locals) (after_all (known_row locals) (spec.resolved_block lists locals b) here)) (cuts_after_all (spec.resolved_block lists locals b) cuts)
     nothing e none p =
@@ -221,7 +213,7 @@ holds_goes program lists returns known locals depth outside b here cuts taken to
         (sym (ap (λ r. either_row r (part p depth (held_within (known_row locals) row) less)) (none.0 p)
         ∙ ap (λ r. either_row no_local (part p depth (held_within (known_row locals) r) less)) (none_after_all lists locals (known_row locals) here b e)
         ∙ same_rows (either_row no_local (part p depth (held_within (known_row locals) none_held) less)) no_local
-        (λ k. none_ints (p (SpawnIn depth)) (nat_lt k (length locals.ints)))
+        (λ k. none_of_both (p (SpawnIn depth)) (nat_lt k (length locals.ints)))
         (λ k. ap (λ u. ((p (SpawnIn depth) && (nat_lt k (length locals.arrays) && false)) || (p (ReaderIn depth) && (nat_lt k (length locals.arrays) && false))) || (p CutOf && u)) (still_none (less k) (cuts k) (no_more_all (spec.resolved_block lists locals b) cuts k) (none.1 k))
         ∙ none_and (p (SpawnIn depth)) (p (ReaderIn depth)) (nat_lt k (length locals.arrays)) (p CutOf))))
         (shows_none locals)
@@ -296,11 +288,7 @@ for_fine program known x b new fine = ap (λ c. line_if c ++ faults_in_block pro
 
 pub new_beside : (program : Program) (known : Known) (l r : Name) → is_new program known r ≡ true → not (same_name l r) ≡ true → is_new program ((l, name_kind.Array) ∷ known) r ≡ true
 new_beside program known l r new apart =
-    ap (λ b. not ((if b then true else is_among r (map (λ k. k.0) known)) || is_among r (globals program))) (turned r l ∙ off (same_name l r) apart) ∙ new
-  where
-    off : (b : Bool) → not b ≡ true → b ≡ false
-    off true h = cc
-    off false h = refl
+    ap (λ b. not ((if b then true else is_among r (map (λ k. k.0) known)) || is_among r (globals program))) (turned r l ∙ not_true (same_name l r) apart) ∙ new
 
 pub cut_fine : (program : Program) (known : Known) (l r : Name) (b : Block) → is_new program known l ≡ true → is_new program known r ≡ true → not (same_name l r) ≡ true →
     faults_in_block program Nowhere ((r, name_kind.Array) ∷ (l, name_kind.Array) ∷ known) b ≡ [] → faults_in_block program Nowhere known (cut_block l r b) ≡ []

@@ -1,6 +1,5 @@
 -- The end of a block, by names and by slots.
 use Rattle.std.proofs.Common.{◌≡◌, ℕ, ◌≤◌, nat_lt, Bool, true, false, not, ◌&&◌, ◌||◌, if◌then◌else◌, [], ◌∷◌, ◌++◌, length, refl, sym, arith, length-append}
-use Rattle.std.proofs.lemmas.Bool.Decides.{nat_tests}
 use Rattle.cw_facts.specs.Tests.{not_lt_of}
 use Rattle.cw_model.specs.declared.syntax.NameKind.TheVariants as name_kind
 use Rattle.cw_model.specs.Syntax.{Name, Program, Declare, DeclareArray, Assign, AssignElement, Reduce, Call, Start, Begin, Sync, If, IfElse, While, For, Scope, Cut, Region, Print, Return, Block, End, Then}
@@ -15,6 +14,7 @@ use Rattle.cw_own.specs.Sets.{Row, both_rows}
 use Rattle.cw_own.proofs.Keeping.{same_rows}
 use Rattle.cw_own.proofs.Showing.{Shows, shows_as, shows_row, known_row}
 use Rattle.cw_own.proofs.Knowing.{Knows, fresh_name, knows_int, knows_array, shows_drop_int, shows_drop_array}
+use Rattle.cw_own.proofs.Fitting.{less}
 
 -- the locals that are known at the end of a block
 abbrev pub all_locals : Locals → Block → Locals
@@ -31,13 +31,10 @@ inside_mask k n r free = by (nat_lt k n) refl
 mask_twice : (k n m : ℕ) (r : Bool) → n ≤ m → (nat_lt k n && (nat_lt k m && r)) ≡ (nat_lt k n && r)
 mask_twice k n m r le = by (nat_lt k n) (nat_lt k m) refl refl
   where
-    far : (k n m : ℕ) → n ≤ m → nat_lt k n ≡ true → nat_lt k m ≡ true
-    far k n m le h = grind (arith, nat_tests, h)
-
     by : (a b : Bool) → nat_lt k n ≡ a → nat_lt k m ≡ b → (a && (b && r)) ≡ (a && r)
     by false b e f = refl
     by true true e f = refl
-    by true false e f = let g = far k n m le e in cc
+    by true false e f = let g = less k n m le e in cc
 
 pub known_mask : (locals : Locals) (P : Name → Bool) (row : Row) → Shows locals P row → both_rows (known_row locals) row ≡ row
 known_mask locals P row s = same_rows (both_rows (known_row locals) row) row

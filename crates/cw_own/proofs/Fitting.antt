@@ -17,7 +17,7 @@ record Few (n : Counts) : Type 0 where
   pub ints : n.ints ≤ MOST_DECLARED
   pub arrays : n.arrays ≤ MOST_DECLARED
 
-less : (k n m : ℕ) → n ≤ m → nat_lt k n ≡ true → nat_lt k m ≡ true
+pub less : (k n m : ℕ) → n ≤ m → nat_lt k n ≡ true → nat_lt k m ≡ true
 less k n m le h = grind (arith, nat_tests, h)
 
 int_small : (n : Counts) (u : Use) → Few n → is_below n.ints u ≡ true → is_small u ≡ true

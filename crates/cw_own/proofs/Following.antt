@@ -2,6 +2,7 @@
 use Rattle.std.proofs.Common.{◌≡◌, ℕ, ◌+◌, ◌≤◌, ◌==◌, Bool, true, false, not, ◌&&◌, ◌||◌, ◌∷◌, ◌++◌, refl, sym, ap, ◌∙◌, arith}
 use Rattle.std.proofs.lemmas.Bool.Decides.{nat_tests}
 use Rattle.std.proofs.Math.Bool.{or-false, and-false, or_assoc}
+use Rattle.cw_facts.specs.Tests.{equal}
 use Rattle.cw_model.specs.Syntax.{Name}
 use Rattle.cw_model.specs.Names.{same_name, is_among}
 use Rattle.cw_model.specs.Ownership.{Holder, SpawnIn, ReaderIn, CutOf, Taken, freed, cut_ended}
@@ -181,9 +182,6 @@ holds_either locals depth outside s t a b u v f g p =
     (λ k. two_arrays ((outside p).arrays k) (p (SpawnIn depth)) (a.arrays k) (b.arrays k) (p (ReaderIn depth)) (a.frozen k) (b.frozen k) (p CutOf) (u k) (v k)))
     (shows_either locals (held p s) (held p t) (all_of p depth outside a u) (all_of p depth outside b v) (f p) (g p)))
 
-same_depth : (d : ℕ) → (d == d) ≡ true
-same_depth d = grind (arith, nat_tests)
-
 other_depth : (d : ℕ) → (d == d + 1) ≡ false
 other_depth d = grind (arith, nat_tests)
 
@@ -215,9 +213,9 @@ holds_freed locals depth outside taken here cuts steady h p =
     (shows_row locals (held left taken) (all_of left depth outside here cuts) (all_of p depth outside none_held cuts)
     (same_rows (all_of left depth outside here cuts) (all_of p depth outside none_held cuts)
     (λ k. ap (λ (r : Row). r.ints k || ((p (SpawnIn depth) && not (depth == depth)) && here.ints k)) same
-    ∙ freed_ints ((outside p).ints k) (p (SpawnIn depth)) (here.ints k) (depth == depth) (same_depth depth))
+    ∙ freed_ints ((outside p).ints k) (p (SpawnIn depth)) (here.ints k) (depth == depth) (equal depth depth refl))
     (λ k. ap (λ (r : Row). r.arrays k || ((((p (SpawnIn depth) && not (depth == depth)) && here.arrays k) || ((p (ReaderIn depth) && not (depth == depth)) && here.frozen k)) || ((p CutOf && true) && cuts k))) same
-    ∙ freed_arrays ((outside p).arrays k) (p (SpawnIn depth)) (here.arrays k) (p (ReaderIn depth)) (here.frozen k) (p CutOf) (cuts k) (depth == depth) (same_depth depth)))
+    ∙ freed_arrays ((outside p).arrays k) (p (SpawnIn depth)) (here.arrays k) (p (ReaderIn depth)) (here.frozen k) (p CutOf) (cuts k) (depth == depth) (equal depth depth refl)))
     (h left))
 
 -- what is held from outside as a sync block begins
@@ -297,13 +295,13 @@ holds_left locals depth outside here taken inner cuts steady h p =
     (λ k.
     ap (λ (r : Row). (r.ints k || ((p (SpawnIn depth) && not (depth == depth + 1)) && here.ints k)) || ((p (SpawnIn (depth + 1)) && not (depth + 1 == depth + 1)) && inner.ints k)) same
     ∙ ap (λ b. ((outside p).ints k || (b && here.ints k)) || ((p (SpawnIn (depth + 1)) && not (depth + 1 == depth + 1)) && inner.ints k)) other
-    ∙ left_ints ((outside p).ints k) (p (SpawnIn depth)) (here.ints k) (p (SpawnIn (depth + 1))) (inner.ints k) (depth + 1 == depth + 1) (same_depth (depth + 1)))
+    ∙ left_ints ((outside p).ints k) (p (SpawnIn depth)) (here.ints k) (p (SpawnIn (depth + 1))) (inner.ints k) (depth + 1 == depth + 1) (equal (depth + 1) (depth + 1) refl))
     (λ k.
     let rest = (((p (SpawnIn (depth + 1)) && not (depth + 1 == depth + 1)) && inner.arrays k) || ((p (ReaderIn (depth + 1)) && not (depth + 1 == depth + 1)) && inner.frozen k)) || ((p CutOf && true) && cuts k) in
     ap (λ (r : Row). (r.arrays k || (((p (SpawnIn depth) && not (depth == depth + 1)) && here.arrays k) || ((p (ReaderIn depth) && not (depth == depth + 1)) && here.frozen k))) || rest) same
     ∙ ap (λ b. ((outside p).arrays k || ((b && here.arrays k) || ((p (ReaderIn depth) && not (depth == depth + 1)) && here.frozen k))) || rest) spawn
     ∙ ap (λ b. ((outside p).arrays k || ((p (SpawnIn depth) && here.arrays k) || (b && here.frozen k))) || rest) reader
-    ∙ left_arrays ((outside p).arrays k) (spun p depth here k) (p (SpawnIn (depth + 1))) (inner.arrays k) (p (ReaderIn (depth + 1))) (inner.frozen k) (p CutOf) (cuts k) (depth + 1 == depth + 1) (same_depth (depth + 1))))
+    ∙ left_arrays ((outside p).arrays k) (spun p depth here k) (p (SpawnIn (depth + 1))) (inner.arrays k) (p (ReaderIn (depth + 1))) (inner.frozen k) (p CutOf) (cuts k) (depth + 1 == depth + 1) (equal (depth + 1) (depth + 1) refl)))
     (h left))
 
 -- one name more

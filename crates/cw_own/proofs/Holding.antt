@@ -5,7 +5,7 @@ use Rattle.std.proofs.Math.Bool.{and-false, or_assoc}
 use Rattle.cw_model.specs.Syntax.{Name}
 use Rattle.cw_model.specs.Names.{same_name, is_among}
 use Rattle.cw_model.specs.Ownership.{Holder, SpawnIn, ReaderIn, CutOf, Taken, is_reader, is_taken, is_held, is_spawn_in, freed, is_cut_of, cut_ended, without}
-use Rattle.cw_own.proofs.Words.{if_or, and_all}
+use Rattle.cw_own.proofs.Words.{if_or, and_all, none_of_both}
 
 -- a holder of this kind holds the name
 abbrev pub held : (Holder → Bool) → Taken → Name → Bool
@@ -69,19 +69,10 @@ held_freed depth p (t ∷ taken) x = by (not (is_spawn_in depth t.1)) refl (held
     by true e h =
         ap (λ r. (same_name x t.0 && p t.1) || r) h
         ∙ ap (λ b. (same_name x t.0 && b) || held (but_spawn depth p) taken x) (sym (ap (λ b. p t.1 && b) e ∙ and_all (p t.1)))
-    by false e h = h ∙ ap (λ b. b || held (but_spawn depth p) taken x) (sym (ap (λ b. same_name x t.0 && (p t.1 && b)) e ∙ none (same_name x t.0) (p t.1)))
-      where
-        none : (a b : Bool) → (a && (b && false)) ≡ false
-        none true true = refl
-        none true false = refl
-        none false b = refl
+    by false e h = h ∙ ap (λ b. b || held (but_spawn depth p) taken x) (sym (ap (λ b. same_name x t.0 && (p t.1 && b)) e ∙ none_of_both (same_name x t.0) (p t.1)))
 
 pub held_without : (names : List Name) (p : Holder → Bool) (taken : Taken) (x : Name) → held p (without names taken) x ≡ (not (is_among x names) && held p taken x)
-held_without names p [] x = one (not (is_among x names))
-  where
-    one : (a : Bool) → false ≡ (a && false)
-    one true = refl
-    one false = refl
+held_without names p [] x = sym (and-false (not (is_among x names)))
 held_without names p (t ∷ taken) x = by (not (is_among t.0 names)) refl (held_without names p taken x)
   where
     by : (b : Bool) → not (is_among t.0 names) ≡ b → held p (without names taken) x ≡ (not (is_among x names) && held p taken x) →
@@ -110,16 +101,8 @@ held_uncut a p [] x = refl
 held_uncut a p ((n, h) ∷ taken) x = by (not (is_cut_of a (n, h))) refl (held_uncut a p taken x)
   where
     cut_is : (h : Holder) → same_name x n ≡ true → is_cut_of a (n, h) ≡ (same_name a x && is_cut h)
-    cut_is (SpawnIn d) s = none (same_name a x)
-      where
-        none : (b : Bool) → false ≡ (b && false)
-        none true = refl
-        none false = refl
-    cut_is (ReaderIn d) s = none (same_name a x)
-      where
-        none : (b : Bool) → false ≡ (b && false)
-        none true = refl
-        none false = refl
+    cut_is (SpawnIn d) s = sym (and-false (same_name a x))
+    cut_is (ReaderIn d) s = sym (and-false (same_name a x))
     cut_is CutOf s = ap (same_name a) (sym ((bytes_eq-Decides x n).0 s)) ∙ sym (and_all (same_name a x))
 
     by : (b : Bool) → not (is_cut_of a (n, h)) ≡ b → held p (cut_ended a taken) x ≡ held (uncut_test a p x) taken x →
@@ -131,12 +114,8 @@ held_uncut a p ((n, h) ∷ taken) x = by (not (is_cut_of a (n, h))) refl (held_u
         here false same = refl
     by false e i = i ∙ ap (λ b. b || held (uncut_test a p x) taken x) (here (same_name x n) refl)
       where
-        none : (b : Bool) → false ≡ (b && false)
-        none true = refl
-        none false = refl
-
         here : (s : Bool) → same_name x n ≡ s → false ≡ (s && (p h && not (same_name a x && is_cut h)))
-        here true same = none (p h) ∙ ap (λ b. p h && b) (sym e) ∙ ap (λ b. p h && not b) (cut_is h same)
+        here true same = sym (and-false (p h)) ∙ ap (λ b. p h && b) (sym e) ∙ ap (λ b. p h && not b) (cut_is h same)
         here false same = refl
 
 -- names that are held by no holder of a greater kind are held by none of a lesser one

@@ -1,6 +1,7 @@
 -- The lines by slots are those of the language.
 use Rattle.std.proofs.Common.{◌≡◌, Bool, true, false, not, ◌&&◌, ◌||◌, if◌then◌else◌, List, [], ◌∷◌, map, flat_map, None, inr, refl, sym, ap, ◌∙◌}
 use Rattle.std.specs.List.{list_all, list_any}
+use Rattle.std.proofs.Math.Bool.{and-false}
 use Rattle.cw_model.specs.Lines.{unless, lowest}
 use Rattle.cw_model.specs.Names.{is_among, differ}
 use Rattle.cw_model.specs.Syntax.{Program, Param}
@@ -43,17 +44,13 @@ function_by_slot program lists same f right fine =
           ∙ ap (λ b. lowest o (block_lines None (with_params 0 0 f.params no_local) nothing Joins b)) (sym (body_is lists f right));
     }
   where
-    no_int : (q : Bool) → false ≡ (q && false)
-    no_int true = refl
-    no_int false = refl
-
     no_array : (q d c : Bool) → false ≡ (((q && false) || (d && false)) || (c && false))
     no_array q d c = sym (all_none q d c)
 
     nothing_held : (p : Holder → Bool) → showing.Shows (locals_of f.params) (λ x. holding.held p [] x) (following.all_of p 1 (λ p. no_local) none_held no_slot)
     nothing_held p =
         showing.shows_row (locals_of f.params) (λ x. false) no_local (following.all_of p 1 (λ p. no_local) none_held no_slot)
-        (same_rows no_local (following.all_of p 1 (λ p. no_local) none_held no_slot) (λ k. no_int (p (SpawnIn 1))) (λ k. no_array (p (SpawnIn 1)) (p (ReaderIn 1)) (p CutOf)))
+        (same_rows no_local (following.all_of p 1 (λ p. no_local) none_held no_slot) (λ k. sym (and-false (p (SpawnIn 1)))) (λ k. no_array (p (SpawnIn 1)) (p (ReaderIn 1)) (p CutOf)))
         (shows_none (locals_of f.params))
 
 functions_by_slot : (program : Program) (lists : Lists) → lists.callees ≡ program.functions → (fs : List Function) → list_all (is_right_function lists) fs ≡ true → flat_map (faults_of program) (map plain_function fs) ≡ [] →

@@ -20,7 +20,7 @@ use Rattle.cw_own.specs.Sets.{Slots, no_slot, with_slot, Row}
 use Rattle.cw_own.specs.Taken as rows
 use Rattle.cw_own.specs.Rules as rules
 use Rattle.cw_own.specs.Rules.{Loop, passed_once, given_away, none_read, named_once}
-use Rattle.cw_own.proofs.Words.{if_or, and_all, and_group}
+use Rattle.cw_own.proofs.Words.{if_or, and_all, and_group, not_either, four_or}
 use Rattle.cw_own.proofs.Showing.{Shows, shows_as, shows_row, shows_none, shows_array, array_shown}
 use Rattle.cw_own.proofs.Knowing.{Knows, array_apart}
 use Rattle.cw_own.proofs.After.{param, int_argument, array_argument}
@@ -42,11 +42,7 @@ once seen [] = true
 once seen (x ∷ xs) = not (is_among x seen) && once (x ∷ seen) xs
 
 once_words : (a b c d : Bool) → (not a && (b && not (c || d))) ≡ ((not c && b) && not (a || d))
-once_words true b c d = and_false (not c && b)
-  where
-    and_false : (x : Bool) → false ≡ (x && false)
-    and_false true = refl
-    and_false false = refl
+once_words true b c d = sym (and-false (not c && b))
 once_words false true true d = refl
 once_words false true false d = refl
 once_words false false true d = refl
@@ -57,15 +53,9 @@ among_any a seen [] = refl
 among_any a seen (x ∷ xs) =
     ap (λ b. b || list_any (λ y. is_among y (a ∷ seen)) xs) (if_or (same_name x a) (is_among x seen))
     ∙ ap (λ b. (same_name x a || is_among x seen) || b) (among_any a seen xs)
-    ∙ by (same_name x a) (is_among x seen) (is_among a xs) (list_any (λ y. is_among y seen) xs)
+    ∙ four_or (same_name x a) (is_among x seen) (is_among a xs) (list_any (λ y. is_among y seen) xs)
     ∙ ap (λ b. (b || is_among a xs) || (is_among x seen || list_any (λ y. is_among y seen) xs)) (turned x a)
     ∙ ap (λ b. b || (is_among x seen || list_any (λ y. is_among y seen) xs)) (sym (if_or (same_name a x) (is_among a xs)))
-  where
-    by : (a b c d : Bool) → ((a || b) || (c || d)) ≡ ((a || c) || (b || d))
-    by true b c d = refl
-    by false true true d = refl
-    by false true false d = refl
-    by false false c d = refl
 
 once_is : (seen xs : List Name) → once seen xs ≡ (differ xs && not (list_any (λ x. is_among x seen) xs))
 once_is seen [] = refl
@@ -119,11 +109,7 @@ abbrev lent_of : NameKind → Expr → List Name
 lent_of kind e = if is_const_kind kind then names_in e else []
 
 inner_more : (around : Around) (x : Name) (xs : List Name) → are_inner around (x ∷ xs) ≡ (not (is_outer around x) && are_inner around xs)
-inner_more around x xs = by (is_outer around x) (list_any (λ y. is_outer around y) xs)
-  where
-    by : (a b : Bool) → not (a || b) ≡ (not a && not b)
-    by true b = refl
-    by false b = refl
+inner_more around x xs = not_either (is_outer around x) (list_any (λ y. is_outer around y) xs)
 
 -- arguments that are read, given away or only read
 args_same : (known : Known) (locals : Locals) (around : Around) (l : Option Loop) (taken : Taken) (t : rows.Taken) (ps : List Param) (es : List Expr) → Knows known locals → are_arguments known ps es ≡ true → Rounds locals around l → Sees locals taken t →
@@ -283,17 +269,13 @@ read_is known locals (p ∷ ps) (e ∷ es) away set k h s =
     by p.kind e (both_left (is_argument known p.kind e) (are_arguments known ps es) h)
     (read_is known locals ps es away set k (both_right (is_argument known p.kind e) (are_arguments known ps es) h) s)
   where
-    words : (a b : Bool) → not (a || b) ≡ (not a && not b)
-    words true b = refl
-    words false b = refl
-
     by : (kind : NameKind) (e : Expr) → is_argument known kind e ≡ true →
         not (list_any (λ a. is_among a away) (arrays_lent ps es)) ≡ none_read set (resolved_arguments locals ps es) →
         not (list_any (λ a. is_among a away) (lent_of kind e ++ arrays_lent ps es)) ≡ none_read set (resolved_argument locals (param p.name kind ∷ ps) e ∷ resolved_arguments locals ps es)
     by name_kind.Integer e f more = more ∙ ap (λ a. none_read set (a ∷ resolved_arguments locals ps es)) (sym (int_argument known locals (param p.name name_kind.Integer ∷ ps) e k f))
     by name_kind.Array (Variable a) f more = more ∙ ap (λ u. none_read set (u ∷ resolved_arguments locals ps es)) (sym (array_argument known locals (param p.name name_kind.Array ∷ ps) a k (writable_array known a f)))
     by name_kind.Const (Variable a) f more =
-        words (is_among a away) (list_any (λ a. is_among a away) (arrays_lent ps es))
+        not_either (is_among a away) (list_any (λ a. is_among a away) (arrays_lent ps es))
         ∙ ap (λ b. not b && not (list_any (λ a. is_among a away) (arrays_lent ps es))) (array_shown locals (λ y. is_among y away) (arrays_row set) a (array_apart known locals a k (k.arrays a f)) s)
         ∙ ap (λ b. not (set (slot_of a locals.arrays)) && b) more
         ∙ ap (λ u. none_read set (u ∷ resolved_arguments locals ps es)) (sym (array_argument known locals (param p.name name_kind.Const ∷ ps) a k f))

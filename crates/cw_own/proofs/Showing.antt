@@ -8,7 +8,7 @@ use Rattle.cw_tree.specs.Resolved.{Locals, slot_of}
 use Rattle.cw_tree.specs.Resolved as spec
 use Rattle.cw_tree.specs.lemmas.NamedSlots.{one_slot, slot_in, slot_out}
 use Rattle.cw_own.specs.Sets.{Slots, Row, no_local, with_int, with_array, either_row}
-use Rattle.cw_own.proofs.Words.{four_or}
+use Rattle.cw_own.proofs.Words.{four_or, or_swap}
 
 -- a known name keeps its slot
 pub slot_kept : (x : Name) (names : List Name) (y : Name) → is_among x names ≡ true → slot_of x (names ++ y ∷ []) ≡ slot_of x names
@@ -104,15 +104,10 @@ shows_array locals x P row there s = record {
   same = λ z.
       ap (λ b. same_name z x || b) (s.same z)
       ∙ ap (λ b. b || (row.ints (slot_of z locals.ints) || row.arrays (slot_of z locals.arrays))) (sym (one_slot z x locals.arrays there))
-      ∙ moved (slot_of z locals.arrays == slot_of x locals.arrays) (row.ints (slot_of z locals.ints)) (row.arrays (slot_of z locals.arrays));
+      ∙ or_swap (slot_of z locals.arrays == slot_of x locals.arrays) (row.ints (slot_of z locals.ints)) (row.arrays (slot_of z locals.arrays));
   ints_end = s.ints_end;
   arrays_end = λ k h. ap (λ b. b || row.arrays k) (beyond_not (slot_of x locals.arrays) (length locals.arrays) k (slot_in x locals.arrays there) h) ∙ s.arrays_end k h;
 }
-  where
-    moved : (a b c : Bool) → (a || (b || c)) ≡ (b || (a || c))
-    moved true true c = refl
-    moved true false c = refl
-    moved false b c = refl
 
 -- an integer is in the set where its slot is in the row
 pub int_shown : (locals : Locals) (P : Name → Bool) (row : Row) (x : Name) → is_among x locals.arrays ≡ false → Shows locals P row →

@@ -18,6 +18,7 @@ use Rattle.cw_own.specs.Rules.{Loop, is_outer_int, is_outer_array}
 use Rattle.cw_own.proofs.Showing.{slot_kept, Shows, shows_none, shows_push_int, shows_push_array, int_shown, array_shown}
 use Rattle.cw_own.proofs.Knowing.{Knows, array_apart}
 use Rattle.cw_own.proofs.Holding.{held, any_holder, no_reader, held_is, taken_is}
+use Rattle.cw_own.proofs.Words.{or_none_of}
 
 -- the row of what is taken
 abbrev pub row_of_taken : rows.Taken → Row
@@ -98,11 +99,6 @@ outer_array known locals NoLoop (Some l) x k h r = absurd r
 outer_array known locals (InLoop outer i over) None x k h r = absurd r
 outer_array known locals (InLoop outer i over) (Some l) x k h r = array_shown locals (λ x. is_among x outer) l.outer x (array_apart known locals x k (k.arrays x h)) r.outside
 
-no_more_words : (a b : Bool) → a ≡ (a || (b && false))
-no_more_words true b = refl
-no_more_words false true = refl
-no_more_words false false = refl
-
 pub index_same : (known : Known) (locals : Locals) (around : Around) (l : Option Loop) (a : Name) (e : Expr) → Knows known locals → is_array known a ≡ true → is_fine known e ≡ true → Rounds locals around l →
     may_index around a e ≡ rules.may_index l (slot_of a locals.arrays) (resolved_expr locals e)
 index_same known locals NoLoop None a e k h f r = refl
@@ -114,7 +110,7 @@ index_same known locals (InLoop outer i over) (Some l) a e k h f r = by e f
     out = ap not (array_shown locals (λ x. is_among x outer) l.outer a (array_apart known locals a k (k.arrays a h)) r.outside)
 
     plain_one : not (is_among a outer) ≡ (not (l.outer.arrays (slot_of a locals.arrays)) || (l.over (slot_of a locals.arrays) && false))
-    plain_one = out ∙ no_more_words (not (l.outer.arrays (slot_of a locals.arrays))) (l.over (slot_of a locals.arrays))
+    plain_one = out ∙ or_none_of (not (l.outer.arrays (slot_of a locals.arrays))) (l.over (slot_of a locals.arrays))
 
     by : (e : Expr) → is_fine known e ≡ true → may_index (InLoop outer i over) a e ≡ (not (l.outer.arrays (slot_of a locals.arrays)) || (l.over (slot_of a locals.arrays) && rules.is_variable l.variable (resolved_expr locals e)))
     by (Variable j) f =
@@ -143,9 +139,6 @@ element_words false true false l = refl
 element_words false false true l = refl
 element_words false false false l = refl
 
-binary_words : (a b c d : Bool) → (not (a || b) && (c && d)) ≡ ((not a && c) && (not b && d))
-binary_words a b c d = element_words a b c d
-
 pub read_same : (known : Known) (locals : Locals) (around : Around) (l : Option Loop) (taken : Taken) (t : rows.Taken) (e : Expr) → Knows known locals → is_fine known e ≡ true → Rounds locals around l → Sees locals taken t →
     may_read around taken e ≡ rules.may_read l t (resolved_expr locals e)
 read_same known locals around l taken t (Number n) k f r s = refl
@@ -164,7 +157,7 @@ read_same known locals around l taken t (Negative e) k f r s = read_same known l
 read_same known locals around l taken t (Not e) k f r s = read_same known locals around l taken t e k f r s
 read_same known locals around l taken t (Binary o d e) k f r s =
     ap (λ b. not b && (keeps_loop around d && keeps_loop around e)) (any_append (λ x. is_taken taken x) (names_in d) (names_in e))
-    ∙ binary_words (list_any (λ x. is_taken taken x) (names_in d)) (list_any (λ x. is_taken taken x) (names_in e)) (keeps_loop around d) (keeps_loop around e)
+    ∙ element_words (list_any (λ x. is_taken taken x) (names_in d)) (list_any (λ x. is_taken taken x) (names_in e)) (keeps_loop around d) (keeps_loop around e)
     ∙ ap (λ b. b && (not (list_any (λ x. is_taken taken x) (names_in e)) && keeps_loop around e)) (read_same known locals around l taken t d k (both_left (is_fine known d) (is_fine known e) f) r s)
     ∙ ap (λ b. rules.may_read l t (resolved_expr locals d) && b) (read_same known locals around l taken t e k (both_right (is_fine known d) (is_fine known e) f) r s)
 

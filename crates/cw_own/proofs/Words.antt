@@ -1,5 +1,5 @@
 -- Words of tests.
-use Rattle.std.proofs.Common.{◌≡◌, Bool, true, false, ◌&&◌, ◌||◌, if◌then◌else◌, refl}
+use Rattle.std.proofs.Common.{◌≡◌, Bool, true, false, ◌&&◌, ◌||◌, if◌then◌else◌, refl, not}
 
 pub if_or : (a b : Bool) → (if a then true else b) ≡ (a || b)
 if_or true b = refl
@@ -64,3 +64,22 @@ pub masked : (n a h k : Bool) → (n && (a || (h && k))) ≡ ((n && a) || (h && 
 masked true a h k = refl
 masked false a true k = refl
 masked false a false k = refl
+
+pub or_swap : (a b c : Bool) → (a || (b || c)) ≡ (b || (a || c))
+or_swap true true c = refl
+or_swap true false c = refl
+or_swap false b c = refl
+
+pub none_of_both : (a b : Bool) → (a && (b && false)) ≡ false
+none_of_both true true = refl
+none_of_both true false = refl
+none_of_both false b = refl
+
+pub or_none_of : (a b : Bool) → a ≡ (a || (b && false))
+or_none_of true b = refl
+or_none_of false true = refl
+or_none_of false false = refl
+
+pub not_either : (a b : Bool) → not (a || b) ≡ (not a && not b)
+not_either true b = refl
+not_either false b = refl

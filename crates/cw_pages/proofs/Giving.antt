@@ -1,16 +1,13 @@
 -- A number is given its item through the list that it lies in.
-use Rattle.std.specs.Prelude.{◌≡◌, ℕ, ◌+◌, ◌*◌, ◌/◌, ◌%◌, ◌<◌, ◌==◌, true, false, List, [], length, if◌then◌else◌}
+use Rattle.std.specs.Prelude.{◌≡◌, ℕ, ◌+◌, ◌*◌, ◌/◌, ◌%◌, ◌<◌, ◌==◌, false, List, [], length, if◌then◌else◌}
 use Rattle.std.specs.Global.{Vec}
-use Rattle.std.proofs.Common.{sym, ◌∙◌, ap, subst, inl, inr, set, get_or, arith}
+use Rattle.std.proofs.Common.{sym, ◌∙◌, ap, subst, inl, inr, set, get_or, arith, refl}
 use Rattle.std.proofs.lemmas.Bool.{cases_lt}
 use Rattle.std.proofs.lemmas.Bool.Decides.{nat_tests}
 use Rattle.std.proofs.lemmas.List.{get_or-set_same, get_or-map, get_or-set_other, length-map, map-set}
 use Rattle.std.proofs.lemmas.Nat.{div-add-mod'}
-use Rattle.cw_facts.specs.Tests.{less_differs, taken, not_taken}
+use Rattle.cw_facts.specs.Tests.{less_differs, taken, not_taken, equal}
 use Rattle.cw_pages.specs.Items.{lists_of}
-
-same_number : (n : ℕ) → (n == n) ≡ true
-same_number n = grind (arith, nat_tests)
 
 more_number : (n k : ℕ) → k < n → (n == k) ≡ false
 more_number n k h = grind (arith, nat_tests)
@@ -28,7 +25,7 @@ given {A} {T} read e w old mid x n v same within gives k = elim (cases_lt n k) [
     | inr le ↦
         (let is : n ≡ k = omega arith in
         let P : ℕ → Type 0 = λ j. read (get_or (set mid (n / w) x) (j / w) e) (j % w) ≡ (if n == j then v else read (get_or old (j / w) e) (j % w)) in
-        subst P is (ap (λ (y : A). read y (n % w)) (get_or-set_same mid (n / w) x e within) ∙ gives (n % w) ∙ taken (n % w == n % w) v (read (get_or mid (n / w) e) (n % w)) (same_number (n % w)) ∙ sym (taken (n == n) v (read (get_or old (n / w) e) (n % w)) (same_number n))))
+        subst P is (ap (λ (y : A). read y (n % w)) (get_or-set_same mid (n / w) x e within) ∙ gives (n % w) ∙ taken (n % w == n % w) v (read (get_or mid (n / w) e) (n % w)) (equal (n % w) (n % w) refl) ∙ sym (taken (n == n) v (read (get_or old (n / w) e) (n % w)) (equal n n refl))))
   ]
 ]
   where

@@ -93,9 +93,6 @@ totals_known : (code : Code) (totals : List Total) (updates : List (Name × ℤ)
     → totals ≡ map (λ r. kept (total_to r.how r.name updates)) code.reducers
 totals_known code totals updates h = known_all (λ r. kept (total_to r.how r.name updates)) code.reducers totals h.as_many h.are
 
-abbrev shown_with : List Held → List ℤ → views.Shown
-shown_with s l = record { totals = s; lines = l }
-
 pub effects_show_views : SumsHoldIntegers → EffectsShowViews
 effects_show_views law code a b both t u m n k h i j =
     let totals : map held both.totals.items ≡ totals_joined (map held a.totals.items) (map held b.totals.items) =

@@ -1,27 +1,20 @@
 -- The serial run within a limit is the whole run, tested against the limit, and so the runs of pieces join to it.
-use Rattle.std.specs.Prelude.{◌≡◌, ℕ, ℤ, ◌+◌, ◌-◌, nat_lt, Bool, true, false, List, [], ◌∷◌, ◌++◌, Option, Some, None, refl}
+use Rattle.std.specs.Prelude.{◌≡◌, ℕ, ℤ, ◌+◌, ◌-◌, nat_lt, Bool, true, false, List, Option, Some, None, refl}
 use Rattle.std.proofs.Common.{sym, ◌∙◌, ap, arith}
 use Rattle.std.proofs.lemmas.List.{append-nil, append_assoc}
 use Rattle.cw_facts.specs.Tests.{not_lt_of, lt_of, not_below}
 use Rattle.cw_model.specs.declared.trap.Trap.{Trap}
 use Rattle.cw_model.specs.Syntax.{Name}
-use Rattle.cw_model.specs.Trees.{Mark, Event, Work, Series, Fork, Join, tree_of, work}
+use Rattle.cw_model.specs.Trees.{Mark, Event}
 use Rattle.cw_model.specs.Outcome.{Trace, quiet, joined}
+use Rattle.cw_measure.specs.lemmas.OpenParts.{work-append}
 use Rattle.cw_part.specs.Parts.{IsLawful, Came, Completed, Trapped, Over, Memory, followed, seen, over_if, within}
 use Rattle.cw_part.specs.PartFacts.{tested_stays}
 use Rattle.cw_part.specs.PartLaws.{followed-assoc, none_followed, tested_first, tested_second}
 use Rattle.cw_part.specs.Runs.{Run, Ends, Shows, Traps, Inside, then_run, cost, traces, as_event, goes_on, serial}
 
--- the cost of two traces is that of both, and a part inside costs what its events do
-work_both : (es fs : List Event) → work (tree_of (es ++ fs)) ≡ work (tree_of es) + work (tree_of fs)
-work_both [] fs = omega arith
-work_both (Work k ∷ es) fs = let m = work_both es fs in omega arith
-work_both (Series t ∷ es) fs = let m = work_both es fs in omega arith
-work_both (Fork t ∷ es) fs = let m = work_both es fs in omega arith
-work_both (Join ∷ es) fs = let m = work_both es fs in omega arith
-
 pub cost_both : (t u : Trace) → cost (joined t u) ≡ cost t + cost u
-cost_both t u = work_both t.events u.events
+cost_both t u = work-append t.events u.events
 
 pub cost_inside : (spawned : Bool) (mark : Option Mark) (t : Trace) → cost (as_event spawned mark t) ≡ cost t
 cost_inside true None t = omega arith

@@ -1,7 +1,7 @@
 -- What each call on a recorder does.
 use Rattle.std.specs.Prelude.{ℕ, ◌+◌, ◌-◌, ◌≡◌, ◌≤◌, ◌<◌, Bool, true, false, not, Option, Some, None, IsSome, List, [], ◌∷◌, ◌++◌, reverse, refl}
 use Rattle.std.proofs.Common.{arith, ap, sym, ◌∙◌, subst}
-use Rattle.std.proofs.lemmas.List.{append_assoc}
+use Rattle.std.proofs.lemmas.List.{append_assoc, append-nil}
 use Rattle.cw_facts.specs.Lists.{reverse_pushed}
 use Rattle.cw_model.specs.declared.limits.TheConstants.{MOST_LIMIT}
 use Rattle.cw_model.specs.Trees.{Tree, Marked, Mark, Invocation, Execution, Event, Work, normal, tree_of}
@@ -23,9 +23,6 @@ use Rattle.cw_recorded.specs.Recording.{opening, ending, ending_in, codes_in, Is
 use Rattle.cw_recorded.proofs.Merged.{onto-append, same_merged, nothing_behind}
 use Rattle.cw_recorded.proofs.Normals.{ticked_apart, synced_apart, call_apart, block_apart, tree_followed, marked_child}
 use Rattle.cw_recorded.proofs.Recordings.{same_cuts, keeps_as, keeps_later, keeps_cut, keeps_noted, codes_ticked, spawned_ticked, spawned_synced, codes_begun, codes_synced, codes_ended, codes_returned}
-
-pub never : true ≡ false → ⊥
-never e = cc
 
 -- what is noted
 pub noted_now : (old new : Recorder) (count : ℕ) → new.noted ≡ count → new.kept ≡ followed old.kept (Some (Instructions (count - old.noted) ∷ [])) → new.out ≡ old.out → new.parts.items ≡ old.parts.items → Notes old new count []
@@ -67,10 +64,6 @@ noted_cut old mid new count code s k n o p = record {
 nothing_between : (a b : List Code) → Same (a ++ Instructions 0 ∷ b) (a ++ b)
 nothing_between a b = λ l. onto-append a (Instructions 0 ∷ b) l ∙ sym (onto-append a b l)
 
-nothing_more : (a : List Code) → a ++ [] ≡ a
-nothing_more [] = refl
-nothing_more (x ∷ a) = ap (λ (l : List Code). x ∷ l) (nothing_more a)
-
 -- a cut at this count
 pub cut_here : (old new : Recorder) (count : ℕ) (code : Code) (codes : List Code) → Notes old new count (code ∷ []) → old.noted ≤ count → Keeps (count - old.noted) codes old.kept → (new.noted ≤ count) × Keeps (count - new.noted) (codes ++ code ∷ []) new.kept
 cut_here old new count code codes s le h =
@@ -110,7 +103,7 @@ joined_now old mid count out s codes le h =
 
 pub joined_not : (old : Recorder) (count : ℕ) → old.out ≡ false → Joins old old count
 joined_not old count out codes le h =
-    (le, subst (λ (b : Bool). Keeps (count - old.noted) (codes ++ to_join b) old.kept) (sym out) (subst (λ (l : List Code). Keeps (count - old.noted) l old.kept) (sym (nothing_more codes)) h))
+    (le, subst (λ (b : Bool). Keeps (count - old.noted) (codes ++ to_join b) old.kept) (sym out) (subst (λ (l : List Code). Keeps (count - old.noted) l old.kept) (sym (append-nil codes)) h))
 
 pub parts_pushed : (o : Open) (os : List Open) (p : Part) (old new : List Part) → IsOpen os → new ≡ old ++ p ∷ [] → IsOfKind o p.kind → p.out ≡ out_behind o.spawned (has_spawned o.outer) → AreParts os (reverse old) → AreParts (o ∷ os) (reverse new)
 parts_pushed o [] p old new open_ e k out h = absurd open_
@@ -152,11 +145,7 @@ ended_apart o (p ∷ os) es main quiet h = (block_apart o es quiet h.1.0 h.0, h.
 
 pub returned_apart : (o : Open) (os : List Open) (es : List Event) → IsFromMain (o ∷ os) → AreApart (o ∷ os) es → AreApart os (closed o (synced es))
 returned_apart o [] es main h =
-    subst (λ (x : List Event). AreApart [] x) (nothing_after (closed o (synced es))) (whole_apart o (synced es) [] main.0 main.1 main.2 (synced_apart es h.0))
-  where
-    nothing_after : (xs : List Event) → xs ++ [] ≡ xs
-    nothing_after [] = refl
-    nothing_after (x ∷ xs) = ap (λ (l : List Event). x ∷ l) (nothing_after xs)
+    subst (λ (x : List Event). AreApart [] x) (append-nil (closed o (synced es))) (whole_apart o (synced es) [] main.0 main.1 main.2 (synced_apart es h.0))
 returned_apart o (p ∷ os) es main h = (call_apart o es h.1.0 h.0, h.1.1)
 
 -- once there are too many strands, no call does anything
@@ -354,7 +343,7 @@ quiet_closes old new count part e pops out noted kept codes o os es main joined 
     let none = ending_quiet o os p.inner a.0 a.1 in
     let at_new = subst (λ (x : ℕ). Keeps (count - x) codes new.kept) (sym noted) (subst (λ (k : Recorded). Keeps (count - old.noted) codes k) (sym kept) h) in (
       omega (arith, le, noted),
-      subst (λ (l : List Code). Keeps (count - new.noted) l new.kept) (sym (ap (λ (l : List Code). codes ++ l) none ∙ nothing_more codes)) at_new,
+      subst (λ (l : List Code). Keeps (count - new.noted) l new.kept) (sym (ap (λ (l : List Code). codes ++ l) none ∙ append-nil codes)) at_new,
       record { out = out ∙ p.out ∙ sym (spawned_closed o es); parts = p.parts },
     )
 
@@ -365,7 +354,7 @@ nothing_closes old new count none none' out noted kept codes o [] es main joined
     let spawned : has_spawned (closed o es) ≡ false =
     spawned_closed o es ∙ ap (λ (b : Bool). out_behind b (has_spawned o.outer)) main.1 ∙ ap (λ (x : List Event). has_spawned x) main.0 in (
       omega (arith, le, noted),
-      subst (λ (l : List Code). Keeps (count - new.noted) l new.kept) (sym (nothing_more codes)) at_new,
+      subst (λ (l : List Code). Keeps (count - new.noted) l new.kept) (sym (append-nil codes)) at_new,
       record { out = out ∙ joined ∙ sym spawned; parts = subst (λ (l : List Part). AreParts [] (reverse l)) (sym none') tt },
     )
 nothing_closes old new count none none' out noted kept codes o (p ∷ os) es main joined parts le h = absurd (subst (λ (l : List Part). AreParts (o ∷ p ∷ os) (reverse l)) none parts)
@@ -433,4 +422,4 @@ reads old new count n es h =
     let all = n.keeps count whole h.goes_on (omega arith) h.keeps in
     kept_of t (normal t) new.kept h.apart
     (keeps_as 0 (whole ++ Instructions (count - count) ∷ []) (codes_of AsChild t) new.kept
-    (λ l. ap (λ (n : ℕ). onto (whole ++ Instructions n ∷ []) l) none ∙ nothing_behind whole l ∙ ap (λ (x : List Code). onto x l) (nothing_more (codes_of AsChild t))) all)
+    (λ l. ap (λ (n : ℕ). onto (whole ++ Instructions n ∷ []) l) none ∙ nothing_behind whole l ∙ ap (λ (x : List Code). onto x l) (append-nil (codes_of AsChild t))) all)

@@ -247,12 +247,8 @@ call_apart o es outer g = append_apart o.outer (part_of o.spawned (marked o.mark
 -- a block ends, and an instruction follows
 pub block_apart : (o : Open) (es : List Event) → o.spawned ≡ false → StandApart o.outer → StandApart es → StandApart (ticked (closed o es))
 block_apart o es quiet outer g = subst (λ (b : Bool). StandApart ((o.outer ++ part_of b (marked o.mark (tree_of es)) ∷ []) ++ Work 1 ∷ [])) (sym quiet)
-    (subst StandApart (sym (events-regroup o.outer (Series (marked o.mark (tree_of es)) ∷ []) (Work 1 ∷ []))) (append_apart o.outer (Series (marked o.mark (tree_of es)) ∷ Work 1 ∷ []) outer (one o.mark)))
+    (subst StandApart (sym (append_assoc o.outer (Series (marked o.mark (tree_of es)) ∷ []) (Work 1 ∷ []))) (append_apart o.outer (Series (marked o.mark (tree_of es)) ∷ Work 1 ∷ []) outer (one o.mark)))
   where
-    events-regroup : (a b c : List Event) → (a ++ b) ++ c ≡ a ++ (b ++ c)
-    events-regroup [] b c = refl
-    events-regroup (x ∷ a) b c = ap (λ (l : List Event). x ∷ l) (events-regroup a b c)
-
     one : (mark : Option Mark) → StandApart (Series (marked mark (tree_of es)) ∷ Work 1 ∷ [])
     one None = (tree_followed es g, tt)
     one (Some m) = (λ rest later e. marked_apart m (tree_of es) (tree_followed es g) rest later, tt)

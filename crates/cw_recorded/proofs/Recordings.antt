@@ -1,7 +1,7 @@
 -- What is kept of a run's codes, and what each move adds to them.
 use Rattle.std.specs.Prelude.{ℕ, zero, suc, ◌+◌, ◌≡◌, ◌≤◌, ◌<◌, Bool, true, false, Option, Some, None, List, [], ◌∷◌, ◌++◌, refl}
 use Rattle.std.proofs.Common.{arith, ap, sym, ◌∙◌}
-use Rattle.std.proofs.lemmas.List.{append_assoc}
+use Rattle.std.proofs.lemmas.List.{append_assoc, append-nil}
 use Rattle.cw_model.specs.Trees.{Tree, Seq, Mark, Invocation, Execution, Event, Work, Series, Join, parts_of, tree_of}
 use Rattle.cw_model.specs.Trees as e
 use Rattle.cw_measure.specs.OpenParts.{Open, has_spawned_from, has_spawned, marked, part_of, closed}
@@ -10,8 +10,8 @@ use Rattle.cw_meter.specs.Meters.{ticked, synced, begun}
 use Rattle.cw_greedy.specs.declared.code.Code.{Code}
 use Rattle.cw_greedy.specs.declared.code.Code.TheVariants.{Instructions, Spawned, Ended, Joined, Called}
 use Rattle.cw_model.specs.declared.limits.TheConstants.{MOST_STRANDS}
-use Rattle.cw_greedy.specs.Recorded.{Recorded, cut, cuts, followed}
-use Rattle.cw_greedy.specs.RecordLaws.{cuts-append, by_few}
+use Rattle.cw_greedy.specs.Recorded.{Recorded, cuts, followed}
+use Rattle.cw_greedy.specs.RecordLaws.{cuts-append, by_few, cut_small}
 use Rattle.cw_greedy.specs.Records.{instructions_before}
 use Rattle.cw_greedy.specs.Blocks.{InSeries, AsChild, codes_of, record_of, out_after}
 use Rattle.cw_recorded.specs.Merging.{onto, Same, to_join}
@@ -60,18 +60,6 @@ keeps_later since more a (Some kept) h = (
       ∙ h.1 (instructions_before more l)
       ∙ sym (onto-append a (Instructions more ∷ []) l),
 )
-
--- once there are too many, there are
-pub keeps_none : (since to : ℕ) (a b : List Code) → Keeps since a None → Keeps to (a ++ b) None
-keeps_none since to a b h = let c = cuts-append a b in omega (arith, c, h)
-
--- one code more
-cut_small : (c : Code) → cut c ≤ 1
-cut_small (Instructions n) = omega arith
-cut_small (Spawned first) = omega arith
-cut_small Ended = omega arith
-cut_small Joined = omega arith
-cut_small Called = omega arith
 
 one_more : (P : Recorded → Type 0) (kept : List Code) (c : Code) → (cuts (kept ++ c ∷ []) < MOST_STRANDS → P (Some (kept ++ c ∷ []))) → (MOST_STRANDS ≤ cuts (kept ++ c ∷ []) → P None) → P (followed (Some kept) (Some (c ∷ [])))
 one_more P [] c f g = f (omega (arith, cut_small c))
@@ -123,10 +111,6 @@ codes_more o (p ∷ os) es fs =
     let d = record_of (has_spawned es) fs in
     ap (λ (l : List Code). a ++ (b ++ l)) (record_more false es fs) ∙ ap (λ (l : List Code). a ++ l) (sym (append_assoc b c d)) ∙ sym (append_assoc a (b ++ c) d)
 
-nothing_more : (a : List Code) → a ++ [] ≡ a
-nothing_more [] = refl
-nothing_more (x ∷ a) = ap (λ (l : List Code). x ∷ l) (nothing_more a)
-
 -- an instruction
 whole_ticked : (es : List Event) → of_whole (ticked es) ≡ of_whole es ++ Instructions 1 ∷ []
 whole_ticked [] = refl
@@ -153,7 +137,7 @@ codes_begun spawned mark (o ∷ os) es open_ =
     let b = opening spawned mark (has_spawned es) in
     ap (λ (l : List Code). l ++ (opening spawned mark (has_spawned (ticked es)) ++ [])) (codes_ticked (o ∷ os) es)
     ∙ ap (λ (x : Bool). (a ++ Instructions 1 ∷ []) ++ (opening spawned mark x ++ [])) (spawned_ticked es)
-    ∙ ap (λ (l : List Code). (a ++ Instructions 1 ∷ []) ++ l) (nothing_more b)
+    ∙ ap (λ (l : List Code). (a ++ Instructions 1 ∷ []) ++ l) (append-nil b)
     ∙ append_assoc a (Instructions 1 ∷ []) b
 
 -- the block that runs joins
@@ -174,7 +158,7 @@ part_record : (spawned : Bool) (mark : Option Mark) (out : Bool) (a b : Tree) �
 part_record true mark true a b = ap (λ (l : List Code). Spawned false ∷ (l ++ Ended ∷ [])) (as_child mark a b)
 part_record true mark false a b = ap (λ (l : List Code). Spawned true ∷ (l ++ Ended ∷ [])) (as_child mark a b)
 part_record false None out a b = refl
-part_record false (Some (Invocation site)) out a b = nothing_more (Called ∷ (codes_of InSeries (Seq a b) ++ Called ∷ []))
+part_record false (Some (Invocation site)) out a b = append-nil (Called ∷ (codes_of InSeries (Seq a b) ++ Called ∷ []))
 part_record false (Some (Execution tag)) out a b = refl
 
 block_same : (es : List Event) → Same (record_of false es ++ to_join (has_spawned es)) (codes_of InSeries (tree_of es))
@@ -185,12 +169,12 @@ whole_closed o es e0 e1 =
     let t = marked o.mark (tree_of es) in
     ap (λ (x : List Event). of_whole (x ++ part_of o.spawned t ∷ [])) e0
     ∙ ap (λ (b : Bool). of_whole (part_of b t ∷ [])) e1
-    ∙ nothing_more (codes_of AsChild t)
+    ∙ append-nil (codes_of AsChild t)
     ∙ as_child o.mark (parts_of es).0 (parts_of es).1
 
 pub codes_closed : (o : Open) (os : List Open) (es : List Event) → IsFromMain (o ∷ os) → Same (codes_in (o ∷ os) es ++ (to_join (has_spawned es) ++ ending_in o os)) (codes_in os (closed o es))
 codes_closed o [] es main = λ l.
-    ap (λ (x : List Code). onto (record_of false es ++ x) l) (nothing_more (to_join (has_spawned es)))
+    ap (λ (x : List Code). onto (record_of false es ++ x) l) (append-nil (to_join (has_spawned es)))
     ∙ block_same es l
     ∙ ap (λ (x : List Code). onto x l) (sym (whole_closed o es main.0 main.1))
 codes_closed o (p ∷ os) es main = λ l.

@@ -1,4 +1,5 @@
-//! What reducers come to over pieces of a run.
+//! What reducers come to over pieces of a run, as a monoid. No run calls it: what a run joins stands in `totals.rt` of
+//! `cw_jobs`.
 
 ghost use Rattle.std.specs.Prelude.{◌≡◌};
 ghost use Rattle.std.specs.Int.{int_wrapping_add, w128};

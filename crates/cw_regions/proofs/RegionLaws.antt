@@ -2,18 +2,18 @@
 use Rattle.std.specs.Prelude.{◌≡◌, ℕ, ◌==◌, ◌≤◌, ◌<◌, Bool, true, false, List, [], ◌∷◌, ◌++◌, Some, refl}
 use Rattle.std.proofs.Common.{sym, ◌∙◌, ap, subst, true≢false, arith}
 use Rattle.std.proofs.lemmas.Slice.Eq.{bytes_eq-Decides}
-use Rattle.std.proofs.lemmas.Bool.Decides.{nat_tests}
 use borrow.Author.Tests.{eqb-true}
+use Rattle.cw_facts.specs.Tests.{equal}
 use Rattle.cw_model.specs.declared.burden.Burden.{Burden}
 use Rattle.cw_model.specs.Syntax.{Name}
 use Rattle.cw_model.specs.Names.{same_name}
-use Rattle.cw_model.specs.Trees.{Execution, Tree, Leaf, Seq, Par, Marked, Event, tree_of, work, span, burdened_span}
+use Rattle.cw_model.specs.Trees.{Execution, Tree, Event, tree_of, work, span, burdened_span}
 use Rattle.cw_model.specs.Rows.{is_tag, region_row}
 use Rattle.cw_measure.specs.OpenParts.{Open, closed, has_spawned, sum_in, work_in}
 use Rattle.cw_measure.specs.Outermost.{is_counted, Tally, begun_at, begun, ended_at, ended, Counts}
 use Rattle.cw_measure.specs.BlockWeights.{burdened_work, burdened_work_in}
 use Rattle.cw_measure.specs.lemmas.OpenParts.{left_work, sum_begun, work_adds}
-use Rattle.cw_measure.specs.lemmas.Outermost.{Bounds, outer_in_within, counts_begun, counts_ended, counts_read, counts_alike, counts_further}
+use Rattle.cw_measure.specs.lemmas.Outermost.{Bounds, outer_in_within, counts_begun, counts_ended, counts_read, counts_alike, counts_further, work_bounds, span_bounds}
 use Rattle.cw_measure.specs.lemmas.StrandWeights.{span_within, left_burdened_work, work_meters}
 use Rattle.cw_regions.specs.declared.rows.Row.{Row}
 use Rattle.cw_regions.specs.declared.table.RegionTable.{RegionTable}
@@ -70,19 +70,6 @@ row_left burden along tag busy o os es r count path heavy e j c p b h =
       burdened_is = subst B (ap (λ (x : ℕ). ended x (burdened_tally r)) (sym b) ∙ ended_burdened last count path heavy r) (counts_ended (burdened_span burden) along.burdened (is_tag tag) busy along.burdened_is o os es (burdened_tally r) e j h.burdened_is);
     }
 
--- the sums fit
-work_bounds : Bounds work work
-work_bounds = record { above = λ t. omega arith; series = λ a b. omega arith; fork = λ a b. omega arith; in_mark = λ m t. omega arith }
-
-spans_within_work : (t : Tree) → span t ≤ work t
-spans_within_work (Leaf k) = omega arith
-spans_within_work (Seq a b) = let g = spans_within_work a in let h = spans_within_work b in omega arith
-spans_within_work (Par a b) = let g = spans_within_work a in let h = spans_within_work b in omega arith
-spans_within_work (Marked mark t) = spans_within_work t
-
-span_bounds : Bounds span work
-span_bounds = record { above = spans_within_work; series = λ a b. omega arith; fork = λ a b. omega arith; in_mark = λ m t. omega arith }
-
 burdened_bounds : (burden : Burden) → Bounds (burdened_span burden) (burdened_work burden)
 burdened_bounds burden = record { above = span_within burden; series = λ a b. omega arith; fork = λ a b. omega arith; in_mark = λ m t. omega arith }
 
@@ -112,13 +99,10 @@ small_closed burden tags busy o os es small = record {
 same_self : (y : Name) → same_name y y ≡ true
 same_self y = (bytes_eq-Decides y y).1 refl
 
-self_equal : (n : ℕ) → (n == n) ≡ true
-self_equal n = grind (arith, nat_tests)
-
 other_tag : (tags : Tags) (q tag : ℕ) (b : Bool) → same_name (tags.name q) (tags.name tag) ≡ b → q < tags.count → tag < tags.count → (tag == q) ≡ false → b ≡ false
 other_tag tags q tag true e l m n =
     let same = tags.differ q tag l m e in
-    absurd (true≢false (sym (self_equal tag) ∙ ap (λ (x : ℕ). tag == x) (sym same) ∙ n))
+    absurd (true≢false (sym (equal tag tag refl) ∙ ap (λ (x : ℕ). tag == x) (sym same) ∙ n))
 other_tag tags q tag false e l m n = refl
 
 -- an execution begins

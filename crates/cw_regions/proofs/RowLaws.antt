@@ -1,17 +1,14 @@
 -- Rows by tag number: those of two pieces, joined.
 use Rattle.std.proofs.Common.{◌≡◌, ℕ, ◌+◌, ◌<◌, ◌≤◌, ◌==◌, Bool, true, false, if◌then◌else◌, length, refl, sym, ap, subst, ◌∙◌, inl, inr, arith}
 use Rattle.std.proofs.lemmas.Bool.{cases_lt}
-use Rattle.std.proofs.lemmas.Bool.Decides.{nat_tests}
 use Rattle.std.proofs.lemmas.List.{get_or_past}
 use borrow.Author.Tests.{eqb-true}
-use Rattle.cw_facts.specs.Tests.{less_differs, less_where_it_differs}
+use Rattle.cw_facts.specs.Tests.{less_differs, less_where_it_differs, equal}
 use Rattle.cw_measure.specs.Outermost.{unless_at}
+use Rattle.cw_measure.specs.lemmas.Outermost.{unless_nothing}
 use Rattle.cw_regions.specs.declared.rows.Rows.{Rows}
 use Rattle.cw_regions.specs.declared.rows.Row.{Row}
 use Rattle.cw_regions.specs.RegionRows.{row_of, zero_row, summed, under, FitsRow, IsGiven, IsReadAs, AddsEach, JoinsRows}
-
-same_number : (n : ℕ) → (n == n) ≡ true
-same_number n = grind (arith, nat_tests)
 
 -- the rows below a place have been added, and the others not yet
 pub record Added (add : Row → Row → Row) (old shorter now : Rows) (place : ℕ) : Type 0 where
@@ -23,7 +20,7 @@ pub none_added : (add : Row → Row → Row) (old shorter : Rows) → Added add 
 none_added add old shorter = record { as_long = refl; below = λ q h fits. absurd (omega arith); beyond = λ q h. refl }
 
 given_here : (now new : Rows) (place : ℕ) (sum : Row) → IsGiven now new place sum → row_of new place ≡ sum
-given_here now new place sum g = g place ∙ ap (λ (b : Bool). if b then sum else row_of now place) (same_number place)
+given_here now new place sum g = g place ∙ ap (λ (b : Bool). if b then sum else row_of now place) (equal place place refl)
 
 given_other : (now new : Rows) (place q : ℕ) (sum : Row) → IsGiven now new place sum → (place == q) ≡ false → row_of new q ≡ row_of now q
 given_other now new place q sum g e = g q ∙ ap (λ (b : Bool). if b then sum else row_of now q) e
@@ -70,13 +67,8 @@ read_alone ours piece row none e idle =
       at_burdened = λ h. absurd (omega arith);
     })
 
--- nothing more, whatever is open
-nothing_at : (b : Bool) → unless_at b 0 ≡ 0
-nothing_at true = refl
-nothing_at false = refl
-
 summed_none : (r : Row) → summed r zero_row ≡ r
-summed_none r = let z = nothing_at (r.active == 0) in let a : r.work + unless_at (r.active == 0) 0 ≡ r.work = omega arith in let b : r.span + unless_at (r.active == 0) 0 ≡ r.span = omega arith in let c : r.burdened + unless_at (r.active == 0) 0 ≡ r.burdened = omega arith in simp (a, b, c)
+summed_none r = let z = unless_nothing (r.active == 0) in let a : r.work + unless_at (r.active == 0) 0 ≡ r.work = omega arith in let b : r.span + unless_at (r.active == 0) 0 ≡ r.span = omega arith in let c : r.burdened + unless_at (r.active == 0) 0 ≡ r.burdened = omega arith in simp (a, b, c)
 
 -- where ours are no fewer, and where they are fewer
 pub joined_into_ours : (old piece new : Rows) → AddsEach summed old piece new → JoinsRows old piece new

@@ -1,4 +1,4 @@
-//! The tables of tags and of call sites, made whole before any byte is written.
+//! The tables of tags, of call sites and of a schedule, made whole before any byte is written.
 
 ghost use Rattle.std.specs.Prelude.{◌≡◌, [], IfErr};
 ghost use Rattle.cw_model.specs.Report.{scale_line, site_kind_text};

@@ -2,13 +2,13 @@
 use Rattle.std.proofs.Common.{◌≡◌, ℕ, zero, suc, ◌+◌, ◌-◌, ◌≤◌, [], ◌∷◌, ◌++◌, Option, Some, None, length, length-append, arith, refl, ap, sym, ◌∙◌, subst, set}
 use Rattle.std.specs.Prelude.{min, slice_get}
 use Rattle.std.proofs.lemmas.List.{set-append_left}
-use Rattle.std.proofs.lemmas.Option.{slice_get_within}
+use Rattle.std.proofs.lemmas.Option.{slice_get_within, same_Some}
 use Rattle.cw_greedy.specs.Slots.{Slots, ready_slots}
 use Rattle.cw_schedule.specs.Falls.{length-lowered}
 use Rattle.cw_schedule.specs.declared.board.Node.{Node}
 use Rattle.cw_schedule.specs.declared.board.Told.{Told}
 use Rattle.cw_schedule.specs.Boards.{lowered, minus, lesser, least_slot, least_first, HasRoom, IsOwed, owed_more, owing, slots_of, Tells, IsBoard}
-use Rattle.cw_schedule.proofs.Slots.{lowered-append, lowered-zero, lowered-lowered, lowered-none, ready-lowered, least-lowered}
+use Rattle.cw_schedule.proofs.Slots.{lowered-append, lowered-zero, lowered-lowered, lowered-none, ready-lowered, least-lowered, room_lesser}
 
 -- a board's node where it is known
 pub opened_right : {n m : Node} → IsBoard n → n ≡ m → IsBoard m
@@ -93,30 +93,19 @@ pub room_rest : (n k : ℕ) (a : Option ℕ) → HasRoom n (lesser (Some k) a) �
 room_rest n k None h = tt
 room_rest n k (Some m) h = omega (arith, h)
 
-room_both : (n k : ℕ) (a : Option ℕ) → n ≤ k → HasRoom n a → HasRoom n (lesser (Some k) a)
-room_both n k None h g = h
-room_both n k (Some m) h g = omega (arith, h, g)
-
 -- the first ones have no less than all
 pub room_of_some : (n p : ℕ) (xs : Slots) → HasRoom n (least_slot xs) → HasRoom n (least_first p xs)
 room_of_some n p [] h = tt
 room_of_some n p (None ∷ xs) h = room_of_some n p xs h
 room_of_some n zero (Some k ∷ xs) h = tt
 room_of_some n (suc p) (Some k ∷ xs) h =
-    room_both n k (least_first (suc p - 1) xs) (room_less n k (least_slot xs) h) (room_of_some n (suc p - 1) xs (room_rest n k (least_slot xs) h))
-
-pub zero_in : (k : ℕ) → Some k ≡ Some 0 → k ≡ 0
-zero_in k e = ap left_in e
-  where
-    left_in : Option ℕ → ℕ
-    left_in None = 0
-    left_in (Some n) = n
+    room_lesser n k (least_first (suc p - 1) xs) (room_less n k (least_slot xs) h) (room_of_some n (suc p - 1) xs (room_rest n k (least_slot xs) h))
 
 -- of which nothing is left is in the second half, if not in the first
 pub zero_second : (a b : Option ℕ) → lesser a b ≡ Some 0 → (a ≡ Some 0 → ⊥) → b ≡ Some 0
 zero_second None b e f = e
 zero_second (Some a) None e f = absurd (f e)
-zero_second (Some a) (Some b) e f = by_zero b (zero_in (min a b) e) (λ h. f (ap Some h))
+zero_second (Some a) (Some b) e f = by_zero b (same_Some (min a b) 0 e) (λ h. f (ap Some h))
   where
     by_zero : (b : ℕ) → min a b ≡ 0 → (a ≡ 0 → ⊥) → Some b ≡ Some 0
     by_zero zero h g = refl

@@ -1,6 +1,7 @@
 -- A jump of the first ready strands ends one of them.
 use Rattle.std.proofs.Common.{◌≡◌, ℕ, zero, suc, ◌-◌, ◌≤◌, [], ◌∷◌, Option, Some, None, arith, refl, ap, sym, ◌∙◌, subst}
 use Rattle.std.specs.Prelude.{min}
+use Rattle.std.proofs.lemmas.Option.{same_Some}
 use Rattle.cw_greedy.specs.Slots.{Slots, ready_slots, run_slots, EachLeft, RoomFor}
 use Rattle.cw_schedule.specs.Boards.{lesser, least_slot, least_first, HasRoom}
 use Rattle.cw_schedule.proofs.Slots.{first-none}
@@ -28,9 +29,6 @@ zero_left (Some n) = let e : min 0 n ≡ 0 = omega arith in ap Some e
 pub zero_right : (k : ℕ) → lesser (Some k) (Some 0) ≡ Some 0
 zero_right k = let e : min k 0 ≡ 0 = omega arith in ap Some e
 
-in_some : (m n : ℕ) → Some m ≡ Some n → m ≡ n
-in_some m n e = cc
-
 by_le : {A : Type 0} (a b : ℕ) → (a ≤ b → A) → (b ≤ a → A) → A
 by_le zero b f g = f (omega arith)
 by_le (suc a) zero f g = g (omega arith)
@@ -40,10 +38,10 @@ by_le (suc a) (suc b) f g = by_le a b (λ h. f (omega (arith, h))) (λ h. g (ome
 done_here : (p n k : ℕ) (xs : Slots) (a : Option ℕ) → least_first p xs ≡ a → lesser (Some k) a ≡ Some n →
     ((m : ℕ) → least_first p xs ≡ Some m → least_slot (run_slots p m xs) ≡ Some 0) → lesser (Some (k - n)) (least_slot (run_slots p n xs)) ≡ Some 0
 done_here p n k xs None e h f =
-    let z : k - n ≡ 0 = let s = in_some k n h in omega (arith, s) in
+    let z : k - n ≡ 0 = let s = same_Some k n h in omega (arith, s) in
     ap (λ i. lesser (Some i) (least_slot (run_slots p n xs))) z ∙ zero_left (least_slot (run_slots p n xs))
 done_here p n k xs (Some m) e h f =
-    let s = in_some (min k m) n h in
+    let s = same_Some (min k m) n h in
     by_le k m
     (λ l. let z : k - n ≡ 0 = omega (arith, s, l) in
     ap (λ i. lesser (Some i) (least_slot (run_slots p n xs))) z ∙ zero_left (least_slot (run_slots p n xs)))

@@ -1,6 +1,7 @@
 -- A plan follows the block that codes are read as.
 use Rattle.std.proofs.Common.{◌≡◌, ℕ, ◌+◌, ◌-◌, ◌<◌, Bool, true, false, List, [], ◌∷◌, ◌++◌, Option, Some, None, length, length-append, append_assoc, arith, set, drop, get_or, refl, ap, sym, ◌∙◌, subst}
 use Rattle.std.proofs.lemmas.List.{set_at, get_or_at, drop_more}
+use Rattle.std.proofs.lemmas.Option.{none-some, same_Some}
 use Rattle.cw_greedy.specs.declared.code.Code.{Code}
 use Rattle.cw_greedy.specs.declared.code.Code.TheVariants.{Instructions, Spawned, Ended, Joined, Called}
 use Rattle.cw_greedy.specs.Jumping.{Block, Last, Fork, size}
@@ -150,14 +151,8 @@ makes_work block n codes p p' h e f g = record {
 
 end_of : (codes : List Code) (block : Block) (p p' : Planning) (frames : List Frame) (begun : Block) → Plans frames begun p → read (Ended ∷ codes) frames begun ≡ Some block →
     ((outer : List Open) (at : ℕ) (first : Bool) → p.spawns.items ≡ outer ++ open_at at first ∷ [] → Continues p p' outer at first) → Makes block codes p'
-end_of codes block p p' [] begun h e f = absurd (differ e)
-  where
-    differ : None ≡ Some block → ⊥
-    differ e = cc
-end_of codes block p p' (InRest first before child ∷ frames) begun h e f = absurd (differ e)
-  where
-    differ : None ≡ Some block → ⊥
-    differ e = cc
+end_of codes block p p' [] begun h e f = absurd (none-some block e)
+end_of codes block p p' (InRest first before child ∷ frames) begun h e f = absurd (none-some block e)
 end_of codes block p p' (InChild first before ∷ frames) begun h e f = record {
   frames = InRest first before begun ∷ frames;
   begun = Last 0;
@@ -172,14 +167,8 @@ makes_end block codes p p' h f = end_of codes block p p' h.frames h.begun h.plan
 -- a plan with all codes read has the strands of its block
 made : (block : Block) (p : Planning) (frames : List Frame) (begun : Block) → Plans frames begun p → read [] frames begun ≡ Some block →
     p.strands.items ++ p.last ∷ [] ≡ strands_of Start block
-made block p [] begun h e = h.strands ∙ ap (strands_of Start) (same begun block e)
-  where
-    same : (a b : Block) → Some a ≡ Some b → a ≡ b
-    same a b e = cc
-made block p (frame ∷ frames) begun h e = absurd (differ e)
-  where
-    differ : None ≡ Some block → ⊥
-    differ e = cc
+made block p [] begun h e = h.strands ∙ ap (strands_of Start) (same_Some begun block e)
+made block p (frame ∷ frames) begun h e = absurd (none-some block e)
 
 pub makes_all : (block : Block) (p : Planning) → Makes block [] p → p.strands.items ++ p.last ∷ [] ≡ strands_of Start block
 makes_all block p h = made block p h.frames h.begun h.plans h.reads
@@ -211,22 +200,13 @@ Left false end p = Joins end p
 step : (end : List Frame × Block) (p p' : Planning) (outer : List Open) (top : Open) (frames : List Frame) (begun : Block) → Plans frames begun p → joined frames begun ≡ Some end →
     p.spawns.items ≡ outer ++ top ∷ [] → p'.strands.items ≡ patched (p.strands.items ++ p.last ∷ []) top.at (Continuation (length p.strands.items + 1 - top.at)) →
     p'.last ≡ strand 0 Sync → p'.spawns.items ≡ outer → Left top.first end p'
-step end p p' outer top [] begun h e s a b d = absurd (differ e)
-  where
-    differ : None ≡ Some end → ⊥
-    differ e = cc
-step end p p' outer top (InChild first c ∷ frames) begun h e s a b d = absurd (differ e)
-  where
-    differ : None ≡ Some end → ⊥
-    differ e = cc
+step end p p' outer top [] begun h e s a b d = absurd (none-some end e)
+step end p p' outer top (InChild first c ∷ frames) begun h e s a b d = absurd (none-some end e)
 step end p p' outer top (InRest true c child ∷ frames) begun h e s a b d =
     let q = snoc_same outer (opens_of frames) top (open_at (length (strands_before (InRest true c child ∷ frames))) true) (sym s ∙ h.spawns) in
     let plans = one_joined frames true c child begun p p' top.at (ap (λ (x : Open). x.at) q.1) h a b (d ∙ q.0) in
-    let same : (frames, fork_at_end c child begun) ≡ end = only (frames, fork_at_end c child begun) end e in
+    let same : (frames, fork_at_end c child begun) ≡ end = same_Some {A = List Frame × Block} (frames, fork_at_end c child begun) end e in
     subst (λ f. Left f end p') (sym (ap (λ (x : Open). x.first) q.1)) (subst (λ (x : List Frame × Block). Plans x.0 x.1 p') same plans)
-  where
-    only : (x y : List Frame × Block) → Some x ≡ Some y → x ≡ y
-    only x y e = cc
 step end p p' outer top (InRest false c child ∷ frames) begun h e s a b d =
     let q = snoc_same outer (opens_of frames) top (open_at (length (strands_before (InRest false c child ∷ frames))) false) (sym s ∙ h.spawns) in
     let plans = one_joined frames false c child begun p p' top.at (ap (λ (x : Open). x.at) q.1) h a b (d ∙ q.0) in
@@ -240,10 +220,7 @@ joins_step end p p' outer top h s a b d = step end p p' outer top h.frames h.beg
 
 -- a plan that joins has an open spawn
 open_spawn : (end : List Frame × Block) (p : Planning) (frames : List Frame) (begun : Block) → Plans frames begun p → joined frames begun ≡ Some end → length p.spawns.items ≡ 0 → ⊥
-open_spawn end p [] begun h e s = differ e
-  where
-    differ : None ≡ Some end → ⊥
-    differ e = cc
+open_spawn end p [] begun h e s = none-some end e
 open_spawn end p (frame ∷ frames) begun h e s =
     let f = ap length h.spawns in
     omega (arith, s, f, length-append (opens_of frames) (open_at (length (strands_before (frame ∷ frames))) (is_first frame) ∷ []))
@@ -254,10 +231,7 @@ joins_some end p h s = open_spawn end p h.frames h.begun h.plans h.joins s
 -- after a join the codes behind it are read
 pub read_joined : (block : Block) (codes : List Code) (o : Option (List Frame × Block)) → after_join (λ more later. read codes more later) o ≡ Some block →
     (end : List Frame × Block) × ((o ≡ Some end) × (read codes end.0 end.1 ≡ Some block))
-read_joined block codes None e = absurd (differ e)
-  where
-    differ : None ≡ Some block → ⊥
-    differ e = cc
+read_joined block codes None e = absurd (none-some block e)
 read_joined block codes (Some end) e = (end, (refl, e))
 
 pub makes_joins : (block : Block) (codes : List Code) (p : Planning) → Makes block (Joined ∷ codes) p → (end : List Frame × Block) × Joins end p

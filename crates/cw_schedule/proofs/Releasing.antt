@@ -1,7 +1,8 @@
 -- A strand of which nothing is left is taken off, and the state that follows stands on the board.
 use Rattle.std.proofs.Common.{◌≡◌, ◌≢◌, ℕ, ◌+◌, ◌≤◌, ◌<◌, Bool, true, false, Option, Some, None, arith, refl, ap, sym, ◌∙◌, subst}
 use Rattle.std.specs.Prelude.{nat_lt}
-use Rattle.std.proofs.lemmas.Bool.{ltb-false, ltb-true}
+use Rattle.std.proofs.lemmas.Bool.{ltb-false, ltb-true, true≢false}
+use Rattle.std.proofs.lemmas.Option.{none-some, same_Some}
 use Rattle.cw_greedy.specs.Jumping.{Block, Last, Fork, size, Going, Ready, Before, Both, Child, Rest, After, start, IsOver, Released}
 use Rattle.cw_greedy.specs.Jumping as j
 use Rattle.cw_schedule.specs.declared.plan.Begins.{Begins}
@@ -25,13 +26,6 @@ by_less {A} a b f g = by_test (nat_lt a b) refl
     by_test true e = f (let h = ltb-true a b e in omega (arith, h))
     by_test false e = g (let h = ltb-false a b e in omega (arith, h))
 
-zero_of : (k : ℕ) → Some k ≡ Some 0 → k ≡ 0
-zero_of k e = ap left_in e
-  where
-    left_in : Option ℕ → ℕ
-    left_in None = 0
-    left_in (Some n) = n
-
 no_slot : {A : Type 0} {x : Option ℕ} → x ≡ None → x ≡ Some 0 → A
 no_slot {A} {x} e f = absurd (differ x e f)
   where
@@ -39,10 +33,7 @@ no_slot {A} {x} e f = absurd (differ x e f)
     differ x e f = cc
 
 not_both : {A : Type 0} {x : Bool} → x ≡ true → x ≡ false → A
-not_both {A} {x} e f = absurd (differ (sym e ∙ f))
-  where
-    differ : true ≡ false → ⊥
-    differ e = cc
+not_both {A} {x} e f = absurd (true≢false (sym e ∙ f))
 
 pub some_size : (b : Block) → 1 ≤ size b
 some_size (Last k) = omega arith
@@ -105,7 +96,7 @@ pub shows_start : (s : S) (f : F) (o : ℕ) (b : Block) → s o ≡ Some (first_
 shows_start s f o (Last k) e d q = v.ready o k k e d
 shows_start s f o (Fork k c r a) e d q = v.before o k k c r a e d (λ i l m. q i (omega (arith, l)) (omega (arith, m)))
 
-plan_first : (p : ℕ → Strand) (o : ℕ) (begins : Begins) (b : Block) → PlanAt p o begins b → p o ≡ strand (first_weight b) begins
+pub plan_first : (p : ℕ → Strand) (o : ℕ) (begins : Begins) (b : Block) → PlanAt p o begins b → p o ≡ strand (first_weight b) begins
 plan_first p o begins (Last k) h = h
 plan_first p o begins (Fork k c r a) h = h.0
 
@@ -116,35 +107,23 @@ at_fork p s f s' f' i later (v.forks n e h) d =
   where
     same_later : (m n : ℕ) → w.Child m ≡ w.Child n → m ≡ n
     same_later m n e = cc
-at_fork p s f s' f' i later (v.arrives n e h) d = absurd (no_join (sym (ap (λ b. join_of b (i + 1)) d) ∙ e))
-  where
-    no_join : None ≡ Some n → ⊥
-    no_join e = cc
-at_fork p s f s' f' i later (v.joins n e h) d = absurd (no_join (sym (ap (λ b. join_of b (i + 1)) d) ∙ e))
-  where
-    no_join : None ≡ Some n → ⊥
-    no_join e = cc
-
-same_join : (m n : ℕ) → Some m ≡ Some n → m ≡ n
-same_join m n e = cc
+at_fork p s f s' f' i later (v.arrives n e h) d = absurd (none-some n (sym (ap (λ b. join_of b (i + 1)) d) ∙ e))
+at_fork p s f s' f' i later (v.joins n e h) d = absurd (none-some n (sym (ap (λ b. join_of b (i + 1)) d) ∙ e))
 
 no_fork : (b : Begins) (i later join : ℕ) → b ≡ w.Child later → join_of b i ≡ Some join → ⊥
-no_fork b i later join e d = differ (sym (ap (λ b. join_of b i) e) ∙ d)
-  where
-    differ : None ≡ Some join → ⊥
-    differ e = cc
+no_fork b i later join e d = none-some join (sym (ap (λ b. join_of b i) e) ∙ d)
 
 at_first : (p : ℕ → Strand) (s : S) (f : F) (s' : S) (f' : F) (i join : ℕ) → Releases p s f s' f' i →
     join_of (p (i + 1)).begins (i + 1) ≡ Some join → f join ≡ false → Arrives s f s' f' i join
 at_first p s f s' f' i join (v.forks n e h) d g = absurd (no_fork (p (i + 1)).begins (i + 1) n join e d)
-at_first p s f s' f' i join (v.arrives n e h) d g = subst (λ m. Arrives s f s' f' i m) (same_join n join (sym e ∙ d)) h
-at_first p s f s' f' i join (v.joins n e h) d g = not_both (subst (λ m. f m ≡ true) (same_join n join (sym e ∙ d)) h.second) g
+at_first p s f s' f' i join (v.arrives n e h) d g = subst (λ m. Arrives s f s' f' i m) (same_Some n join (sym e ∙ d)) h
+at_first p s f s' f' i join (v.joins n e h) d g = not_both (subst (λ m. f m ≡ true) (same_Some n join (sym e ∙ d)) h.second) g
 
 at_second : (p : ℕ → Strand) (s : S) (f : F) (s' : S) (f' : F) (i join : ℕ) → Releases p s f s' f' i →
     join_of (p (i + 1)).begins (i + 1) ≡ Some join → f join ≡ true → Joins p s f s' f' i join
 at_second p s f s' f' i join (v.forks n e h) d g = absurd (no_fork (p (i + 1)).begins (i + 1) n join e d)
-at_second p s f s' f' i join (v.arrives n e h) d g = not_both g (subst (λ m. f m ≡ false) (same_join n join (sym e ∙ d)) h.first)
-at_second p s f s' f' i join (v.joins n e h) d g = subst (λ m. Joins p s f s' f' i m) (same_join n join (sym e ∙ d)) h
+at_second p s f s' f' i join (v.arrives n e h) d g = not_both g (subst (λ m. f m ≡ false) (same_Some n join (sym e ∙ d)) h.first)
+at_second p s f s' f' i join (v.joins n e h) d g = subst (λ m. Joins p s f s' f' i m) (same_Some n join (sym e ∙ d)) h
 
 -- what taking off a strand makes of a state: its end, or the next one
 pub data Outcome (s : S) (f : F) (s' : S) (f' : F) (o : ℕ) (b : Block) (g : Going) (i : ℕ) : Type 0 where
@@ -155,7 +134,7 @@ pub data Outcome (s : S) (f : F) (s' : S) (f' : F) (o : ℕ) (b : Block) (g : Go
 
 take_ready : (s : S) (f : F) (s' : S) (f' : F) (o n k i : ℕ) → s o ≡ Some k → f o ≡ false → i ≡ o → s i ≡ Some 0 → Outcome s f s' f' o (Last n) (Ready k) i
 take_ready s f s' f' o n k i e d y z =
-    over (zero_of k (sym e ∙ ap s (sym y) ∙ z)) (omega (arith, y))
+    over (same_Some k 0 (sym e ∙ ap s (sym y) ∙ z)) (omega (arith, y))
     (λ m l h ne. absurd (ne (omega (arith, l, h, y))))
     (λ m l h. let q : o ≡ m = omega (arith, l, h) in subst (λ x. f x ≡ false) q d)
 
@@ -166,7 +145,7 @@ take_before p s f s' f' o n k c r a e d q pc pr z rel =
     let first = plan_first p (o + 1) (w.Child (size c)) c pc in
     let behind = plan_first p (o + 1 + size c) (w.Continuation (size r)) r pr in
     let h = at_fork p s f s' f' o (size c) rel (ap (λ x. x.begins) first) in
-    let k_is : 0 ≡ k = sym (zero_of k (sym e ∙ z)) in
+    let k_is : 0 ≡ k = sym (same_Some k 0 (sym e ∙ z)) in
     let one = some_size c in
     let two = some_size r in
     let still : (i : ℕ) → o + 1 ≤ i → i < o + 1 + (size c + (size r + size a)) → i ≢ o + 1 → i ≢ o + 1 + size c → (s' i ≡ None) × (f' i ≡ false) = λ i l m x y.

@@ -113,7 +113,7 @@ first_first p xs ys h =
     first-append p xs ys ∙ ap (λ q. lesser (least_first p xs) (least_first q ys)) e ∙ ap (lesser (least_first p xs)) (first-none ys)
     ∙ lesser-none (least_first p xs)
 
-room_lesser : (n k : ℕ) (a : Option ℕ) → n ≤ k → HasRoom n a → HasRoom n (lesser (Some k) a)
+pub room_lesser : (n k : ℕ) (a : Option ℕ) → n ≤ k → HasRoom n a → HasRoom n (lesser (Some k) a)
 room_lesser n k None h h' = h
 room_lesser n k (Some m) h h' = omega (arith, h, h')
 

@@ -2,7 +2,7 @@
 use Rattle.std.proofs.Common.{◌≡◌, ◌≢◌, ℕ, zero, suc, ◌+◌, ◌-◌, ◌≤◌, ◌<◌, Bool, true, false, List, [], ◌∷◌, ◌++◌, Option, Some, None, length, length-append, length-set, set, get_or, get_or-set_same, get_or-set_other, arith, refl, ap, sym, ◌∙◌, subst}
 use Rattle.std.specs.Prelude.{slice_get, replicate, ◌*◌}
 use Rattle.std.proofs.lemmas.List.{ext_get_or, get_or-replicate, length-replicate}
-use Rattle.std.proofs.lemmas.Option.{slice_get_within}
+use Rattle.std.proofs.lemmas.Option.{slice_get_within, same_Some}
 use Rattle.cw_model.specs.Trees.{Tree, work, span}
 use Rattle.cw_model.specs.declared.limits.TheConstants.{MOST_LIMIT}
 use Rattle.cw_greedy.specs.Greedy.{greedy_length, if_done, step, steps}
@@ -19,13 +19,14 @@ use Rattle.cw_schedule.specs.Boards.{Advances, stays, runs}
 use Rattle.cw_schedule.specs.declared.plan.Begins.{Begins}
 use Rattle.cw_schedule.specs.declared.plan.Begins.TheVariants as w
 use Rattle.cw_schedule.specs.declared.plan.Strand.{Strand}
-use Rattle.cw_schedule.specs.Planned.{strand, first_weight, strands_of}
-use Rattle.cw_schedule.specs.Shown.{Quiet, Half, Shows, PlanAt, join_of, Forks, Arrives, Joins, Releases}
+use Rattle.cw_schedule.specs.Planned.{strand, strands_of}
+use Rattle.cw_schedule.specs.Shown.{Shows, PlanAt, join_of, Releases}
 use Rattle.cw_schedule.specs.Shown as v
 use Rattle.cw_schedule.specs.State.{strand_at, left_at, flag_at, Reaches, Puts, waiting, Stands, Takes, Counts, Begun, IsWithin}
 use Rattle.cw_schedule.specs.State as s
 use Rattle.cw_schedule.proofs.Plans.{length-strands}
-use Rattle.cw_schedule.proofs.Releasing.{Outcome, over, on, by_less, by_same, some_size, shows_start, taken}
+use Rattle.cw_schedule.proofs.Releasing.{Outcome, over, on, by_less, by_same, some_size, shows_start, taken, plan_first}
+use Rattle.cw_schedule.proofs.Slots.{length-nones}
 
 -- a list stands in a function, from a number on
 abbrev Fits : {A : Type 0} → (ℕ → A) → ℕ → List A → Type 0
@@ -68,10 +69,6 @@ fits_of f o (x ∷ xs) d h =
 fits_self : {A : Type 0} (xs : List A) (d : A) → Fits (λ k. get_or xs k d) 0 xs
 fits_self xs d = fits_of (λ k. get_or xs k d) 0 xs d (λ k l. let e : 0 + k ≡ k = omega arith in ap (λ n. get_or xs n d) e)
 
-length_nones : (n : ℕ) → length (nones n) ≡ n
-length_nones zero = refl
-length_nones (suc n) = omega (arith, length_nones n)
-
 fits_nones : (f : ℕ → Option ℕ) (o n : ℕ) → ((k : ℕ) → o ≤ k → k < o + n → f k ≡ None) → Fits f o (nones n)
 fits_nones f o zero h = tt
 fits_nones f o (suc n) h = (h o (omega arith) (omega arith), fits_nones f (o + 1) n (λ k l m. h k (omega (arith, l)) (omega (arith, m))))
@@ -84,7 +81,7 @@ nones_fit f o (suc n) h k l m =
 -- how long the list of a state is, also after steps
 run_size : (l : ℕ → Option ℕ) (f : ℕ → Bool) {o : ℕ} {b : Block} {g : Going} (p n : ℕ) → Shows l f o b g → length (slots (run p n g)) ≡ size b
 run_size l f p n (v.ready o i k e d) = refl
-run_size l f p n (v.before o i k c r a e d q) = omega (arith, length_nones (size c + (size r + size a)))
+run_size l f p n (v.before o i k c r a e d q) = omega (arith, length-nones (size c + (size r + size a)))
 run_size l f p n (v.both o i c r a x y q sx sy qa) =
     let x' = slots (run p n x) in
     let y' = slots (run (p - on_board x) n y) in
@@ -92,43 +89,43 @@ run_size l f p n (v.both o i c r a x y q sx sy qa) =
       arith,
       length-append x' (y' ++ nones (size a)),
       length-append y' (nones (size a)),
-      length_nones (size a),
+      length-nones (size a),
       run_size l f p n sx,
       run_size l f (p - on_board x) n sy,
     )
 run_size l f p n (v.child o i c r a x q sx qr ha) =
-    omega (arith, length-append (slots (run p n x)) (nones (size r + size a)), length_nones (size r + size a), run_size l f p n sx)
+    omega (arith, length-append (slots (run p n x)) (nones (size r + size a)), length-nones (size r + size a), run_size l f p n sx)
 run_size l f p n (v.rest o i c r a y q sy ha) =
     let y' = slots (run p n y) in
     omega (
       arith,
       length-append (nones (size c)) (y' ++ nones (size a)),
       length-append y' (nones (size a)),
-      length_nones (size a),
-      length_nones (size c),
+      length-nones (size a),
+      length-nones (size c),
       run_size l f p n sy,
     )
 run_size l f p n (v.after o i c r a x q sx) =
-    omega (arith, length-append (nones (1 + (size c + size r))) (slots (run p n x)), length_nones (1 + (size c + size r)), run_size l f p n sx)
+    omega (arith, length-append (nones (1 + (size c + size r))) (slots (run p n x)), length-nones (1 + (size c + size r)), run_size l f p n sx)
 
 shown_size : (l : ℕ → Option ℕ) (f : ℕ → Bool) {o : ℕ} {b : Block} {g : Going} → Shows l f o b g → length (slots g) ≡ size b
 shown_size l f (v.ready o i k e d) = refl
-shown_size l f (v.before o i k c r a e d q) = omega (arith, length_nones (size c + (size r + size a)))
+shown_size l f (v.before o i k c r a e d q) = omega (arith, length-nones (size c + (size r + size a)))
 shown_size l f (v.both o i c r a x y q sx sy qa) =
-    omega (arith, length-append (slots x) (slots y ++ nones (size a)), length-append (slots y) (nones (size a)), length_nones (size a), shown_size l f sx, shown_size l f sy)
+    omega (arith, length-append (slots x) (slots y ++ nones (size a)), length-append (slots y) (nones (size a)), length-nones (size a), shown_size l f sx, shown_size l f sy)
 shown_size l f (v.child o i c r a x q sx qr ha) =
-    omega (arith, length-append (slots x) (nones (size r + size a)), length_nones (size r + size a), shown_size l f sx)
+    omega (arith, length-append (slots x) (nones (size r + size a)), length-nones (size r + size a), shown_size l f sx)
 shown_size l f (v.rest o i c r a y q sy ha) =
     omega (
       arith,
       length-append (nones (size c)) (slots y ++ nones (size a)),
       length-append (slots y) (nones (size a)),
-      length_nones (size a),
-      length_nones (size c),
+      length-nones (size a),
+      length-nones (size c),
       shown_size l f sy,
     )
 shown_size l f (v.after o i c r a x q sx) =
-    omega (arith, length-append (nones (1 + (size c + size r))) (slots x), length_nones (1 + (size c + size r)), shown_size l f sx)
+    omega (arith, length-append (nones (1 + (size c + size r))) (slots x), length-nones (1 + (size c + size r)), shown_size l f sx)
 
 -- the list of a state stands on the board
 shown_fits : (l : ℕ → Option ℕ) (f : ℕ → Bool) {o : ℕ} {b : Block} {g : Going} → Shows l f o b g → Fits l o (slots g)
@@ -157,7 +154,7 @@ shown_fits l f (v.child o i c r a x q sx qr ha) =
     )
 shown_fits l f (v.rest o i c r a y q sy ha) =
     let n = shown_size l f sy in
-    let at : o + 1 + size c ≡ o + 1 + length (nones (size c)) = omega (arith, length_nones (size c)) in
+    let at : o + 1 + size c ≡ o + 1 + length (nones (size c)) = omega (arith, length-nones (size c)) in
     let at' : o + 1 + size c + size r ≡ o + 1 + size c + length (slots y) = omega (arith, n) in (
       (q o (omega arith) (omega arith)).0,
       fits_both l (o + 1) (nones (size c)) (slots y ++ nones (size a)) (fits_nones l (o + 1) (size c) (λ k h g. (q k (omega (arith, h)) (omega (arith, g))).0))
@@ -168,7 +165,7 @@ shown_fits l f (v.rest o i c r a y q sy ha) =
     )
 shown_fits l f (v.after o i c r a x q sx) =
     let t = 1 + (size c + size r) in
-    let at : o + 1 + size c + size r ≡ o + length (nones t) = omega (arith, length_nones t) in
+    let at : o + 1 + size c + size r ≡ o + length (nones t) = omega (arith, length-nones t) in
     fits_both l o (nones t) (slots x) (fits_nones l o t (λ k h g. (q k h g).0)) (fits_at l (o + 1 + size c + size r) (o + length (nones t)) (slots x) at (shown_fits l f sx))
 
 -- after steps the state stands where its list does
@@ -197,7 +194,7 @@ ran l l' f p n (v.child o i c r a x q sx qr ha) h =
 ran l l' f p n (v.rest o i c r a y q sy ha) h =
     let y' = slots (run p n y) in
     let first = fits_first l' (o + 1) (nones (size c)) (y' ++ nones (size a)) h.1 in
-    let later = fits_second l' (o + 1) (o + 1 + size c) (nones (size c)) (y' ++ nones (size a)) (omega (arith, length_nones (size c))) h.1 in
+    let later = fits_second l' (o + 1) (o + 1 + size c) (nones (size c)) (y' ++ nones (size a)) (omega (arith, length-nones (size c))) h.1 in
     let last = fits_second l' (o + 1 + size c) (o + 1 + size c + size r) y' (nones (size a)) (omega (arith, run_size l f p n sy)) later in
     v.rest o i c r a (run p n y)
     (λ m u t. (
@@ -209,7 +206,7 @@ ran l l' f p n (v.rest o i c r a y q sy ha) h =
     (record { flag = ha.flag; idle = λ m u t. nones_fit l' (o + 1 + size c + size r) (size a) last m u t; others = ha.others })
 ran l l' f p n (v.after o i c r a x q sx) h =
     let t = 1 + (size c + size r) in
-    let later = fits_second l' o (o + 1 + size c + size r) (nones t) (slots (run p n x)) (omega (arith, length_nones t)) h in
+    let later = fits_second l' o (o + 1 + size c + size r) (nones t) (slots (run p n x)) (omega (arith, length-nones t)) h in
     v.after o i c r a (run p n x)
     (λ m u g. (nones_fit l' o t (fits_first l' o (nones t) (slots (run p n x)) h) m u g, (q m u g).1))
     (ran l l' f p n sx later)
@@ -263,14 +260,9 @@ plan_of block strands e =
     subst (λ xs. PlanAt (strand_at xs) 0 w.Start block) (sym e)
     (plan_fits (strand_at (strands_of w.Start block)) 0 w.Start block (fits_self (strands_of w.Start block) (strand 0 w.Start)))
 
--- what waits for a strand of a block is in the block
-reach_first : (f : ℕ → Strand) (o : ℕ) (begins : Begins) (b : Block) → PlanAt f o begins b → f o ≡ strand (first_weight b) begins
-reach_first f o begins (Last k) h = h
-reach_first f o begins (Fork k c r a) h = h.0
-
 reaches_at : (f : ℕ → Strand) (o count k : ℕ) (begins : Begins) (b : Block) → PlanAt f o begins b → k ≡ o → Reaches begins o count → Reaches (f k).begins k count
 reaches_at f o count k begins b h e r =
-    let d = ap (λ (x : Strand). x.begins) (reach_first f o begins b h) in
+    let d = ap (λ (x : Strand). x.begins) (plan_first f o begins b h) in
     subst (λ n. Reaches (f n).begins n count) (sym e) (subst (λ x. Reaches x o count) (sym d) r)
 
 reaches : (f : ℕ → Strand) (o count : ℕ) (begins : Begins) (b : Block) → PlanAt f o begins b → o + size b ≤ count → (k : ℕ) → o < k → k < o + size b → Reaches (f k).begins k count
@@ -315,26 +307,14 @@ left_set xs i k a ne = get_or-set_other xs i k a None ne
 join_in : (b : Begins) (next join count : ℕ) → Reaches b next count → join_of b next ≡ Some join → join < count
 join_in w.Start next join count r e = absurd r
 join_in (w.Child later) next join count r e = cc
-join_in (w.Continuation later) next join count r e = let d : next + later ≡ join = only (next + later) join e in omega (arith, d, r)
-  where
-    only : (m n : ℕ) → Some m ≡ Some n → m ≡ n
-    only m n e = cc
-join_in w.Sync next join count r e = let d : next ≡ join = only next join e in omega (arith, d, r)
-  where
-    only : (m n : ℕ) → Some m ≡ Some n → m ≡ n
-    only m n e = cc
+join_in (w.Continuation later) next join count r e = let d : next + later ≡ join = same_Some (next + later) join e in omega (arith, d, r)
+join_in w.Sync next join count r e = let d : next ≡ join = same_Some next join e in omega (arith, d, r)
 
 join_from : (b : Begins) (next join : ℕ) → join_of b next ≡ Some join → next ≤ join
 join_from w.Start next join e = cc
 join_from (w.Child later) next join e = cc
-join_from (w.Continuation later) next join e = let d : next + later ≡ join = only (next + later) join e in omega (arith, d)
-  where
-    only : (m n : ℕ) → Some m ≡ Some n → m ≡ n
-    only m n e = cc
-join_from w.Sync next join e = let d : next ≡ join = only next join e in omega (arith, d)
-  where
-    only : (m n : ℕ) → Some m ≡ Some n → m ≡ n
-    only m n e = cc
+join_from (w.Continuation later) next join e = let d : next + later ≡ join = same_Some (next + later) join e in omega (arith, d)
+join_from w.Sync next join e = let d : next ≡ join = same_Some next join e in omega (arith, d)
 
 join_within : (strands : List Strand) (next join count : ℕ) → Reaches (strand_at strands next).begins next count →
     join_of (strand_at strands next).begins next ≡ Some join → join < count
@@ -452,10 +432,7 @@ length_puts strands next flags flags' ys ys' (s.joins join b h d q) =
 
 done_at : (xs : Slots) (i : ℕ) → slice_get xs i ≡ Some (Some 0) → left_at xs i ≡ Some 0
 done_at [] i e = cc
-done_at (x ∷ xs) zero e = only x (Some 0) e
-  where
-    only : (a b : Option ℕ) → Some a ≡ Some b → a ≡ b
-    only a b e = cc
+done_at (x ∷ xs) zero e = same_Some x (Some 0) e
 done_at (x ∷ xs) (suc i) e = done_at xs i e
 
 after_taking : (block : Block) (g : Going) (strands : List Strand) (flags flags' : List Bool) (xs ys' : Slots) (i : ℕ) → Stands block g strands flags xs →
@@ -549,7 +526,7 @@ pub starts : (block : Block) (strands : List Strand) (flags : List Bool) (xs : S
     xs ≡ set (nones (length strands)) 0 (Some (strand_at strands 0).weight) → Stands block (start block) strands flags xs
 starts block strands flags xs planned e d =
     let n = length_planned block strands planned in
-    let m = length_nones (length strands) in
+    let m = length-nones (length strands) in
     let a = Some (strand_at strands 0).weight in
     let one = some_size block in
     let first = ap (λ (s : Strand). Some s.weight) (ap (λ l. strand_at l 0) planned) in

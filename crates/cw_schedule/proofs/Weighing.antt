@@ -1,8 +1,9 @@
 -- The paths behind a block that codes are read as weigh what it does, and that is the span of its tree.
-use Rattle.std.proofs.Common.{◌≡◌, ℕ, ◌+◌, ◌≤◌, ◌<◌, Bool, true, false, List, [], ◌∷◌, ◌++◌, Some, None, length, length-append, arith, refl, ap, ap₂, sym, ◌∙◌, subst, drop, get_or}
+use Rattle.std.proofs.Common.{◌≡◌, ℕ, ◌+◌, ◌<◌, Bool, true, false, List, [], ◌∷◌, ◌++◌, Some, length, length-append, arith, refl, ap, ap₂, sym, ◌∙◌, subst, drop, get_or}
 use Rattle.std.specs.Prelude.{max}
 use Rattle.std.proofs.lemmas.List.{drop_more}
-use Rattle.cw_model.specs.Trees.{Tree, Leaf, Seq, Par, Marked, work, span}
+use Rattle.std.proofs.lemmas.Option.{none-some, same_Some}
+use Rattle.cw_model.specs.Trees.{Tree, Leaf, Seq, Par, Marked, span}
 use Rattle.cw_greedy.specs.declared.code.Code.{Code}
 use Rattle.cw_greedy.specs.declared.code.Code.TheVariants.{Instructions, Spawned, Ended, Joined}
 use Rattle.cw_greedy.specs.Blocks.{add_before, put_before, block_of}
@@ -38,12 +39,6 @@ path_put (Marked mark t) b = path_put t b
 
 pub path_is_span : (t : Tree) → path_of (block_of t) ≡ span t
 path_is_span t = omega (arith, path_put t (Last 0))
-
-pub span_within : (t : Tree) → span t ≤ work t
-span_within (Leaf k) = omega arith
-span_within (Seq a b) = omega (arith, span_within a, span_within b)
-span_within (Par c r) = omega (arith, span_fork c r, span_within c, span_within r)
-span_within (Marked mark t) = span_within t
 
 -- what is added at the end of a block
 path_end : (b : Block) (n : ℕ) → path_of (add_at_end b n) ≡ path_of b + n
@@ -90,14 +85,8 @@ end_of : (block : Block) (codes : List Code) (w w' : Ways) (frames : List Frame)
     → read (Ended ∷ codes) frames begun ≡ Some block → w'.path ≡ 0
     → ((outer : List Spawn) (top : Spawn) → w.spawns.items ≡ outer ++ top ∷ [] → w'.spawns.items ≡ outer ++ spawn top.before w.path top.first ∷ [])
     → WillWeigh block codes w'
-end_of block codes w w' [] begun h e z f = absurd (differ e)
-  where
-    differ : None ≡ Some block → ⊥
-    differ e = cc
-end_of block codes w w' (InRest first before child ∷ frames) begun h e z f = absurd (differ e)
-  where
-    differ : None ≡ Some block → ⊥
-    differ e = cc
+end_of block codes w w' [] begun h e z f = absurd (none-some block e)
+end_of block codes w w' (InRest first before child ∷ frames) begun h e z f = absurd (none-some block e)
 end_of block codes w w' (InChild first before ∷ frames) begun h e z f = record {
   frames = InRest first before begun ∷ frames;
   begun = Last 0;
@@ -136,20 +125,11 @@ one_joined frames first b child begun w w' outer top h s e f =
 step : (end : List Frame × Block) (w w' : Ways) (outer : List Spawn) (top : Spawn) (frames : List Frame) (begun : Block)
     → Weighs frames begun w → joined frames begun ≡ Some end → w.spawns.items ≡ outer ++ top ∷ []
     → w'.path ≡ counted (top.before + max top.child w.path) → w'.spawns.items ≡ outer → Left top.first end w'
-step end w w' outer top [] begun h j s e f = absurd (differ j)
-  where
-    differ : None ≡ Some end → ⊥
-    differ e = cc
-step end w w' outer top (InChild first c ∷ frames) begun h j s e f = absurd (differ j)
-  where
-    differ : None ≡ Some end → ⊥
-    differ e = cc
+step end w w' outer top [] begun h j s e f = absurd (none-some end j)
+step end w w' outer top (InChild first c ∷ frames) begun h j s e f = absurd (none-some end j)
 step end w w' outer top (InRest true c child ∷ frames) begun h j s e f =
     let one = one_joined frames true c child begun w w' outer top h s e f in
-    subst (λ b. Left b end w') (sym one.1) (subst (λ (x : List Frame × Block). Weighs x.0 x.1 w') (only (frames, fork_at_end c child begun) end j) one.0)
-  where
-    only : (x y : List Frame × Block) → Some x ≡ Some y → x ≡ y
-    only x y e = cc
+    subst (λ b. Left b end w') (sym one.1) (subst (λ (x : List Frame × Block). Weighs x.0 x.1 w') (same_Some {A = List Frame × Block} (frames, fork_at_end c child begun) end j) one.0)
 step end w w' outer top (InRest false c child ∷ frames) begun h j s e f =
     let one = one_joined frames false c child begun w w' outer top h s e f in
     let left : WillJoin end w' = record { frames = frames; begun = fork_at_end c child begun; weighs = one.0; joins = j } in
@@ -163,10 +143,7 @@ joins_step end w w' outer top h s e f = step end w w' outer top h.frames h.begun
 -- what will be joined has an open spawn
 open_spawn : (end : List Frame × Block) (w : Ways) (frames : List Frame) (begun : Block) → Weighs frames begun w
     → joined frames begun ≡ Some end → length w.spawns.items ≡ 0 → ⊥
-open_spawn end w [] begun h j s = differ j
-  where
-    differ : None ≡ Some end → ⊥
-    differ e = cc
+open_spawn end w [] begun h j s = none-some end j
 open_spawn end w (frame ∷ frames) begun h j s =
     let f = ap length h.spawns in
     omega (arith, s, f, length-append (spawns_of frames) (spawn_of frame ∷ []))
@@ -193,14 +170,8 @@ weighs_next block codes i d w l h = subst (λ cs. WillWeigh block cs w) (drop_mo
 -- with all codes read they are those of the block
 whole : (block : Block) (w : Ways) (frames : List Frame) (begun : Block) → Weighs frames begun w → read [] frames begun ≡ Some block
     → w.path ≡ counted (path_of block)
-whole block w [] begun h e = h.path ∙ ap (λ b. counted (path_of b)) (same begun block e)
-  where
-    same : (a b : Block) → Some a ≡ Some b → a ≡ b
-    same a b e = cc
-whole block w (frame ∷ frames) begun h e = absurd (differ e)
-  where
-    differ : None ≡ Some block → ⊥
-    differ e = cc
+whole block w [] begun h e = h.path ∙ ap (λ b. counted (path_of b)) (same_Some begun block e)
+whole block w (frame ∷ frames) begun h e = absurd (none-some block e)
 
 pub weighs_all : (block : Block) (w : Ways) → WillWeigh block [] w → w.path ≡ counted (path_of block)
 weighs_all block w h = whole block w h.frames h.begun h.weighs h.reads

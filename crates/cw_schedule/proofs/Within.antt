@@ -1,6 +1,7 @@
 -- A run that ends does no more work than its limit.
 use Rattle.std.proofs.Common.{◌≡◌, ◌≤◌, ℕ, zero, suc, ◌-◌, ℤ, Bool, true, false, if◌then◌else◌, Option, Some, None, List, [], arith, refl, sym, subst}
 use Rattle.std.specs.Prelude.{◌&&◌, nat_eq, nat_le, length, option_map, slice_get}
+use Rattle.std.proofs.lemmas.Option.{none-some}
 use Rattle.cw_model.specs.declared.total.Total.{Total}
 use Rattle.cw_model.specs.Trees.{Tree, Marked, Invocation, work, tree_of, normal}
 use Rattle.cw_model.specs.TreeLaws.{ReadSame}
@@ -10,7 +11,7 @@ use Rattle.cw_model.specs.Answers.{Ended, answer_of}
 use Rattle.cw_code.specs.declared.code.Func.{Func}
 use Rattle.cw_code.specs.Code.{Code}
 use Rattle.cw_code.specs.Run.{Slots, State, Transition, On, Ends, Stops, Stuck, step, steps, go_on, RunOutcome, first_state, first_transition, reducers_of, code_serial}
-use Rattle.cw_strand_laws.specs.Jobs.{WholeCall, Came, Returns, moved, travel, root_job, JobMeaning, Same, IsOf}
+use Rattle.cw_strand_laws.specs.Jobs.{WholeCall, Came, Returns, moved, travel, root_job, Same, IsOf}
 use Rattle.cw_strand_laws.specs.Jobs as jobs
 use Rattle.cw_strand_laws.specs.Costs.{CostsAreWork}
 use Rattle.cw_schedule.specs.Schedules as schedules
@@ -48,10 +49,7 @@ module _ (code : Code) where
     module _ (v : ℤ) (lines : List ℤ) (totals : List Total) (tree : Tree) where
       ran : (f : Func) (r : RunOutcome) → steps code n (first_state f args [] []) ≡ r
           → option_map (λ o. answer_of (reducers_of code) o) r ≡ Some (Ended v lines totals tree) → work tree ≤ n
-      ran f None is e = absurd (differ e)
-        where
-          differ : None ≡ Some (Ended v lines totals tree) → ⊥
-          differ e = cc
+      ran f None is e = absurd (none-some (Ended v lines totals tree) e)
       ran f (Some (Trapped trap line shown)) is e = absurd (differ e)
         where
           differ : option_map (λ o. answer_of (reducers_of code) o) (Some (Trapped trap line shown)) ≡ Some (Ended v lines totals tree) → ⊥
@@ -69,19 +67,13 @@ module _ (code : Code) where
           same e = cc
 
       begun : (o : Option Func) → option_map (λ o. answer_of (reducers_of code) o) (go_on (first_transition o args) n (λ s. steps code n s)) ≡ Some (Ended v lines totals tree) → work tree ≤ n
-      begun None e = absurd (differ e)
-        where
-          differ : None ≡ Some (Ended v lines totals tree) → ⊥
-          differ e = cc
+      begun None e = absurd (none-some (Ended v lines totals tree) e)
       begun (Some f) e = by_test (nat_eq (length args) f.params && (nat_le f.params f.slots && (nat_eq f.array_params 0 && nat_eq f.readers 0))) e
         where
           by_test : (b : Bool) → option_map (λ o. answer_of (reducers_of code) o) (go_on (if b then On (first_state f args [] []) else Stuck) n (λ s. steps code n s)) ≡ Some (Ended v lines totals tree)
               → work tree ≤ n
           by_test true e = ran f (steps code n (first_state f args [] [])) refl e
-          by_test false e = absurd (differ e)
-            where
-              differ : None ≡ Some (Ended v lines totals tree) → ⊥
-              differ e = cc
+          by_test false e = absurd (none-some (Ended v lines totals tree) e)
 
       answered : code_serial code args n ≡ Some (Ended v lines totals tree) → work tree ≤ n
       unfolding code_serial

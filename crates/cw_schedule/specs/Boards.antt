@@ -6,6 +6,10 @@ use Rattle.cw_schedule.specs.declared.board.Node.{Node}
 use Rattle.cw_schedule.specs.declared.board.Node.TheVariants.{Block, Halves}
 use Rattle.cw_schedule.specs.declared.board.Told.{Told}
 
+-- two parts of a board stay as long
+abbrev pub KeepLengths : (old new old_other new_other : Slots) → Type 0
+KeepLengths old new old_other new_other = (length new ≡ length old) × (length new_other ≡ length old_other)
+
 -- each ready strand with so many instructions less
 abbrev pub lowered : (by : ℕ) → Slots → Slots
 lowered by [] = []

@@ -1,4 +1,4 @@
--- What is told of the greedy schedule of a run.
+-- Which run of code has a greedy schedule, what that is, and why another run has none.
 use Rattle.std.specs.Prelude.{◌≡◌, ◌≤◌, ◌<◌, ℕ, ℤ, Bool, true, false, ◌&&◌, nat_le, List, Some, Result, MatchResult}
 use Rattle.cw_model.specs.declared.total.Total.{Total}
 use Rattle.cw_model.specs.Burdens.{no_burden}

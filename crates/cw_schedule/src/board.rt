@@ -2,7 +2,7 @@
 
 ghost use Rattle.std.specs.Prelude.{◌≡◌, ◌↔◌, ◌+◌, ◌<◌, ◌≤◌, ◌^◌, ◌++◌, length, Some, None, IfOk, IsTrue, slice_set, slice_get};
 ghost use Rattle.cw_greedy.specs.Slots.{nones, ready_slots, run_slots, RoomFor};
-ghost use Rattle.cw_schedule.specs.Boards.{least_first, least_slot, left_in, lowered, minus, owing, Advances, HasRoom, IsOwed, Tells};
+ghost use Rattle.cw_schedule.specs.Boards.{least_first, least_slot, left_in, lowered, minus, owing, Advances, HasRoom, IsOwed, KeepLengths, Tells};
 
 use crate::block::{Block, is_zero, lesser_of};
 use std::alloc::{AllocError, Global};
@@ -114,8 +114,7 @@ fn settle(first: &mut Board, second: &mut Board, told: Told)
     requires { Tells first.old second.old told }
     ensures first { first.new ≡ lowered told.owed first.old }
     ensures second { second.new ≡ lowered told.owed second.old }
-    ensures lengths { (length first.new ≡ length first.old)
-        × (length second.new ≡ length second.old) }
+    ensures lengths { KeepLengths first.old first.new second.old second.new }
 {
     if told.owed > 0 {
         first.lower(told.owed);
@@ -281,8 +280,7 @@ fn put_in_half(first: &mut Board, second: &mut Board, places: usize, place: usiz
     requires second { 1 ≤ length second.old }
     requires places { places ≡ length first.old }
     requires place { place < length first.old + length second.old }
-    ensures lengths { (length first.new ≡ length first.old)
-        × (length second.new ≡ length second.old) }
+    ensures lengths { KeepLengths first.old first.new second.old second.new }
     ensures put { first.new ++ second.new ≡ slice_set (first.old ++ second.old) place (Some left) }
 {
     if place < places {
@@ -314,8 +312,7 @@ fn take_of_half(first: &mut Board, second: &mut Board, places: usize) -> usize
     requires places { places ≡ length first.old }
     requires fits { length first.old + length second.old < 2 ^ 64 }
     requires least { least_slot (first.old ++ second.old) ≡ Some 0 }
-    ensures lengths { (length first.new ≡ length first.old)
-        × (length second.new ≡ length second.old) }
+    ensures lengths { KeepLengths first.old first.new second.old second.new }
     ensures place { slice_get (first.old ++ second.old) result ≡ Some (Some 0) }
     ensures taken { first.new ++ second.new ≡ slice_set (first.old ++ second.old) result None }
 {
@@ -370,8 +367,7 @@ fn run_half(first: &mut Board, second: &mut Board, processors: u64, steps: u64)
     requires first { 1 ≤ length first.old }
     requires second { 1 ≤ length second.old }
     requires room { RoomFor processors steps (first.old ++ second.old) }
-    ensures lengths { (length first.new ≡ length first.old)
-        × (length second.new ≡ length second.old) }
+    ensures lengths { KeepLengths first.old first.new second.old second.new }
     ensures run { first.new ++ second.new ≡ run_slots processors steps (first.old ++ second.old) }
 {
     let ready = first.count();

@@ -119,7 +119,8 @@ impl Ways {
         ensures work { OnOk result
             (counted self.new.work ≡ counted (self.old.work + instructions_of code)) }
         ensures weighs { (block : Block) (later : List Code)
-            → WillWeigh block (code ∷ later) self.old → OnOk result (WillWeigh block later self.new) }
+            → WillWeigh block (code ∷ later) self.old
+            → OnOk result (WillWeigh block later self.new) }
     {
         match code {
             Code::Instructions(count) => {

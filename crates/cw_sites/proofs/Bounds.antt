@@ -4,17 +4,18 @@ use Rattle.std.proofs.Common.{sym, ap, subst, inl, inr, arith}
 use Rattle.std.proofs.lemmas.Bool.{cases_lt}
 use Rattle.cw_model.specs.Trees.{Tree, Leaf, Seq, Par, Marked, Event, Work, Series, Fork, Join, tree_of, work, span}
 use Rattle.cw_model.specs.Rows.{site_inside, is_site, leaves}
+use Rattle.cw_model.specs.lemmas.Regrouping.{weight-append}
 use Rattle.cw_measure.specs.OpenParts.{Open, work_in}
 use Rattle.cw_measure.specs.Outermost.{outer_in}
 use Rattle.cw_measure.specs.lemmas.OpenParts.{tree_in, adds_first, work_adds}
-use Rattle.cw_measure.specs.lemmas.Outermost.{Bounds, outer_in_within}
+use Rattle.cw_measure.specs.lemmas.Outermost.{outer_in_within, work_bounds, span_bounds}
 use Rattle.cw_sites.specs.ChosenPaths.{Path, nowhere, plus, heavier, best, steps_of, chosen}
 use Rattle.cw_sites.specs.BlockPaths.{BlockPath, Straight, Split, now_of, extended, longest_of, child_ended, finished, after, after_all}
 use Rattle.cw_sites.specs.StrandPaths.{SeenBlock, StrandPath, longest_path, sum_of, whole}
 use Rattle.cw_sites.specs.OpenPaths.{here_in, enters, block_path, StandsOn, RestsOn, LiesUnder, Under, Shows}
 use Rattle.cw_sites.specs.SiteRows.{own_tree, own_in}
 use Rattle.cw_sites.specs.lemmas.ChosenPaths.{takes_first, takes_second}
-use Rattle.cw_sites.specs.lemmas.SiteRows.{weight-append, own_leaf}
+use Rattle.cw_sites.specs.lemmas.SiteRows.{own_leaf}
 
 -- a path is at most another and so much
 abbrev pub Within : (a b : Path) → ℕ → Type 0
@@ -167,18 +168,6 @@ own_within site here (Marked mark t) = own_within site (site_inside mark here) t
 pub own_in_within : (site base : ℕ) (os : List Open) (es : List Event) → own_in site base os es ≤ work_in os es
 own_in_within site base [] es = own_within site base (tree_of es)
 own_in_within site base (o ∷ os) es = let g = own_within site (here_in base (o ∷ os)) (tree_of es) in let h = own_in_within site base os o.outer in omega arith
-
-span_within : (t : Tree) → span t ≤ work t
-span_within (Leaf k) = omega arith
-span_within (Seq a b) = let g = span_within a in let h = span_within b in omega arith
-span_within (Par a b) = let g = span_within a in let h = span_within b in omega arith
-span_within (Marked mark t) = span_within t
-
-work_bounds : Bounds work work
-work_bounds = record { above = λ t. omega arith; series = λ a b. omega arith; fork = λ a b. omega arith; in_mark = λ m t. omega arith }
-
-span_bounds : Bounds span work
-span_bounds = record { above = span_within; series = λ a b. omega arith; fork = λ a b. omega arith; in_mark = λ m t. omega arith }
 
 pub works_within : (site busy : ℕ) (os : List Open) (es : List Event) → outer_in work (is_site site) busy os es ≤ work_in os es
 works_within site busy os es = outer_in_within work work work_bounds (is_site site) busy os es

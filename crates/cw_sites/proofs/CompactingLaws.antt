@@ -5,7 +5,7 @@ use Rattle.std.proofs.lemmas.Bool.{cases_lt}
 use Rattle.std.proofs.lemmas.Bool.Decides.{nat_tests}
 use Rattle.std.proofs.lemmas.List.{get_or_past, get_or-set_same, get_or-set_other, length-set}
 use borrow.Author.Tests.{eqb-true}
-use Rattle.cw_facts.specs.Tests.{below, not_below}
+use Rattle.cw_facts.specs.Tests.{below, not_below, equal}
 use Rattle.cw_sites.specs.declared.steps.Steps.{Steps}
 use Rattle.cw_measure.specs.Outermost.{one_if}
 use Rattle.cw_pages.specs.Items.{entry, Enters}
@@ -63,15 +63,12 @@ one_summed from to steps i s sums sums' le lt at word add longest h = record {
 pub all_summed : (from to : ℕ) (steps : List Steps) (i : ℕ) (sums : List ℕ) → (from ≤ to → to ≤ length steps → i ≡ to) → SummedTo from to steps i sums → from ≤ to → to ≤ length steps → SumsUp from to steps sums
 all_summed from to steps i sums e h o l = λ q fits. let z = e o l in h.each l (omega arith) q fits ∙ ap (λ (n : ℕ). upto q steps n - upto q steps from) z
 
-same_number : (n : ℕ) → (n == n) ≡ true
-same_number n = grind (arith, nat_tests)
-
 not_same : (n q : ℕ) → n < q → ((n == q) ≡ false) × ((q == n) ≡ false)
 not_same n q h = (grind (arith, nat_tests), grind (arith, nat_tests))
 
 -- the place of a site that was given one, and those of others
 given_here : (to : ℕ) (old new : Table ℕ) (site place : ℕ) → Enters to old new site place → entry to new site ≡ place
-given_here to old new site place g = g site ∙ ap (λ (b : Bool). if b then place else entry to old site) (same_number site)
+given_here to old new site place g = g site ∙ ap (λ (b : Bool). if b then place else entry to old site) (equal site site refl)
 
 given_other : (to : ℕ) (old new : Table ℕ) (site place q : ℕ) → Enters to old new site place → (site == q) ≡ false → entry to new q ≡ entry to old q
 given_other to old new site place q g e = g q ∙ ap (λ (b : Bool). if b then place else entry to old q) e
@@ -274,13 +271,3 @@ added_up from to end old put new l p g =
           let d = p.behind q in
           omega arith;
     }
-
--- nothing is done
-pub unchanged : (from to : ℕ) (old : List Steps) → from ≤ to → to ≤ length old → IsAddedUp from to old old to
-unchanged from to old o l = record {
-  from_is = o;
-  count_is = refl;
-  below = λ q n h. refl;
-  same = λ q fits. refl;
-  last = λ q. omega arith;
-}

@@ -6,6 +6,7 @@ use Rattle.std.proofs.lemmas.List.{get_or_past, get_or-set_same, get_or-set_othe
 use borrow.Author.Tests.{eqb-true}
 use Rattle.cw_facts.specs.Tests.{less_differs, less_where_it_differs, taken, not_taken}
 use Rattle.cw_measure.specs.Outermost.{unless_at}
+use Rattle.cw_measure.specs.lemmas.Outermost.{unless_nothing}
 use Rattle.cw_pages.specs.Items.{item, Gives, HasNoPage, HasNoPageFrom, HasNoShelfFrom}
 use Rattle.cw_pages.specs.declared.pages.Pages.{Pages}
 use Rattle.cw_pages.specs.lemmas.Places.{on_page, on_pages_from, on_shelves_from}
@@ -14,13 +15,8 @@ use Rattle.cw_sites.specs.declared.rows.Row.{Row}
 use Rattle.cw_sites.specs.declared.rows.Kept.{Kept}
 use Rattle.cw_sites.specs.SiteRows.{kept_of, further_of, row_of, zero_row, none_kept, summed, under, FitsRow, Becomes, OthersStay, IsReadAs, JoinsBelow, JoinsFurther, JoinsOn, JoinsRows}
 
--- nothing more, whatever is open
-nothing_at : (b : Bool) → unless_at b 0 ≡ 0
-nothing_at true = refl
-nothing_at false = refl
-
 summed_none : (r : Row) → summed r zero_row ≡ r
-summed_none r = let a : r.calls + 0 ≡ r.calls = omega arith in let b : r.own + 0 ≡ r.own = omega arith in let z = nothing_at (r.active == 0) in let c : r.work + unless_at (r.active == 0) 0 ≡ r.work = omega arith in let d : r.span + unless_at (r.active == 0) 0 ≡ r.span = omega arith in simp (a, b, c, d)
+summed_none r = let a : r.calls + 0 ≡ r.calls = omega arith in let b : r.own + 0 ≡ r.own = omega arith in let z = unless_nothing (r.active == 0) in let c : r.work + unless_at (r.active == 0) 0 ≡ r.work = omega arith in let d : r.span + unless_at (r.active == 0) 0 ≡ r.span = omega arith in simp (a, b, c, d)
 
 -- what is kept of a site beyond the first ones
 page_item : (further : Pages Kept) (q : ℕ) → further_of further q ≡ item none_kept further q

@@ -3,6 +3,7 @@ use Rattle.std.proofs.Common.{◌≡◌, ◌⊎◌, inl, inr, ℕ, ◌+◌, ◌-
 use Prim.Native.Nat.{zero, suc}
 use Rattle.std.proofs.lemmas.Option.{none-some, same_Some, slice_get_within}
 use lib.ListN.{length-replicate, length-set}
+use Rattle.std.proofs.lemmas.Bool.{cases_lt}
 use Rattle.cw_slices.specs.Blocks.{ins, outs, patched, missing, numbers, marks, IsIn, Have, AreOut, AreHalved, AtLeast, excess, IsCount, Counts, CountsMore, CountsLess}
 use Rattle.cw_slices.specs.lemmas.Patches.{middle, alike_middle, length_ins, length_outs, length_patched, patched_before, patched_at, patched_after, get_replicated}
 
@@ -26,15 +27,6 @@ pub missing_within : (cells : Cells) → missing cells ≤ length cells
 missing_within [] = omega arith
 missing_within (Some x ∷ cells) = let le = missing_within cells in let up : missing cells ≤ suc (length cells) = omega (arith, le) in up
 missing_within (None ∷ cells) = let le = missing_within cells in let up : suc (missing cells) ≤ suc (length cells) = omega (arith, le) in up
-
-less_or : (j k : ℕ) → (j < k) ⊎ (k ≤ j)
-less_or j zero = inr (omega arith)
-less_or zero (suc k) = inl (omega arith)
-less_or (suc j) (suc k) = up (less_or j k)
-  where
-    up : (j < k) ⊎ (k ≤ j) → (suc j < suc k) ⊎ (suc k ≤ suc j)
-    up (inl lt) = inl (omega (arith, lt))
-    up (inr le) = inr (omega (arith, le))
 
 three : (first new last : Cells) → missing (first ++ (new ++ last)) ≡ missing first + (missing new + missing last)
 three first new last = missing_both first (new ++ last) ∙ ap (λ (k : ℕ). missing first + k) (missing_both new last)
@@ -99,7 +91,7 @@ module _ (e from n d : ℕ) (ds : List ℕ) (fits : from + n ≤ length ds) (le 
 
 -- each right is still no less than it was at least
 pub at_least : (e from n v : ℕ) (ds : List ℕ) → from + n ≤ length ds → (0 < n → e ≤ v) → AtLeast e ds → AtLeast e (patched from (replicate n v) ds)
-at_least e from n v ds fits le all k d is = by (less_or k from)
+at_least e from n v ds fits le all k d is = by (cases_lt k from)
   where
     many : length (replicate n v) ≡ n
     many = length-replicate n v
@@ -116,7 +108,7 @@ at_least e from n v ds fits le all k d is = by (less_or k from)
 
     by : (k < from) ⊎ (from ≤ k) → e ≤ d
     by (inl lt) = all k d (sym (patched_before from (replicate n v) ds within k lt) ∙ is)
-    by (inr above) = inside above (less_or k (from + n))
+    by (inr above) = inside above (cases_lt k (from + n))
 
 -- of all that are alike
 pub at_least_alike : (n e : ℕ) → AtLeast e (replicate n e)

@@ -17,8 +17,8 @@ use Rattle.cw_strand.specs.declared.strand.Event.TheVariants as event
 use Rattle.cw_strand.specs.declared.strand.Spawns.{Spawns}
 use Rattle.cw_strand.specs.declared.strand.Step.TheVariants as step
 use Rattle.cw_strand.specs.Holds.{outs, IsGoing, IsRunning}
-use Rattle.cw_strand.specs.Losing.{ComesFrom, LeavesBy}
-use Rattle.cw_strand.specs.Moves.{HasCome, hands_out, HandsOutAt, ComesOr, ComesWithin, AdvancesBy, DoesOne, EndsAfter, EndsAt, EndsCall, EndsStill, IsBefore, LeadsTo, RunsOn}
+use Rattle.cw_strand.specs.Losing.{LeavesBy}
+use Rattle.cw_strand.specs.Moves.{HasCome, hands_out, HandsOutAt, ComesOr, ComesWithin, AdvancesBy, EndsAfter, EndsAt, EndsStill, IsBefore, RunsOn}
 use Rattle.cw_strand.proofs.Losing.{comes_from}
 use Rattle.cw_strand.proofs.RunsOn.{sound_of, join_goes, over_goes}
 
@@ -66,50 +66,11 @@ still_counts (effect.OverLimit back) n h = h
 still_counts (effect.Memory back) n h = h
 still_counts (effect.GivenUp back) n h = h
 
--- and one that is
-call_counts : (e : Effect) (n m : ℕ) → n ≡ m + 1 → EndsCall e n → EndsAfter e m
-call_counts (effect.Ended value shown) n m same h = h ∙ same
-call_counts (effect.Joined frame replaced shown) n m same h = absurd h
-call_counts (effect.Trapped trap line lines cost back) n m same h = absurd h
-call_counts (effect.OverLimit back) n m same h = absurd h
-call_counts (effect.Memory back) n m same h = absurd h
-call_counts (effect.GivenUp back) n m same h = absurd h
-
-call_does : (e : Effect) (n : ℕ) → EndsCall e n → DoesOne (advance.Came (step.Ended e))
-call_does (effect.Ended value shown) n h = tt
-call_does (effect.Joined frame replaced shown) n h = absurd h
-call_does (effect.Trapped trap line lines cost back) n h = absurd h
-call_does (effect.OverLimit back) n h = absurd h
-call_does (effect.Memory back) n h = absurd h
-call_does (effect.GivenUp back) n h = absurd h
-
-call_comes : (e : Effect) (n : ℕ) (self : Strand) → EndsCall e n → IsGoing self → ComesFrom e self
-call_comes (effect.Ended value shown) n self h going = going
-call_comes (effect.Joined frame replaced shown) n self h going = absurd h
-call_comes (effect.Trapped trap line lines cost back) n self h going = absurd h
-call_comes (effect.OverLimit back) n self h going = absurd h
-call_comes (effect.Memory back) n self h going = absurd h
-call_comes (effect.GivenUp back) n self h going = absurd h
-
 -- at any end but that of its call a strand goes on to its effect by no other one
 pub end_goes : (e : End) (self : Strand) → EndsAt e self → ((value : Option ℤ) (limit : ℕ) → e ≢ end.Gave value limit) → IsRunning self
 end_goes end.Stopped self h not = h.0
 end_goes (end.Joined limit) self h not = join_goes self limit h
 end_goes (end.Gave value limit) self h not = absurd (not value limit refl)
-
--- an instruction led to an end
-pub led_on : (a : Advance) (old mid new : Strand) → mid.of ≡ old.of → outs mid ≡ outs old → mid.count ≡ old.count + 1 → IsGoing old → LeadsTo a mid new → AdvancesBy a old new × LeavesBy a old new × DoesOne a
-led_on advance.Ran old mid new of same one going h = ((h.0, h.1 ∙ same, h.2 ∙ one), going, tt)
-led_on (advance.Came (step.Spawned job)) old mid new of same one going h = absurd h
-led_on (advance.Came step.AtSync) old mid new of same one going h = absurd h
-led_on (advance.Came (step.Ended e)) old mid new of same one going h = (
-  (
-    (subst (λ o. IsMeaningOf o.value e) of h.0.0, sym same ∙ h.0.1),
-    call_counts e mid.count old.count one h.1,
-  ),
-  call_comes e mid.count old h.1 going,
-  call_does e mid.count h.1,
-)
 
 -- an advance of a strand that was as far, told of how it was before
 pub advances_from : (a : Advance) (old mid new : Strand) → mid.of ≡ old.of → outs mid ≡ outs old → mid.count ≡ old.count → AdvancesBy a mid new → AdvancesBy a old new

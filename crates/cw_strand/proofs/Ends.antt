@@ -27,7 +27,6 @@ use Rattle.cw_machine.specs.Arrays.{Out, IsFit, block}
 use Rattle.cw_machine.specs.Shows.{Remains}
 use Rattle.cw_machine.specs.Unwinding.{RestsAreKept}
 use Rattle.cw_machine.specs.JobRuns.{IsAllHere, KeepsGiven, MayGiveUp, GivesUp}
-use Rattle.cw_strand.specs.declared.strand.Lent.{Lent}
 use Rattle.cw_strand.specs.declared.strand.Mode.TheVariants as mode
 use Rattle.cw_strand.specs.declared.strand.Strand.{Strand}
 use Rattle.cw_strand.specs.Levels.{Level}
@@ -49,11 +48,6 @@ no_lent v is p base [] [] h = refl
 no_lent v is p base [] (o ∷ out) h = absurd h
 no_lent v is p base (l ∷ levels) [] h = absurd h
 no_lent v is p base (l ∷ levels) (o ∷ out) h = absurd h
-
-pub no_levels : (v : Verified) (is : IsFit v) (p : Parts) (base : State) (out : List Out) (lent : List Lent) → Lends v is p base [] out lent → (h : Lent) (more : List Lent) → lent ≡ h ∷ more → ⊥
-no_levels v is p base [] [] k h more e = cc
-no_levels v is p base [] (x ∷ lent) k h more e = absurd k
-no_levels v is p base (o ∷ out) lent k h more e = absurd k
 
 -- A strand that stopped
 module _ (self : Strand) (is : IsFit (its_code self)) (j : jobs.Job) where

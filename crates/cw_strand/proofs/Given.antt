@@ -46,14 +46,6 @@ pub record ComesThere (code : Code) (job : jobs.Job) (frame : Standing) (t : Tra
   pub left : ℕ
   pub there : course code job budget ≡ Arrives frame t left
 
-frame_of : jobs.Effect → Standing → Standing
-frame_of (Joined f t cost) other = f
-frame_of _ other = other
-
-trace_of : jobs.Effect → Trace
-trace_of (Joined f t cost) = t
-trace_of _ = quiet
-
 came_of : (code : Code) (job : jobs.Job) (frame : Standing) (t : Trace) (cost : ℕ) (c : Came) → course code job job.limit ≡ c → IsOf c job.limit (Joined frame t cost) → ComesThere code job frame t
 came_of code job frame t cost (Arrives f u left) e is = record {
   budget = job.limit;

@@ -1,5 +1,5 @@
 -- Slices come home to the newest job out of a strand that goes no further.
-use Rattle.std.proofs.Common.{◌≡◌, ℕ, suc, ◌+◌, ◌≤◌, true, false, Option, Some, List, [], ◌∷◌, refl, sym, ap, ◌∙◌, subst}
+use Rattle.std.proofs.Common.{◌≡◌, suc, ◌+◌, ◌≤◌, true, false, Option, Some, List, [], ◌∷◌, refl, sym, ap, ◌∙◌, subst}
 use Rattle.std.specs.Prelude.{reverse, slice_get}
 use Rattle.std.proofs.Math.Logic.{∥∥₁_elim, ∥∥₁_map}
 use Rattle.cw_code.specs.Fits.{slots_lent}
@@ -12,6 +12,7 @@ use Rattle.cw_runnable.specs.declared.verified.Verified.{Verified}
 use Rattle.cw_jobs.specs.declared.call.Parts.{Parts}
 use Rattle.cw_jobs.specs.declared.job.Job.{Job}
 use Rattle.cw_jobs.specs.Jobs.{KeepsHomes}
+use Rattle.cw_jobs.specs.lemmas.Homes.{unchanged_homes}
 use Rattle.cw_machine.specs.declared.machine.Machine.{Machine}
 use Rattle.cw_machine.specs.declared.run.Run.{Run}
 use Rattle.cw_machine.specs.Calls.{loans_of}
@@ -47,10 +48,7 @@ newly_of v is p base (l ∷ levels) (o ∷ outs) x lent h = record { level = l; 
 
 -- slices that nobody changed lie where they lay
 same_homes : (slices back : List Placed) → back ≡ slices → KeepsHomes slices back []
-same_homes slices back e = subst (λ b. KeepsHomes slices b []) (sym e) (refl, λ a. (refl, refl, λ some. refl), λ a own q. absurd (none_there a (Some own) q), λ a some p q. absurd (none_there a (Some p) q))
-  where
-    none_there : {A : Type 0} (a : ℕ) (x : A) → slice_get {X = A} [] a ≡ Some x → ⊥
-    none_there a x q = cc
+same_homes slices back e = subst (λ b. KeepsHomes slices b []) (sym e) (unchanged_homes slices)
 
 -- the newest job came home, whatever boxes are kept
 pub record CameHome (old : Strand) (back : List Placed) (replaced : List (Option Placed)) (new : Strand) : Type 0 where

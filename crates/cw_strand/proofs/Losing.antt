@@ -1,6 +1,7 @@
 -- How strands stand, and where memory may be wanting in them.
 use Rattle.std.proofs.Common.{◌≡◌, ◌≢◌, ℕ, true, false, refl, sym, ap, ◌∙◌, inl, inr}
 use Rattle.std.specs.Prelude.{◌⊎◌}
+use Rattle.std.proofs.lemmas.Bool.{true≢false}
 use Rattle.cw_model.specs.declared.trap.Trap.{Trap}
 use Rattle.cw_jobs.specs.declared.effect.Effect.{Effect}
 use Rattle.cw_jobs.specs.declared.effect.Effect.TheVariants as effect
@@ -13,28 +14,25 @@ use Rattle.cw_strand.specs.Giving.{IsMemory}
 use Rattle.cw_strand.specs.Holds.{stops, has_failed, IsGoing}
 use Rattle.cw_strand.specs.Losing.{MayLack, StandsAs, ComesFrom, LeavesAt, GoesOn, TellsFailure}
 
-never : true ≡ false → ⊥
-never e = cc
-
 -- one that has stopped for something else lacks none
 pub lacks_not : (m : Mode) → stops m ≡ true → has_failed m ≡ false → (m ≡ mode.Going) ⊎ (has_failed m ≡ true) → ⊥
-lacks_not m s known (inl going) = never (sym s ∙ ap stops going)
-lacks_not m s known (inr lost) = never (sym lost ∙ known)
+lacks_not m s known (inl going) = true≢false (sym s ∙ ap stops going)
+lacks_not m s known (inr lost) = true≢false (sym lost ∙ known)
 
 -- one that has stopped lacks memory only if it has stopped for that, and does not wait
 pub lost_before : (m m' : Mode) → m' ≡ m → stops m ≡ true → (m' ≡ mode.Going) ⊎ (has_failed m' ≡ true) → has_failed m ≡ true
-lost_before m m' same s (inl going) = absurd (never (sym s ∙ ap stops (sym same ∙ going)))
+lost_before m m' same s (inl going) = absurd (true≢false (sym s ∙ ap stops (sym same ∙ going)))
 lost_before m m' same s (inr lost) = ap has_failed (sym same) ∙ lost
 
 pub waits_not : (m : Mode) → stops m ≡ true → m ≡ mode.Waiting → ⊥
-waits_not m s waits = never (sym s ∙ ap stops waits)
+waits_not m s waits = true≢false (sym s ∙ ap stops waits)
 
 pub goes_not_waits : mode.Going ≡ mode.Waiting → ⊥
 goes_not_waits e = cc
 
 pub stopped_lost : (m : Mode) → stops m ≡ true → ((trap : Trap) (line : ℕ) → m ≢ mode.Trapped trap line) → m ≢ mode.Over → has_failed m ≡ true
-stopped_lost mode.Going s t o = absurd (never (sym s))
-stopped_lost mode.Waiting s t o = absurd (never (sym s))
+stopped_lost mode.Going s t o = absurd (true≢false (sym s))
+stopped_lost mode.Waiting s t o = absurd (true≢false (sym s))
 stopped_lost (mode.Trapped trap line) s t o = absurd (t trap line refl)
 stopped_lost mode.Over s t o = absurd (o refl)
 stopped_lost mode.Memory s t o = refl

@@ -3,15 +3,14 @@
 use Rattle.std.proofs.Common.{◌≡◌, ℕ, zero, suc, ◌+◌, ◌-◌, ◌<◌, ◌≤◌, ℤ, Bool, true, false, ◌&&◌, Option, Some, None, List, [], ◌∷◌, length, refl, sym, ap, ◌∙◌, subst, arith}
 use Rattle.std.specs.Prelude.{slice_get}
 use Rattle.std.proofs.lemmas.List.{nil_from_length}
+use Rattle.std.proofs.lemmas.Bool.{true≢false}
 use Rattle.cw_model.specs.Outcome.{Trace}
 use Rattle.cw_slices.specs.Placed.{Placed}
-use Rattle.cw_code.specs.declared.code.Instr.{Instr}
-use Rattle.cw_code.specs.declared.code.Instr.TheVariants as instr
 use Rattle.cw_code.specs.Code.{Code}
 use Rattle.cw_code.specs.Fits.{Fits}
 use Rattle.cw_code.specs.Run.{Readers, Around, State, Transition, On, Ends, Stops, Stuck, step}
 use Rattle.cw_code.specs.Good.{GoodState, FitSteps, FitSettles}
-use Rattle.cw_code.specs.Frozen.{is_join, IsFrozenAt, JoinsInside, FrozenStay, outermost_arrays}
+use Rattle.cw_code.specs.Frozen.{IsFrozenAt, JoinsInside, FrozenStay, outermost_arrays}
 use Rattle.cw_code.specs.Staying.{outermost}
 use Rattle.cw_strand_laws.specs.Jobs.{ToJoin, joins, is_first, has_come, Standing, standing, Came, Arrives, Beyond, moved, travel}
 use Rattle.cw_strand_laws.specs.Over.{beneath, under, transition_under}
@@ -20,19 +19,8 @@ use Rattle.cw_strand_laws.specs.lemmas.JobsFit.{Upon, LiftedTransition, lifted_s
 use Rattle.cw_strand_laws.specs.lemmas.Under.{act_under}
 use Rattle.cw_jobs.specs.Calls.{placed, IsShare, HasReaders}
 use Rattle.cw_jobs.specs.Jobs.{own_or, KeepsHomes}
+use Rattle.cw_jobs.specs.lemmas.Homes.{own_home}
 use Rattle.cw_machine.specs.lemmas.Rounds.{round_many}
-
--- the code's own word for a join is that of the strands
-joins_as : (i : Instr) → is_join i ≡ true → joins (Some i) ≡ true
-joins_as instr.EndCut e = refl
-joins_as instr.Sync e = refl
-joins_as instr.Close e = refl
-joins_as instr.ReturnValue e = refl
-joins_as instr.Return e = refl
-joins_as _ e = cc
-
-true_false : true ≡ false → ⊥
-true_false e = cc
 
 frame_in : Came → Standing → Standing
 frame_in (Arrives frame t left) other = frame
@@ -49,10 +37,10 @@ module _ (code : Code) (fits : Fits code) (steps : FitSteps code fits) (settles 
   inside s come i is joined = deeper s.around come (round_many b s.around)
     where
       found : joins (slice_get code.instrs s.place) ≡ true
-      found = ap joins is ∙ joins_as i joined
+      found = ap joins is ∙ joined
 
       deeper : (around : List Around) → (is_first around && joins (slice_get code.instrs s.place)) ≡ false → length (beneath b s.around) ≡ length around + length b.around → depth < length (beneath b s.around)
-      deeper [] e both = absurd (true_false (sym found ∙ e))
+      deeper [] e both = absurd (true≢false (sym found ∙ e))
       deeper (x ∷ around) e both = omega (arith, deep, both)
 
   next : (s s' : State) → has_come ToJoin code s ≡ false → step code s ≡ On s' → IsHeld s → GoodState code fits (under b s') → IsHeld s'
@@ -101,18 +89,12 @@ same_lists [] (y ∷ ys) e h = absurd (omega (arith, e))
 same_lists (x ∷ xs) [] e h = absurd (omega (arith, e))
 same_lists (x ∷ xs) (y ∷ ys) e h = ap (λ z. z ∷ xs) (h 0 x y refl refl) ∙ ap (λ l. y ∷ l) (same_lists xs ys (omega (arith, e)) (λ k. h (suc k)))
 
--- what came back in a slot: the slot's own, or a new array, which has one owner
-home_kept : (o : Option (Option Placed)) (p : Placed) → ((own : Placed) → o ≡ Some (Some own) → ⊥) → own_or o p ≡ p
-home_kept None p h = refl
-home_kept (Some None) p h = refl
-home_kept (Some (Some own)) p h = absurd (h own refl)
-
 -- a share comes back with its numbers, and what is read without numbers has none
 module _ (slices back : List Placed) (replaced : List (Option Placed)) (homes : KeepsHomes slices back replaced) (k : ℕ) (new : IsShare (placed back k)) (old : IsShare (placed slices k)) where
   same_share : 0 < length (placed slices k).items → (placed back k).items ≡ (placed slices k).items
   same_share some =
       let shared = old some in
-      let kept = home_kept (slice_get replaced k) (placed back k) (λ own e. homes.3 k shared own e) in
+      let kept = own_home (slice_get replaced k) (placed back k) (λ own e. homes.3 k shared own e) in
       ap (λ (p : Placed). p.items) (sym kept) ∙ (homes.1 k).2 shared
 
   -- a new array that has one owner is no share: it has no numbers either

@@ -4,6 +4,7 @@ use Rattle.std.specs.Prelude.{map, reverse}
 use Rattle.std.specs.Coded.{le_prop}
 use Rattle.std.proofs.Math.Logic.{∥∥₁_elim, ∥∥₁_map}
 use mathlib.Core.HLevel.{⊥_prop}
+use Rattle.std.proofs.lemmas.Bool.{true≢false}
 use Rattle.cw_code.specs.Code.{Code, code_view}
 use Rattle.cw_code.specs.Run.{State}
 use Rattle.cw_strand_laws.specs.Jobs as jobs
@@ -153,9 +154,6 @@ stretch_here : (k : Setting) (code : Code) (floor : ℕ) (stops : Bool) (count l
 stretch_here k code floor stops count _ s _ (Here _ _) le = refl
 stretch_here k code floor stops count _ s _ (Further _ later _ s1 s2 before p) le = let low = stretch_low k code floor stops count later s s1 before in absurd (omega (arith, low, le))
 
-never : true ≡ false → ⊥
-never e = cc
-
 module _ (self : Strand) (r : Run) (done limit : ℕ) (stops : Bool) (to : Stop) (h : IsRunning self) (e : self.mode ≡ mode.Going) (goes : GoesOn (its_code self) self.run self.count limit (floor_of self) stops to done r) where
   abbrev floor : ℕ
   floor = floor_of self
@@ -185,7 +183,7 @@ module _ (self : Strand) (r : Run) (done limit : ℕ) (stops : Bool) (to : Stop)
       let at = subst (λ t. StopsAt v ok k floor stops limit t done r came.0 came.1) is came.3 in
       let same_at = at.0 in
       let here = stretch_here k (code_view v.code) floor stops self.count came.0 c.state came.1 came.2 (omega (arith, same, same_at)) in
-      never (sym at.1.come ∙ ap (λ z. has_come k.extent (code_view v.code) z) here ∙ c.at.2.before)))
+      true≢false (sym at.1.come ∙ ap (λ z. has_come k.extent (code_view v.code) z) here ∙ c.at.2.before)))
 
   -- it stopped at a spawn only where it was to
   unasked : (spawn : Spawn) → to ≡ stop.Spawned spawn → stops ≡ false → ⊥
@@ -193,7 +191,7 @@ module _ (self : Strand) (r : Run) (done limit : ℕ) (stops : Bool) (to : Stop)
       let at = going_of self s.ok s.job e d in
       let ok = ok_with d.ground at.held.runs.outs in
       let came = goes ok (setting_of d.ground) at.state at.held.runs.shows (may_go self s.ok s.job d.ground at.state at.count at.out at.held) in
-      never (sym (subst (λ t. StopsAt (its_code self) ok (setting_of d.ground) floor stops limit t done r came.0 came.1) is came.3).1.asked ∙ not)))
+      true≢false (sym (subst (λ t. StopsAt (its_code self) ok (setting_of d.ground) floor stops limit t done r came.0 came.1) is came.3).1.asked ∙ not)))
 
   asked : (spawn : Spawn) → to ≡ stop.Spawned spawn → stops ≡ true
   asked spawn is = by stops refl

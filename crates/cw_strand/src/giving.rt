@@ -1,4 +1,5 @@
-//! The effect of the newest job out, which ran elsewhere, is given.
+//! The effect of the newest job out, which ran elsewhere, is given: what it printed stands behind what the strand has
+//! printed, its totals and its measures are joined to the strand's, and its arrays come home.
 
 ghost use Rattle.std.specs.Prelude.{◌≡◌, ◌<◌, false, length, MatchOption, OnOk};
 ghost use Rattle.cw_jobs.specs.declared.effect.Effect.TheVariants as effect;

@@ -1,16 +1,17 @@
 -- Each instruction adds one to the work that is shown.
-use Rattle.std.proofs.Common.{◌≡◌, ℕ, zero, suc, ◌+◌, ℤ, Bool, true, false, if◌then◌else◌, Option, Some, None, List, [], ◌∷◌, ◌++◌, refl, sym, ◌∙◌, subst, arith}
-use Rattle.std.specs.Prelude.{slice_get, slice_set}
+use Rattle.std.proofs.Common.{◌≡◌, ℕ, zero, suc, ◌+◌, ℤ, Bool, true, false, Option, Some, None, List, [], ◌∷◌, ◌++◌, refl, sym, ◌∙◌, subst, arith}
+use Rattle.std.specs.Prelude.{slice_get}
 use Rattle.cw_model.specs.declared.syntax.CallKind.{CallKind}
 use Rattle.cw_model.specs.declared.syntax.CallKind.TheVariants.{Plain, Spawned}
 use Rattle.cw_model.specs.Trees.{Event, Work, Series, Fork, Join, work, parts_of, tree_of}
 use Rattle.cw_model.specs.Outcome.{Trace}
 use Rattle.cw_code.specs.declared.code.Instr.{Instr}
 use Rattle.cw_code.specs.Code.{Code}
-use Rattle.cw_code.specs.Run.{Slots, Results, Opened, Around, Caller, Block, State, Transition, On, Ends, Stops, Stuck, synced, is_full, settled, put_in, given_back, going_on, event_of, rejoined, result_of, returns_to, back, block_event, resumes, act, step}
+use Rattle.cw_code.specs.Run.{Slots, Opened, Around, Caller, Block, State, Transition, On, Ends, Stops, Stuck, synced, settled, put_in, event_of, back, block_event, resumes, act, step}
 use Rattle.cw_strand_laws.specs.Jobs.{Extent, WholeCall, ToJoin, has_come, Came, Arrives, Returns, Falls, Beyond, Lost, moved, travel, job_start, Effect, Ended, Joined, TrapIn, OverLimit, Memory}
 use Rattle.cw_strand_laws.specs.Promises.{StandsFor}
 use Rattle.cw_strand_laws.specs.Costs.{CostIsWork, CostsAreWork}
+use Rattle.cw_code.specs.lemmas.Acts.{returning}
 use Rattle.cw_strand_laws.specs.lemmas.Acts.{acts_by}
 use Rattle.cw_strand_laws.specs.lemmas.Budgets.{come_at, none_left, go_one}
 use Rattle.cw_strand_laws.proofs.Budgets.{meaning_stands}
@@ -48,23 +49,11 @@ Shows n (Ends v arrays t) = work_in t.events ≡ n
 Shows n (Stops trap line lines) = Unit {0}
 Shows n Stuck = Unit {0}
 
-either_shows : (n : ℕ) (c : Bool) (x y : Transition) → Shows n x → Shows n y → Shows n (if c then x else y)
-either_shows n true x y h k = h
-either_shows n false x y h k = k
-
 one_more : (events : List Event) → work_in (events ++ Work 1 ∷ []) ≡ work_in events + 1
 one_more events = work_more events (Work 1 ∷ []) ∙ omega arith
 
 join_more : (events : List Event) → work_in (events ++ Join ∷ Work 1 ∷ []) ≡ work_in events + 1
 join_more events = work_more events (Join ∷ Work 1 ∷ []) ∙ omega arith
-
-result_shows : (n : ℕ) (s : State) (kind : CallKind) (target : Option ℕ) (v : Option ℤ) (results : Results (List ℤ)) → work_in s.trace.events + outside s.around ≡ n → Shows n (result_of kind target v results s)
-result_shows n s Plain None v results h = h
-result_shows n s Plain (Some a) None results h = tt
-result_shows n s Plain (Some a) (Some v) results h = either_shows n (is_full (slice_get s.slots a)) (On (record s { arrays = settled results s.arrays; slots = slice_set s.slots a (Some v) })) Stuck h tt
-result_shows n s Spawned None v results h = h
-result_shows n s Spawned (Some a) None results h = tt
-result_shows n s Spawned (Some a) (Some v) results h = h
 
 part_work : (events inner : List Event) → work_in (events ++ Series (tree_of inner) ∷ []) ≡ work_in events + work_in inner
 part_work events inner = let e = work_more events (Series (tree_of inner) ∷ []) in let f = work_parts inner in omega (arith, e, f)
@@ -80,15 +69,12 @@ block_work None events inner = part_work events inner
 block_work (Some tag) events inner = let e = work_more events (block_event (Some tag) (tree_of inner) ∷ []) in let f = work_parts inner in omega (arith, e, f)
 
 back_shows : (n : ℕ) (around : List Around) (v : Option ℤ) (arrays : Slots (List ℤ)) (t : Trace) → work_in t.events + outside around ≡ n → Shows n (back around v arrays t)
-back_shows n [] v arrays t h = omega (arith, h)
-back_shows n (Caller w ∷ around) v arrays t h = by_arrays (given_back w.taken arrays)
-  where
-    by_arrays : (o : Option (Results (List ℤ))) → Shows n (returns_to w around v o t)
-    by_arrays None = tt
-    by_arrays (Some results) =
-        let e = call_work w.kind w.site w.events t.events in
-        result_shows n (going_on w around (rejoined (event_of w.kind w.site) w.events t)) w.kind w.target v results (omega (arith, e, h))
-back_shows n (Block o ∷ around) v arrays t h = tt
+back_shows n around v arrays t h = returning (Shows n) tt around v arrays t
+    (λ e. (let g = subst (λ a. work_in t.events + outside a ≡ n) e h in omega (arith, g)))
+    (λ w others e slots homes results arrived.
+    let g = subst (λ a. work_in t.events + outside a ≡ n) e h in
+    let f = call_work w.kind w.site w.events t.events in
+    omega (arith, f, g))
 
 resume_shows : (n : ℕ) (s : State) (o : Opened) (around : List Around) → work_in s.trace.events + (work_in o.events + outside around) + 1 ≡ n → Shows n (resumes s o around)
 resume_shows n s o around h =

@@ -3,13 +3,13 @@ use Rattle.std.proofs.Common.{◌≡◌, ◌≢◌, ◌⊎◌, ℕ, zero, suc, �
 use Rattle.std.proofs.lemmas.List.{length-set}
 use Rattle.std.specs.Prelude.{slice_get, slice_set}
 use Rattle.std.proofs.lemmas.Option.{slice_get_within}
-use Rattle.cw_facts.specs.Lists.{set_gives, added_gives}
+use Rattle.cw_facts.specs.Lists.{set_gives, added_gives, get_before, get_last}
 use Rattle.cw_code.specs.Code.{Code}
 use Rattle.cw_strand_laws.specs.Jobs.{Job, Memory}
 use Rattle.cw_strand_laws.specs.Strands.{Strand}
 use Rattle.cw_strand_laws.specs.Steps.{started, give, skip, take_back, out_of_memory}
 use Rattle.cw_strand_laws.specs.Worlds.{Place, Undecided, Kept, Offered, Runs, Made, Settled, Spent, World, placed, joined_by, Has, Next, Run, Spawn, Offer, Inline, Begin, Skip, Resume, End, Settle, Give, Want, GiveUp, After, Now, Later, world_of, IsAmong, Falls, OwnersAreSingle}
-use Rattle.cw_strand_laws.proofs.WorldLaws.{stays_there, last_there, one_there}
+use Rattle.cw_strand_laws.proofs.WorldLaws.{one_there}
 
 -- which strand handed each number out
 abbrev IsOpen : Option Place → Type 0
@@ -147,7 +147,7 @@ module _ (world : World) (owned : Owned world) where
 
 parents_on : (parents : List ℕ) (new : ℕ) (places : List Place) (i : ℕ) (numbers : List ℕ) → Listed parents places i numbers → Listed (parents ++ new ∷ []) places i numbers
 parents_on parents new places i [] h = tt
-parents_on parents new places i (n ∷ numbers) h = (stays_there parents n new i h.0, h.1, parents_on parents new places i numbers h.2)
+parents_on parents new places i (n ∷ numbers) h = (get_before parents new n i h.0, h.1, parents_on parents new places i numbers h.2)
 
 falls_from : (n : ℕ) (parents : List ℕ) (places : List Place) (i : ℕ) (numbers : List ℕ) → length parents ≡ n → Listed parents places i numbers → Falls numbers → Falls (n ∷ numbers)
 falls_from n parents places i [] e h f = tt
@@ -206,7 +206,7 @@ spawn_owned world i worker job out strand new numbers owned has = record {
     undecided_spent e = cc
 
     opens : IsOpen (slice_get (world.places ++ Undecided worker ∷ []) (length world.jobs))
-    opens = subst IsOpen (sym (ap (slice_get (world.places ++ Undecided worker ∷ [])) (sym owned.even ∙ owned.even') ∙ last_there world.places (Undecided worker))) (none_spent (Undecided worker) undecided_spent)
+    opens = subst IsOpen (sym (ap (slice_get (world.places ++ Undecided worker ∷ [])) (sym owned.even ∙ owned.even') ∙ get_last world.places (Undecided worker))) (none_spent (Undecided worker) undecided_spent)
 
     mine : (k worker' : ℕ) (strand' : Strand) (numbers' : List ℕ) → k ≡ i → Runs worker' strand' numbers' ≡ Runs worker new (length world.jobs ∷ numbers)
         → Listed (owned.parents ++ i ∷ []) (slice_set (world.places ++ Undecided worker ∷ []) i (Runs worker new (length world.jobs ∷ numbers))) k numbers' × Falls numbers'
@@ -217,7 +217,7 @@ spawn_owned world i worker job out strand new numbers owned has = record {
         subst (λ ns. Listed (owned.parents ++ i ∷ []) (slice_set (world.places ++ Undecided worker ∷ []) i (Runs worker new (length world.jobs ∷ numbers))) k ns × Falls ns) (sym numbers_same)
         (subst (λ j. Listed (owned.parents ++ i ∷ []) (slice_set (world.places ++ Undecided worker ∷ []) i (Runs worker new (length world.jobs ∷ numbers))) j (length world.jobs ∷ numbers) × Falls (length world.jobs ∷ numbers)) (sym same) (
           (
-            ap (slice_get (owned.parents ++ i ∷ [])) (sym owned.even) ∙ last_there owned.parents i,
+            ap (slice_get (owned.parents ++ i ∷ [])) (sym owned.even) ∙ get_last owned.parents i,
             open_set (world.places ++ Undecided worker ∷ []) i (length world.jobs) (Runs worker new (length world.jobs ∷ numbers)) (λ f. runs_spent worker new (length world.jobs ∷ numbers) f) opens,
             old.0,
           ),

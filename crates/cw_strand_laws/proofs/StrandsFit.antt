@@ -1,7 +1,7 @@
 -- In code that fits no strand of any world finds what does not fit.
 use Rattle.std.proofs.Common.{◌≡◌, ℕ, zero, suc, ◌+◌, ◌<◌, ◌≤◌, ℤ, Bool, true, false, ◌&&◌, nat_lt, if◌then◌else◌, Option, Some, List, [], ◌∷◌, ◌++◌, length, refl, sym, ap, ◌∙◌, subst, inl, inr, arith}
 use Rattle.std.specs.Prelude.{slice_get}
-use Rattle.cw_facts.specs.Lists.{set_gives, added_gives}
+use Rattle.cw_facts.specs.Lists.{set_gives, added_gives, get_before, get_last}
 use Rattle.cw_model.specs.declared.syntax.CallKind.{CallKind}
 use Rattle.cw_model.specs.declared.syntax.CallKind.TheVariants.{Plain, Spawned}
 use Rattle.cw_model.specs.Outcome.{Trace, quiet, joined}
@@ -22,7 +22,7 @@ use Rattle.cw_strand_laws.specs.lemmas.Rests.{GoesOn, act_goes}
 use Rattle.cw_strand_laws.proofs.Budgets.{meaning_stands}
 use Rattle.cw_strand_laws.specs.lemmas.JobsFit.{Base, Alone, Upon, lifted, LiftedTransition, lifted_step, FitJob, hands_fit, arrived, gives_fit}
 use Rattle.cw_strand_laws.specs.Over.{under}
-use Rattle.cw_strand_laws.proofs.WorldLaws.{stays_there, one_there, last_there, Named, PlaceOk, WorldOk, next_ok, begins_ok}
+use Rattle.cw_strand_laws.proofs.WorldLaws.{one_there, Named, PlaceOk, WorldOk, next_ok, begins_ok}
 
 abbrev GoesNowhere : Transition → Type 0
 GoesNowhere (On s) = ⊥
@@ -215,7 +215,7 @@ module _ (code : Code) (fits : Fits code) (steps_well : FitSteps code fits) (set
     | inl p ↦
         subst (λ pl. PlaceFit job' pl) (sym p.1)
         (subst (λ j. PlaceFit j place)
-        (one_there (slice_get (world.jobs ++ job ∷ []) (length world.jobs)) job job' (last_there world.jobs job) (ap (slice_get (world.jobs ++ job ∷ [])) (even ∙ sym p.0) ∙ has'.job_is)) h)
+        (one_there (slice_get (world.jobs ++ job ∷ []) (length world.jobs)) job job' (get_last world.jobs job) (ap (slice_get (world.jobs ++ job ∷ [])) (even ∙ sym p.0) ∙ has'.job_is)) h)
     | inr p ↦ elim (added_gives world.jobs k job job' has'.job_is) [
       | inl q ↦ absurd (let lt = within world.places k place' p in let same = q.0 in omega (arith, lt, even, same))
       | inr q ↦ fit k job' place' (record { job_is = q; place_is = p })
@@ -270,7 +270,7 @@ module _ (code : Code) (fits : Fits code) (steps_well : FitSteps code fits) (set
       let h = fit i job (Runs worker strand numbers) has in
       let kept = advanced job strand (Handed out new) h (ok.each i job (Runs worker strand numbers) has).0 same in
       set_fit (joined_by world out (Undecided worker)) i job (Runs worker new (length world.jobs ∷ numbers)) (add_fit world out (Undecided worker) ok.even fit kept.0)
-      (stays_there world.jobs i out job has.job_is) (record { base = h.base; fit = kept.1 })
+      (get_before world.jobs out i job has.job_is) (record { base = h.base; fit = kept.1 })
   next_fit world next (Offer _ i worker job has) ok fit = set_fit world i job (Offered worker) fit has.job_is (fit i job (Undecided worker) has)
   next_fit world next (Inline _ i worker job has) ok fit = set_fit world i job (Kept worker) fit has.job_is (fit i job (Undecided worker) has)
   next_fit world next (Begin _ i worker job place has unrun) ok fit =

@@ -1,14 +1,13 @@
 -- The cut: a run over what waits is the run up to the join, and from there on, what waits having gone back into its slots.
-use Rattle.std.proofs.Common.{◌≡◌, ℕ, zero, suc, ℤ, Bool, true, false, ◌&&◌, if◌then◌else◌, Option, Some, None, List, [], ◌∷◌, ◌++◌, refl, sym, ap, ◌∙◌, subst}
-use Rattle.std.specs.Prelude.{slice_get, slice_set}
+use Rattle.std.proofs.Common.{◌≡◌, ℕ, zero, suc, ℤ, Bool, true, false, ◌&&◌, if◌then◌else◌, Option, Some, List, [], ◌∷◌, ◌++◌, refl, sym, ap, ◌∙◌, subst}
+use Rattle.std.specs.Prelude.{slice_get}
 use Rattle.cw_facts.specs.Tests.{second_false, taken, not_taken}
-use Rattle.cw_model.specs.declared.syntax.CallKind.{CallKind}
-use Rattle.cw_model.specs.declared.syntax.CallKind.TheVariants.{Plain, Spawned}
 use Rattle.cw_model.specs.Outcome.{Trace, joined}
 use Rattle.cw_code.specs.declared.code.Instr.{Instr}
 use Rattle.cw_code.specs.declared.code.Instr.TheVariants as instr
 use Rattle.cw_code.specs.Code.{Code}
-use Rattle.cw_code.specs.Run.{Slots, Results, Around, Caller, Block, State, Transition, On, Ends, Stops, Stuck, synced, is_full, settled, put_in, given_back, going_on, event_of, rejoined, result_of, returns_to, back, act, step}
+use Rattle.cw_code.specs.Run.{Slots, Around, Caller, Block, State, Transition, On, Ends, Stops, Stuck, synced, settled, put_in, back, act, step}
+use Rattle.cw_code.specs.lemmas.Acts.{returning}
 use Rattle.cw_code.specs.lemmas.Slots.{settled_append}
 use Rattle.cw_strand_laws.specs.Jobs.{Extent, WholeCall, ToJoin, joins, is_first, has_come, standing, Arrives, Beyond, moved, travel}
 use Rattle.cw_strand_laws.specs.Strands.{resumed}
@@ -32,27 +31,10 @@ TransitionBased d (Ends v arrays t) = Unit {0}
 TransitionBased d (Stops trap line lines) = Unit {0}
 TransitionBased d Stuck = Unit {0}
 
-either_based : (d : ℕ) (c : Bool) (x y : Transition) → TransitionBased d x → TransitionBased d y → TransitionBased d (if c then x else y)
-either_based d true x y h k = h
-either_based d false x y h k = k
-
 module _ (d : ℕ) where
-  result_based : (s : State) (kind : CallKind) (target : Option ℕ) (v : Option ℤ) (results : Results (List ℤ)) → Based d s → TransitionBased d (result_of kind target v results s)
-  result_based s Plain None v results h = h
-  result_based s Plain (Some a) None results h = tt
-  result_based s Plain (Some a) (Some v) results h = either_based d (is_full (slice_get s.slots a)) (On (record s { arrays = settled results s.arrays; slots = slice_set s.slots a (Some v) })) Stuck h tt
-  result_based s Spawned None v results h = h
-  result_based s Spawned (Some a) None results h = tt
-  result_based s Spawned (Some a) (Some v) results h = h
-
   back_based : (depth : ℕ) (around : List Around) (v : Option ℤ) (arrays : Slots (List ℤ)) (t : Trace) → base_of depth around ≡ d → TransitionBased d (back around v arrays t)
-  back_based depth [] v arrays t h = tt
-  back_based depth (Caller w ∷ around) v arrays t h = by_arrays (given_back w.taken arrays)
-    where
-      by_arrays : (o : Option (Results (List ℤ))) → TransitionBased d (returns_to w around v o t)
-      by_arrays None = tt
-      by_arrays (Some results) = result_based (going_on w around (rejoined (event_of w.kind w.site) w.events t)) w.kind w.target v results h
-  back_based depth (Block o ∷ around) v arrays t h = tt
+  back_based depth around v arrays t h =
+      returning (TransitionBased d) tt around v arrays t (λ e. tt) (λ w others e slots homes results arrived. subst (λ a. base_of depth a ≡ d) e h)
 
   act_based : (code : Code) (s : State) (o : Option Instr) → Based d s → TransitionBased d (act code s o)
   act_based code s o h = acts_by code s (λ j turn w. TransitionBased d w) (record {
@@ -72,33 +54,12 @@ module _ (code : Code) where
   join_puts_in y n s h = cases y n (same (slice_get code.instrs s.place) h)
     where
       same : (o : Option Instr) → joins o ≡ true → act code s o ≡ act code (put_in s) o
-      same None k = cc
-      same (Some (instr.Push v)) k = cc
-      same (Some (instr.Load a)) k = cc
-      same (Some (instr.Store a)) k = cc
-      same (Some (instr.Unary operator line)) k = cc
-      same (Some (instr.Binary operator line)) k = cc
-      same (Some (instr.Skip n)) k = cc
-      same (Some (instr.SkipIfZero n)) k = cc
-      same (Some (instr.GoBack n)) k = cc
-      same (Some (instr.Call kind c)) k = cc
-      same (Some (instr.Recur kind c)) k = cc
-      same (Some (instr.Start c line)) k = cc
-      same (Some (instr.NewArray a line)) k = cc
-      same (Some (instr.Length a)) k = cc
-      same (Some (instr.Element a line)) k = cc
-      same (Some (instr.SetElement a line)) k = cc
-      same (Some (instr.ReadLength r)) k = cc
-      same (Some (instr.ReadElement r line)) k = cc
-      same (Some (instr.Cut cut line)) k = cc
       same (Some instr.EndCut) k = refl
       same (Some instr.Sync) k = refl
-      same (Some (instr.Open kind)) k = cc
       same (Some instr.Close) k = refl
-      same (Some instr.Print) k = cc
-      same (Some (instr.Reduce n)) k = cc
       same (Some instr.ReturnValue) k = refl
       same (Some instr.Return) k = refl
+      same _ k = cc
 
       cases : (y' : Extent) (m : ℕ) → step code s ≡ step code (put_in s) → travel y' code m s ≡ travel y' code m (put_in s)
       cases WholeCall zero e = refl

@@ -2,7 +2,7 @@
 use Rattle.std.proofs.Common.{◌≡◌, ℕ, zero, suc, ◌+◌, ◌<◌, ◌≤◌, List, [], ◌∷◌, ◌++◌, Option, Some, None, refl, sym, ap, ◌∙◌, subst, inl, inr, arith, length, length-append}
 use Rattle.std.proofs.lemmas.List.{length-set}
 use Rattle.std.specs.Prelude.{slice_get}
-use Rattle.cw_facts.specs.Lists.{set_gives, added_gives}
+use Rattle.cw_facts.specs.Lists.{set_gives, added_gives, get_before, get_last}
 use Rattle.cw_code.specs.Code.{Code}
 use Rattle.cw_strand_laws.specs.Jobs.{Job, root_job, Effect, Memory, JobMeaning, Short}
 use Rattle.cw_strand_laws.specs.Strands.{Strand, Going, Waits, Halted, outs_of}
@@ -13,15 +13,6 @@ use Rattle.cw_strand_laws.proofs.Calls.{calls_keep}
 use Rattle.cw_strand_laws.proofs.Schedules.{root_serial}
 
 module _ {A : Type 0} where
-  pub stays_there : (xs : List A) (k : ℕ) (x y : A) → slice_get xs k ≡ Some y → slice_get (xs ++ x ∷ []) k ≡ Some y
-  stays_there [] k x y h = cc
-  stays_there (z ∷ xs) zero x y h = h
-  stays_there (z ∷ xs) (suc k) x y h = stays_there xs k x y h
-
-  pub last_there : (xs : List A) (x : A) → slice_get (xs ++ x ∷ []) (length xs) ≡ Some x
-  last_there [] x = refl
-  last_there (z ∷ xs) x = last_there xs x
-
   pub one_there : (o : Option A) (x y : A) → o ≡ Some x → o ≡ Some y → x ≡ y
   one_there o x y e f = ap (λ p. elim p [ Some c ↦ c | None ↦ x ]) (sym e ∙ f)
 
@@ -36,7 +27,7 @@ named_on : (jobs : List Job) (job : Job) (numbers : List ℕ) (outs : List Job) 
 named_on jobs job [] [] h = tt
 named_on jobs job [] (out ∷ outs) h = h
 named_on jobs job (n ∷ numbers) [] h = h
-named_on jobs job (n ∷ numbers) (out ∷ outs) h = (stays_there jobs n job out h.0, named_on jobs job numbers outs h.1)
+named_on jobs job (n ∷ numbers) (out ∷ outs) h = (get_before jobs job n out h.0, named_on jobs job numbers outs h.1)
 
 -- what is true of a job at its place
 abbrev pub PlaceOk : Code → List Job → Job → Place → Type 0
@@ -101,7 +92,7 @@ module _ (code : Code) where
       | inl p ↦
           subst (λ pl. PlaceOk code (world.jobs ++ job ∷ []) job' pl) (sym p.1)
           (subst (λ j. PlaceOk code (world.jobs ++ job ∷ []) j place)
-          (one_there (slice_get (world.jobs ++ job ∷ []) (length world.jobs)) job job' (last_there world.jobs job) (ap (slice_get (world.jobs ++ job ∷ [])) (ok.even ∙ sym p.0) ∙ has'.job_is)) h)
+          (one_there (slice_get (world.jobs ++ job ∷ []) (length world.jobs)) job job' (get_last world.jobs job) (ap (slice_get (world.jobs ++ job ∷ [])) (ok.even ∙ sym p.0) ∙ has'.job_is)) h)
       | inr p ↦ old k job' place' has'.job_is p
     ];
   }
@@ -176,9 +167,9 @@ module _ (code : Code) where
       let now = strand_in world i worker job strand numbers ok has in
       let kept = subst (AdvanceKeeps code job strand) same ((calls_keep code).advancing job strand now.0) in
       let jobs = world.jobs ++ out ∷ [] in
-      let named : Named jobs (length world.jobs ∷ numbers) (out ∷ outs_of strand) = (last_there world.jobs out, named_on world.jobs out numbers (outs_of strand) now.1) in
+      let named : Named jobs (length world.jobs ∷ numbers) (out ∷ outs_of strand) = (get_last world.jobs out, named_on world.jobs out numbers (outs_of strand) now.1) in
       set_ok (joined_by world out (Undecided worker)) i job (Runs worker new (length world.jobs ∷ numbers)) (add_ok world out (Undecided worker) ok kept.2)
-      (stays_there world.jobs i out job has.job_is) (kept.0, subst (λ l. Named jobs (length world.jobs ∷ numbers) l) (sym kept.1) named)
+      (get_before world.jobs out i job has.job_is) (kept.0, subst (λ l. Named jobs (length world.jobs ∷ numbers) l) (sym kept.1) named)
   next_ok world next (Offer _ i worker job has) ok = place_ok world i job (Undecided worker) (Offered worker) ok has (ok.each i job (Undecided worker) has)
   next_ok world next (Inline _ i worker job has) ok = place_ok world i job (Undecided worker) (Kept worker) ok has (ok.each i job (Undecided worker) has)
   next_ok world next (Begin _ i worker job place has unrun) ok =
@@ -202,7 +193,7 @@ module _ (code : Code) where
   -- a number keeps its job
   next_same : (world next : World) (k : ℕ) (job : Job) → Next code world next → slice_get world.jobs k ≡ Some job → slice_get next.jobs k ≡ Some job
   next_same world next k job (Run _ i worker job' strand new numbers has same) h = h
-  next_same world next k job (Spawn _ i worker job' out strand new numbers has same) h = stays_there world.jobs k out job h
+  next_same world next k job (Spawn _ i worker job' out strand new numbers has same) h = get_before world.jobs out k job h
   next_same world next k job (Offer _ i worker job' has) h = h
   next_same world next k job (Inline _ i worker job' has) h = h
   next_same world next k job (Begin _ i worker job' place has unrun) h = h

@@ -8,8 +8,8 @@ use Rattle.cw_model.specs.Outcome.{Trace, Done, Trapped, Over}
 use Rattle.cw_model.specs.Answers.{Answer, answer_of}
 use Rattle.cw_code.specs.declared.code.Func.{Func}
 use Rattle.cw_code.specs.declared.code.Instr.{Instr}
-use Rattle.cw_code.specs.declared.code.Instr.TheVariants.{EndCut, Sync, Close, ReturnValue, Return}
 use Rattle.cw_code.specs.Code.{Code}
+use Rattle.cw_code.specs.Frozen.{is_join}
 use Rattle.cw_code.specs.Run.{Slots, Readers, Around, State, Transition, On, Ends, Stops, Stuck, settled, slots_of}
 use Rattle.cw_code.specs.Run.{arrays_of, fresh, step, reducers_of}
 
@@ -20,12 +20,8 @@ pub data Extent : Type 0 where
 
 -- an instruction that joins its sync block
 abbrev pub joins : Option Instr → Bool
-joins (Some EndCut) = true
-joins (Some Sync) = true
-joins (Some Close) = true
-joins (Some ReturnValue) = true
-joins (Some Return) = true
-joins _ = false
+joins None = false
+joins (Some i) = is_join i
 
 -- nothing stands round the sync block: it is the one that the run began in
 abbrev pub is_first : List Around → Bool

@@ -3,7 +3,6 @@ pub mod Acts
 pub mod Under
 pub mod Budgets
 pub mod Rests
-pub mod Within
 pub mod JobsFit
 pub mod First
 pub mod Ample

@@ -181,32 +181,11 @@ none_numbered names shapes count last = λ k s e. has_none names last (number_of
 
 -- an instruction that keeps the blocks
 pub kept_blocks : (code : Code) (s : Shape) (i : Instr) → keeps_blocks i ≡ true → (leaves code s i).outer ≡ s.outer
-kept_blocks code s (instr.Push v) e = refl
-kept_blocks code s (instr.Load a) e = refl
-kept_blocks code s (instr.Store a) e = refl
-kept_blocks code s (instr.Unary operator line) e = refl
-kept_blocks code s (instr.Binary operator line) e = refl
-kept_blocks code s (instr.Skip n) e = refl
-kept_blocks code s (instr.SkipIfZero n) e = refl
-kept_blocks code s (instr.GoBack n) e = refl
-kept_blocks code s (instr.Call kind c) e = refl
-kept_blocks code s (instr.Recur kind c) e = refl
-kept_blocks code s (instr.Start c line) e = refl
-kept_blocks code s (instr.NewArray a line) e = refl
-kept_blocks code s (instr.Length a) e = refl
-kept_blocks code s (instr.Element a line) e = refl
-kept_blocks code s (instr.SetElement a line) e = refl
-kept_blocks code s (instr.ReadLength r) e = refl
-kept_blocks code s (instr.ReadElement r line) e = refl
 kept_blocks code s (instr.Cut h line) e = cc
 kept_blocks code s instr.EndCut e = cc
-kept_blocks code s instr.Sync e = refl
 kept_blocks code s (instr.Open kind) e = cc
 kept_blocks code s instr.Close e = cc
-kept_blocks code s instr.Print e = refl
-kept_blocks code s (instr.Reduce k) e = refl
-kept_blocks code s instr.ReturnValue e = refl
-kept_blocks code s instr.Return e = refl
+kept_blocks code s _ e = refl
 
 -- what a shape comes to has the blocks of both
 pub joined_outer : (t s r : Shape) → joined (Some t) s ≡ Some r → r.outer ≡ either_each t.outer s.outer

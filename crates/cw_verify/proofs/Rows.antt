@@ -4,7 +4,7 @@ use Rattle.std.specs.Prelude.{take, drop, slice_get, slice_set}
 use Rattle.std.proofs.lemmas.List.{length-set, length-replicate}
 use Rattle.std.proofs.lemmas.Bool.{cases_eq, or_parts}
 use Rattle.cw_facts.specs.Lists.{get_set, set_other}
-use Rattle.cw_facts.specs.Tests.{both_true, first_true, second_true, first_false, second_false, below, equal, eq_of, not_equal, lt_of, four_and}
+use Rattle.cw_facts.specs.Tests.{both_true, first_true, second_true, first_false, second_false, below, equal, eq_of, not_equal, lt_of, four_and, not_true}
 use Rattle.cw_code.specs.Fits.{Row, Shape, is_full_in, has_array, has_arrays, is_none_of, names_arrays, with_gone, slots_lent, none_empty}
 use Rattle.cw_code.specs.declared.code.Loan.{Loan}
 use Rattle.cw_code.specs.declared.code.Loan.TheVariants.{Array, Reader}
@@ -62,13 +62,9 @@ is_there xs ys h = record { items = sym (either_stays xs ys h); same = λ e. ref
 pub is_come : (xs ys zs : Row) → brings xs ys ≡ true → has_all ys xs ≡ true → zs ≡ ys → IsEither xs ys zs true
 is_come xs ys zs h all e =
     let wide = eq_of (length ys) (length xs) (first_true (nat_eq (length ys) (length xs)) (not (brings ys xs)) all) in
-    let none = none_of (brings ys xs) (second_true (nat_eq (length ys) (length xs)) (not (brings ys xs)) all) in
+    let none = not_true (brings ys xs) (second_true (nat_eq (length ys) (length xs)) (not (brings ys xs)) all) in
     let is : zs ≡ either_empty xs ys = e ∙ sym (either_comes xs ys (sym wide) none) in
     record { items = is; same = λ f. cc; fewer = λ f. omega (arith, ap unmarked is, either_fewer xs ys h) }
-  where
-    none_of : (b : Bool) → not b ≡ true → b ≡ false
-    none_of true h = cc
-    none_of false h = refl
 
 pub is_both : (xs ys zs : Row) → brings xs ys ≡ true → zs ≡ either_empty xs ys → IsEither xs ys zs true
 is_both xs ys zs h e = record { items = e; same = λ f. cc; fewer = λ f. omega (arith, ap unmarked e, either_fewer xs ys h) }

@@ -16,7 +16,7 @@ use Rattle.cw_code.specs.Code.{Code}
 use Rattle.cw_code.specs.declared.code.Loan.{Loan}
 use Rattle.cw_code.specs.declared.code.Loan.TheVariants.{Array, Reader}
 use Rattle.cw_code.specs.Run.{passed_by, lent_by}
-use Rattle.cw_code.specs.Fits.{Row, Outer, empty_rows, gone_rows, frozen_rows, params_of, names_well, Shape, is_full_in, full_in_all, has_slot, has_array, has_arrays, has_loan, has_loans, has_target, has_arguments, none_open, can_close, has_parts, can_uncut, is_no_half, is_no_part, are_no_parts, none_frozen, slots_cut, slots_uncut, changes_back, slots_lent, with_target, with_gone, with_passed, with_uncut, none_empty, closed_shape, uncut_shape, is_ready, is_thawed, leaves, nexts, Covers, CoversEach, Table, FlowsInto, FlowsIntoEach, IsTable}
+use Rattle.cw_code.specs.Fits.{Row, Outer, empty_rows, gone_rows, frozen_rows, params_of, names_well, Shape, is_full_in, full_in_all, has_slot, has_array, has_arrays, has_loan, has_loans, has_target, has_arguments, none_open, can_close, has_parts, can_uncut, is_no_half, is_no_part, are_no_parts, none_frozen, slots_uncut, changes, changes_back, slots_lent, with_target, with_gone, with_passed, with_uncut, none_empty, closed_shape, uncut_shape, is_ready, is_thawed, leaves, nexts, Covers, CoversEach, Table, FlowsInto, FlowsIntoEach, IsTable}
 use Rattle.cw_code.specs.lemmas.Slots.{covers_full, covers_length}
 use Rattle.cw_verify.specs.Table.{Shapes, either_empty, either_each, same_cut, is_alike, are_alike, blocks_of, can_meet, met, may_act, joined, come_at, come, then_come, come_all, next_distances, visited_at, visited, shape_at, table_of, Below, Grows, IsDone}
 use Rattle.cw_verify.proofs.Decided.{let_through, both_less}
@@ -325,14 +325,11 @@ module _ (code : Code) (big small : Shape) (e : big.operands ≡ small.operands)
   arguments_less kind n h = ap (has_arguments kind n) (sym e) ∙ h
 
   pub ready_less : (i : Instr) → is_ready code big i ≡ true → is_ready code small i ≡ true
-  ready_less (instr.Push v) h = refl
   ready_less (instr.Load a) h = slot_less a h
   ready_less (instr.Store a) h = both_less (has_slot big a) (nat_le 1 big.operands) (has_slot small a) (nat_le 1 small.operands) (slot_less a) (some_less 1) h
   ready_less (instr.Unary operator line) h = some_less 1 h
   ready_less (instr.Binary operator line) h = some_less 2 h
-  ready_less (instr.Skip n) h = refl
   ready_less (instr.SkipIfZero n) h = some_less 1 h
-  ready_less (instr.GoBack n) h = refl
   ready_less (instr.Call kind f) h =
       let n = params_of (slice_get code.funcs f.function) in
       let passed = passed_by code f.passed in
@@ -354,7 +351,6 @@ module _ (code : Code) (big small : Shape) (e : big.operands ≡ small.operands)
   ready_less (instr.Length a) h = array_less a h
   ready_less (instr.Element a line) h = both_less (has_array big a) (nat_le 1 big.operands) (has_array small a) (nat_le 1 small.operands) (array_less a) (some_less 1) h
   ready_less (instr.SetElement a line) h = both_less (has_array big a) (nat_le 2 big.operands) (has_array small a) (nat_le 2 small.operands) (array_less a) (some_less 2) h
-  ready_less (instr.ReadLength r) h = refl
   ready_less (instr.ReadElement r line) h = some_less 1 h
   ready_less (instr.Cut d line) h =
       let slots = d.array ∷ d.left ∷ d.right ∷ [] in
@@ -362,43 +358,19 @@ module _ (code : Code) (big small : Shape) (e : big.operands ≡ small.operands)
       (both_less (has_arrays big slots) (nat_le 1 big.operands) (has_arrays small slots) (nat_le 1 small.operands) (arrays_less slots) (some_less 1)) (λ k. sym (each_no_parts big.outer small.outer d c.4) ∙ k) h
   ready_less instr.EndCut h = both_less (nat_eq 0 big.operands) (can_uncut big.outer) (nat_eq 0 small.operands) (can_uncut small.outer) none_less (each_uncut big.outer small.outer c.4) h
   ready_less instr.Sync h = none_less h
-  ready_less (instr.Open kind) h = refl
   ready_less instr.Close h = both_less (nat_eq 0 big.operands) (can_close big.outer) (nat_eq 0 small.operands) (can_close small.outer) none_less (λ k. sym (each_close big.outer small.outer c.4) ∙ k) h
   ready_less instr.Print h = some_less 1 h
   ready_less (instr.Reduce k) h = some_less 1 h
   ready_less instr.ReturnValue h = both_less (nat_le 1 big.operands) (none_open big.outer) (nat_le 1 small.operands) (none_open small.outer) (some_less 1) (λ k. sym (each_open big.outer small.outer c.4) ∙ k) h
   ready_less instr.Return h = sym (each_open big.outer small.outer c.4) ∙ h
+  ready_less _ h = refl
 
   changes_less : (slots : List ℕ) → none_frozen (frozen_rows (blocks_of big)) slots ≡ true → none_frozen (frozen_rows (blocks_of small)) slots ≡ true
   changes_less slots h = all_thawed (blocks_of big) (blocks_of small) slots c h
 
   pub thawed_less : (i : Instr) → is_thawed code big i ≡ true → is_thawed code small i ≡ true
-  thawed_less (instr.Push v) h = refl
-  thawed_less (instr.Load a) h = refl
-  thawed_less (instr.Store a) h = refl
-  thawed_less (instr.Unary operator line) h = refl
-  thawed_less (instr.Binary operator line) h = refl
-  thawed_less (instr.Skip n) h = refl
-  thawed_less (instr.SkipIfZero n) h = refl
-  thawed_less (instr.GoBack n) h = refl
-  thawed_less (instr.Call kind f) h = changes_less (passed_by code f.passed) h
-  thawed_less (instr.Recur kind f) h = changes_less (passed_by code f.passed) h
-  thawed_less (instr.Start f line) h = changes_less (passed_by code f.passed) h
-  thawed_less (instr.NewArray a line) h = changes_less (a ∷ []) h
-  thawed_less (instr.Length a) h = refl
-  thawed_less (instr.Element a line) h = refl
-  thawed_less (instr.SetElement a line) h = changes_less (a ∷ []) h
-  thawed_less (instr.ReadLength r) h = refl
-  thawed_less (instr.ReadElement r line) h = refl
-  thawed_less (instr.Cut d line) h = changes_less (slots_cut d) h
   thawed_less instr.EndCut h = back_thawed big.outer small.outer c.4 h
-  thawed_less instr.Sync h = refl
-  thawed_less (instr.Open kind) h = refl
-  thawed_less instr.Close h = refl
-  thawed_less instr.Print h = refl
-  thawed_less (instr.Reduce k) h = refl
-  thawed_less instr.ReturnValue h = refl
-  thawed_less instr.Return h = refl
+  thawed_less i h = changes_less (changes code i) h
 
   pub acts_less : (i : Instr) → may_act code big i ≡ true → may_act code small i ≡ true
   acts_less i h = may_both code small i (ready_less i (may_ready code big i h)) (thawed_less i (may_thawed code big i h))
@@ -431,11 +403,8 @@ module _ (code : Code) (big small : Shape) (e : big.operands ≡ small.operands)
   leaves_less (instr.Push v) = record { as_many = ap (λ n. n + 1) e; covers = c }
   leaves_less (instr.Load a) = record { as_many = ap (λ n. n + 1) e; covers = c }
   leaves_less (instr.Store a) = record { as_many = ap (λ n. n - 1) e; covers = c }
-  leaves_less (instr.Unary operator line) = record { as_many = e; covers = c }
   leaves_less (instr.Binary operator line) = record { as_many = ap (λ n. n - 1) e; covers = c }
-  leaves_less (instr.Skip n) = record { as_many = e; covers = c }
   leaves_less (instr.SkipIfZero n) = record { as_many = ap (λ n. n - 1) e; covers = c }
-  leaves_less (instr.GoBack n) = record { as_many = e; covers = c }
   leaves_less (instr.Call kind f) = record {
     as_many = ap (λ n. n - params_of (slice_get code.funcs f.function)) e;
     covers = (covers_target kind f.target big.empty small.empty c.0, covers_passed kind (passed_by code f.passed) big.gone small.gone c.1, covers_passed kind (slots_lent (lent_by code f.lent)) big.frozen small.frozen c.2, refl, c.4);
@@ -447,10 +416,8 @@ module _ (code : Code) (big small : Shape) (e : big.operands ≡ small.operands)
   leaves_less (instr.Start f line) = record { as_many = ap (λ n. n - params_of (slice_get code.funcs f.function)) e; covers = c }
   leaves_less (instr.NewArray a line) = record { as_many = ap (λ n. n - 1) e; covers = c }
   leaves_less (instr.Length a) = record { as_many = ap (λ n. n + 1) e; covers = c }
-  leaves_less (instr.Element a line) = record { as_many = e; covers = c }
   leaves_less (instr.SetElement a line) = record { as_many = ap (λ n. n - 2) e; covers = c }
   leaves_less (instr.ReadLength r) = record { as_many = ap (λ n. n + 1) e; covers = c }
-  leaves_less (instr.ReadElement r line) = record { as_many = e; covers = c }
   leaves_less (instr.Cut d line) = record { as_many = ap (λ n. n - 1) e; covers = (clear_less, clear_gone, clear_frozen, refl, (c.0, covers_set big.gone small.gone d.array c.1, c.2, refl, c.4)) }
   leaves_less instr.EndCut = uncut_less big.outer small.outer c.4
   leaves_less instr.Sync = record { as_many = e; covers = (clear_less, clear_gone, clear_frozen, refl, c.4) }
@@ -458,8 +425,7 @@ module _ (code : Code) (big small : Shape) (e : big.operands ≡ small.operands)
   leaves_less instr.Close = close_less big.outer small.outer c.4
   leaves_less instr.Print = record { as_many = ap (λ n. n - 1) e; covers = c }
   leaves_less (instr.Reduce k) = record { as_many = ap (λ n. n - 1) e; covers = c }
-  leaves_less instr.ReturnValue = record { as_many = e; covers = c }
-  leaves_less instr.Return = record { as_many = e; covers = c }
+  leaves_less _ = record { as_many = e; covers = c }
 
 pub table_at : (start : ℕ) (shapes : Shapes) (k : ℕ) → table_of start shapes (start + k) ≡ shape_at (slice_get shapes k)
 table_at start shapes k =
@@ -649,32 +615,11 @@ all_come start (p ∷ ps) shapes s t from within below l e = by (λ mid w b e'. 
 
 -- an instruction goes on to places of its function
 nexts_from : (code : Code) (f : Func) (place : ℕ) (i : Instr) → f.start ≤ place → names_well code f place i ≡ true → AllFrom f.start (nexts place i)
-nexts_from code f place (instr.Push v) le n = (omega (arith, le), tt)
-nexts_from code f place (instr.Load a) le n = (omega (arith, le), tt)
-nexts_from code f place (instr.Store a) le n = (omega (arith, le), tt)
-nexts_from code f place (instr.Unary operator line) le n = (omega (arith, le), tt)
-nexts_from code f place (instr.Binary operator line) le n = (omega (arith, le), tt)
-nexts_from code f place (instr.Skip k) le n = (omega (arith, le), tt)
 nexts_from code f place (instr.SkipIfZero k) le n = (omega (arith, le), (omega (arith, le), tt))
 nexts_from code f place (instr.GoBack k) le n = (omega (arith, le_of (f.start + k) place n), tt)
-nexts_from code f place (instr.Call kind c) le n = (omega (arith, le), tt)
-nexts_from code f place (instr.Recur kind c) le n = (omega (arith, le), tt)
-nexts_from code f place (instr.Start c line) le n = (omega (arith, le), tt)
-nexts_from code f place (instr.NewArray a line) le n = (omega (arith, le), tt)
-nexts_from code f place (instr.Length a) le n = (omega (arith, le), tt)
-nexts_from code f place (instr.Element a line) le n = (omega (arith, le), tt)
-nexts_from code f place (instr.SetElement a line) le n = (omega (arith, le), tt)
-nexts_from code f place (instr.ReadLength r) le n = (omega (arith, le), tt)
-nexts_from code f place (instr.ReadElement r line) le n = (omega (arith, le), tt)
-nexts_from code f place (instr.Cut h line) le n = (omega (arith, le), tt)
-nexts_from code f place instr.EndCut le n = (omega (arith, le), tt)
-nexts_from code f place instr.Sync le n = (omega (arith, le), tt)
-nexts_from code f place (instr.Open kind) le n = (omega (arith, le), tt)
-nexts_from code f place instr.Close le n = (omega (arith, le), tt)
-nexts_from code f place instr.Print le n = (omega (arith, le), tt)
-nexts_from code f place (instr.Reduce k) le n = (omega (arith, le), tt)
 nexts_from code f place instr.ReturnValue le n = tt
 nexts_from code f place instr.Return le n = tt
+nexts_from code f place _ le n = (omega (arith, le), tt)
 
 -- a visit of a place that has a shape
 pub visited_ready : (code : Code) (start : ℕ) (shapes : Shapes) (k : ℕ) (i : Instr) (s : Shape) → slice_get shapes k ≡ Some (Some s) → may_act code s i ≡ true → visited code start shapes k i ≡ come_all shapes (next_distances start k i) (leaves code s i)

@@ -15,6 +15,7 @@ use Rattle.clap.specs.declared.builder.ArgAction.{ArgAction}
 use Rattle.clap.specs.declared.builder.ArgAction.TheVariants as action
 use Rattle.clap.specs.declared.parser.matches.ValueSource.{ValueSource}
 use Rattle.clap.specs.declared.parser.matches.ValueSource.TheVariants.{CommandLine}
+use Rattle.std.proofs.lemmas.Bool.{false≢true}
 
 -- the id is the source's
 abbrev pub IsSource : Text → Type 0
@@ -38,10 +39,7 @@ abbrev pub Good : Held → Type 0
 Good h = Filled h.rows × FilledPending h.pending
 
 first_of_both : (xs ys : List Text) → HasFirst xs → HasFirst (xs ++ ys)
-first_of_both [] ys h = absurd (no h)
-  where
-    no : false ≡ true → ⊥
-    no e = cc
+first_of_both [] ys h = absurd (false≢true h)
 first_of_both (x ∷ xs) ys h = refl
 
 first_of_last : (xs : List Text) (y : Text) → HasFirst (xs ++ y ∷ [])
@@ -82,10 +80,7 @@ filled_used_as action.HelpLong id how values rows v h = h
 filled_used_as action.Version id how values rows v h = h
 
 given_or_missing : (a : Rule) (values : List Text) → HasFirst values → HasFirst (values_or_missing a values)
-given_or_missing a [] h = absurd (no h)
-  where
-    no : false ≡ true → ⊥
-    no e = cc
+given_or_missing a [] h = absurd (false≢true h)
 given_or_missing a (v ∷ vs) h = refl
 
 filled_used : (a : Rule) (values : List Text) (rows : List Row) → (IsSource a.id → HasFirst values) → Filled rows → Filled (used a values rows)
@@ -258,10 +253,7 @@ filled_finished c words w n g =
 
 -- a source that is given has a first text
 pub given_first : (rows : List Row) → Filled rows → is_given (codes "FILE") rows ≡ true → is_some (first_of (codes "FILE") rows) ≡ true
-given_first [] f h = absurd (no h)
-  where
-    no : false ≡ true → ⊥
-    no e = cc
+given_first [] f h = absurd (false≢true h)
 given_first (r ∷ rs) f h = go (bytes_eq r.id (codes "FILE")) refl h (given_first rs f.1)
   where
     given : Option Row → Bool

@@ -1,5 +1,5 @@
 -- What the words ask for.
-use Rattle.std.specs.Prelude.{◌≡◌, ◌≢◌, ◌≤◌, ℕ, ℤ, Bool, true, false, pos, List, [], ◌∷◌, map, All, Option, Some}
+use Rattle.std.specs.Prelude.{◌≡◌, ◌≢◌, ℕ, ℤ, Bool, true, false, pos, List, [], ◌∷◌, map, All, Option, Some}
 use Rattle.std.specs.Prelude.{None, unwrap_or, codes, string_bytes, is_some}
 use Rattle.std.specs.Option.{SomeIff}
 use Rattle.clap.specs.Words.{IsAmong, Kinds, Row, Text, all_of, fault_of, first_of, subcommand_of}
@@ -94,9 +94,12 @@ NamesEdges text = (e : Edges) × (edges_name e ≡ text)
 abbrev pub IsArgument : Text → Type 0
 IsArgument text = IsNumberWithin 0 MOST_NUMBER text
 
--- the values of words that are numbers
+-- the value of a word that is a number, and those of words
+abbrev pub value_of : Text → ℤ
+value_of text = pos (decimal_value text)
+
 abbrev pub values_of : List Text → List ℤ
-values_of texts = map (λ text. pos (decimal_value text)) texts
+values_of texts = map value_of texts
 
 -- each word writes a number in the range of its row
 abbrev pub AreWithin : List NumberRow → List Text → Type 0

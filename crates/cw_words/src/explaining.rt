@@ -6,7 +6,8 @@ ghost use Rattle.cw_words.specs.Explaining.{asks_explain, without_explain};
 /// Takes each word `--explain` away that stands before a word `--`; whether there was one. What is left is moved up once.
 pub fn take_explain(words: &mut Vec<String>) -> bool
     ensures asked { result ≡ asks_explain (map string_bytes words.old.items) }
-    ensures left { map string_bytes words.new.items ≡ without_explain (map string_bytes words.old.items) }
+    ensures left { map string_bytes words.new.items
+        ≡ without_explain (map string_bytes words.old.items) }
 {
     let mut asked = false;
     let mut behind = false;

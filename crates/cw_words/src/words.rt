@@ -12,11 +12,9 @@ ghost use Rattle.std.specs.Prelude.{
   OnOk,
   Some,
   map,
-  pos,
   string_bytes,
 };
 ghost use Rattle.clap.specs.Words.{FailsBy, kind_of, rows_of, found_of, subcommand_of, subcommand_rows_of};
-ghost use Rattle.cw_model.specs.Pieces.{decimal_value};
 ghost use Rattle.cw_words.specs.Command.{command_line, command_name};
 ghost use Rattle.cw_words.specs.Requests.{
   AreProper,
@@ -28,6 +26,7 @@ ghost use Rattle.cw_words.specs.Requests.{
   IsSaidOf,
   NamesNoCommand,
   faults,
+  value_of,
 };
 ghost use Rattle.cw_words.specs.Rows.{IsGivenNumber};
 
@@ -131,7 +130,7 @@ fn number_of(given: &ArgMatches<'_>, option: NumberOption) -> Option<u64>
 }
 
 fn args_of(alloc: Global, texts: &[&str]) -> Result<Vec<i64>, Fault>
-    ensures ok { IfOk result (λ v. v.items ≡ map (λ text. pos (decimal_value text.now)) texts.now) }
+    ensures ok { IfOk result (λ v. v.items ≡ map (λ text. value_of text.now) texts.now) }
     ensures digits { OnOk result (All (λ text. IsArgument text.now) texts.now) }
     ensures why { IfErr result (IsFaultUnless (All (λ text. IsArgument text.now) texts.now)) }
 {
@@ -143,7 +142,7 @@ fn args_of(alloc: Global, texts: &[&str]) -> Result<Vec<i64>, Fault>
 }
 
 fn push_arg(args: &mut Vec<i64>, text: &str) -> Result<(), Fault>
-    ensures ok { OnOk result (args.new.items ≡ args.old.items ++ pos (decimal_value text.now) ∷ []) }
+    ensures ok { OnOk result (args.new.items ≡ args.old.items ++ value_of text.now ∷ []) }
     ensures digits { OnOk result (IsArgument text.now) }
     ensures why { IfErr result (IsFaultUnless (IsArgument text.now)) }
 {

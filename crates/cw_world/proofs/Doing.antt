@@ -5,6 +5,7 @@ use Rattle.std.specs.Option.{option_to_list, MatchOption}
 use Rattle.std.specs.Vec.{vec_len, vec_capacity}
 use Rattle.std.proofs.lemmas.Option.{same_Some}
 use Rattle.std.proofs.lemmas.List.{nil_from_length, set-set}
+use Rattle.std.proofs.lemmas.Bool.{false≢true}
 use Rattle.cw_facts.specs.Lists.{each_at}
 use Rattle.cw_runnable.specs.declared.verified.Verified.{Verified}
 use Rattle.cw_jobs.specs.declared.effect.Effect.{Effect}
@@ -59,18 +60,11 @@ at_sync jobs p t works is e = (works.running, (works.stands.0 (sym (ap is_at_joi
 pub not_at_join : (t : Option Stage) → goes t && not (is_at_spawn t) && not (is_at_join t) ≡ true → is_at_join t ≡ false
 not_at_join t h = by_tests (goes t) (is_at_spawn t) (is_at_join t) h
   where
-    differ : false ≡ true → ⊥
-    differ e = cc
-
     by_tests : (a b c : Bool) → a && not b && not c ≡ true → c ≡ false
     by_tests true false false h = refl
-    by_tests true false true h = absurd (differ h)
-    by_tests true true c h = absurd (differ h)
-    by_tests false b c h = absurd (differ h)
-
--- the newest out of its list
-pub newest_is : (p : Posted) (t : Option Stage) (older : List Out) (o : Out) → t ≡ Some (Goes p) → p.outs ≡ older ++ o ∷ [] → newest_out t ≡ Some o
-newest_is p t older o is are = ap newest_out is ∙ (ap newest are ∙ newest_pushed older o)
+    by_tests true false true h = absurd (false≢true h)
+    by_tests true true c h = absurd (false≢true h)
+    by_tests false b c h = absurd (false≢true h)
 
 -- a job that came back from the board, or was kept, is that of its number
 pub back_job : (v : Verified) (s : Scene) (w : ℕ) (o : Out) (rest : Job) → Sound v s → IsOwn s.jobs o → IsBack s.board w o rest → IsJobOf s.jobs (out_number o) rest

@@ -18,14 +18,11 @@ use Rattle.cw_world.specs.Sound.{IsAnswer, IsStage}
 use Rattle.cw_world.specs.Worlds.{IsWorldOf, answer_in, is_answered}
 use Rattle.cw_world.proofs.Lists.{each_oldest, each_worker}
 
-first_staged : (r : Option (Bor Begun)) (xs : List Begun) → option_copied r ≡ slice_get xs 0 → staged r ≡ oldest (map stage_of xs)
-first_staged None [] e = refl
-first_staged None (x ∷ xs) e = let never : ⊥ = cc in absurd never
-first_staged (Some b) [] e = let never : ⊥ = cc in absurd never
-first_staged (Some b) (x ∷ xs) e = let same : b.now ≡ x = cc in ap (λ y. Some (stage_of y)) same
-
 pub staged_first : (r : Option (Bor Begun)) (xs : List Begun) → option_copied r ≡ slice_get xs 0 → staged r ≡ oldest (map stage_of xs)
-staged_first r xs e = first_staged r xs e
+staged_first None [] e = refl
+staged_first None (x ∷ xs) e = let never : ⊥ = cc in absurd never
+staged_first (Some b) [] e = let never : ⊥ = cc in absurd never
+staged_first (Some b) (x ∷ xs) e = let same : b.now ≡ x = cc in ap (λ y. Some (stage_of y)) same
 
 pub answer_is : (o : Option Stage) (r : Result alone.Ended Fault) → Some r ≡ answer_in o → o ≡ Some (Answered r)
 answer_is None r e = let never : ⊥ = cc in absurd never

@@ -3,11 +3,11 @@ use Rattle.std.proofs.Common.{◌≡◌, ◌⊎◌, ◌∙◌, ℕ, ◌-◌, ◌
 use Rattle.std.specs.Prelude.{Result, Ok, Err}
 use Rattle.std.specs.Arc.{arc_value}
 use Rattle.std.proofs.lemmas.List.{length-set}
+use Rattle.std.proofs.lemmas.Bool.{true≢false}
 use Rattle.cw_facts.specs.Lists.{each_pushed, each_at}
 use Rattle.cw_text.specs.declared.fault.Fault.TheVariants as fault
 use Rattle.cw_model.specs.declared.burden.Burden.{Burden}
 use Rattle.cw_runnable.specs.declared.verified.Verified.{Verified}
-use Rattle.cw_machine.specs.declared.alone.Ended as alone
 use Rattle.cw_strand.specs.Holds.{has_failed, IsGoing, IsWaiting, HasFailed}
 use Rattle.cw_strand.specs.Losing.{MayLack, MayLose, TakesIn, TellsFailure}
 use Rattle.cw_world.specs.core.Board.{pushed, newest, but_newest, oldest, of_worker}
@@ -28,7 +28,7 @@ use Rattle.cw_world.proofs.Sounds.{each_remove}
 use Rattle.cw_world.proofs.Begins.{each_none}
 use Rattle.cw_world.proofs.Placed.{there}
 use Rattle.cw_world.proofs.Ends.{answer_is}
-use Rattle.cw_world.proofs.Lacking.{never, bool_cases, memory_is}
+use Rattle.cw_world.proofs.Lacking.{bool_cases, memory_is}
 
 abbrev pub HasSome : Stage → Type 0
 HasSome x = lacks_memory x ≡ false
@@ -67,7 +67,7 @@ loses s s' w p x board at is l = record {
 
 -- a strand of a world in which memory was wanting nowhere
 not_lost : (s : Scene) (w : ℕ) (p : Posted) → LacksNone s → top s w ≡ Some (Goes p) → HasFailed p.strand → ⊥
-not_lost s w p h at lost = never (sym lost ∙ top_has s w (Goes p) h at)
+not_lost s w p h at lost = true≢false (sym lost ∙ top_has s w (Goes p) h at)
 
 -- what is laid down lacks none, or this is known of it
 cases : (s s' : Scene) (w : ℕ) (x : Stage) (board : Boarded) (e : Event) → LacksNone s → s' ≡ turned s w x board → Each CellHasSome board.cells → (lacks_memory x ≡ true → LacksBy e s s')
@@ -136,7 +136,7 @@ collect_keeps v s s' w d h =
     (loses s s' w d.at.at.post d.stage board d.at.at.is d.is lacking, d.place, record { number = d.number; effect = d.effect }, d.cell, taken (d.lacks lacking)))
   where
     not_memory : TellsFailure d.effect → ⊥
-    not_memory m = never (sym (memory_is d.effect m) ∙ each_at CellHasSome s.board.cells d.place (record { number = d.number; effect = d.effect }) h.1 d.cell)
+    not_memory m = true≢false (sym (memory_is d.effect m) ∙ each_at CellHasSome s.board.cells d.place (record { number = d.number; effect = d.effect }) h.1 d.cell)
 
     taken : MayLose d.at.at.post.strand d.effect → TakesIn d.at.at.post.strand d.effect
     taken (inl lost) = absurd (not_lost s w d.at.at.post h d.at.at.is lost)
@@ -183,7 +183,7 @@ leads_keep (e ∷ events) old new l h = first e events old new l h (l.1.memory h
 
 answers_none : (s : Scene) → LacksNone s → answer_of s ≡ Some (Err fault.Memory) → ⊥
 answers_none s h is =
-    never (each_oldest HasSome (of_worker s.begun 0) (Answered (Err fault.Memory)) (each_worker HasSome s.begun 0 h.0) (answer_is (oldest (of_worker s.begun 0)) (Err fault.Memory) (sym is)))
+    true≢false (each_oldest HasSome (of_worker s.begun 0) (Answered (Err fault.Memory)) (each_worker HasSome s.begun 0 h.0) (answer_is (oldest (of_worker s.begun 0)) (Err fault.Memory) (sym is)))
 
 pub memory_was_wanting : (v : Verified) (args : List ℤ) (n : ℕ) (burden : Burden) (workers : ℕ) (events : List Event) (first last : World) → IsStarted v args n burden workers first
     → Leads events first last → answer_of (scene last) ≡ Some (Err fault.Memory) → LeadsToLack events first last

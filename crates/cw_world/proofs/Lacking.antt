@@ -1,8 +1,8 @@
 -- Where memory was wanting, by what the parts of an event tell.
-use Rattle.std.proofs.Common.{◌≡◌, ◌⊎◌, ◌∙◌, ℕ, Bool, true, false, Option, Some, None, refl, sym, ap, inl, inr}
-use Rattle.std.specs.Prelude.{Result, Ok, Err, IsSome}
+use Rattle.std.proofs.Common.{◌≡◌, ◌⊎◌, ◌∙◌, Bool, true, false, Option, Some, None, refl, sym, ap, inl, inr}
+use Rattle.std.specs.Prelude.{Result, IsSome}
+use Rattle.std.proofs.lemmas.Bool.{true≢false}
 use Rattle.cw_text.specs.declared.fault.Fault.{Fault}
-use Rattle.cw_text.specs.declared.fault.Fault.TheVariants as fault
 use Rattle.cw_runnable.specs.declared.verified.Verified.{Verified}
 use Rattle.cw_jobs.specs.declared.effect.Effect.{Effect}
 use Rattle.cw_jobs.specs.declared.effect.Effect.TheVariants as effect
@@ -11,15 +11,12 @@ use Rattle.cw_machine.specs.Answering.{IsAnswerOf}
 use Rattle.cw_strand.specs.declared.strand.Mode.{Mode}
 use Rattle.cw_strand.specs.declared.strand.Mode.TheVariants as mode
 use Rattle.cw_strand.specs.declared.strand.Strand.{Strand}
-use Rattle.cw_strand.specs.Holds.{stops, has_failed, IsGoing, IsWaiting, HasFailed, HasStopped}
+use Rattle.cw_strand.specs.Holds.{stops, has_failed, IsGoing, IsWaiting, HasFailed}
 use Rattle.cw_strand.specs.Losing.{MayLack, StandsAs, ComesFrom, LeavesEnd, TellsFailure}
 use Rattle.cw_world.specs.Scenes.{Posted, Stage, Goes, Made, Answered}
 use Rattle.cw_world.specs.Posts.{IsBackIn}
 use Rattle.cw_world.specs.Events.{IsBegun}
 use Rattle.cw_world.specs.Lacking.{is_memory, answers_memory, lacks_memory, HasEnded, IsAnsweredMemory, LacksAfter}
-
-pub never : true ≡ false → ⊥
-never e = cc
 
 pub bool_cases : (b : Bool) → (b ≡ false) ⊎ (b ≡ true)
 bool_cases false = inl refl
@@ -27,7 +24,7 @@ bool_cases true = inr refl
 
 -- a strand that goes on has lost nothing, and does not wait
 pub goes_not_lost : (m : Mode) → m ≡ mode.Going → has_failed m ≡ true → ⊥
-goes_not_lost m going lost = never (sym lost ∙ ap has_failed going)
+goes_not_lost m going lost = true≢false (sym lost ∙ ap has_failed going)
 
 -- a strand, after it was looked whether it has ended
 pub after_end : (r : Option Effect) (mid new : Strand) → LeavesEnd r mid new → LacksAfter r new → MayLack mid
@@ -59,23 +56,23 @@ after_back (Some e) old mid new (inl b) comes told = inr (b.0, refl)
 after_back (Some e) old mid new (inr b) comes told = inl (lost_in (after_end (Some e) mid new comes told))
   where
     lost_in : MayLack mid → HasFailed old
-    lost_in (inl going) = absurd (never (sym (ap stops b.1 ∙ b.0) ∙ ap stops going))
+    lost_in (inl going) = absurd (true≢false (sym (ap stops b.1 ∙ b.0) ∙ ap stops going))
     lost_in (inr lost) = ap has_failed (sym b.1) ∙ lost
 
 -- what is laid down lacks memory only where the post may have
 memory_told : (e : Effect) → is_memory e ≡ true → IsAnsweredMemory e
 memory_told (effect.Ended value shown) l = tt
-memory_told (effect.Joined frame replaced shown) l = absurd (never (sym l))
-memory_told (effect.Trapped trap line lines cost back) l = absurd (never (sym l))
-memory_told (effect.OverLimit back) l = absurd (never (sym l))
+memory_told (effect.Joined frame replaced shown) l = absurd (true≢false (sym l))
+memory_told (effect.Trapped trap line lines cost back) l = absurd (true≢false (sym l))
+memory_told (effect.OverLimit back) l = absurd (true≢false (sym l))
 memory_told (effect.Memory back) l = tt
 memory_told (effect.GivenUp back) l = tt
 
 answer_told : (e : Effect) (r : Result alone.Ended Fault) → IsAnswerOf e r → answers_memory r ≡ true → IsAnsweredMemory e
 answer_told (effect.Ended value shown) r is l = tt
 answer_told (effect.Joined frame replaced shown) r is l = absurd is
-answer_told (effect.Trapped trap line lines cost back) r is l = absurd (never (sym (sym (ap answers_memory is) ∙ l)))
-answer_told (effect.OverLimit back) r is l = absurd (never (sym (sym (ap answers_memory is) ∙ l)))
+answer_told (effect.Trapped trap line lines cost back) r is l = absurd (true≢false (sym (sym (ap answers_memory is) ∙ l)))
+answer_told (effect.OverLimit back) r is l = absurd (true≢false (sym (sym (ap answers_memory is) ∙ l)))
 answer_told (effect.Memory back) r is l = tt
 answer_told (effect.GivenUp back) r is l = tt
 
@@ -86,7 +83,7 @@ stage_lacks v q (Some e) (Made n d) b l = memory_told e (sym (ap is_memory b.2) 
 stage_lacks v q (Some e) (Answered r) b l = answer_told e r b.1 l
 
 ended_is : (v : Verified) (q : Posted) (ended : Option Effect) (x : Stage) → IsBegun v q ended x → IsSome ended → HasEnded x
-ended_is v q None x b some = absurd (never (sym some))
+ended_is v q None x b some = absurd (true≢false (sym some))
 ended_is v q (Some e) (Goes k) b some = absurd b
 ended_is v q (Some e) (Made n d) b some = tt
 ended_is v q (Some e) (Answered r) b some = tt

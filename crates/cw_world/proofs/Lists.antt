@@ -30,10 +30,6 @@ abbrev pub IsCons : {A : Type 0} → List A → Type 0
 IsCons [] = ⊥
 IsCons (x ∷ xs) = Unit {0}
 
-abbrev pub un : {A : Type 0} → A → Option A → A
-un d None = d
-un d (Some x) = x
-
 abbrev pub IsSomeOf : {A : Type 0} → Option A → Type 0
 IsSomeOf None = ⊥
 IsSomeOf (Some x) = Unit {0}

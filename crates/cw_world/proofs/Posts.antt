@@ -3,6 +3,7 @@ use Rattle.std.proofs.Common.{◌≡◌, ◌≢◌, ◌∙◌, ℕ, ◌+◌, ◌
 use Rattle.std.specs.Prelude.{Ok}
 use Rattle.std.proofs.lemmas.Bool.Decides.{nat_tests}
 use Rattle.std.proofs.lemmas.List.{nil_from_length}
+use Rattle.std.proofs.lemmas.Bool.{true≢false}
 use Rattle.cw_jobs.specs.declared.effect.Effect.{Effect}
 use Rattle.cw_jobs.specs.declared.effect.Effect.TheVariants as effect
 use Rattle.cw_jobs.specs.declared.job.Job.{Job}
@@ -18,9 +19,6 @@ use Rattle.cw_world.specs.declared.post.Out.TheVariants as out
 use Rattle.cw_world.specs.Scenes.{Posted}
 use Rattle.cw_world.specs.Posts.{StandsRight, Comes, Steps, HasDone, HasDoneWith, DoesOneMore}
 
-true_false : true ≡ false → ⊥
-true_false e = cc
-
 -- the flag is right where it says whether the strand does not go on
 pub stands_paused : (p : Posted) → (p.at_join ≡ true → IsAtSync p.strand) → (p.at_join ≡ false → IsGoing p.strand) → p.outs ≢ [] → length p.outs ≡ length (outs p.strand) → StandsRight p
 stands_paused p paused goes some even = (
@@ -32,14 +30,14 @@ stands_paused p paused goes some even = (
 -- nor is one set where it goes on
 pub stands_going : (p : Posted) → p.at_join ≡ false → IsGoing p.strand → outs p.strand ≢ [] → StandsRight p
 stands_going p e goes some = (
-  (λ j. absurd (true_false (sym j ∙ e))),
+  (λ j. absurd (true≢false (sym j ∙ e))),
   (λ _. goes),
   λ none. absurd (some none),
 )
 
 -- with nothing out no flag is set, and it is before an instruction
 pub stands_none : (p : Posted) → p.at_join ≡ false → IsBefore p.strand → StandsRight p
-stands_none p e before = ((λ j. absurd (true_false (sym j ∙ e))), (λ _. before.going), λ _. before)
+stands_none p e before = ((λ j. absurd (true≢false (sym j ∙ e))), (λ _. before.going), λ _. before)
 
 pub some_not_none : {A : Type 0} (x : A) (xs : List A) → x ∷ xs ≡ [] → ⊥
 some_not_none x xs e = cc
@@ -129,7 +127,7 @@ steps_to_join old new jobs jobs' n os of even flag k one j =
         running = k.0;
         outs_are = os;
         left_are = k.1;
-        stands = ((λ _. (k.3, some)), (λ no. absurd (true_false (sym flag ∙ no))), λ none. absurd (k.2 (sym k.1 ∙ none)));
+        stands = ((λ _. (k.3, some)), (λ no. absurd (true≢false (sym flag ∙ no))), λ none. absurd (k.2 (sym k.1 ∙ none)));
       },
       j,
       one,

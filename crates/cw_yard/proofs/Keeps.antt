@@ -6,7 +6,7 @@ use mathlib.Core.Logic.{dite}
 use native.Mathlib.Decide.{ℕ_discrete}
 use lib.ListN.{get_elem?}
 use Rattle.std.specs.List.{slice_index}
-use Rattle.atomic_table.specs.Table.{State, Me, step, keeps, takes, gives, stepped, Allows, Splits, Joins, opening}
+use Rattle.atomic_table.specs.Table.{State, keeps, takes, gives, stepped, Allows, Splits, Joins, opening}
 use Rattle.atomic_table.proofs.Lists.{at_set, set_else}
 use Rattle.cw_jobs.specs.declared.job.Job.{Job}
 use Rattle.cw_yard.specs.declared.left.Left.{Left}

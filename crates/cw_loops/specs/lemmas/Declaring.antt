@@ -1,5 +1,5 @@
 -- The names that a well typed statement declares are new.
-use Rattle.std.proofs.Common.{◌≡◌, ℕ, Bool, true, false, List, [], ◌∷◌, ◌++◌, sym, subst}
+use Rattle.std.proofs.Common.{◌≡◌, ℕ, Bool, true, false, List, [], ◌∷◌, ◌++◌, sym, subst, refl}
 use Rattle.std.specs.Prelude.{if◌then◌else◌, not, ◌||◌, nat_le}
 use Rattle.std.specs.List.{list_all}
 use Rattle.std.proofs.lemmas.Bool.{and_parts}
@@ -18,8 +18,10 @@ use Rattle.cw_model.specs.Typing.{ends_block}
 use Rattle.cw_model.specs.Typing.{surely_returns, faults_in, faults_in_block, declares, Returns, Nowhere}
 use Rattle.cw_model.specs.lemmas.Fits.{writable_array, writable_arrays}
 use Rattle.cw_model.specs.lemmas.Kept.{left_none, right_none, kept}
+use Rattle.cw_tree.specs.Resolved.{Locals, locals_after}
 use Rattle.cw_loops.specs.lemmas.Naming.{Placed, at_front, after_it, placed, Side, in_first, in_second, side}
 use Rattle.cw_loops.specs.lemmas.Knowing.{Unknown, new_unknown, Adds, an_int, an_array, nothing, adds}
+use Rattle.cw_loops.specs.Lowered.{lower_stmt}
 
 -- what the head of a loop keeps
 pub record HeadKept (program : Program) (known : Known) (x : Name) (from to : Expr) (grain : ℕ) (over : List Name) :
@@ -195,3 +197,24 @@ module _ (program : Program) where
     block_new End returns known h v o = absurd cc
     block_new (Then line s b) returns known h v o =
         by_side s b returns known line h v (side v (declared_in s) (declared_in_block b) o) (stmt_new s) (block_new b)
+
+-- a lowered statement declares what its source does
+pub same_after : (over : List Name) (k : ℕ) (locals : Locals) (s : Stmt) → locals_after locals (lower_stmt over k s) ≡ locals_after locals s
+same_after over k locals (Declare x e) = refl
+same_after over k locals (DeclareArray a e) = refl
+same_after over k locals (Assign x e) = refl
+same_after over k locals (AssignElement a i e) = refl
+same_after over k locals (Reduce how s e) = refl
+same_after over k locals (Call kind site target f es) = refl
+same_after over k locals (Start kind f es) = refl
+same_after over k locals (Begin f from to captured' over') = refl
+same_after over k locals Sync = refl
+same_after over k locals (If e b) = refl
+same_after over k locals (IfElse e b c) = refl
+same_after over k locals (While e b) = refl
+same_after over k locals (For x y z from to grain over' b) = refl
+same_after over k locals (Scope b) = refl
+same_after over k locals (Cut a e l r b) = refl
+same_after over k locals (Region tag b) = refl
+same_after over k locals (Print e) = refl
+same_after over k locals (Return e) = refl

@@ -1,6 +1,6 @@
 -- Names among others, and those that are new.
 use Rattle.std.proofs.Common.{◌≡◌, Bool, true, false, List, [], ◌∷◌, ◌++◌, refl, sym, ◌∙◌, ap}
-use Rattle.std.specs.Prelude.{if◌then◌else◌, not, ◌||◌}
+use Rattle.std.specs.Prelude.{if◌then◌else◌, not, ◌||◌, map}
 use Rattle.std.specs.List.{list_any, list_all}
 use Rattle.std.proofs.lemmas.Bool.{and_parts, or_parts}
 use Rattle.cw_facts.specs.Tests.{both_true}
@@ -8,7 +8,7 @@ use Rattle.cw_model.specs.Syntax.{Name}
 use Rattle.cw_model.specs.Names.{same_name, is_among, differ, new_names}
 use Rattle.cw_tree.specs.lemmas.Names.{among_append, same_are, front_among, later_among}
 use Rattle.cw_loops.specs.lemmas.Tests.{either_left, either_right, never, refuted}
-use Rattle.cw_loops.specs.lemmas.Apart.{not_later}
+use Rattle.cw_loops.specs.lemmas.Apart.{not_later, apart}
 
 -- names that are joined
 
@@ -41,6 +41,14 @@ side x xs ys h = go (is_among x xs) refl (sym (among_append x xs ys) ∙ h)
     go true e o = in_first e
     go false e o = in_second o
 
+-- in the second where in the first it is not
+pub among_split : (x : Name) (xs ys : List Name) → is_among x xs ≡ false → is_among x (xs ++ ys) ≡ true → is_among x ys ≡ true
+among_split x xs ys n h = go (side x xs ys h)
+  where
+    go : Side x xs ys → is_among x ys ≡ true
+    go (in_first o) = never (is_among x xs) o n
+    go (in_second o) = o
+
 pub neither_among : (x : Name) (xs ys : List Name) → is_among x (xs ++ ys) ≡ false →
     (is_among x xs ≡ false) × (is_among x ys ≡ false)
 neither_among x xs ys h = or_parts (is_among x xs) (is_among x ys) (sym (among_append x xs ys) ∙ h)
@@ -70,7 +78,15 @@ passed x y xs b h n = go (same_name x y) refl
     go true e = sym (ap (λ z. is_among z xs) (same_are x y e) ∙ n)
     go false e = h
 
+-- a name of a list and one that is none of it are apart
+pub other_than : (a b : Name) (bs : List Name) → is_among b bs ≡ false → is_among a bs ≡ true → same_name a b ≡ false
+other_than a b bs h o = apart a b (λ e. let q : true ≡ false = sym o ∙ ap (λ y. is_among y bs) e ∙ h in absurd cc)
+
 -- what is said of each name of a list
+
+pub map_same : {B : Type 0} (f g : Name → B) (xs : List Name) → ((a : Name) → is_among a xs ≡ true → f a ≡ g a) → map f xs ≡ map g xs
+map_same f g [] h = refl
+map_same f g (x ∷ xs) h = rw (h x (front_among x xs)) (ap (λ t. g x ∷ t) (map_same f g xs (λ a o. h a (later_among a x xs o))))
 
 pub each_of : (f : Name → Bool) (xs : List Name) → list_all f xs ≡ true → (x : Name) → is_among x xs ≡ true → f x ≡ true
 each_of f [] h x o = absurd cc

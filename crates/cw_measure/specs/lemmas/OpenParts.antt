@@ -1,6 +1,7 @@
 -- Lemmas of runs so far: sums over the parts of a tree, and whether a block has spawned.
 use Rattle.std.specs.Prelude.{◌≡◌, ℕ, ◌+◌, ◌-◌, Bool, true, false, List, [], ◌∷◌, ◌++◌, Option, Some, None, refl}
 use Rattle.std.proofs.Common.{sym, ◌∙◌, ap, subst, arith}
+use Rattle.std.proofs.lemmas.List.{append-nil}
 use Rattle.cw_model.specs.Trees.{Mark, Tree, Leaf, Seq, Par, Event, Work, Series, Fork, Join, tree_of, parts_of, work}
 use Rattle.cw_measure.specs.OpenParts.{Open, marked, part_of, event_of, closed, spawned_after, has_spawned_from}
 use Rattle.cw_measure.specs.OpenParts.{has_spawned, IsSince, sum_in, work_in}
@@ -96,9 +97,13 @@ pub append_one : (es : List Event) (e : Event) (fs : List Event) → es ++ e ∷
 append_one [] e fs = refl
 append_one (d ∷ es) e fs = ap (λ (x : List Event). d ∷ x) (append_one es e fs)
 
-pub append_none : (es : List Event) → es ++ [] ≡ es
-append_none [] = refl
-append_none (e ∷ es) = ap (λ (x : List Event). e ∷ x) (append_none es)
+-- the work of two runs of events is that of both
+pub work-append : (a b : List Event) → work (tree_of (a ++ b)) ≡ work (tree_of a) + work (tree_of b)
+work-append [] b = omega arith
+work-append (Work k ∷ a) b = let more = work-append a b in omega arith
+work-append (Series t ∷ a) b = let more = work-append a b in omega arith
+work-append (Fork t ∷ a) b = let more = work-append a b in omega arith
+work-append (Join ∷ a) b = let more = work-append a b in omega arith
 
 -- whether a block has spawned
 pub spawned_append : (b : Bool) (es fs : List Event)
@@ -134,7 +139,7 @@ pub kept_since : (P : List Event → ℕ → Type 0) (K : KeptBy P) (es fs : Lis
 kept_since P K es [] n k s h =
     let z : n ≡ n + k = omega (arith, s) in
     let Q : ℕ → Type 0 = λ x. P (es ++ []) x in
-    let R : List Event → Type 0 = λ x. P x n in subst Q z (subst R (sym (append_none es)) h)
+    let R : List Event → Type 0 = λ x. P x n in subst Q z (subst R (sym (append-nil es)) h)
 kept_since P K es (Work j ∷ fs) n k s h =
     let S : Bool → Type 0 = λ x. IsSince x fs (k - j) in
     let i =

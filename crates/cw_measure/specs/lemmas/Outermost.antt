@@ -4,7 +4,7 @@ use Rattle.std.specs.Prelude.{◌++◌, Option, Some, None, sum_by, refl}
 use Rattle.std.proofs.Common.{sym, ◌∙◌, ap, subst, true≢false, arith}
 use borrow.Author.Tests.{eqb-true}
 use Rattle.std.proofs.lemmas.List.Sums.{sum_by-append}
-use Rattle.cw_model.specs.Trees.{Mark, Tree, Leaf, Seq, Par, Marked, Event, Work, Join, tree_of}
+use Rattle.cw_model.specs.Trees.{Mark, Tree, Leaf, Seq, Par, Marked, Event, Work, Join, tree_of, work, span}
 use Rattle.cw_model.specs.Rows.{outermost}
 use Rattle.cw_measure.specs.OpenParts.{Open, marked, event_of, closed, has_spawned, sum_in}
 use Rattle.cw_measure.specs.Outermost.{is_counted, one_if, active_in, outer_sum, outer_in, Reading, Meters, BeganAt}
@@ -350,4 +350,31 @@ counts_further f read there picks busy os es fs t u h g = record {
       (active_in picks busy os) t.active fs u h.active_is g in omega arith;
   active_is = h.active_is;
   began_is = h.began_is;
+}
+
+-- nothing more, whatever is open
+pub unless_nothing : (b : Bool) → unless_at b 0 ≡ 0
+unless_nothing true = refl
+unless_nothing false = refl
+
+pub spans_within_work : (t : Tree) → span t ≤ work t
+spans_within_work (Leaf k) = omega arith
+spans_within_work (Seq a b) = let g = spans_within_work a in let h = spans_within_work b in omega arith
+spans_within_work (Par a b) = let g = spans_within_work a in let h = spans_within_work b in omega arith
+spans_within_work (Marked mark t) = spans_within_work t
+
+pub work_bounds : Bounds work work
+work_bounds = record {
+  above = λ t. omega arith;
+  series = λ a b. omega arith;
+  fork = λ a b. omega arith;
+  in_mark = λ m t. omega arith;
+}
+
+pub span_bounds : Bounds span work
+span_bounds = record {
+  above = spans_within_work;
+  series = λ a b. omega arith;
+  fork = λ a b. omega arith;
+  in_mark = λ m t. omega arith;
 }

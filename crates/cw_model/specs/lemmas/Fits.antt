@@ -23,7 +23,7 @@ fit_kinds known (p ∷ ps) (e ∷ es) = fits_kind known (wants_array p) e && fit
 fit_kinds known _ _ = false
 
 -- what may be written is an array
-written_is_array : (k : NameKind) → is_written_kind k ≡ true → is_array_kind k ≡ true
+pub written_is_array : (k : NameKind) → is_written_kind k ≡ true → is_array_kind k ≡ true
 written_is_array name_kind.Integer h = cc
 written_is_array name_kind.Array h = refl
 written_is_array name_kind.Const h = refl

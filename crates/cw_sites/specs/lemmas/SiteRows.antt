@@ -1,11 +1,10 @@
 -- Lemmas of rows of call sites: calls that a run makes, and the path as a reading along parts.
 use Rattle.std.specs.Prelude.{◌≡◌, ℕ, zero, ◌+◌, ◌==◌, Bool, true, false, if◌then◌else◌, List, [], ◌∷◌, ◌++◌, Option}
-use Rattle.std.specs.Prelude.{Some, None, sum_by, filter, refl}
+use Rattle.std.specs.Prelude.{Some, None, refl}
 use Rattle.std.proofs.Common.{sym, ◌∙◌, ap, arith}
-use Rattle.std.proofs.lemmas.List.Sums.{sum_by-append}
-use Rattle.std.proofs.lemmas.List.Elements.{filter-append}
 use Rattle.cw_model.specs.Trees.{Mark, Tree, Leaf, Event, tree_of, work, span}
-use Rattle.cw_model.specs.Rows.{is_site, leaves, weight_of_site, calls_of}
+use Rattle.cw_model.specs.Rows.{is_site, leaves, calls_of}
+use Rattle.cw_model.specs.lemmas.Regrouping.{weight-append}
 use Rattle.cw_measure.specs.OpenParts.{Open, marked, event_of, closed, has_spawned, work_in}
 use Rattle.cw_measure.specs.Outermost.{is_counted, one_if, Meters}
 use Rattle.cw_measure.specs.lemmas.OpenParts.{Adds, tree_in, adds_none, adds_more, tree_in-part_of, adds_append}
@@ -47,13 +46,6 @@ path_meters site base = record {
 -- the sums that rows keep
 pub calls_adds : (site : ℕ) → Adds (calls_of site)
 calls_adds site = record { nothing = refl; series = λ a b. refl; fork = λ a b. refl }
-
-pub weight-append : (site : ℕ) (a b : List (ℕ × ℕ))
-    → weight_of_site site (a ++ b) ≡ weight_of_site site a + weight_of_site site b
-weight-append site a b =
-    ap (sum_by (λ (leaf : ℕ × ℕ). leaf.1)) (filter-append (λ (leaf : ℕ × ℕ). leaf.0 == site) a b)
-    ∙ sum_by-append (λ (leaf : ℕ × ℕ). leaf.1) (filter (λ (leaf : ℕ × ℕ). leaf.0 == site) a)
-    (filter (λ (leaf : ℕ × ℕ). leaf.0 == site) b)
 
 abbrev pub steps_if : Bool → ℕ → ℕ
 steps_if b k = if b then k else 0

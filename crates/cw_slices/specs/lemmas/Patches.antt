@@ -1,5 +1,5 @@
 -- What is in a block and what is out, place by place, once others are in the place of some cells.
-use Rattle.std.proofs.Common.{◌≡◌, ◌≢◌, ℕ, ◌+◌, ◌-◌, ◌<◌, ◌≤◌, ◌⊎◌, ℤ, Bool, true, List, [], ◌∷◌, ◌++◌, length, take}
+use Rattle.std.proofs.Common.{◌≡◌, ℕ, ◌+◌, ◌-◌, ◌<◌, ◌≤◌, ◌⊎◌, ℤ, Bool, true, List, [], ◌∷◌, ◌++◌, length, take}
 use Rattle.std.proofs.Common.{drop, replicate, Option, Some, None, slice_get, slice_set, refl, sym, ap, ap₂, inl, inr}
 use Rattle.std.proofs.Common.{◌∙◌, arith}
 use Prim.Native.Nat.{zero, suc}
@@ -185,16 +185,6 @@ pub get_replicated : {X : Type 0} (n : ℕ) (v : X) (k : ℕ) → k < n → slic
 get_replicated zero v k lt = absurd (omega (arith, lt))
 get_replicated (suc n) v zero lt = refl
 get_replicated (suc n) v (suc k) lt = get_replicated n v k (omega (arith, lt))
-
-same_or : (j k : ℕ) → (k ≡ j) ⊎ (k ≢ j)
-same_or zero zero = inl refl
-same_or zero (suc k) = inr (λ e. absurd (omega (arith, e)))
-same_or (suc j) zero = inr (λ e. absurd (omega (arith, e)))
-same_or (suc j) (suc k) = up (same_or j k)
-  where
-    up : (k ≡ j) ⊎ (k ≢ j) → (suc k ≡ suc j) ⊎ (suc k ≢ suc j)
-    up (inl e) = inl (ap suc e)
-    up (inr apart) = inr (λ e. apart (omega (arith, e)))
 
 -- numbers that were given back are there
 pub have_back : (from : ℕ) (xs : List ℤ) (cells : Cells) → from + length xs ≤ length cells

@@ -13,7 +13,8 @@ use Rattle.cw_code.specs.Run.{Stops, Stuck, settled, Entering, waiting_at, begun
 use Rattle.cw_code.specs.Good.{slots_in, Seat, Good, IsGiven, AllResume, GoodState, GoodTransition, FitSteps}
 use Rattle.cw_code.specs.Good.{FitSettles}
 use Rattle.cw_code.specs.lemmas.Slots.{settled_append}
-use Rattle.cw_strand_laws.specs.Jobs.{Extent, WholeCall, ToJoin, joins, is_first, has_come, Standing, standing, Came}
+use Rattle.cw_code.specs.lemmas.Runs.{stuck_on}
+use Rattle.cw_strand_laws.specs.Jobs.{Extent, WholeCall, ToJoin, joins, is_first, has_come, Standing, standing}
 use Rattle.cw_strand_laws.specs.Jobs.{Arrives, Returns, Falls, Beyond, Lost, moved, travel, Job, job_start}
 use Rattle.cw_strand_laws.specs.Strands.{spawn_job, resumed}
 use Rattle.cw_strand_laws.specs.Over.{beneath, results_under, arrived_under, under, transition_under}
@@ -28,13 +29,6 @@ pub data Base : Extent → Type 0 where
 abbrev pub lifted : {x : Extent} → Base x → State → State
 lifted Alone s = s
 lifted (Upon b) s = under b s
-
-abbrev pub NotLost : Came → Type 0
-NotLost (Arrives frame t left) = Unit {0}
-NotLost (Returns v arrays t left) = Unit {0}
-NotLost (Falls trap line lines left) = Unit {0}
-NotLost Beyond = Unit {0}
-NotLost Lost = ⊥
 
 abbrev slots_of_transition : State → Transition → State
 slots_of_transition x (On s) = s
@@ -52,10 +46,7 @@ same_slots : (target : Option ℕ) (v : Option ℤ) (results : Results (List ℤ
 same_slots None v results s s' e =
     record
     { slots = ap (λ w. (slots_of_transition s w).slots) e; arrays = ap (λ w. (slots_of_transition s w).arrays) e }
-same_slots (Some a) None results s s' e = absurd (never e)
-  where
-    never : Stuck ≡ On s' → ⊥
-    never k = cc
+same_slots (Some a) None results s s' e = absurd (stuck_on s' e)
 same_slots (Some a) (Some x) results s s' e =
     record
     { slots = ap (λ w. (slots_of_transition s w).slots) e; arrays = ap (λ w. (slots_of_transition s w).arrays) e }

@@ -5,6 +5,7 @@ use Rattle.std.proofs.lemmas.Bool.{eqb-true, eq-eqb}
 use Rattle.std.proofs.lemmas.Bool.Decides.{eqb_tells}
 use Rattle.std.specs.Prelude.{slice_get, slice_set, nat_eq, is_some, ◌&&◌, ◌||◌, if◌then◌else◌}
 use Rattle.std.proofs.lemmas.Option.{same_Some}
+use Rattle.cw_facts.specs.Lists.{get_before}
 use Rattle.cw_code.specs.Code.{Code}
 use Rattle.cw_strand_laws.specs.Jobs.{Job, Effect, Joined, has_come, standing}
 use Rattle.cw_strand_laws.specs.Strands.{Strand, Going, Waits, Halted}
@@ -13,7 +14,7 @@ use Rattle.cw_strand_laws.specs.Worlds.{Place, Undecided, Kept, Offered, Runs, M
 use Rattle.cw_world.specs.core.Board.{Board, newest, oldest, but_oldest, but_newest, of_worker, or_none, offer, retake, collect}
 use Rattle.cw_world.specs.core.Table.{Event, Run, Offer, Inline, Retake, Steal, Settle, Collect, Sched, Top, Idle, Busy, Over, top_at, top_of, top, at_join, is_at_join, is_undecided, is_at_spawn, is_kept_by, is_settled, is_same, can_retake, is_possible, effect_of, run_or_made, put, told, noted, advanced, ran, got_back, retaken, short_of, stole, stolen_by, settled, collected, effect_at, does, perform, tried, newest_out, place_of, world_run, none_begun, first_sched, counted}
 use Rattle.cw_world.specs.core.Laws.{one_if, times, is_with, is_offered_by, OnePlace, EachInOnePlace, RunsCome, EventsAreSteps}
-use Rattle.cw_world.proofs.core.Tally.{set_here, set_there, set_twice, still_some, stays, some_there, beside, pushed_times, newest_times, oldest_times, more_times, same, grows, adds, drops}
+use Rattle.cw_world.proofs.core.Tally.{set_here, set_there, set_twice, still_some, some_there, beside, pushed_times, newest_times, oldest_times, more_times, same, grows, adds, drops}
 
 pub both : (a b : Bool) → a && b ≡ true → (a ≡ true) × (b ≡ true)
 both true b h = (refl, h)
@@ -154,9 +155,9 @@ module _ (code : Code) where
         even = length-append s.world.jobs (out ∷ []) ∙ ap (λ n. n + 1) one.even ∙ sym (length-append s.world.places (Undecided w ∷ [])) ∙ sym (length-set (s.world.places ++ Undecided w ∷ []) i (Runs w new (length s.world.jobs ∷ outs)));
         workers = one.workers;
         begun = same is_with s.begun (s.world.places ++ Undecided w ∷ []) (grows is_with s.begun s.world.places one.begun (Undecided w) (λ v. refl)) i (Runs w strand outs) (Runs w new (length s.world.jobs ∷ outs))
-            (stays s.world.places i (Undecided w) (Runs w strand outs) has.place_is) (λ v. refl);
+            (get_before s.world.places (Undecided w) i (Runs w strand outs) has.place_is) (λ v. refl);
         offered = same is_offered_by s.board.lists (s.world.places ++ Undecided w ∷ []) (grows is_offered_by s.board.lists s.world.places one.offered (Undecided w) (λ v. refl)) i (Runs w strand outs) (Runs w new (length s.world.jobs ∷ outs))
-            (stays s.world.places i (Undecided w) (Runs w strand outs) has.place_is) (λ v. refl);
+            (get_before s.world.places (Undecided w) i (Runs w strand outs) has.place_is) (λ v. refl);
       };
       come = step s.world _ (Spawns s.world i w job out strand new outs has f);
     }

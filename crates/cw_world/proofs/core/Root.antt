@@ -2,6 +2,8 @@
 use Rattle.std.proofs.Common.{◌≡◌, ◌≢◌, ℕ, Bool, true, false, List, [], ◌∷◌, ◌++◌, Option, Some, None, refl, sym, ap, ◌∙◌, subst, inl, inr, length}
 use Rattle.std.specs.Prelude.{slice_get, slice_set, is_some, ◌&&◌, if◌then◌else◌}
 use Rattle.std.proofs.lemmas.Bool.Decides.{eqb_tells}
+use Rattle.std.proofs.lemmas.Bool.{both_ways}
+use Rattle.cw_facts.specs.Lists.{get_before}
 use Rattle.cw_code.specs.Code.{Code}
 use Rattle.cw_strand_laws.specs.Jobs.{Job, Effect}
 use Rattle.cw_strand_laws.specs.Strands.{Strand}
@@ -10,7 +12,7 @@ use Rattle.cw_strand_laws.specs.Worlds.{Place, Undecided, Kept, Offered, Runs, M
 use Rattle.cw_world.specs.core.Board.{State, Unoffered, newest, oldest, of_worker}
 use Rattle.cw_world.specs.core.Table.{Event, Run, Offer, Inline, Retake, Steal, Settle, Collect, Sched, Busy, Over, top, at_join, is_at_join, is_at_spawn, is_kept_by, is_settled, is_same, can_retake, is_possible, is_stolen, is_out, effect_of, run_or_made, advanced, ran, got_back, retaken, short_of, stole, stolen_by, collected, effect_at, does, perform, tried, newest_out, place_of, world_run, first_sched, outcome}
 use Rattle.cw_world.specs.core.Laws.{is_with, OnePlace, OutcomesStay}
-use Rattle.cw_world.proofs.core.Tally.{set_here, set_there, stays, some_there, newest_times, oldest_times}
+use Rattle.cw_world.proofs.core.Tally.{set_here, set_there, some_there, newest_times, oldest_times}
 use Rattle.cw_world.proofs.core.Events.{both, one_of, undecided_is, kept_is, settled_is, same_is, rom_with, with_top, listed, tries, begins}
 
 -- the root's place before and after
@@ -53,10 +55,7 @@ grows (p ∷ places) x = record { with_it = λ h. h; effect = λ e h k. k }
 
 -- a number whose job is with no worker is not the root's
 not_root : (places : List Place) (n : ℕ) (old : Place) → is_with 0 (slice_get places 0) ≡ true → slice_get places n ≡ Some old → is_with 0 (Some old) ≡ false → n ≢ 0
-not_root places n old root at none e = absurd_bool (is_with 0 (slice_get places 0)) root (ap (λ k. is_with 0 (slice_get places k)) (sym e) ∙ ap (is_with 0) at ∙ none)
-  where
-    absurd_bool : (b : Bool) → b ≡ true → b ≡ false → ⊥
-    absurd_bool b h k = cc
+not_root places n old root at none e = both_ways (is_with 0 (slice_get places 0)) (ap (λ k. is_with 0 (slice_get places k)) (sym e) ∙ ap (is_with 0) at ∙ none) root
 
 module _ (code : Code) (s : Sched) (one : OnePlace s) (root : is_with 0 (slice_get s.world.places 0) ≡ true) (state : slice_get s.board.states 0 ≡ Some Unoffered) where
   record Rooted (s' : Sched) : Type 0 where
@@ -84,24 +83,21 @@ module _ (code : Code) (s : Sched) (one : OnePlace s) (root : is_with 0 (slice_g
       cases (Ran new) = record { keeps = puts w i job strand new outs outs has.place_is; unoffered = state }
       cases (Handed out new) = record {
         keeps = twice _ _ _ (grows s.world.places (Undecided w))
-            (alike (s.world.places ++ Undecided w ∷ []) i (Runs w strand outs) (Runs w new (length s.world.jobs ∷ outs)) (stays s.world.places i (Undecided w) (Runs w strand outs) has.place_is) refl refl);
-        unoffered = stays s.board.states 0 Unoffered Unoffered state;
+            (alike (s.world.places ++ Undecided w ∷ []) i (Runs w strand outs) (Runs w new (length s.world.jobs ∷ outs)) (get_before s.world.places (Undecided w) i (Runs w strand outs) has.place_is) refl refl);
+        unoffered = get_before s.board.states Unoffered 0 Unoffered state;
       }
       cases AtSync = still
       cases (Finished e) = record { keeps = alike s.world.places i (Runs w strand outs) (Made w e) has.place_is refl refl; unoffered = state }
       cases Unfit = still
 
   apart : (w i n : ℕ) (strand : Strand) (outs : List ℕ) (place : Place) → slice_get s.world.places i ≡ Some (Runs w strand outs) → slice_get s.world.places n ≡ Some place → ((v : ℕ) → is_with v (Some place) ≡ false) → i ≢ n
-  apart w i n strand outs place at at' none e = absurd_bool (is_with w (Some place)) (ap (is_with w) (sym at' ∙ ap (slice_get s.world.places) (sym e) ∙ at) ∙ self) (none w)
+  apart w i n strand outs place at at' none e = both_ways (is_with w (Some place)) (none w) (ap (is_with w) (sym at' ∙ ap (slice_get s.world.places) (sym e) ∙ at) ∙ self)
     where
       self : is_with w (Some (Runs w strand outs)) ≡ true
       self = elim (eqb_tells w w) [
         | inl p ↦ p.0
         | inr p ↦ absurd (p.1 refl)
       ]
-
-      absurd_bool : (b : Bool) → b ≡ true → b ≡ false → ⊥
-      absurd_bool b h k = cc
 
   backs : (w i n : ℕ) (job : Job) (strand : Strand) (outs : List ℕ) → Has s.world i job (Runs w strand (n ∷ outs)) → at_join strand && can_retake s w (Some n) ≡ true → Rooted (does code false s (Retake w) (Busy i job strand (n ∷ outs)))
   backs w i n job strand outs has h =
@@ -132,11 +128,8 @@ module _ (code : Code) (s : Sched) (one : OnePlace s) (root : is_with 0 (slice_g
   settles : (w i : ℕ) (e : Effect) → is_out (slice_get s.board.states i) ≡ true → Rooted (does code false s (Settle w) (Over i e))
   settles w i e out = record { keeps = elsewhere s.world.places i (Settled e) other; unoffered = other_state i _ other }
     where
-      absurd_bool : (b : Bool) → b ≡ true → b ≡ false → ⊥
-      absurd_bool b h k = cc
-
       other : i ≢ 0
-      other z = absurd_bool (is_out (slice_get s.board.states i)) out (ap (λ k. is_out (slice_get s.board.states k)) z ∙ ap is_out state)
+      other z = both_ways (is_out (slice_get s.board.states i)) (ap (λ k. is_out (slice_get s.board.states k)) z ∙ ap is_out state) out
 
   collects : (short : Bool) (w i n : ℕ) (job : Job) (strand : Strand) (outs : List ℕ) (e : Effect) → Has s.world i job (Runs w strand (n ∷ outs)) → slice_get s.world.places n ≡ Some (Settled e) → Rooted (collected code short s w i n job strand outs (Some e))
   collects short w i n job strand outs e has at =

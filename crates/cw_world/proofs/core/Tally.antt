@@ -1,10 +1,9 @@
 -- Lists of numbers beside the places of jobs: each number is counted where its place says.
 use Rattle.std.proofs.Common.{◌≡◌, ◌≢◌, ℕ, zero, suc, ◌+◌, Bool, true, false, List, [], ◌∷◌, ◌++◌, Option, Some, None, refl, sym, ap, ◌∙◌, inl, inr, arith, length}
 use Rattle.std.specs.Prelude.{slice_get, slice_set, nat_eq, is_some}
-use Rattle.std.proofs.lemmas.Bool.{eq-eqb}
 use Rattle.std.proofs.lemmas.Bool.Decides.{eqb_tells}
 use Rattle.std.proofs.lemmas.Option.{same_Some}
-use Rattle.cw_facts.specs.Tests.{not_equal}
+use Rattle.cw_facts.specs.Tests.{not_equal, equal}
 use Rattle.cw_strand_laws.specs.Worlds.{Place}
 use Rattle.cw_world.specs.core.Board.{pushed, newest, but_newest, oldest, but_oldest, of_worker, or_none}
 use Rattle.cw_world.specs.core.Laws.{one_if, times}
@@ -40,11 +39,6 @@ module _ {A : Type 0} where
   grown_same g (y ∷ xs) x zero e = refl
   grown_same g (y ∷ xs) x (suc n) e = grown_same g xs x n e
 
-  pub stays : (xs : List A) (k : ℕ) (x y : A) → slice_get xs k ≡ Some y → slice_get (xs ++ x ∷ []) k ≡ Some y
-  stays [] k x y h = cc
-  stays (z ∷ xs) zero x y h = h
-  stays (z ∷ xs) (suc k) x y h = stays xs k x y h
-
   pub some_there : (o : Option A) → is_some o ≡ true → (x : A) × (o ≡ Some x)
   some_there None h = cc
   some_there (Some x) h = (x, refl)
@@ -71,9 +65,6 @@ oldest_times n i (x ∷ xs) h = let e : one_if (nat_eq n x) ≡ one_if (nat_eq n
 
 pub more_times : (n i : ℕ) (xs : List ℕ) → times n (i ∷ xs) ≡ times n xs + one_if (nat_eq n i)
 more_times n i xs = omega arith
-
-itself : (n : ℕ) → nat_eq n n ≡ true
-itself n = eq-eqb n n refl
 
 module _ (f : ℕ → Option Place → Bool) (lists : List (List ℕ)) (places : List Place) (kept : (w n : ℕ) → times n (of_worker lists w) ≡ one_if (f w (slice_get places n))) where
   -- a place changes to one that is read alike
@@ -123,8 +114,8 @@ module _ (f : ℕ → Option Place → Bool) (lists : List (List ℕ)) (places :
       → (w n : ℕ) → times n (of_worker (slice_set lists w₀ xs') w) ≡ one_if (f w (slice_get (slice_set places i new) n))
   adds w₀ i xs xs' old new at at' none one more = change w₀ i xs xs' old new at at' (λ w d. one w ∙ not_equal w w₀ d ∙ sym (none w))
       (λ n d. let e = more n in let z : one_if (nat_eq n i) ≡ 0 = ap one_if (not_equal n i d) in omega (arith, e, z))
-      (let e = more i in let u : one_if (nat_eq i i) ≡ 1 = ap one_if (itself i) in let z : times i xs ≡ 0 = counted_here w₀ i xs old at at' ∙ ap one_if (none w₀) in
-      let r : one_if (f w₀ (Some new)) ≡ 1 = ap one_if (one w₀ ∙ itself w₀) in omega (arith, e, u, z, r))
+      (let e = more i in let u : one_if (nat_eq i i) ≡ 1 = ap one_if (equal i i refl) in let z : times i xs ≡ 0 = counted_here w₀ i xs old at at' ∙ ap one_if (none w₀) in
+      let r : one_if (f w₀ (Some new)) ≡ 1 = ap one_if (one w₀ ∙ equal w₀ w₀ refl) in omega (arith, e, u, z, r))
 
   -- a number leaves a list
   pub drops : (w₀ i : ℕ) (xs xs' : List ℕ) (old new : Place) → slice_get lists w₀ ≡ Some xs → slice_get places i ≡ Some old
@@ -132,5 +123,5 @@ module _ (f : ℕ → Option Place → Bool) (lists : List (List ℕ)) (places :
       → (w n : ℕ) → times n (of_worker (slice_set lists w₀ xs') w) ≡ one_if (f w (slice_get (slice_set places i new) n))
   drops w₀ i xs xs' old new at at' one none more = change w₀ i xs xs' old new at at' (λ w d. none w ∙ sym (one w ∙ not_equal w w₀ d))
       (λ n d. let e = more n in let z : one_if (nat_eq n i) ≡ 0 = ap one_if (not_equal n i d) in omega (arith, e, z))
-      (let e = more i in let u : one_if (nat_eq i i) ≡ 1 = ap one_if (itself i) in let z : times i xs ≡ 1 = counted_here w₀ i xs old at at' ∙ ap one_if (one w₀ ∙ itself w₀) in
+      (let e = more i in let u : one_if (nat_eq i i) ≡ 1 = ap one_if (equal i i refl) in let z : times i xs ≡ 1 = counted_here w₀ i xs old at at' ∙ ap one_if (one w₀ ∙ equal w₀ w₀ refl) in
       let r : one_if (f w₀ (Some new)) ≡ 0 = ap one_if (none w₀) in omega (arith, e, u, z, r))

@@ -1,6 +1,5 @@
-use Rattle.std.proofs.Common.{◌≡◌, ◌≤◌, ◌<◌, List, length, ap, ◌∙◌, arith}
+use Rattle.std.proofs.Common.{◌≡◌, List, length, ap, ◌∙◌, arith}
 use Rattle.std.specs.Prelude.{map}
-use Rattle.cw_model.specs.declared.limits.TheConstants.{MOST_CALL_STATEMENTS}
 use Rattle.cw_model.specs.Sizes.{call_count}
 use Rattle.cw_tree.specs.declared.resolved.Function.{Function}
 use Rattle.cw_tree.specs.ResolvedView.{function_of}

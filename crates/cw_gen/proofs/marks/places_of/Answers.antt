@@ -1,6 +1,5 @@
 use Rattle.std.proofs.Common.{◌≡◌, ◌<◌, [], drop, sym, ap, ◌∙◌, arith}
 use Rattle.std.proofs.Math.ListN.{drop_of_length-le}
-use Rattle.cw_tree.specs.ResolvedView as source
 use Rattle.cw_gen.specs.Marks.{marks_in, readers_in, places_from}
 use Rattle.cw_gen.specs.Written.{kinds_of}
 use Rattle.cw_gen.proofs.PlacesTold.{table_ends, readers_end, table_counted, told_table, some_kept}

@@ -1,23 +1,16 @@
-use Rattle.std.proofs.Common.{◌≡◌, ℕ, ℤ, List, [], ◌∙◌, length, true, sym, ap}
+use Rattle.std.proofs.Common.{◌≡◌, [], ◌∙◌, true, sym}
 use Rattle.std.proofs.Math.Bool.{Bool-set}
 use Rattle.std.proofs.Math.Logic.{∥∥₁_elim, ∥∥₁_map, ∥∥₁_prop}
-use Rattle.cw_model.specs.declared.burden.Burden.{Burden}
 use Rattle.cw_code.specs.Code.{code_view}
-use Rattle.cw_code.specs.Fits.{main_params}
 use Rattle.cw_code.specs.Run.{first_state, code_serial}
-use Rattle.cw_runnable.specs.declared.verified.Verified.{Verified}
 use Rattle.cw_machine.specs.declared.machine.Moved.TheVariants as moved
 use Rattle.cw_machine.specs.Arrays.{alone as from_main}
-use Rattle.cw_machine.specs.Runs.{is_asked, is_request}
-use Rattle.cw_machine.proofs.FromMain.{as_many_asked, main_of, asked_of, is_over, was_over, IsTrapped-prop, was_trapped}
+use Rattle.cw_machine.specs.Runs.{is_asked}
+use Rattle.cw_machine.proofs.FromMain.{as_many_asked, main_of, asked_of, is_over, was_over, IsTrapped-prop, was_trapped, asked_as}
 use Rattle.cw_machine.proofs.Given.{passed, stopped}
 use Rattle.cw_machine.proofs.Keeping.{by_machine}
 use Rattle.cw_machine.proofs.EndsAs.{begins, came, ended}
 use Rattle.cw_machine.proofs.listener.listen.Goals as goal
-
--- the test is that of the request
-asked_as : (v : Verified) (args : List ℤ) (params n : ℕ) (burden : Burden) → params ≡ main_params (code_view v.code) → is_asked params (length args) n burden ≡ true → is_request (code_view v.code) args n burden ≡ true
-asked_as v args params n burden e h = ap (λ k. is_asked k (length args) n burden) (sym e) ∙ h
 
 pub begun-requires : goal.begun-requires
 begun-requires g c =

@@ -1,10 +1,8 @@
-use Rattle.std.proofs.Common.{rules, ◌≡◌, ℕ, ℤ, List, [], ◌∙◌, length, true, refl, sym, ap, subst, w64, of_z, to_z}
+use Rattle.std.proofs.Common.{rules, ◌≡◌, ℕ, ℤ, List, [], ◌∙◌, true, refl, sym, subst, w64, of_z, to_z}
 use Rattle.std.proofs.Math.Bool.{Bool-set}
 use Rattle.std.proofs.Math.Logic.{∥∥₁_elim, ∥∥₁_map}
 use Rattle.std.proofs.lemmas.Int.{to_z-of_z}
-use Rattle.cw_model.specs.declared.burden.Burden.{Burden}
 use Rattle.cw_code.specs.Code.{code_view}
-use Rattle.cw_code.specs.Fits.{main_params}
 use Rattle.cw_code.specs.Run.{first_state, code_serial}
 use Rattle.cw_text.specs.declared.fault.Fault.TheVariants as fault
 use Rattle.cw_runnable.specs.declared.verified.Verified.{Verified}
@@ -14,14 +12,10 @@ use Rattle.cw_machine.specs.declared.values.Values.{Values}
 use Rattle.cw_machine.specs.Arrays.{IsFit, alone as from_main}
 use Rattle.cw_machine.specs.Shows.{BeginsRun}
 use Rattle.cw_machine.specs.Steps.{Reaches, ReachesAny}
-use Rattle.cw_machine.specs.Runs.{is_asked, is_request, Gives, IsFailure}
-use Rattle.cw_machine.proofs.FromMain.{as_many_asked, Main, main_of, asked_of, is_over, was_over, IsTrapped-prop, was_trapped}
+use Rattle.cw_machine.specs.Runs.{is_asked, Gives, IsFailure}
+use Rattle.cw_machine.proofs.FromMain.{as_many_asked, Main, main_of, asked_of, is_over, was_over, IsTrapped-prop, was_trapped, asked_as}
 use Rattle.cw_machine.proofs.Given.{IsGiven-prop, is_given, gave, passed, stopped}
 use Rattle.cw_machine.proofs.values.values_alone.Goals as goal
-
--- the test is that of the request
-asked_as : (v : Verified) (args : List ℤ) (params n : ℕ) (burden : Burden) → params ≡ main_params (code_view v.code) → is_asked params (length args) n burden ≡ true → is_request (code_view v.code) args n burden ≡ true
-asked_as v args params n burden e h = ap (λ k. is_asked k (length args) n burden) (sym e) ∙ h
 
 -- what a run from where main begins came to
 came : (v : Verified) (ok : IsFit v) (main : Main v) (args : List ℤ) (n : ℕ) (m m' : Machine) (to to' : Moved) → BeginsRun v args m → ReachesAny v m n to' m' → to' ≡ to → Reaches v (from_main v ok) to m' n (first_state main.func args [] [])

@@ -1,4 +1,5 @@
 use Rattle.std.proofs.Common.{arith, ◌+◌, ◌<◌, true, false, length, sym, ap, ◌∙◌, ◌≡◌, subst}
+use Rattle.std.proofs.lemmas.Bool.{true≢false}
 use Rattle.cw_facts.specs.Tests.{equal}
 use Rattle.cw_slices.specs.Blocks.{Lodged}
 use Rattle.cw_machine.specs.declared.machine.View.{View}
@@ -27,11 +28,8 @@ returns c =
           let same_len : w.len ≡ c.len.result = ap (λ (z : View). z.len) (sym e) ∙ own.len ∙ ap (λ (z : View). length (block m.blocks.items z.block).cells) e ∙ ap (λ (b : Lodged). length b.cells) e' ∙ sym c.len.ensures.value in
           elim c.else-is_whole.branch [
             | else-is_whole-via-then-is_whole+else-v-count x ↦
-                elim x.if-v-a.branch [ then-v-a y ↦ never (sym (y.value-is ∙ equal w.block c.args.a same_block) ∙ x.if-v-count.false) | else-v-a y ↦ y.if-v-a.false same_block ]
+                elim x.if-v-a.branch [ then-v-a y ↦ true≢false (sym (y.value-is ∙ equal w.block c.args.a same_block) ∙ x.if-v-count.false) | else-v-a y ↦ y.if-v-a.false same_block ]
             | else-is_whole-via-else-is_whole x ↦
-                elim c.if-v-len.branch [ then-v-len y ↦ never (sym (y.is_whole-is ∙ equal w.from 0 same_from) ∙ x.if-is_whole.false) | else-v-len y ↦ y.if-v-len.false same_len ]
+                elim c.if-v-len.branch [ then-v-len y ↦ true≢false (sym (y.is_whole-is ∙ equal w.from 0 same_from) ∙ x.if-is_whole.false) | else-v-len y ↦ y.if-v-len.false same_len ]
           ],
     )
-  where
-    never : true ≡ false → ⊥
-    never e = cc

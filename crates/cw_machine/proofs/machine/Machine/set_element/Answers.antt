@@ -1,6 +1,6 @@
-use Rattle.std.proofs.Common.{rules, arith, ◌≡◌, ℕ, ◌+◌, ◌<◌, ◌^◌, true, false, Option, Some, length, refl, sym, ap, ◌∙◌, w64, of_z, to_z}
+use Rattle.std.proofs.Common.{rules, arith, ◌≡◌, ◌+◌, ◌<◌, ◌^◌, true, false, length, refl, sym, ap, ◌∙◌, w64, of_z, to_z}
 use Rattle.std.specs.Prelude.{nat_abs, slice_get}
-use Rattle.std.specs.Coded.{Coded-set, coded_option, coded_ℕ, le_prop}
+use Rattle.std.specs.Coded.{le_prop}
 use Rattle.std.proofs.Math.Logic.{∥∥₁_elim, ∥∥₁_map}
 use Rattle.std.proofs.lemmas.Int.{to_z-of_z}
 use Rattle.cw_model.specs.Ints.{natural}
@@ -10,9 +10,7 @@ use Rattle.cw_machine.specs.Shows.{blocks_of}
 use Rattle.cw_machine.proofs.Blocks as blocks
 use Rattle.cw_machine.proofs.Moves as moves
 use Rattle.cw_machine.proofs.machine.Machine.set_element.Goals as goal
-
-right_prop : (o : Option ℕ) → IsProp (o ≡ Some 0)
-right_prop o = λ p q. Coded-set (coded_option coded_ℕ) o (Some 0) p q
+use Rattle.cw_machine.proofs.Rights.{right_prop}
 
 pub get-i-requires : goal.get-i-requires
 get-i-requires c =

@@ -1,7 +1,7 @@
 use Rattle.std.specs.Prelude.{Some, None}
 use Rattle.cw_model.specs.Trees.{Execution}
 use Rattle.cw_recorded.specs.declared.recorder.Recorder.{Recorder}
-use Rattle.cw_recorded.specs.Recording.{BeginsChild, BeginsCall, BeginsQuiet, Returns, Syncs}
+use Rattle.cw_recorded.specs.Recording.{BeginsQuiet, Returns}
 use Rattle.cw_recorded.specs.Recording as parts
 use Rattle.cw_machine.specs.Listening.{IsToldOf}
 use Rattle.cw_machine.specs.Recorded.{RecordsRun}

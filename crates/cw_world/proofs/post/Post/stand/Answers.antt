@@ -1,4 +1,4 @@
-use Rattle.std.proofs.Common.{◌≡◌, ◌≢◌, ◌∙◌, false, [], refl, sym, ap}
+use Rattle.std.proofs.Common.{◌∙◌, false, refl, sym, ap}
 use Rattle.cw_world.specs.Scenes.{Posted, posted}
 use Rattle.cw_world.proofs.Lists.{empty_from, some_from}
 use Rattle.cw_world.proofs.Posts.{ends, ends_done, stands_paused}

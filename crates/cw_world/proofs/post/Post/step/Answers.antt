@@ -8,7 +8,7 @@ use Rattle.cw_strand.specs.Losing.{Leaves}
 use Rattle.cw_strand.specs.Moves.{AdvancesBy, DoesOne, KeptBy}
 use Rattle.cw_world.specs.declared.post.Out.TheVariants as out
 use Rattle.cw_world.specs.Scenes.{Posted, jobs_of, posted}
-use Rattle.cw_world.proofs.Lacking.{goes_not_lost, after_end, after_event, after_stop}
+use Rattle.cw_world.proofs.Lacking.{goes_not_lost, after_event, after_stop}
 use Rattle.cw_world.proofs.Posts.{ended_one, none_out, paused_one, some_not_none, steps_on, steps_to_join, steps_to_spawn}
 use Rattle.cw_world.proofs.post.Post.step.Goals as goal
 
