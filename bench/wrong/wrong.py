@@ -209,6 +209,9 @@ def unread(line, changed):
     if not at or at[1] not in changed and not at[1].startswith(("src/", "specs/")):
         return False
     said = re.sub(r"`[^`]*`", "", at[3])
+    # (what stands on a lemma that is refused tells nothing of its own)
+    if re.match(r"\d+ declarations? that depends? on", said):
+        return False
     return not at[2] or bool(re.search(r"is not in scope|has no field|is no name|operand is missing|expected the end|cannot continue", said))
 
 
