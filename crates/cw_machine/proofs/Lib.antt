@@ -1,3 +1,4 @@
+pub mod Coursing
 pub mod Decided
 pub mod Floors
 pub mod Places
