@@ -1,8 +1,9 @@
 #!/usr/bin/env python3
 """What the gate takes, crate by crate: runs `rt ci` and tells the processor time of its checks.
 
-    budget.py [WORD..]    rt ci, with these words, from the top of the repository; then a table: seconds of a processor that
-                          each crate's proof, its tests and its must-fail edits took (the proof before them in it), and sums
+    budget.py [WORD..]    rt ci, with these words and as many lanes as the gate gives it, from the top of the repository; then
+                          a table: seconds of a processor that each crate's proof, its tests and its must-fail edits took (the
+                          proof before them in it), and sums
 
 Some kits keep what an earlier run on the machine passed: it is not proved again and has no time, names of crates as words
 prove these alone, and --anew as the only word proves all. Others prove all, and take no word. The times are those of checks
@@ -16,6 +17,8 @@ import signal
 import subprocess
 import sys
 import time
+
+from gate import LANES
 
 TOP = pathlib.Path(__file__).resolve().parent.parent
 TICKS = os.sysconf("SC_CLK_TCK")
@@ -82,7 +85,7 @@ def table(found):
 
 def main(words):
     found, begun = {}, time.time()
-    ran = subprocess.Popen(["rt", "ci", *words], cwd=TOP)
+    ran = subprocess.Popen(["rt", "ci", *words], cwd=TOP, env={"RT_JOBS": str(LANES), **os.environ})
     try:
         while ran.poll() is None:
             look(ran.pid, found)
