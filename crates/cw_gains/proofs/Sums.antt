@@ -1,5 +1,5 @@
 -- The sums of a function are those of the rows of its sites in the tree of a run.
-use Rattle.std.proofs.Common.{◌≡◌, ℕ, zero, suc, ◌+◌, Bool, true, false, List, [], ◌∷◌, length, map, Some, arith, refl, ap, ◌∙◌}
+use Rattle.std.proofs.Common.{◌≡◌, ℕ, suc, ◌+◌, Bool, true, false, List, [], ◌∷◌, length, map, Some, arith, refl, ap, ◌∙◌}
 use Prim.Native.Nat.add
 use Rattle.std.specs.Prelude.{nat_eq, if◌then◌else◌, sum_by, filter, slice_get}
 use Rattle.std.proofs.lemmas.Bool.{and_parts}

@@ -12,7 +12,7 @@ use Rattle.cw_model.specs.Trees.{Series}
 use Rattle.cw_model.specs.Frames.{Frame, no_frame, int_of, array_of}
 use Rattle.cw_model.specs.Expressions.{Gives, evaluate, and_then, done_at}
 use Rattle.cw_model.specs.Outcome.{Outcome, Trace, then_do, joined_up, pay, pay_for}
-use Rattle.cw_model.specs.Meaning.{Completion, Calls, going, turns, SameDepth, function_named, loop_frame, slices_back}
+use Rattle.cw_model.specs.Meaning.{Completion, Calls, going, SameDepth, function_named, loop_frame, slices_back}
 use Rattle.cw_model.specs.Meaning as meaning
 use Rattle.cw_model.specs.Ownership.{Taken}
 use Rattle.cw_tree.specs.Resolved.{Lists, Locals, slot_of}

@@ -2,7 +2,6 @@
 use Rattle.std.proofs.Common.{ℕ, ◌+◌, ◌≤◌, List, [], ◌∷◌, length, arith}
 use Rattle.cw_model.specs.declared.token.Token.{Token}
 use Rattle.cw_model.specs.Tokens.{AreTokens}
-use Rattle.cw_model.specs.Tokens as tokens
 use Rattle.cw_lex.specs.lemmas.Gaps.{gap_rises}
 
 pub fewer_tokens : (text : List ℕ) (from : ℕ) (ts : List Token) (to : ℕ) → AreTokens text from ts to → from + length ts ≤ to

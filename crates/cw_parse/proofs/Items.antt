@@ -8,7 +8,7 @@ use Rattle.cw_model.specs.declared.syntax.Reduction.{Reduction}
 use Rattle.cw_model.specs.declared.syntax.Reduction.TheVariants.{Sum, Max}
 use Rattle.cw_model.specs.Syntax.{Block, Param, Reducer, Function, Program}
 use Rattle.cw_model.specs.Grammar as grammar
-use Rattle.cw_model.specs.Grammar.{name_of, gives_int_of, reduction_of, ReadsParams, ReadsFunction, ReadsItems, Derives, HasSyntaxFault, CanBegin, first_line}
+use Rattle.cw_model.specs.Grammar.{name_of, gives_int_of, reduction_of, ReadsParams, ReadsFunction, ReadsItems, Derives, HasSyntaxFault, first_line}
 use Rattle.cw_parse.specs.declared.marks.Mark.TheVariants as mark
 use Rattle.cw_parse.specs.Reading.{Read, Reader, by_first}
 use Rattle.cw_parse.specs.Parsed.{HasOneTree}

@@ -8,9 +8,9 @@ use Rattle.cw_model.specs.declared.syntax.CallKind.{CallKind}
 use Rattle.cw_model.specs.declared.syntax.CallKind.TheVariants.{Plain, Spawned}
 use Rattle.cw_model.specs.declared.syntax.Reduction.{Reduction}
 use Rattle.cw_model.specs.declared.syntax.Reduction.TheVariants.{Sum, Max}
-use Rattle.cw_model.specs.Syntax.{Name, Expr, Stmt, Block}
+use Rattle.cw_model.specs.Syntax.{Name, Expr, Stmt}
 use Rattle.cw_model.specs.Grammar as grammar
-use Rattle.cw_model.specs.Grammar.{name_of, ReadsWhole, ReadsArguments, ReadsMoreNames, ReadsCall, ReadsGrain, ReadsOver, ReadsHead, ReadsAssigned, ReadsNamed, ReadsDeclared, ReadsReturned, ReadsStmtBy, Head}
+use Rattle.cw_model.specs.Grammar.{name_of, ReadsWhole, ReadsArguments, ReadsAssigned, ReadsNamed, ReadsDeclared, ReadsStmtBy}
 use Rattle.cw_parse.specs.declared.marks.Mark.TheVariants as mark
 use Rattle.cw_parse.specs.Reading.{Read, Reader, ◌>>=◌, by_first, if_next}
 use Rattle.cw_parse.specs.Parts.{expr, list, called, call, ended, is_call, assigned, element_assigned, named_stmt, declared_as, declared, returned, printed, simple}

@@ -15,7 +15,7 @@ use Rattle.cw_meter.specs.Origins.{Main, Rest}
 use Rattle.cw_meter_laws.specs.Opens.{whole}
 use Rattle.cw_meter_laws.specs.Strands.{CallsKeepMeters, TellsAll}
 use Rattle.cw_strand_laws.specs.Jobs as jobs
-use Rattle.cw_strand_laws.specs.Jobs.{WholeCall, ToJoin, has_come, standing, JobMeaning}
+use Rattle.cw_strand_laws.specs.Jobs.{ToJoin, has_come, standing, JobMeaning}
 use Rattle.cw_strand_laws.specs.Over.{under}
 use Rattle.cw_strand_laws.specs.Strands.{Going}
 use Rattle.cw_strand_laws.specs.Promises.{IsStrandOf}

@@ -8,7 +8,7 @@ use Rattle.cw_meter.specs.declared.detail.Detail.TheVariants.{Values, Measures}
 use Rattle.cw_meter.specs.Details.{IsLight}
 use Rattle.cw_code.specs.Code.{Code, code_view}
 use Rattle.cw_strand_laws.specs.Jobs as jobs
-use Rattle.cw_strand_laws.specs.Jobs.{WholeCall, ToJoin, job_start}
+use Rattle.cw_strand_laws.specs.Jobs.{job_start}
 use Rattle.cw_strand_laws.specs.Over.{under}
 use Rattle.cw_strand_laws.specs.Strands.{Going}
 use Rattle.cw_strand_laws.specs.Steps.{CallsKeep}

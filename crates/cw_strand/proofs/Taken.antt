@@ -2,7 +2,7 @@
 use Rattle.std.proofs.Common.{◌≡◌, ℤ, ◌+ℤ◌, Bool, true, false, if◌then◌else◌, Option, Some, None, List, [], ◌∷◌, ◌++◌, refl, sym, ap, ◌∙◌, subst, append_assoc}
 use Rattle.std.specs.Int.{w128}
 use Rattle.std.proofs.Math.IntN.{+ℤ_comm}
-use Rattle.std.proofs.lemmas.Int.{int_wrap-add_left, ints}
+use Rattle.std.proofs.lemmas.Int.{int_wrap-add_left}
 use Rattle.std.proofs.lemmas.List.{append-nil}
 use Rattle.cw_facts.specs.Integers.{max_regroup}
 use Rattle.cw_model.specs.Syntax.{Name}

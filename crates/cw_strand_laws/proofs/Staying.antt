@@ -1,14 +1,14 @@
 -- The rest of a block stays in the function that it begins in.
-use Rattle.std.proofs.Common.{◌≡◌, ℕ, zero, suc, ◌-◌, Bool, true, false, ◌&&◌, if◌then◌else◌, Option, Some, None, List, [], ◌∷◌, refl, sym, ap, ◌∙◌, subst}
+use Rattle.std.proofs.Common.{◌≡◌, ℕ, zero, suc, ◌-◌, Bool, true, false, ◌&&◌, Some, List, [], ◌∷◌, refl, sym, ap, ◌∙◌, subst}
 use Rattle.std.specs.Prelude.{slice_get}
 use Rattle.cw_model.specs.Outcome.{Trace}
 use Rattle.cw_code.specs.declared.code.Func.{Func}
 use Rattle.cw_code.specs.Code.{Code}
 use Rattle.cw_code.specs.Fits.{Fits}
-use Rattle.cw_code.specs.Run.{Around, State, Transition, On, Ends, Stops, Stuck, act, step}
+use Rattle.cw_code.specs.Run.{Around, State, Transition, On, Ends, Stops, Stuck, step}
 use Rattle.cw_code.specs.Good.{GoodState, GoodTransition, FitSteps}
 use Rattle.cw_code.specs.Staying.{IsInside, outermost, FitStays}
-use Rattle.cw_strand_laws.specs.Jobs.{ToJoin, joins, is_first, has_come, Standing, standing, Came, Arrives, Returns, Falls, Beyond, Lost, moved, travel, Job, job_start, course, Effect, Joined, IsOf, JobMeaning, Same, Passed, Short}
+use Rattle.cw_strand_laws.specs.Jobs.{ToJoin, joins, is_first, has_come, Standing, standing, Came, Arrives, Returns, Falls, Beyond, Lost, moved, travel, Job, job_start, course, Joined, IsOf, JobMeaning, Same, Passed, Short}
 use Rattle.cw_strand_laws.specs.Over.{under, transition_under}
 use Rattle.cw_strand_laws.specs.lemmas.Under.{act_under}
 use Rattle.cw_strand_laws.specs.lemmas.Budgets.{come_at, none_left, go_one}

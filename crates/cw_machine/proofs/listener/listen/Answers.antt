@@ -5,7 +5,6 @@ use Rattle.cw_code.specs.Code.{code_view}
 use Rattle.cw_code.specs.Run.{first_state, code_serial}
 use Rattle.cw_machine.specs.declared.machine.Moved.TheVariants as moved
 use Rattle.cw_machine.specs.Arrays.{alone as from_main}
-use Rattle.cw_machine.specs.Runs.{is_asked}
 use Rattle.cw_machine.proofs.FromMain.{as_many_asked, main_of, asked_of, is_over, was_over, IsTrapped-prop, was_trapped, asked_as}
 use Rattle.cw_machine.proofs.Given.{passed, stopped}
 use Rattle.cw_machine.proofs.Keeping.{by_machine}

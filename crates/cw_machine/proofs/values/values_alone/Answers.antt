@@ -12,7 +12,7 @@ use Rattle.cw_machine.specs.declared.values.Values.{Values}
 use Rattle.cw_machine.specs.Arrays.{IsFit, alone as from_main}
 use Rattle.cw_machine.specs.Shows.{BeginsRun}
 use Rattle.cw_machine.specs.Steps.{Reaches, ReachesAny}
-use Rattle.cw_machine.specs.Runs.{is_asked, Gives, IsFailure}
+use Rattle.cw_machine.specs.Runs.{Gives, IsFailure}
 use Rattle.cw_machine.proofs.FromMain.{as_many_asked, Main, main_of, asked_of, is_over, was_over, IsTrapped-prop, was_trapped, asked_as}
 use Rattle.cw_machine.proofs.Given.{IsGiven-prop, is_given, gave, passed, stopped}
 use Rattle.cw_machine.proofs.values.values_alone.Goals as goal

@@ -2,7 +2,6 @@ use Rattle.std.proofs.Common.{Bool, refl, ◌≡◌, ◌∷◌, [], ◌++◌, �
 use Rattle.std.proofs.lemmas.Grind.{common_steps}
 use Rattle.cw_model.specs.Names.{is_among}
 use Rattle.cw_model.specs.Syntax as model
-use Rattle.cw_model.specs.Syntax.{Name}
 use Rattle.cw_model.specs.Typing.{globals, known_of}
 use Rattle.cw_tree.specs.SyntaxView.{param_of, program_of}
 use Rattle.cw_types.specs.Names.{param_names}

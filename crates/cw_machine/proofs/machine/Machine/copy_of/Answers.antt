@@ -1,4 +1,4 @@
-use Rattle.std.proofs.Common.{arith, ◌+◌, ◌<◌, true, false, length, sym, ap, ◌∙◌, ◌≡◌, subst}
+use Rattle.std.proofs.Common.{arith, ◌+◌, ◌<◌, length, sym, ap, ◌∙◌, ◌≡◌, subst}
 use Rattle.std.proofs.lemmas.Bool.{true≢false}
 use Rattle.cw_facts.specs.Tests.{equal}
 use Rattle.cw_slices.specs.Blocks.{Lodged}
