@@ -1,9 +1,9 @@
 -- From what a run of code answers to what its program means.
-use Rattle.std.proofs.Common.{◌≡◌, ◌≢◌, ℕ, ℤ, true, false, ◌&&◌, ◌<◌, ◌≤◌, List, [], ◌∷◌, ◌++◌, length, Some, Result, Ok, Err, IsErrAnd, flat_map, map, refl, sym, ap, ◌∙◌, subst, arith}
+use Rattle.std.proofs.Common.{◌≡◌, ◌≢◌, ℕ, ℤ, true, ◌&&◌, ◌<◌, ◌≤◌, List, [], ◌∷◌, ◌++◌, length, Some, Result, Ok, Err, IsErrAnd, flat_map, map, refl, sym, ap, ◌∙◌, subst, arith}
 use Rattle.std.specs.Prelude.{nat_eq, nat_le, codes, decimal, MatchResult}
 use Rattle.std.specs.Global.{Vec}
 use Rattle.std.specs.List.{list_all}
-use Rattle.std.proofs.lemmas.Bool.{and_parts}
+use Rattle.std.proofs.lemmas.Bool.{and_parts, false≢true}
 use Rattle.std.proofs.lemmas.Option.{same_Some}
 use Rattle.cw_facts.specs.Tests.{eq_of, le_of, equal, at_most, both_true}
 use Rattle.cw_model.specs.Ints.{fits}
@@ -63,9 +63,6 @@ coded_lines (r ∷ rs) (v ∷ vs) = ap (λ lines. reduction_word r.how ++ (r.nam
 abbrev result_of : {V : Type 0} → Result V Fault → Result (Unit {0}) Fault
 result_of (Ok e) = Ok tt
 result_of (Err f) = Err f
-
-false_true : false ≡ true → ⊥
-false_true e = cc
 
 not_over : (a : Answer) → analyses.HasEnded a → a ≡ OverLimit → ⊥
 not_over a has over = subst analyses.HasEnded over has
@@ -236,7 +233,7 @@ module _ (bytes : List ℕ) (args : List ℤ) (words : list_all fits args ≡ tr
   unrun_of : IsModeInRange options.mode → (f : Fault) → IsFailure code args options.limit options.burden f → IsUnrun f
   unrun_of of_mode fault.OverLimit h = let m = may_run_so of_mode h.0 in (m, answer_is m OverLimit h.1)
   unrun_of of_mode (fault.Trap trap line lines) h = let m = may_run_so of_mode h.0 in (m, answer_is m (TrappedAt trap line lines.items) h.1)
-  unrun_of of_mode fault.Arguments h = λ m. false_true (sym h ∙ must options.burden m.in_range.burden m)
+  unrun_of of_mode fault.Arguments h = λ m. false≢true (sym h ∙ must options.burden m.in_range.burden m)
   unrun_of of_mode fault.Memory h = tt
   unrun_of of_mode _ h = absurd h
 
@@ -344,7 +341,7 @@ module _ (bytes : List ℕ) (args : List ℤ) (words : list_all fits args ≡ tr
         let end = Ended h.ends.value h.ends.lines h.ends.totals h.tree in
         let many : HasTooManyStrands (mode.Greedy p) end = h.many in
         (m, subst (λ a. HasTooManyStrands options.mode a) (sym (answer_is m end h.ends.answer)) (subst (λ k. HasTooManyStrands k end) (sym is) many))
-    unscheduled fault.Arguments h = λ m. false_true (sym h ∙ must_ask m)
+    unscheduled fault.Arguments h = λ m. false≢true (sym h ∙ must_ask m)
     unscheduled fault.Memory h = tt
     unscheduled _ h = absurd h
 

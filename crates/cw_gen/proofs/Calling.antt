@@ -3,7 +3,7 @@ use Rattle.std.proofs.Common.{◌≡◌, ℕ, suc, ◌+◌, ◌<◌, ◌≤◌, 
 use Rattle.std.specs.Prelude.{slice_get, slice_set, replicate, take, drop, map, nat_le, nat_eq, option_map}
 use Rattle.std.proofs.lemmas.Slice.Eq.{bytes_eq-Decides}
 use Rattle.cw_facts.specs.Tests.{taken, both_true, at_most, equal}
-use Rattle.cw_model.specs.Names.{same_name, is_among, differ}
+use Rattle.cw_model.specs.Names.{is_among, differ}
 use Rattle.std.proofs.lemmas.List.{length-set, length-map, drop_all}
 use Rattle.cw_model.specs.declared.trap.Trap.TheVariants as trap
 use Rattle.cw_model.specs.declared.limits.TheConstants.{MOST_DEPTH}
@@ -15,6 +15,7 @@ use Rattle.cw_model.specs.Outcome.{Trapped, Trace}
 use Rattle.cw_model.specs.Meaning.{Returned, Completion, Normal, Calls, Deeper, going, Entry, depth_of}
 use Rattle.cw_model.specs.Ownership.{SpawnIn, ReaderIn, Taken, target_names, taken_by, frozen_by}
 use Rattle.cw_tree.specs.Resolved.{Lists, Locals, slot_of, locals_of}
+use Rattle.cw_loops.specs.lemmas.Naming.{among_right}
 use Rattle.cw_code.specs.declared.code.Func.{Func}
 use Rattle.cw_code.specs.Code.{Code}
 use Rattle.cw_code.specs.Run as run
@@ -181,16 +182,8 @@ module _ (code : Code) (fs : List Function) (lists : Lists) where
         record {
           agrees = agree_await locals.arrays taken' (frozen_by level read (taken_by level all taken')) xs vs entries store.arrays store.arrived (array_waits outer) us apart n
               (λ d y h. past level read true d y (map (λ z. (z, SpawnIn level)) all) taken' h)
-              (λ y h. ap (λ m. holds true m y (frozen_by level read (taken_by level all taken'))) depth ∙ holds_behind true level y (map (λ z. (z, ReaderIn level)) read) (taken_by level all taken') (held_by_spawn true level y all taken' (among_behind y (target_names target) xs h))) a;
+              (λ y h. ap (λ m. holds true m y (frozen_by level read (taken_by level all taken'))) depth ∙ holds_behind true level y (map (λ z. (z, ReaderIn level)) read) (taken_by level all taken') (held_by_spawn true level y all taken' (among_right y (target_names target) xs h))) a;
         }
-      where
-        among_behind : (y : Name) (before xs : List Name) → is_among y xs ≡ true → is_among y (before ++ xs) ≡ true
-        among_behind y [] xs h = h
-        among_behind y (z ∷ before) xs h = test (among_behind y before xs h) (same_name y z)
-          where
-            test : is_among y (before ++ xs) ≡ true → (b : Bool) → (if b then true else is_among y (before ++ xs)) ≡ true
-            test more true = refl
-            test more false = more
 
     -- a spawned call finds the name of its result
     pub can_take : (locals : Locals) (taken' : Taken) (f : Function) (kind : CallKind) (target : Option Name) (store : Store) (outer : Outside) (frame : Frame) →

@@ -19,6 +19,7 @@ use Rattle.cw_model.specs.Ownership.{SpawnIn, ReaderIn, Taken, taken_by, frozen_
 use Rattle.cw_model.specs.Ownership as ownership
 use Rattle.cw_tree.specs.Resolved.{Locals, slot_of, locals_of}
 use Rattle.cw_tree.specs.lemmas.Names.{front_among, later_among}
+use Rattle.cw_loops.specs.lemmas.Naming.{among_right}
 use Rattle.cw_code.specs.declared.code.Callee.{Callee}
 use Rattle.cw_code.specs.declared.code.Instr.TheVariants as instr
 use Rattle.cw_code.specs.declared.code.Loan.{Loan}
@@ -343,11 +344,7 @@ module _ (setting : Setting) where
           Covers (array_row (size setting) (depth_in opened) locals.arrays (held_after setting.fs (depth_in opened) (Call kind site target name es) taken)) (with_passed kind (numbers_at setting.marks (slots_for locals.arrays (ownership.given setting.fs name es))) (array_row (size setting) (depth_in opened) locals.arrays taken))
       arrays_covered Plain target us = covers_itself (array_row (size setting) (depth_in opened) locals.arrays taken)
       arrays_covered Spawned target us =
-          spawn_covers opened locals taken room cuts (names target) (ownership.given setting.fs name es) reads us (λ y h. among_behind y (target_names target) (ownership.given setting.fs name es) h)
-        where
-          among_behind : (y : Name) (before xs : List Name) → is_among y xs ≡ true → is_among y (before ++ xs) ≡ true
-          among_behind y [] xs h = h
-          among_behind y (z ∷ before) xs h = later_among y z (before ++ xs) (among_behind y before xs h)
+          spawn_covers opened locals taken room cuts (names target) (ownership.given setting.fs name es) reads us (λ y h. among_right y (target_names target) (ownership.given setting.fs name es) h)
 
       frozen_covered : (kind : CallKind) (target : Option Name) → AllUsable locals.arrays taken reads →
           Covers (array_row (size setting) (depth_in opened) locals.arrays (frozen_of (held_after setting.fs (depth_in opened) (Call kind site target name es) taken))) (with_lent kind (map (place_of setting.marks) (slots_for locals.arrays reads)) (array_row (size setting) (depth_in opened) locals.arrays (frozen_of taken)))

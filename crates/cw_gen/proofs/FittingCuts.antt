@@ -10,6 +10,7 @@ use Rattle.cw_model.specs.Ownership.{Holder, ReaderIn, CutOf, cut_ended, Taken, 
 use Rattle.std.proofs.lemmas.Bool.{eqb-true}
 use Rattle.cw_tree.specs.Resolved.{Locals, slot_of, with_array}
 use Rattle.cw_tree.specs.lemmas.NamedSlots.{slot_stays, slot_in}
+use Rattle.cw_tree.specs.lemmas.Names.{later_among}
 use Rattle.std.proofs.lemmas.Slice.Eq.{bytes_eq-Decides}
 use Rattle.cw_code.specs.declared.code.Instr.TheVariants as instr
 use Rattle.cw_code.specs.Fits.{names_halves, gone_rows, frozen_rows, none_frozen, is_thawed, is_full_in, full_in_all, has_array, has_arrays, is_no_part, are_no_parts, is_ready, leaves, Covers, CoversEach, FlowsInto}
@@ -85,7 +86,7 @@ module _ (setting : Setting) where
       (append_assoc (locals.arrays ++ l ∷ []) (r ∷ []) ext.arrays ∙ append_assoc locals.arrays (l ∷ []) (r ∷ ext.arrays)) in
       let last = locals_after_all inner b in
       let last_is : last ≡ known = ext.same ∙ same in
-      let c = outer_covers setting opened locals ext.ints (l ∷ r ∷ ext.arrays) own after_it left level refl free (λ x k. further x l (r ∷ own_names b) (further x r (own_names b) (ext.own x k))) (parts_own ext.arrays ext.own_arrays)
+      let c = outer_covers setting opened locals ext.ints (l ∷ r ∷ ext.arrays) own after_it left level refl free (λ x k. later_among x l (r ∷ own_names b) (later_among x r (own_names b) (ext.own x k))) (parts_own ext.arrays ext.own_arrays)
       (λ d x apart q m. spawn_past_cut d a x (freed level (without own after_it)) (held_outside level own after_it d x apart q m))
       (λ d x apart q m. ap (holds false d x) (frozen_past_cut a (freed level (without own after_it))) ∙ frozen_outside level own after_it d x apart q m) in
       let before = array_row (size setting) (depth_in opened) locals.arrays left in
@@ -110,7 +111,7 @@ module _ (setting : Setting) where
       let r_in : is_among r all ≡ true = ap (is_among r) (sym (append_assoc locals.arrays (l ∷ []) (r ∷ ext.arrays))) ∙ among_first r (locals.arrays ++ l ∷ []) ext.arrays in
       let here : (x : Name) (ns : List Name) → is_among x (x ∷ ns) ≡ true = λ x ns. ap (λ q. if q then true else is_among x ns) ((bytes_eq-Decides x x).1 refl) in
       let l_own = here l (r ∷ own_names b) in
-      let r_own = further r l (r ∷ own_names b) (here r (own_names b)) in
+      let r_own = later_among r l (r ∷ own_names b) (here r (own_names b)) in
       let rows = gone_rows (outers (size setting) inside known after_it) in
       let cold = frozen_rows (outers (size setting) inside known after_it) in
       let ready : is_ready setting.code (shape_at (size setting) inside known after_it 0) instr.EndCut ≡ true =
@@ -127,13 +128,6 @@ module _ (setting : Setting) where
         subst (λ ls. is_thawed setting.code (shape_at (size setting) inside ls after_it 0) instr.EndCut ≡ true) (sym last_is) thawed,
       )
     where
-      further : (x y : Name) (ns : List Name) → is_among x ns ≡ true → is_among x (y ∷ ns) ≡ true
-      further x y ns k = test (same_name x y)
-        where
-          test : (q : Bool) → (if q then true else is_among x ns) ≡ true
-          test true = refl
-          test false = k
-
       parts_own : (arrays : List Name) → ((x : Name) → is_among x arrays ≡ true → is_among x (own_names b) ≡ true) → (x : Name) → is_among x (l ∷ r ∷ arrays) ≡ true → is_among x (l ∷ r ∷ own_names b) ≡ true
       parts_own arrays more x k = test (same_name x l) (same_name x r) k
         where

@@ -17,7 +17,8 @@ use Rattle.cw_code.specs.declared.code.Func.{Func}
 use Rattle.cw_code.specs.declared.code.Instr.TheVariants as instr
 use Rattle.cw_code.specs.Code.{Code}
 use Rattle.cw_code.specs.Run as run
-use Rattle.cw_code.specs.Run.{Readers, Transition, lent_by, moved_out, full, Around, State, On, Stops, RunOutcome, ticked, inside, arrays_in, Whole, slot_taken, begins, call_of, on_arrays, arguments_of, enter, recur, passed_by, given_back, rejoined, go_on, steps}
+use Rattle.cw_code.specs.Run.{Readers, Transition, lent_by, moved_out, full, Around, State, On, Stops, RunOutcome, ticked, inside, arrays_in, Whole, begins, call_of, on_arrays, arguments_of, enter, recur, passed_by, given_back, rejoined, go_on, steps}
+use Rattle.cw_code.specs.lemmas.Slots.{whole_slots}
 use Rattle.cw_gen.specs.Emit.{half_list, callee_of, half_of}
 use Rattle.cw_gen.specs.Marks.{Marks, place_of}
 use Rattle.cw_gen.proofs.Marked.{owned, lent, is_read, read_in, numbers_at, in_owned, wholes_told, owned_full}
@@ -71,10 +72,6 @@ module _ (code : Code) (fs : List Function) (lists : Lists) (marks : Marks) wher
             (λ q h'. find_owned [] ms q g.arrays (ap (is_read ms) (ap (slot_of q) gives.named ∙ slot_stays q (locals_of f.params).arrays gives.more (among_arrays q f.params h')) ∙ taken_own f.params q compiled.apart h'));
         back = λ g. returned_are marks locals taken' f.params es g frame args_fine;
       }
-    where
-      whole_slots : (passed : List ℕ) → map slot_taken (map (λ a. Whole a) passed) ≡ passed
-      whole_slots [] = refl
-      whole_slots (a ∷ passed) = ap (λ l. a ∷ l) (whole_slots passed)
 
   module _ (depth bound : ℕ) (calls : Calls) (run_calls : CallsRun code fs lists bound depth calls) where
     abbrev at : List Around → ℕ → List ℤ → Store → Trace → State

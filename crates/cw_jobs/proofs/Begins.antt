@@ -1,10 +1,10 @@
 -- The job of a whole run begins well.
-use Rattle.std.proofs.Common.{◌≡◌, ◌⊎◌, inl, inr, ⊎_elim, ℕ, zero, suc, ◌+◌, ◌-◌, ◌<◌, ◌≤◌, ℤ, pos, true, Option, Some, None, List, [], ◌∷◌, ◌++◌, length, refl, sym, ap, ◌∙◌, subst, arith}
+use Rattle.std.proofs.Common.{◌≡◌, inl, ⊎_elim, ℕ, zero, suc, ◌+◌, ◌-◌, ◌<◌, ◌≤◌, ℤ, pos, true, Option, Some, None, List, [], ◌∷◌, ◌++◌, length, refl, sym, ap, ◌∙◌, subst, arith}
 use Rattle.std.specs.Prelude.{replicate, slice_get}
 use Rattle.std.proofs.lemmas.List.{length-map, length-replicate}
 use Rattle.std.proofs.lemmas.Option.{slice_get_within, same_Some}
 use Rattle.std.proofs.lemmas.Bool.Decides.{nat_tests}
-use Rattle.std.proofs.lemmas.Bool.{false≢true}
+use Rattle.std.proofs.lemmas.Bool.{false≢true, cases_lt}
 use Rattle.cw_model.specs.declared.burden.Burden.{Burden}
 use Rattle.cw_model.specs.declared.limits.TheConstants.{MOST_LIMIT, MOST_BURDEN}
 use Rattle.cw_code.specs.declared.code.Func.{Func}
@@ -97,13 +97,8 @@ module _ (v : Verified) (f : Func) (args : List ℤ) (r : Rest) (ok : Ok v) (fou
   nowhere_own (p ∷ slices) zero le = absurd (omega (arith, le))
   nowhere_own (p ∷ slices) (suc a) le = nowhere_own slices a (omega (arith, le))
 
-  less_or : (a n : ℕ) → (a < n) ⊎ (n ≤ a)
-  less_or a zero = inr (omega arith)
-  less_or zero (suc n) = inl (omega arith)
-  less_or (suc a) (suc n) = ⊎_elim (λ lt. inl (omega (arith, lt))) (λ le. inr (omega (arith, le))) (less_or a n)
-
   all_own : (a : ℕ) → IsOwn (placed r.slices.items a)
-  all_own a = ⊎_elim (λ lt. (first.empty a lt).1) (λ le. nowhere_own r.slices.items a (let many = first.as_many in omega (arith, le, many))) (less_or a f.arrays)
+  all_own a = ⊎_elim (λ lt. (first.empty a lt).1) (λ le. nowhere_own r.slices.items a (let many = first.as_many in omega (arith, le, many))) (cases_lt a f.arrays)
 
   reads : HasReaders r.slices.items []
   reads k xs e = cc

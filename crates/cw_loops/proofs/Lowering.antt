@@ -20,7 +20,7 @@ use Rattle.cw_tree.specs.lemmas.NamedSlots.{turned}
 use Rattle.cw_loops.specs.Lowered.{is_plain, low, high}
 use Rattle.cw_loops.specs.Lowerable.{Surroundings, can_write, can_read, is_local, is_variable, can_evaluate, can_pass, can_pass_all, can_target, new_integers, new_arrays, can_capture, can_slice, can_loop, inside, can_lower, can_lower_all}
 use Rattle.cw_loops.specs.SourceLike.{is_source_expr, is_source_stmt, is_source_block, is_source_target}
-use Rattle.cw_loops.specs.lemmas.Tests.{never, refuted}
+use Rattle.cw_loops.specs.lemmas.Tests.{never, refuted, either_left}
 use Rattle.cw_loops.specs.lemmas.Naming.{Placed, at_front, after_it, placed, Side, in_first, in_second, side, each_of, among_left, among_right, neither_among, new_are_there, new_are_all, new_differ, pushed, passed}
 use Rattle.cw_loops.specs.lemmas.Knowing.{Unknown, new_unknown, Adds, an_int, an_array, nothing, adds, known_more}
 use Rattle.cw_loops.specs.lemmas.Declaring.{HeadKept, head_kept, CutKept, cut_kept, block_new}
@@ -299,20 +299,17 @@ module _ (program : Program) (fs : List Function) (fs_is : program.functions ≡
       body_well : AllReadWell (inside c ints arrays x (captured x b) over) (read_in_block b)
       body_well v o = go (is_among v (x ∷ declared_in_block b)) refl
         where
-          kept_by : (s t : Bool) → s ≡ true → (s || t) ≡ true
-          kept_by s t h = ap (λ w. w || t) h
-
           kept_out : (s t : Bool) → t ≡ false → (s || not t) ≡ true
           kept_out true t h = refl
           kept_out false t h = ap not h
 
           by : Placed v x (declared_in_block b) → reads_well (inside c ints arrays x (captured x b) over) v ≡ true
-          by (at_front same) = kept_by (is_among v (captured x b ++ x ∷ [])) _ (among_right v (captured x b) (x ∷ []) (ap (λ w. is_among w (x ∷ [])) same ∙ front_among x []))
+          by (at_front same) = either_left (is_among v (captured x b ++ x ∷ [])) _ (among_right v (captured x b) (x ∷ []) (ap (λ w. is_among w (x ∷ [])) same ∙ front_among x []))
           by (after_it other p) = kept_out (is_among v (captured x b ++ x ∷ [])) _ (own v p)
 
           go : (r : Bool) → is_among v (x ∷ declared_in_block b) ≡ r → reads_well (inside c ints arrays x (captured x b) over) v ≡ true
           go true p = by (placed v x (declared_in_block b) p)
-          go false p = kept_by (is_among v (captured x b ++ x ∷ [])) _ (among_left v (captured x b) (x ∷ []) (new_are_all v (read_in_block b) (x ∷ declared_in_block b) o p))
+          go false p = either_left (is_among v (captured x b ++ x ∷ [])) _ (among_left v (captured x b) (x ∷ []) (new_are_all v (read_in_block b) (x ∷ declared_in_block b) o p))
 
   cut_can : (a : Name) (e : Expr) (l r : Name) (b : Block) → BlockCan b → StmtCan (Cut a e l r b)
   cut_can a e l r b more c ints arrays known owners around returns here agree depth line taken source types owns well =

@@ -1,6 +1,6 @@
 -- What a spawn lends, its caller has, and keeps up to a join.
 use Rattle.std.proofs.Common.{◌≡◌, ℕ, zero, suc, ◌+◌, ℤ, Bool, true, false, nat_lt, if◌then◌else◌, Option, Some, None, List, [], ◌∷◌, refl, sym, ap, ◌∙◌, subst, arith, inl}
-use Rattle.std.specs.Prelude.{nat_eq, map, slice_get, slice_set}
+use Rattle.std.specs.Prelude.{nat_eq, slice_get, slice_set}
 use Rattle.std.proofs.lemmas.List.{length-map}
 use Rattle.std.proofs.lemmas.Option.{same_Some}
 use Rattle.cw_facts.specs.Tests.{eq_of}
@@ -16,10 +16,11 @@ use Rattle.cw_code.specs.declared.code.Loan.TheVariants.{Array, Reader}
 use Rattle.cw_code.specs.declared.code.Instr.{Instr}
 use Rattle.cw_code.specs.declared.code.Instr.TheVariants.{Call}
 use Rattle.cw_code.specs.Code.{code_view}
-use Rattle.cw_code.specs.Run.{Slots, Readers, Taken, Whole, slot_taken, Waiting, Around, Caller, State, On, Stops, Stuck, is_full, and_array, reader, lent_in, moved_out, arrays_in, on_arrays, may_begin, begun, begins, call_of, enter, passed_by, lent_by, act, step}
+use Rattle.cw_code.specs.Run.{Slots, Readers, Taken, Waiting, Around, Caller, State, On, Stops, Stuck, is_full, and_array, reader, lent_in, moved_out, arrays_in, on_arrays, may_begin, begun, begins, call_of, enter, passed_by, lent_by, act, step}
 use Rattle.cw_code.specs.Fits.{Row, Outer, is_full_in, slots_lent, with_gone, leaves, nexts, FlowsIntoEach}
 use Rattle.cw_code.specs.Good.{Seat, GoodState}
-use Rattle.cw_code.specs.lemmas.Slots.{covers_true, set_frozen}
+use Rattle.cw_code.specs.lemmas.Slots.{covers_true, set_frozen, whole_slots}
+use Rattle.cw_code.specs.lemmas.Runs.{same_state}
 use Rattle.cw_strand_laws.specs.Strands.{Goes, HandsOut, turn_of}
 use Rattle.cw_jobs.specs.Jobs.{IsFrozenBy}
 use Rattle.cw_runnable.specs.declared.verified.Verified.{Verified}
@@ -67,25 +68,18 @@ pub record Began (s s' : State) (passed : List ℕ) (loans : List Loan) : Type 0
   pub waits : (w : Waiting) (around : List Around) → s'.around ≡ Caller w ∷ around → (w.place ≡ s.place + 1) × (w.arrays ≡ moved_out passed s.arrays)
 
 module _ (s s' : State) (kind : CallKind) (c : Callee) (passed : List ℕ) (loans : List Loan) where
-  slots_back : (passed : List ℕ) → map slot_taken (map (λ a. Whole a) passed) ≡ passed
-  slots_back [] = refl
-  slots_back (a ∷ passed) = ap (λ l. a ∷ l) (slots_back passed)
-
   first_around : (w w' : Waiting) (around around' : List Around) → Caller w ∷ around ≡ Caller w' ∷ around' → w ≡ w'
   first_around w w' around around' e = cc
-
-  on_same : (x y : State) → On x ≡ On y → x ≡ y
-  on_same x y e = cc
 
   begun_it : (f : Func) (given : List (List ℤ)) (lent : Readers) → lent_in loans (moved_out passed s.arrays) s.readers ≡ Some lent → (t : Bool) → (if t then On (begun s (call_of s kind c passed f given lent)) else Stuck) ≡ On s' → Began s s' passed loans
   begun_it f given lent there true e = record {
     lent = lent;
     there = there;
     waits = λ w around is.
-        let same : begun s (call_of s kind c passed f given lent) ≡ s' = on_same (begun s (call_of s kind c passed f given lent)) s' e in
+        let same : begun s (call_of s kind c passed f given lent) ≡ s' = same_state (begun s (call_of s kind c passed f given lent)) s' e in
         let caller = first_around _ w s.around around (ap (λ (x : State). x.around) same ∙ is) in (
           sym (ap (λ (x : Waiting). x.place) caller),
-          sym (ap (λ (x : Waiting). x.arrays) caller) ∙ ap (λ l. moved_out l s.arrays) (slots_back passed),
+          sym (ap (λ (x : Waiting). x.arrays) caller) ∙ ap (λ l. moved_out l s.arrays) (whole_slots passed),
         );
   }
   begun_it f given lent there false e = cc

@@ -5,13 +5,15 @@ use Rattle.std.proofs.lemmas.List.{length-set, length-map, length-replicate, get
 use Rattle.std.proofs.lemmas.Option.{slice_get_within, same_Some}
 use Rattle.cw_slices.specs.Placed.{Spot}
 use Rattle.cw_slices.specs.Blocks.{Lodged, ins, IsWhole}
+use Rattle.cw_slices.specs.lemmas.Patches.{never_out}
 use Rattle.cw_machine.specs.declared.machine.View.{View}
 use Rattle.cw_machine.specs.Arrays.{Out, view, no_block, block, IsBare, found, put, kept_of, Memory, Has, shares_at, AreAway, Floored, IsOut, LiesUnder}
 use Rattle.cw_machine.proofs.Blocks.{found_is, is_found}
-use Rattle.cw_machine.proofs.Places.{same_or}
+use Rattle.cw_machine.proofs.Places.{same_or, less_or}
 use Rattle.cw_machine.proofs.Shares.{all_shares_as, none_high}
 use Rattle.cw_machine.proofs.Still.{OutsSeen, seen_below, outs_on, outs_back, kept_put, block_take, block_past}
 use Rattle.cw_machine.proofs.Writes.{cell_put_other, cell_put_same}
+use Rattle.cw_machine.proofs.Returns.{view_take}
 
 never : (x : Option ℤ) → None ≡ Some x → ⊥
 never x e = cc
@@ -177,10 +179,7 @@ under_more outs views real blocks more none u =
 
 -- of rights that are all alike each is
 pub replicated : (n d k x : ℕ) → slice_get (replicate n d) k ≡ Some x → x ≡ d
-replicated zero d k x e = absurd (none_right x e)
-  where
-    none_right : (x : ℕ) → None ≡ Some x → ⊥
-    none_right x e = cc
+replicated zero d k x e = cc
 replicated (suc n) d zero x e = sym (same_Some d x e)
 replicated (suc n) d (suc k) x e = replicated n d k x e
 
@@ -192,7 +191,7 @@ under_set m views' real first round outs c w xs all whole le floors away same u 
   as_long = λ b. both (λ v v'. length v.cells ≡ length v'.cells) real m.blocks c b u.as_many (λ d. u.as_long d) refl;
   same = λ b k x. both (λ v v'. slice_get v.cells k ≡ Some (Some x) → slice_get v'.cells k ≡ Some (Some x)) real m.blocks c b u.as_many (λ d. u.same d k x) (λ e. e);
   missing = λ b k is. ⊎_elim
-      (λ e. ⊎_elim (λ lt. absurd (all_in xs k (sym (ap (λ l. slice_get l k) all) ∙ sym (ap (λ (v : Lodged). slice_get v.cells k) (get_or-set_same real c w no_block lt)) ∙ sym (ap (λ i. slice_get (block (slice_set real c w) i).cells k) e) ∙ is))) (λ ge. absurd (past (slice_set real c w) b k (let n = length-set real c w in omega (arith, n, ge, e)) is)) (lt_or c (length real)))
+      (λ e. ⊎_elim (λ lt. absurd (never_out xs k (sym (ap (λ l. slice_get l k) all) ∙ sym (ap (λ (v : Lodged). slice_get v.cells k) (get_or-set_same real c w no_block lt)) ∙ sym (ap (λ i. slice_get (block (slice_set real c w) i).cells k) e) ∙ is))) (λ ge. absurd (past (slice_set real c w) b k (let n = length-set real c w in omega (arith, n, ge, e)) is)) (less_or c (length real)))
       (λ n. u.missing b k (sym (ap (λ (v : Lodged). slice_get v.cells k) (get_or-set_other real c b w no_block n)) ∙ is))
       (same_or b c);
   gone = λ b k o. ap (λ (v : Lodged). slice_get v.cells k) (get_or-set_other real c b w no_block (λ e. (let lt = out_low m first round outs b k floors away o in omega (arith, lt, le, e)))) ∙ u.gone b k o;
@@ -227,38 +226,13 @@ under_set m views' real first round outs c w xs all whole le floors away same u 
     both P (v ∷ real) (v' ∷ blocks) (suc c) zero n h same = h 0
     both P (v ∷ real) (v' ∷ blocks) (suc c) (suc b) n h same = both P real blocks c b (omega (arith, n)) (λ d. h (suc d)) same
 
-    all_in : (xs : List ℤ) (k : ℕ) → slice_get (ins xs) k ≡ Some None → ⊥
-    all_in [] k e = cc
-    all_in (x ∷ xs) zero e = cc
-    all_in (x ∷ xs) (suc k) e = all_in xs k e
-
     past : (bs : List Lodged) (b k : ℕ) → length bs ≤ b → slice_get (block bs b).cells k ≡ Some None → ⊥
     past [] b k le e = cc
     past (v ∷ bs) zero k le e = absurd (omega (arith, le))
     past (v ∷ bs) (suc b) k le e = past bs b k (omega (arith, le)) e
 
-    lt_or : (a b : ℕ) → (a < b) ⊎ (b ≤ a)
-    lt_or zero zero = inr (omega arith)
-    lt_or zero (suc b) = inl (omega arith)
-    lt_or (suc a) zero = inr (omega arith)
-    lt_or (suc a) (suc b) = ⊎_elim (λ e. inl (omega (arith, e))) (λ e. inr (omega (arith, e))) (lt_or a b)
-
--- fewer views
-view_kept : (views : List View) (n c : ℕ) → c < n → view (take n views) c ≡ view views c
-view_kept [] zero c lt = refl
-view_kept [] (suc n) c lt = refl
-view_kept (w ∷ views) zero c lt = absurd (omega (arith, lt))
-view_kept (w ∷ views) (suc n) zero lt = refl
-view_kept (w ∷ views) (suc n) (suc c) lt = view_kept views n c (omega (arith, lt))
-
-either : (a b : ℕ) → (a < b) ⊎ (b ≤ a)
-either zero zero = inr (omega arith)
-either zero (suc b) = inl (omega arith)
-either (suc a) zero = inr (omega arith)
-either (suc a) (suc b) = ⊎_elim (λ e. inl (omega (arith, e))) (λ e. inr (omega (arith, e))) (either a b)
-
 pub under_take : (m : Memory) (real : List Lodged) (first round : ℕ) (outs : List Out) → Floored outs first → AreAway m first round outs → LiesUnder outs m.views real m.blocks → LiesUnder outs (take first m.views) (take first real) (take first m.blocks)
-under_take m real first round outs floors away u = under_views m (take first m.views) (take first real) (take first m.blocks) first round outs floors away (λ c lt. view_kept m.views first c lt) (record {
+under_take m real first round outs floors away u = under_views m (take first m.views) (take first real) (take first m.blocks) first round outs floors away (λ c lt. view_take m.views first c lt) (record {
   as_many = many real m.blocks first u.as_many;
   spots = λ b. both (λ v v'. v.spot ≡ v'.spot) b (u.spots b) refl;
   as_long = λ b. both (λ v v'. length v.cells ≡ length v'.cells) b (u.as_long b) refl;
@@ -266,16 +240,16 @@ under_take m real first round outs floors away u = under_views m (take first m.v
   missing = λ b k is. ⊎_elim
       (λ lt. u.missing b k (sym (ap (λ (v : Lodged). slice_get v.cells k) (block_take real first b lt)) ∙ is))
       (λ le. absurd (nowhere k (sym (ap (λ (v : Lodged). slice_get v.cells k) (block_past real first b le)) ∙ is)))
-      (either b first);
+      (less_or b first);
   gone = λ b k o. ap (λ (v : Lodged). slice_get v.cells k) (block_take real first b (out_low m first round outs b k floors away o)) ∙ u.gone b k o;
   righted = λ b. ⊎_elim
       (λ lt. let v = block_take real first b lt in ap (λ (v : Lodged). length v.rights) v ∙ u.righted b ∙ sym (ap (λ (v : Lodged). length v.cells) v))
       (λ le. let v = block_past real first b le in ap (λ (v : Lodged). length v.rights) v ∙ sym (ap (λ (v : Lodged). length v.cells) v))
-      (either b first);
+      (less_or b first);
   rights = λ b k d is. ⊎_elim
       (λ lt. let v = block_take real first b lt in u.rights b k d (sym (ap (λ (v : Lodged). slice_get v.rights k) v) ∙ is) ∙ ap (λ (v : Lodged). v.spot.halved + shares_at m.views outs b k) (sym v))
       (λ le. absurd (no_right k d (sym (ap (λ (v : Lodged). slice_get v.rights k) (block_past real first b le)) ∙ is)))
-      (either b first);
+      (less_or b first);
 })
   where
     nowhere : (k : ℕ) → slice_get no_block.cells k ≡ Some None → ⊥
@@ -295,4 +269,4 @@ under_take m real first round outs floors away u = under_views m (take first m.v
     both P b h none = ⊎_elim
         (λ lt. subst (λ v. P v (block (take first m.blocks) b)) (sym (block_take real first b lt)) (subst (P (block real b)) (sym (block_take m.blocks first b lt)) h))
         (λ le. subst (λ v. P v (block (take first m.blocks) b)) (sym (block_past real first b le)) (subst (P no_block) (sym (block_past m.blocks first b le)) none))
-        (either b first)
+        (less_or b first)

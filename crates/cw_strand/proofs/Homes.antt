@@ -2,6 +2,7 @@
 use Rattle.std.proofs.Common.{◌≡◌, suc, ◌+◌, ◌≤◌, true, false, Option, Some, List, [], ◌∷◌, refl, sym, ap, ◌∙◌, subst}
 use Rattle.std.specs.Prelude.{reverse, slice_get}
 use Rattle.std.proofs.Math.Logic.{∥∥₁_elim, ∥∥₁_map}
+use Rattle.std.proofs.lemmas.Bool.{true≢false}
 use Rattle.cw_code.specs.Fits.{slots_lent}
 use Rattle.cw_code.specs.Run.{State}
 use Rattle.cw_slices.specs.Placed.{Placed}
@@ -185,11 +186,8 @@ module _ (self : Strand) (job : Job) (others : List Job) (newest : Newest self j
                   (held_on is j d.ground self.mode d.strand new home.count home.lines stopped stands d.held);
             }
 
-            differ : true ≡ false → ⊥
-            differ e = cc
-
             at : (b : _) → is_lost self.mode ≡ b → ∥ Holds (record self { run = new.run; lent = new.lent; count = new.count; spares = new.spares; mode = new.mode }) is j ∥₁
-            at true e = ∣ held (λ k. absurd (differ (sym e ∙ k))) ∣₁
+            at true e = ∣ held (λ k. absurd (true≢false (sym e ∙ k))) ∣₁
             at false e =
                 let h = stands_in is j d.ground self.mode d.strand stopped e d.held in
                 ∥∥₁_map (homes is j d.ground h) (λ k. held (λ q. stands_on is j d.ground h back replaced k new new.run.machine left (home.home newest.lent newest.rest newest.are e)))

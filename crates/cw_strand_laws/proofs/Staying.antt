@@ -1,5 +1,6 @@
 -- The rest of a block stays in the function that it begins in.
 use Rattle.std.proofs.Common.{◌≡◌, ℕ, zero, suc, ◌-◌, Bool, true, false, ◌&&◌, Some, List, [], ◌∷◌, refl, sym, ap, ◌∙◌, subst}
+use Rattle.std.proofs.lemmas.Bool.{false≢true}
 use Rattle.std.specs.Prelude.{slice_get}
 use Rattle.cw_model.specs.Outcome.{Trace}
 use Rattle.cw_code.specs.declared.code.Func.{Func}
@@ -32,10 +33,7 @@ module _ (code : Code) (fits : Fits code) (steps_well : FitSteps code fits) (sta
     where
       cases : (around : List Around) → s.around ≡ around → IsInside f (outermost s.place b.around)
       cases [] e = subst (λ a. IsInside f (outermost s.place (under b (record s { around = a })).around)) e here.1
-      cases (a ∷ around) e = absurd (never (sym (ap (λ x. is_first x && joins (slice_get code.instrs s.place)) e) ∙ h))
-        where
-          never : false ≡ true → ⊥
-          never x = cc
+      cases (a ∷ around) e = absurd (false≢true (sym (ap (λ x. is_first x && joins (slice_get code.instrs s.place)) e) ∙ h))
 
   goes : (s : State) (w : Transition) → step code s ≡ w → (is_first s.around && joins (slice_get code.instrs s.place)) ≡ false → Here s → (n : ℕ) → ((s' : State) → Here s' → Comes (travel ToJoin code n s')) → Comes (moved w n (λ s'. travel ToJoin code n s'))
   goes s (On s') e h here n more =

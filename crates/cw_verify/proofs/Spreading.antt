@@ -11,11 +11,12 @@ use Rattle.cw_code.specs.declared.code.Func.{Func}
 use Rattle.cw_code.specs.declared.code.Instr.{Instr}
 use Rattle.cw_code.specs.Code.{Code}
 use Rattle.cw_code.specs.Fits.{Shape, Table, FlowsInto, FlowsIntoEach, IsTable, first_shape, leaves, nexts, names_well}
+use Rattle.cw_code.specs.lemmas.Slots.{each_covers_itself}
 use Rattle.cw_verify.specs.declared.found.Found.{Found}
 use Rattle.cw_verify.specs.declared.numbers.Numbers.{Numbers}
 use Rattle.cw_verify.specs.declared.search.Search.{Search}
 use Rattle.cw_verify.specs.Table.{Shapes, shape_view, shapes_of, may_act, joined, come_at, come, visited, unmarked_at, unmarked_in, unreached, IsIn, IsNoted, Notes, left_to_do, Spread, Tells, table_of, IsDone, IsSearch, Fails, AllNamed, blocks_of}
-use Rattle.cw_verify.proofs.Tables.{may_ready, may_thawed, each_refl, leads_at, Visited, visits, visit_done, leads_grown, done_grown, held}
+use Rattle.cw_verify.proofs.Tables.{may_ready, may_thawed, leads_at, Visited, visits, visit_done, leads_grown, done_grown, held}
 
 -- places as shapes
 pub shapes_length : (items : List (Option Found)) → length (shapes_of items) ≡ length items
@@ -217,7 +218,7 @@ nothing (suc n) (suc k) s e = nothing n k s e
 pub begins : (code : Code) (f : Func) (shapes : Shapes) (work : List ℕ) → f.start < f.end → shapes ≡ Some (first_shape f) ∷ replicate (f.end - f.start - 1) None → IsNoted 0 [] work → IsSearch code f shapes work
 begins code f shapes work order e w = subst (λ l. IsSearch code f l work) (sym e) (record {
   whole = omega (arith, order, length-replicate {A = Option Shape} (f.end - f.start - 1) None);
-  starts = subst (λ p. FlowsInto (table_of f.start first) p (first_shape f)) zero_more (leads_at f.start first 0 (first_shape f) (first_shape f) refl refl (each_refl (blocks_of (first_shape f))));
+  starts = subst (λ p. FlowsInto (table_of f.start first) p (first_shape f)) zero_more (leads_at f.start first 0 (first_shape f) (first_shape f) refl refl (each_covers_itself (blocks_of (first_shape f))));
   below = λ t table k s q. below t table k s q;
   small = λ k q. at_most_one k q;
   done = λ k lt. done k;

@@ -5,7 +5,7 @@ use Rattle.std.proofs.lemmas.List.{length-set}
 use Rattle.std.proofs.lemmas.Option.{slice_get_within, same_Some}
 use Rattle.std.proofs.lemmas.Bool.{cases_eq}
 use Rattle.cw_facts.specs.Lists.{missing, get_set, set_other}
-use Rattle.cw_facts.specs.Tests.{taken, not_taken, both_true, first_true, second_true, first_false, second_false, at_most, equal, eq_of, le_of}
+use Rattle.cw_facts.specs.Tests.{taken, not_taken, both_true, first_true, second_true, first_false, second_false, at_most, equal, eq_of, le_of, neither_first, neither_second}
 use Rattle.cw_model.specs.declared.syntax.CallKind.{CallKind}
 use Rattle.cw_model.specs.declared.syntax.CallKind.TheVariants.{Plain, Spawned}
 use Rattle.cw_code.specs.declared.code.Func.{Func}
@@ -17,22 +17,11 @@ use Rattle.cw_code.specs.declared.code.Loan.{Loan}
 use Rattle.cw_code.specs.declared.code.Loan.TheVariants.{Array, Reader}
 use Rattle.cw_code.specs.Run.{passed_by, lent_by}
 use Rattle.cw_code.specs.Fits.{Row, Outer, empty_rows, gone_rows, frozen_rows, params_of, names_well, Shape, is_full_in, full_in_all, has_slot, has_array, has_arrays, has_loan, has_loans, has_target, has_arguments, none_open, can_close, has_parts, can_uncut, is_no_half, is_no_part, are_no_parts, none_frozen, slots_uncut, changes, changes_back, slots_lent, with_target, with_gone, with_passed, with_uncut, none_empty, closed_shape, uncut_shape, is_ready, is_thawed, leaves, nexts, Covers, CoversEach, Table, FlowsInto, FlowsIntoEach, IsTable}
-use Rattle.cw_code.specs.lemmas.Slots.{covers_full, covers_length}
+use Rattle.cw_code.specs.lemmas.Slots.{covers_full, covers_length, covers_itself, covers_set, each_covers_itself, each_covers_after}
 use Rattle.cw_verify.specs.Table.{Shapes, either_empty, either_each, same_cut, is_alike, are_alike, blocks_of, can_meet, met, may_act, joined, come_at, come, then_come, come_all, next_distances, visited_at, visited, shape_at, table_of, Below, Grows, IsDone}
 use Rattle.cw_verify.proofs.Decided.{let_through, both_less}
 
 -- rows that cover
-pub covers_refl : (xs : Row) → Covers xs xs
-covers_refl [] = tt
-covers_refl (x ∷ xs) = (λ e. e, covers_refl xs)
-
-pub covers_trans : (xs ys zs : Row) → Covers xs ys → Covers ys zs → Covers xs zs
-covers_trans [] [] zs c d = d
-covers_trans [] (y ∷ ys) zs c d = absurd c
-covers_trans (x ∷ xs) [] zs c d = absurd c
-covers_trans (x ∷ xs) (y ∷ ys) [] c d = absurd d
-covers_trans (x ∷ xs) (y ∷ ys) (z ∷ zs) c d = (λ e. d.0 (c.0 e), covers_trans xs ys zs c.1 d.1)
-
 covers_either : (xs ys zs : Row) → Covers xs ys → Covers xs zs → Covers xs (either_empty ys zs)
 covers_either [] [] zs c d = tt
 covers_either [] (y ∷ ys) zs c d = absurd c
@@ -47,29 +36,14 @@ covers_either (x ∷ xs) (y ∷ ys) (z ∷ zs) c d = (λ e. neither y z (c.0 e) 
 
 either_first : (ys zs : Row) → Covers (either_empty ys zs) ys
 either_first [] zs = tt
-either_first (y ∷ ys) [] = covers_refl (y ∷ ys)
-either_first (y ∷ ys) (z ∷ zs) = (first y z, either_first ys zs)
-  where
-    first : (a b : Bool) → (a || b) ≡ false → a ≡ false
-    first false b h = refl
-    first true b h = cc
+either_first (y ∷ ys) [] = covers_itself (y ∷ ys)
+either_first (y ∷ ys) (z ∷ zs) = (neither_first y z, either_first ys zs)
 
 either_second : (ys zs : Row) → length ys ≡ length zs → Covers (either_empty ys zs) zs
 either_second [] [] e = tt
 either_second [] (z ∷ zs) e = absurd (omega (arith, e))
 either_second (y ∷ ys) [] e = absurd (omega (arith, e))
-either_second (y ∷ ys) (z ∷ zs) e = (second y z, either_second ys zs (omega (arith, e)))
-  where
-    second : (a b : Bool) → (a || b) ≡ false → b ≡ false
-    second false b h = h
-    second true b h = cc
-
-covers_set : (xs ys : Row) (a : ℕ) → Covers xs ys → Covers (slice_set xs a true) (slice_set ys a true)
-covers_set [] [] a c = tt
-covers_set [] (y ∷ ys) a c = absurd c
-covers_set (x ∷ xs) [] a c = absurd c
-covers_set (x ∷ xs) (y ∷ ys) zero c = (λ e. cc, c.1)
-covers_set (x ∷ xs) (y ∷ ys) (suc a) c = (c.0, covers_set xs ys a c.1)
+either_second (y ∷ ys) (z ∷ zs) e = (neither_second y z, either_second ys zs (omega (arith, e)))
 
 covers_unset : (xs ys : Row) (a : ℕ) → Covers xs ys → Covers (slice_set xs a false) (slice_set ys a false)
 covers_unset [] [] a c = tt
@@ -114,17 +88,6 @@ cut_same (Some h) =
     both_true (nat_eq h.array h.array) (nat_eq h.left h.left && nat_eq h.right h.right) (equal h.array h.array refl) (both_true (nat_eq h.left h.left) (nat_eq h.right h.right) (equal h.left h.left refl) (equal h.right h.right refl))
 
 -- the same, block by block
-pub each_refl : (xs : List Outer) → CoversEach xs xs
-each_refl [] = tt
-each_refl (x ∷ xs) = (covers_refl x.empty, covers_refl x.gone, covers_refl x.frozen, refl, each_refl xs)
-
-pub each_trans : (xs ys zs : List Outer) → CoversEach xs ys → CoversEach ys zs → CoversEach xs zs
-each_trans [] [] zs c d = d
-each_trans [] (y ∷ ys) zs c d = absurd c
-each_trans (x ∷ xs) [] zs c d = absurd c
-each_trans (x ∷ xs) (y ∷ ys) [] c d = absurd d
-each_trans (x ∷ xs) (y ∷ ys) (z ∷ zs) c d = (covers_trans x.empty y.empty z.empty c.0 d.0, covers_trans x.gone y.gone z.gone c.1 d.1, covers_trans x.frozen y.frozen z.frozen c.2 d.2, c.3 ∙ d.3, each_trans xs ys zs c.4 d.4)
-
 each_either : (xs ys zs : List Outer) → CoversEach xs ys → CoversEach xs zs → CoversEach xs (either_each ys zs)
 each_either [] [] zs c d = tt
 each_either [] (y ∷ ys) zs c d = absurd c
@@ -134,7 +97,7 @@ each_either (x ∷ xs) (y ∷ ys) (z ∷ zs) c d = (covers_either x.empty y.empt
 
 each_first : (ys zs : List Outer) → CoversEach (either_each ys zs) ys
 each_first [] zs = tt
-each_first (y ∷ ys) [] = each_refl (y ∷ ys)
+each_first (y ∷ ys) [] = each_covers_itself (y ∷ ys)
 each_first (y ∷ ys) (z ∷ zs) = (either_first y.empty z.empty, either_first y.gone z.gone, either_first y.frozen z.frozen, refl, each_first ys zs)
 
 -- what it is for two blocks to be alike
@@ -259,7 +222,7 @@ covers_all l = (l.covers, l.covers_gone, l.covers_frozen, refl, l.covers_outer)
 
 -- what comes to a place of a table from a shape that it covers
 pub leads_less : (t : Table) (place : ℕ) (big small : Shape) → big.operands ≡ small.operands → CoversEach (blocks_of big) (blocks_of small) → FlowsInto t place big → FlowsInto t place small
-leads_less t place big small e c l = leads_of t place l.there small l.found (l.as_many ∙ e) (each_trans (blocks_of l.there) (blocks_of big) (blocks_of small) (covers_all l) c)
+leads_less t place big small e c l = leads_of t place l.there small l.found (l.as_many ∙ e) (each_covers_after (blocks_of l.there) (blocks_of big) (blocks_of small) (covers_all l) c)
 
 all_less : (t : Table) (places : List ℕ) (big small : Shape) → big.operands ≡ small.operands → CoversEach (blocks_of big) (blocks_of small) → FlowsIntoEach t big places → FlowsIntoEach t small places
 all_less t [] big small e c l = tt
@@ -376,13 +339,13 @@ module _ (code : Code) (big small : Shape) (e : big.operands ≡ small.operands)
   acts_less i h = may_both code small i (ready_less i (may_ready code big i h)) (thawed_less i (may_thawed code big i h))
 
   clear_less : Covers (none_empty (length big.empty)) (none_empty (length small.empty))
-  clear_less = subst (λ n. Covers (none_empty (length big.empty)) (none_empty n)) (covers_length big.empty small.empty c.0) (covers_refl (none_empty (length big.empty)))
+  clear_less = subst (λ n. Covers (none_empty (length big.empty)) (none_empty n)) (covers_length big.empty small.empty c.0) (covers_itself (none_empty (length big.empty)))
 
   clear_gone : Covers (none_empty (length big.gone)) (none_empty (length small.gone))
-  clear_gone = subst (λ n. Covers (none_empty (length big.gone)) (none_empty n)) (covers_length big.gone small.gone c.1) (covers_refl (none_empty (length big.gone)))
+  clear_gone = subst (λ n. Covers (none_empty (length big.gone)) (none_empty n)) (covers_length big.gone small.gone c.1) (covers_itself (none_empty (length big.gone)))
 
   clear_frozen : Covers (none_empty (length big.frozen)) (none_empty (length small.frozen))
-  clear_frozen = subst (λ n. Covers (none_empty (length big.frozen)) (none_empty n)) (covers_length big.frozen small.frozen c.2) (covers_refl (none_empty (length big.frozen)))
+  clear_frozen = subst (λ n. Covers (none_empty (length big.frozen)) (none_empty n)) (covers_length big.frozen small.frozen c.2) (covers_itself (none_empty (length big.frozen)))
 
   close_less : (xs ys : List Outer) → CoversEach xs ys → Less (closed_shape big xs) (closed_shape small ys)
   close_less [] [] d = record { as_many = e; covers = c }
@@ -462,7 +425,7 @@ record Joins (was : Option Shape) (s is : Shape) : Type 0 where
   pub least : (there : Shape) → ((t : Shape) → was ≡ Some t → CoversEach (blocks_of there) (blocks_of t)) → CoversEach (blocks_of there) (blocks_of s) → CoversEach (blocks_of there) (blocks_of is)
 
 joins : (was : Option Shape) (s is : Shape) → joined was s ≡ Some is → Joins was s is
-joins None s is e = subst (λ x. Joins None s x) (same_Some s is e) (record { as_many = refl; covers = each_refl (blocks_of s); more = λ t q. cc; least = λ there h c. c })
+joins None s is e = subst (λ x. Joins None s x) (same_Some s is e) (record { as_many = refl; covers = each_covers_itself (blocks_of s); more = λ t q. cc; least = λ there h c. c })
 joins (Some t) s is e = by (can_meet t s) refl e
   where
     by : (b : Bool) → can_meet t s ≡ b → (if b then Some (met t s) else None) ≡ Some is → Joins (Some t) s is
@@ -502,7 +465,7 @@ module _ (start : ℕ) (shapes : Shapes) (k : ℕ) (s : Shape) (new : Shapes) (e
       let was : c.was ≡ Some x = same_Some c.was (Some x) (sym c.found ∙ ap (slice_get shapes) (sym q) ∙ f) in
       let m = j.more x was in
       leads_at start new i c.is x (ap (slice_get new) q ∙ at_place) m.as_many m.covers)
-      (λ (q : i ≡ k → ⊥). leads_at start new i x x (ap (λ l. slice_get l i) c.new_is ∙ set_other shapes k i (Some c.is) q ∙ f) refl (each_refl (blocks_of x)))
+      (λ (q : i ≡ k → ⊥). leads_at start new i x x (ap (λ l. slice_get l i) c.new_is ∙ set_other shapes k i (Some c.is) q ∙ f) refl (each_covers_itself (blocks_of x)))
       (cases_eq i k)
 
   come_below : (t : Table) → Below start shapes t → FlowsInto t (start + k) s → Below start new t
@@ -571,7 +534,7 @@ all_grown start old new s [] from g l = tt
 all_grown start old new s (p ∷ ps) from g l = (leads_grown start old new p s from.0 g l.0, all_grown start old new s ps from.1 g l.1)
 
 grows_refl : (start : ℕ) (shapes : Shapes) → Grows start shapes shapes
-grows_refl start shapes = λ k s f. leads_at start shapes k s s f refl (each_refl (blocks_of s))
+grows_refl start shapes = λ k s f. leads_at start shapes k s s f refl (each_covers_itself (blocks_of s))
 
 -- what is had once a shape has come to several places
 record CameAll (start : ℕ) (shapes : Shapes) (ps : List ℕ) (s : Shape) (new : Shapes) : Type 0 where

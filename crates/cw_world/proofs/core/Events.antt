@@ -1,7 +1,7 @@
 -- Each event keeps that each job is in one place, and is one or several events of worlds.
 use Rattle.std.proofs.Common.{◌≡◌, ◌≢◌, ◌⊎◌, ℕ, zero, suc, ◌+◌, Bool, true, false, List, [], ◌∷◌, ◌++◌, Option, Some, None, refl, sym, ap, ◌∙◌, subst, inl, inr, arith, length, length-append}
 use Rattle.std.proofs.lemmas.List.{length-set}
-use Rattle.std.proofs.lemmas.Bool.{eqb-true, eq-eqb}
+use Rattle.std.proofs.lemmas.Bool.{eqb-true, eq-eqb, true≢false}
 use Rattle.std.proofs.lemmas.Bool.Decides.{eqb_tells}
 use Rattle.std.specs.Prelude.{slice_get, slice_set, nat_eq, is_some, ◌&&◌, ◌||◌, if◌then◌else◌}
 use Rattle.std.proofs.lemmas.Option.{same_Some}
@@ -228,10 +228,7 @@ module _ (code : Code) where
     back_comes w i n job (Halted e jobs) outs place has j at unrun = let found = there n place at in step s.world _ (Skips s.world i n w job found.0 (Halted e jobs) outs place has tt found.1 unrun)
 
     different : (w i n : ℕ) (job : Job) (strand : Strand) (outs : List ℕ) (place : Place) → Has s.world i job (Runs w strand outs) → slice_get s.world.places n ≡ Some place → ((v : ℕ) → is_with v (Some place) ≡ false) → i ≢ n
-    different w i n job strand outs place has at none e = cc_of (sym (eq-eqb w w refl) ∙ ap (is_with w) (sym has.place_is ∙ ap (slice_get s.world.places) e ∙ at) ∙ none w)
-      where
-        cc_of : true ≡ false → ⊥
-        cc_of h = cc
+    different w i n job strand outs place has at none e = true≢false (sym (eq-eqb w w refl) ∙ ap (is_with w) (sym has.place_is ∙ ap (slice_get s.world.places) e ∙ at) ∙ none w)
 
     kept_fine : (w i n : ℕ) (job : Job) (strand : Strand) (outs : List ℕ) → Has s.world i job (Runs w strand (n ∷ outs)) → at_join strand ≡ true → slice_get s.world.places n ≡ Some (Kept w)
         → Fine s (noted s (put code (placed s.world n Spent) w i job (got_back strand) outs) s.board)
