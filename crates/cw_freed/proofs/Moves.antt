@@ -21,8 +21,8 @@ use Rattle.cw_freed.specs.declared.meter.FreedMeter.{FreedMeter}
 use Rattle.cw_freed.specs.declared.meter.Part.{Part}
 use Rattle.cw_freed.specs.declared.paths.Paths.{Paths}
 use Rattle.cw_freed.specs.FreedRuns.{unless, freed_events, freed_open}
-use Rattle.cw_freed.specs.Paths.{StartsBoth, SpawnsBoth, EndsBoth, JoinsBoth, ReadsBoth, TellsRun}
-use Rattle.cw_freed.specs.Freeing.{spawned_behind, IsKept, AreKept, counted_at, CountsIn, FreesIn, Starts, BeginsChild, BeginsHalf, BeginsCall, BeginsQuiet, Ends, Returns, Syncs, InstructionsNeedNoCall, Settles, Stacks, JoinsBlock, ClosesPart, Leaves, Reads}
+use Rattle.cw_freed.specs.Paths.{SpawnsBoth, EndsBoth, JoinsBoth, ReadsBoth, TellsRun}
+use Rattle.cw_freed.specs.Freeing.{spawned_behind, IsKept, AreKept, counted_at, CountsIn, FreesIn, BeginsChild, BeginsHalf, BeginsCall, BeginsQuiet, Ends, Returns, Syncs, InstructionsNeedNoCall, Settles, Stacks, JoinsBlock, ClosesPart, Leaves, Reads}
 use Rattle.cw_freed.proofs.FreedRuns.{unless-none, unless_within, unless-sum, freed-append, freed_spawned, freed_closed, freed_regrouped}
 use Rattle.cw_freed.proofs.Runs.{both_fit, run_ticked, run_begun, run_ended, run_forked, run_child_ended, run_joined, run_unjoined, run_joined_at_end}
 
@@ -269,22 +269,6 @@ module _ (frees : ℕ → Bool) (burden : Burden) where
 
 pub ticks : LatePathsWait → InstructionsNeedNoCall
 ticks waits m count frees burden os es small h = record { counts = counts_ticked frees burden waits count os es m small h.counts; parts = h.parts }
-
-pub starts : (burden : Burden) (free : Bool) (p : Paths) (m : FreedMeter) → StartsBoth burden p → m.paths ≡ p → m.counted ≡ 0 → m.noted ≡ 0 → m.free ≡ free → m.spawned ≡ false → m.parts.items ≡ [] → Starts burden free m
-starts burden free p m h paths counted noted is spawned none frees free_is light =
-    let a = counted_now 0 m noted in record {
-      counts = record {
-        light = light;
-        within = omega arith;
-        noted = omega (arith, noted);
-        counted = omega (arith, counted, noted);
-        free = is ∙ free_is;
-        spawned = spawned;
-        run = run_as frees burden 0 0 (counted_at 0 m) (freed_open frees main_open) [] [] p m.paths (omega (arith, a, counted)) refl paths
-            (run_begun burden 0 0 (Some (Invocation 0)) [] [] p (record { work = refl; plain_within = omega arith; burdened_within = omega arith; tells = h }));
-      };
-      parts = subst (λ (x : List Part). AreKept frees main_open (reverse x)) (sym none) refl;
-    }
 
 pub quiet_begins : LatePathsWait → (old new : FreedMeter) (count : ℕ) → Stacks old new false old.spawned old.free → BeginsQuiet old new count
 quiet_begins waits old new count s frees burden mark os es same small h =

@@ -16,10 +16,6 @@ pub record Front {A : Type 0} (R : List Token → A → List Token → Type 0) (
   pub parts : ts ≡ front ++ rest
   pub again : (ws : List Token) → R (front ++ ws) a ws
 
--- what is read is read with any rest
-abbrev pub IsStable : {A : Type 0} → (List Token → A → List Token → Type 0) → Type 0
-IsStable {A} R = (ts : List Token) (a : A) (rest : List Token) → R ts a rest → Front R ts a rest
-
 -- where it stops, there is one way to read
 abbrev pub IsUnique : {A : Type 0} → (List Token → A → List Token → Type 0) → (Kind → Bool) → Type 0
 IsUnique {A} R s = (ts : List Token) (a b : A) (us vs : List Token) → R ts a us → Stops s us → R ts b vs → Stops s vs → (a ≡ b) × (us ≡ vs)

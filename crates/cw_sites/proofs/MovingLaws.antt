@@ -63,9 +63,6 @@ module _ (q : ℕ) (s : List Steps) (at : ℕ) (t : List Steps) (k : ℕ) (a : a
 
 -- the last steps of a part come down
 module _ (from to end count : ℕ) (old new : List Steps) (order : from ≤ to) (behind : to ≤ end) (within : end ≤ length old) (c : count ≡ min (to - from) (end - to)) (e : new ≡ paste old from (drop (end - count) old) (end - (end - count))) where
-  source : List Steps
-  source = drop (end - count) old
-
   moved_count : end - (end - count) ≡ count
   moved_count = omega arith
 

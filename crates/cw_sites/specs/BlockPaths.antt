@@ -18,11 +18,6 @@ abbrev pub extended : Path → BlockPath → BlockPath
 extended p (Straight n) = Straight (plus n p)
 extended p (Split b l n) = Split b l (plus n p)
 
--- a child is spawned: the base ends here where it is the first
-abbrev pub opened : BlockPath → BlockPath
-opened (Straight n) = Split n None nowhere
-opened (Split b l n) = Split b l n
-
 -- the later child is the longest where it is heavier: then the base reaches up to its spawn
 abbrev pub longest_of : Bool → (base longest now child : Path) → BlockPath
 longest_of true b l n c = Split (plus b n) (Some c) nowhere

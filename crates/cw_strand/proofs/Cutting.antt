@@ -25,7 +25,7 @@ use Rattle.cw_machine.specs.Calls.{listed, loans_of}
 use Rattle.cw_machine.specs.Hands.{out_of, Hands, MayHand, HandedOut}
 use Rattle.cw_strand.specs.declared.strand.Lent.{Lent}
 use Rattle.cw_strand.specs.declared.strand.Strand.{Strand}
-use Rattle.cw_strand.specs.Levels.{Level, waiting_over}
+use Rattle.cw_strand.specs.Levels.{waiting_over}
 use Rattle.cw_strand.specs.Holds.{its_parts, its_code, ok_with, KeepsJob}
 use Rattle.cw_strand.specs.Moves.{CameTo, HasCome, HasCut}
 use Rattle.cw_strand.proofs.Levels.{HasSpawned, LevelsAfter, levels_move}
@@ -95,9 +95,6 @@ module _ (keep : (code : Code) → CallsKeep code) (self : Strand) (limit : ℕ)
 
   abbrev w : Waiting
   w = spawned.waiting
-
-  abbrev level : Level
-  level = record { waiting = w; around = c.state.around }
 
   abbrev above_it : List Around
   above_it = beneath base c.state.around

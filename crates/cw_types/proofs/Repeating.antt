@@ -1,15 +1,11 @@
 -- Names that are there twice.
-use Rattle.std.proofs.Common.{Bool, true, false, if◌then◌else◌, ◌≡◌, ◌<◌, ◌+◌, ℕ, List, [], ◌∷◌, ◌++◌, length, take, map, get_or, Contains, Option, None, Some, IfSome, is_some, slice_get, bytes_eq, min, nat_le, option_map, subst, zero, suc, refl, sym, ap, ◌∙◌, arith, length-append}
+use Rattle.std.proofs.Common.{Bool, true, false, if◌then◌else◌, ◌≡◌, ◌<◌, ◌+◌, ℕ, List, [], ◌∷◌, ◌++◌, length, take, map, get_or, Contains, Option, None, Some, IfSome, is_some, slice_get, min, nat_le, option_map, subst, zero, suc, refl, sym, ap, ◌∙◌, arith, length-append}
 use Rattle.std.proofs.lemmas.List.{map-append, get_or-append-add, get_or-take, get_or_append_left, length-take, map_more, take-map}
 use Rattle.std.proofs.lemmas.List.Elements.{Contains-append_left, Contains-append_right}
 use Rattle.std.proofs.lemmas.Option.{get_or_from_slice_get, slice_get-map, slice_get_read, slice_get_within}
 use Rattle.std.proofs.lemmas.Slice.Eq.{bytes_eq-Decides}
 use Rattle.cw_model.specs.Names.{is_among, same_name}
-use Rattle.cw_model.specs.Syntax.{Name, Function}
-use Rattle.cw_model.specs.Typing.{called}
-use Rattle.cw_tree.specs.declared.syntax.Function.{Function as CodeFunction}
-use Rattle.cw_tree.specs.SyntaxView.{function_of}
-use Rattle.cw_types.specs.Named.{functions_named}
+use Rattle.cw_model.specs.Syntax.{Name}
 use Rattle.cw_types.specs.Typing.{earlier_line, later_line}
 use Rattle.cw_types.specs.Scope.{Declared}
 use Rattle.cw_types.specs.Told.{AreBothIn, IsRepeatedIn, IsRepeatedOf, IsRepeating}
@@ -113,30 +109,6 @@ among_there x (y ∷ xs) h = first (same_name x y) refl h (among_there x xs)
     first : (b : Bool) → b ≡ same_name x y → (if b then true else is_among x xs) ≡ true → (is_among x xs ≡ true → Contains xs x) → Contains (y ∷ xs) x
     first true e k further = (0, omega arith, sym ((bytes_eq-Decides x y).0 (sym e)))
     first false e k further = Contains-append_right (y ∷ []) xs x (further k)
-
-as_named : (x : Name) (g f : Function) → g.name ≡ x → g ≡ f → ◌≡◌ {A = Name × ℕ} (g.name, g.line) (x, f.line)
-as_named x g f e k =
-    let with_name : Name → Name × ℕ = λ n. (n, g.line) in
-    let with_line : Function → Name × ℕ = λ o. (x, o.line) in
-    ap with_name e ∙ ap with_line k
-
--- a function that is called is there, with its line
-pub called_there : (x : Name) (fs : List Function) (f : Function) → called x fs ≡ Some f → Contains (functions_named fs) (x, f.line)
-called_there x [] f h = cc
-called_there x (g ∷ fs) f h = first (same_name x g.name) refl h (called_there x fs f)
-  where
-    first : (b : Bool) → b ≡ same_name x g.name → (if b then Some g else called x fs) ≡ Some f →
-        (called x fs ≡ Some f → Contains (functions_named fs) (x, f.line)) → Contains (functions_named (g ∷ fs)) (x, f.line)
-    first true e k further =
-        Contains-append_left ((g.name, g.line) ∷ []) (functions_named fs) (x, f.line) (0, omega arith, as_named x g f (sym ((bytes_eq-Decides x g.name).0 (sym e))) (cc k))
-    first false e k further = Contains-append_right ((g.name, g.line) ∷ []) (functions_named fs) (x, f.line) (further k)
-
--- a function of this name, with its line
-pub named_function : (name : Name) (fs : List CodeFunction) (k : ℕ) (f : CodeFunction) → k < length fs → f ≡ get_or fs k f →
-    bytes_eq name f.name ≡ true → Contains (functions_named (map function_of fs)) (name, f.line)
-named_function name fs k f h at same =
-    subst (λ (x : Name). Contains (functions_named (map function_of fs)) (x, f.line)) (sym ((bytes_eq-Decides name f.name).0 same))
-    (in_maps function_of (λ (g : Function). (g.name, g.line)) fs k f h at)
 
 pub one_more : {X Y : Type 0} (u : X → Y) (xs : List X) (i : ℕ) (d : X) → i < length xs → d ≡ get_or xs i d →
     map u (take (i + 1) xs) ≡ map u (take i xs) ++ u d ∷ []

@@ -1,11 +1,11 @@
 -- What is told of lines that are noted one after another.
-use Rattle.std.proofs.Common.{Bool, true, false, not, ◌||◌, ◌≡◌, ℕ, nat_le, if◌then◌else◌, arith, List, [], ◌∷◌, Contains, Option, Some, None, IfSome, option_map, refl, sym, ap, ◌∙◌, subst}
+use Rattle.std.proofs.Common.{Bool, true, false, not, ◌||◌, ◌≡◌, ℕ, nat_le, if◌then◌else◌, arith, List, [], ◌∷◌, Contains, Option, Some, None, IfSome, refl, sym, ap, ◌∙◌, subst}
 use Rattle.std.proofs.lemmas.Bool.Decides.{nat_tests}
 use Rattle.std.specs.Option.{option_to_list}
 use Rattle.cw_model.specs.Lines.{lesser, lowest}
 use Rattle.cw_model.specs.lemmas.Lowest.{least_line}
 use Rattle.cw_reasons.specs.declared.reasons.At.{At}
-use Rattle.cw_types.specs.Telling.{AsBefore, Anew, IsOf, IsTheLeast, IsTheOne, Tells, line_told}
+use Rattle.cw_types.specs.Telling.{AsBefore, Anew, IsOf, IsTheLeast, IsTheOne, Tells}
 use Rattle.cw_types.specs.declared.told.Told.{Told}
 
 -- what is true of more is told of more
@@ -26,10 +26,6 @@ pub and_then : {R : Type 0} (Such : ℕ → R → Type 0) (a b c : Told R) → T
 and_then {R} Such a b c (AsBefore first) (AsBefore second) = AsBefore (second ∙ first)
 and_then {R} Such a b c (Anew first) (AsBefore second) = Anew (still Such b c second first)
 and_then {R} Such a b c first (Anew second) = Anew second
-
--- nothing more was told
-pub nothing_more : {R : Type 0} (Such : ℕ → R → Type 0) (a b : Told R) → b ≡ a → Tells Such a b
-nothing_more {R} Such a b same = AsBefore (ap (λ t. t.first) same)
 
 -- a reason that was found is told where it is true
 pub found_true : {R : Type 0} (Such : ℕ → R → Type 0) (a b : Told R) (line : ℕ) (found : Option R) → IfSome found (Such line) →
@@ -52,14 +48,6 @@ least_true {R} Such a b least lines reason is holds told =
 pub all_true : {R : Type 0} (Such : ℕ → R → Type 0) (a b : Told R) → a.first ≡ None → Tells Such a b → IsOf Such b
 all_true {R} Such a b none (AsBefore same) = subst (λ (o : Option (At R)). IfSome o (λ at. Such at.line at.reason)) (sym (same ∙ none)) tt
 all_true {R} Such a b none (Anew holds) = holds
-
--- nothing is told where nothing was found
-pub nothing_told : {R : Type 0} (told : Told R) → ((at : At R) → told.first ≡ Some at → ⊥) → line_told told ≡ None
-nothing_told {R} told h = none told.first h
-  where
-    none : (o : Option (At R)) → ((at : At R) → o ≡ Some at → ⊥) → option_map (λ at. at.line) o ≡ None
-    none None h = refl
-    none (Some at) h = absurd (h at refl)
 
 lesser_twice : (o : Option ℕ) (m y : ℕ) → lesser o (if nat_le m y then m else y) ≡ lesser (lesser o m) y
 lesser_twice None m y = refl

@@ -52,8 +52,3 @@ standing_of f = standing_in (returns_in f) (with_params f.line f.params []) f.bo
 abbrev pub standing_at : Returns → List Declared → Line → List Line → Standing
 standing_at returns locals line behind =
     record { line = line.line; returns = returns; locals = locals; stmt = stmt_of line.stmt; behind = block_of behind }
-
--- it, and the statements inside of it
-abbrev pub standing_here : Returns → List Declared → Line → List Line → List Standing
-standing_here returns locals line behind =
-    standing_at returns locals line behind ∷ standing_inside returns locals line.line (stmt_of line.stmt)

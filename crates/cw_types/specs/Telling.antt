@@ -1,5 +1,5 @@
 -- What is told of lines that pass a limit: the least of them, and which limit.
-use Rattle.std.specs.Prelude.{◌≡◌, ℕ, List, Option, Some, IfSome, Result, OnOk, option_map}
+use Rattle.std.specs.Prelude.{◌≡◌, ℕ, List, Option, Some, IfSome, option_map}
 use Rattle.std.specs.Option.{option_to_list}
 use Rattle.cw_model.specs.Lines.{lowest}
 use Rattle.cw_types.specs.declared.told.Told.{Told}
@@ -11,10 +11,6 @@ line_told told = option_map (λ at. at.line) told.first
 -- these lines were noted
 abbrev pub Noted : {R : Type 0} → List ℕ → (before after : Told R) → Type 0
 Noted lines before after = line_told after ≡ lowest (line_told before) lines
-
--- these lines were noted, where memory did not run out
-abbrev pub Notes : {R T E : Type 0} → List ℕ → (before after : Told R) → Result T E → Type 0
-Notes lines before after r = OnOk r (Noted lines before after)
 
 -- the least of these lines was noted, if there is one
 abbrev pub NotesLeast : {R : Type 0} → Option ℕ → (before after : Told R) → Type 0

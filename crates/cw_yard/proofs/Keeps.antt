@@ -45,11 +45,6 @@ module _ {A : Type 0} where
   snoc_at (x ∷ xs) r u zero e = inl e
   snoc_at (x ∷ xs) r u (suc j) e = ⊎_elim (λ p. inl p) (λ p. inr (ap suc p.0, p.1)) (snoc_at xs r u j e)
 
-  at_length : (l : List A) (i : ℕ) (a : A) → get_elem? l i ≡ some a → i ≢ length l
-  at_length [] i a e = absurd (some-ne-none a (sym e))
-  at_length (x ∷ xs) zero a e = λ p. omega arith
-  at_length (x ∷ xs) (suc i) a e = λ p. at_length xs i a e (omega arith)
-
 index_of : (l : List ℕ) (i a : ℕ) → get_elem? l i ≡ some a → slice_index l i ≡ a
 index_of [] i a e = absurd (some-ne-none a (sym e))
 index_of (x ∷ xs) zero a e = some-injective x a e

@@ -50,12 +50,6 @@ thefts-snoc p n ((k, stolen q) ∷ es) j = ap (if_same (eqb q p) (n, k)) (thefts
 abbrev pub among : List Entry → Lot → Fate → List Entry → List Entry
 among xs j f ys = xs ++ (j, f) ∷ ys
 
-pub record Found (es : List Entry) (n : ℕ) (q : Name) : Type 0 where
-  pub before : List Entry
-  pub after : List Entry
-  pub is : es ≡ among before q.1 out after
-  pub number : q.0 ≡ n + length before
-
 none_front : (es : List Entry) → NoneStolen es → FrontFirst es
 none_front [] h = tt
 none_front ((k, out) ∷ es) h = h.1

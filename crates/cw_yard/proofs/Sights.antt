@@ -5,14 +5,11 @@ use mathlib.Core.Logic.{dite}
 use native.Mathlib.Decide.{ℕ_discrete}
 use lib.ListN.{get_elem?}
 use Rattle.std.specs.List.{slice_index}
-use Rattle.atomic_table.specs.Table.{State, Me, keeps, Allows, Splits}
+use Rattle.atomic_table.specs.Table.{Me, keeps, Allows, Splits}
 use Rattle.atomic_table.proofs.Lists.{at_set, set_else}
 use Rattle.cw_yard.specs.declared.mark.MarkView.{MarkView}
 use Rattle.cw_yard.specs.declared.mark.MarkView.TheVariants.{Unseen, Seen, Marked}
 use Rattle.cw_yard.specs.Marks.{IsSeen, IsMarked, Ends, seeing, Finds}
-
-abbrev St : Type 0
-St = State (Unit {0}) MarkView
 
 abbrev Mine : Type 0
 Mine = Me (Unit {0}) MarkView

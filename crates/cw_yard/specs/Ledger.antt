@@ -119,9 +119,6 @@ Starting items views =
 abbrev pub Dealt : List Item → List DequeView → Type 0
 Dealt items views = Starting items views ⊎ Running items views
 
-abbrev pub task_of : List Item → Task → Type 0
-task_of xs k = xs ≡ Work k ∷ []
-
 abbrev pub number : Task → ℕ
 number k = number_of k.duty.me.0
 

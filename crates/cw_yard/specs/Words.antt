@@ -58,10 +58,6 @@ abbrev pub Rises : List Theft → Job → List Theft → Type 0
 Rises ss job ss' =
     (n : ℕ) × (cell : ℕ) × Each (λ (x : Theft). x.0 < n) ss × (ss' ≡ ss ++ (n, (job, cell)) ∷ [])
 
--- the token of a cell stands for the job of this number
-abbrev pub IsFor : ℕ → CellView → ℕ → Job → Type 0
-IsFor cell v n j = v ≡ Owner cell (Out n j)
-
 abbrev pub is_out_stage : Stage → Bool
 is_out_stage Free = false
 is_out_stage (Held n j) = false

@@ -301,9 +301,6 @@ module _ (code : Code) where
         (different w i n job strand (n ∷ outs) (Settled e) has at (λ v. refl)) (λ v. refl) one.workers
         (same is_offered_by s.board.lists s.world.places one.offered n (Settled e) Spent at (λ v. refl)) (comes short)
       where
-        given : World
-        given = placed (placed s.world n Spent) i (Runs w (give job strand e) outs)
-
         gives : After code s.world (placed (placed s.world n Spent) i (Runs w (give job strand e) outs))
         gives = let found = there n (Settled e) at in step s.world _ (Gives s.world i n w job found.0 strand outs (Settled e) e has wait found.1 refl)
 
