@@ -1,3 +1,4 @@
+mod Modes
 mod Rows
 mod Runs
 mod Tools

@@ -1,6 +1,7 @@
 -- What each call on a freed meter does.
 use Rattle.std.specs.Prelude.{ℕ, ◌+◌, ◌-◌, ◌≡◌, ◌≤◌, ◌<◌, ◌^◌, min, Bool, true, false, not, Option, Some, List, [], ◌∷◌, ◌++◌, reverse, refl}
 use Rattle.std.proofs.Common.{arith, ap, sym, ◌∙◌, subst}
+use Rattle.std.proofs.Math.Bool.{not-not}
 use Rattle.std.specs.Global.{Vec}
 use Rattle.cw_facts.specs.Lists.{reverse_pushed}
 use Rattle.cw_model.specs.declared.burden.Burden.{Burden}
@@ -128,7 +129,7 @@ module _ (frees : ℕ → Bool) (burden : Burden) where
       let e = one os old h.counts.free in
       let at : mid.counted ≡ counted_at count old + j = omega (arith, c, d, e) in
       let splits : has_spawned (events os es ++ Work j ∷ []) ≡ not (not mid.spawned) =
-      has_spawned-work (events os es) j ∙ freed_spawned frees false site es ∙ sym h.counts.spawned ∙ sym s.spawned ∙ sym (twice mid.spawned) in
+      has_spawned-work (events os es) j ∙ freed_spawned frees false site es ∙ sym h.counts.spawned ∙ sym s.spawned ∙ sym (not-not mid.spawned) in
       let run =
       run_forked burden count (counted_at count old) j (not mid.spawned) mark (freed_open frees os) (events os es) old.paths p (unless_within (frees site) 1) waits small h.counts.light
       (subst (λ (x : Paths). SpawnsBoth x p (counted_at count old + j) (not mid.spawned)) s.paths (subst (λ (x : ℕ). SpawnsBoth mid.paths p x (not mid.spawned)) at spawns)) splits h.counts.run in
@@ -148,10 +149,6 @@ module _ (frees : ℕ → Bool) (burden : Burden) where
         };
         parts = kept_pushed frees o os (record { child = true; spawned = true; free = mid.free }) mid.parts.items new.parts.items k.pushed (record { child = refl; spawned = refl; free = m.free }) (kept_as frees os old.parts.items mid.parts.items (same_items old.parts mid.parts s.parts) h.parts);
       }
-    where
-      twice : (b : Bool) → not (not b) ≡ b
-      twice true = refl
-      twice false = refl
 
   -- the block that runs joins
   pub joined_now : (count : ℕ) (os : List Open) (es : List Event) (old mid : FreedMeter) (p : Paths) → old.spawned ≡ true → Settles old mid count → JoinsBoth mid.paths p mid.counted → count ≤ MOST_LIMIT → FreesIn frees burden count os es old → FreesIn frees burden count os (es ++ Join ∷ []) (record { paths = p; counted = mid.counted; noted = mid.noted; free = mid.free; spawned = false; parts = mid.parts })

@@ -10,11 +10,11 @@ use Rattle.cw_model.specs.declared.syntax.NameKind.TheVariants.{Integer, Array, 
 use Rattle.cw_model.specs.Syntax.{Name, Expr, Variable, Call, Param, wants_array, is_const_kind}
 use Rattle.cw_model.specs.Names.{is_among, differ}
 use Rattle.std.proofs.lemmas.List.{length-map}
+use Rattle.std.proofs.lemmas.Bool.{or_parts}
 use Rattle.cw_model.specs.Meaning.{function_named}
 use Rattle.cw_model.specs.Sites.{Of}
 use Rattle.cw_model.specs.Typing.{Nowhere}
 use Rattle.std.specs.List.{list_any}
-use Rattle.std.specs.Prelude.{◌||◌}
 use Rattle.cw_model.specs.Ownership.{SpawnIn, ReaderIn, Taken, taken_by, frozen_by, target_names, names_in, arrays_lent}
 use Rattle.cw_model.specs.Ownership as ownership
 use Rattle.cw_tree.specs.Resolved.{Locals, slot_of, locals_of}
@@ -183,12 +183,8 @@ module _ (setting : Setting) where
     loans_named_well given us [] rs not_both = refl
     loans_named_well given us (a ∷ reads) rs not_both =
         let passed = numbers_at setting.marks (slots_for locals.arrays given) in
-        let p = neither (is_among a given) (list_any (λ b. is_among b given) reads) not_both in
+        let p = or_parts (is_among a given) (list_any (λ b. is_among b given) reads) not_both in
         both_true (names_loan setting.f passed (place_of setting.marks (slot_of a locals.arrays))) (names_loans setting.f passed (map (place_of setting.marks) (slots_for locals.arrays reads))) (loan_named given us a rs.0 p.0) (loans_named_well given us reads rs.1 p.1)
-      where
-        neither : (a b : Bool) → (a || b) ≡ false → (a ≡ false) × (b ≡ false)
-        neither true b h = absurd cc
-        neither false b h = (refl, h)
 
     -- what is lent is full
     pub loans_full : (reads : List Name) (n : ℕ) → AllUsable locals.arrays taken reads → has_loans (made setting opened locals taken n) (map (place_of setting.marks) (slots_for locals.arrays reads)) ≡ true

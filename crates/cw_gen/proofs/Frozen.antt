@@ -75,19 +75,16 @@ pub frozen_read : (depth : ℕ) (xs : List Name) (taken : Taken) → frozen_of (
 frozen_read depth [] taken = refl
 frozen_read depth (x ∷ xs) taken = ap (λ l. (x, SpawnIn depth) ∷ l) (frozen_read depth xs taken)
 
+-- past the entry of another name
+past : {P : Type 0} {held : Bool} → (held ≡ false → P) → (b : Bool) → (if b then true else held) ≡ false → P
+past more true h = absurd cc
+past more false h = more h
+
 -- what nothing holds is not frozen
 pub loose_thawed : (x : Name) (taken : Taken) → is_held taken x ≡ false → is_taken (frozen_of taken) x ≡ false
 loose_thawed x [] h = refl
-loose_thawed x ((y, SpawnIn d) ∷ taken) h = test (loose_thawed x taken) (same_name x y) h
-  where
-    test : (is_held taken x ≡ false → is_taken (frozen_of taken) x ≡ false) → (b : Bool) → (if b then true else is_held taken x) ≡ false → is_taken (frozen_of taken) x ≡ false
-    test more true h' = cc
-    test more false h' = more h'
-loose_thawed x ((y, CutOf) ∷ taken) h = test (loose_thawed x taken) (same_name x y) h
-  where
-    test : (is_held taken x ≡ false → is_taken (frozen_of taken) x ≡ false) → (b : Bool) → (if b then true else is_held taken x) ≡ false → is_taken (frozen_of taken) x ≡ false
-    test more true h' = cc
-    test more false h' = more h'
+loose_thawed x ((y, SpawnIn d) ∷ taken) h = past (loose_thawed x taken) (same_name x y) h
+loose_thawed x ((y, CutOf) ∷ taken) h = past (loose_thawed x taken) (same_name x y) h
 loose_thawed x ((y, ReaderIn d) ∷ taken) h = test (loose_thawed x taken) (same_name x y) h
   where
     test : (is_held taken x ≡ false → is_taken (frozen_of taken) x ≡ false) → (b : Bool) → (if b then true else is_held taken x) ≡ false → (if b then true else is_taken (frozen_of taken) x) ≡ false

@@ -8,15 +8,14 @@ use Rattle.std.specs.List.{list_all}
 use Rattle.std.proofs.lemmas.Slice.Eq.{bytes_eq-Decides}
 use Rattle.std.proofs.lemmas.Bool.{and_parts}
 use Rattle.cw_model.specs.Lines.{unless}
-use Rattle.cw_model.specs.Syntax.{is_array_kind, is_written_kind, takes_array, Name, Expr, Number, Variable, Element, Length, Negative, Not, Binary, Stmt, Declare, DeclareArray, Assign, AssignElement, Reduce, Call, Start, Begin, Sync, If, IfElse, While, For, Scope, Cut, Region, Print, Return, Block, End, Then, Param, Function, Program}
+use Rattle.cw_model.specs.Syntax.{is_written_kind, takes_array, Name, Expr, Number, Variable, Element, Length, Negative, Not, Binary, Stmt, Declare, DeclareArray, Assign, AssignElement, Reduce, Call, Start, Begin, Sync, If, IfElse, While, For, Scope, Cut, Region, Print, Return, Block, End, Then, Param, Function, Program}
 use Rattle.cw_model.specs.Names.{same_name, is_among, differ}
 use Rattle.cw_model.specs.Meaning.{function_named}
-use Rattle.cw_model.specs.Typing.{Known, is_known, is_array, is_writable, is_fine, is_new, is_argument, are_arguments, is_cut, is_head_of_loop, is_target, called, is_call, Returns, Nowhere, declares, known_of, faults_in, faults_in_block, surely_returns, ends_block, globals}
+use Rattle.cw_model.specs.Typing.{Known, is_known, is_array, is_writable, is_fine, is_new, is_argument, are_arguments, is_cut, is_head_of_loop, is_target, called, is_call, Returns, Nowhere, declares, known_of, faults_in, faults_in_block, surely_returns, ends_block}
 use Rattle.cw_model.specs.lemmas.Kept.{kept, left_none, right_none}
 use Rattle.cw_tree.specs.Resolved.{Locals, slot_of, with_int, with_array, locals_after, locals_of}
 use Rattle.cw_tree.specs.lemmas.NamedSlots.{slot_stays}
 use Rattle.cw_loops.specs.Lowered.{lower_expr, lower_exprs, lower_stmt, lower_block, loop_count, loop_count_in}
-use Rattle.cw_loops.specs.lemmas.Knowing.{not_there}
 use Rattle.cw_gen.specs.Marks.{Marks}
 use Rattle.cw_gen.proofs.Marked.{IsOwn, is_read, own_behind}
 use Rattle.cw_gen.proofs.MarkedParams.{marks_short, taken_own}
@@ -26,6 +25,7 @@ use Rattle.cw_gen.proofs.KnownFunctions.{CallFound}
 use Rattle.cw_model.specs.Answers.{main_name}
 use Rattle.cw_loops.specs.lemmas.Declaring.{same_after}
 use Rattle.cw_gen.proofs.Names.{slot_new}
+use Rattle.cw_gen.proofs.KnownPlaces.{new_name}
 
 -- the slot of a name is not only read
 abbrev pub OwnName : Marks → Locals → Name → Type 0
@@ -186,11 +186,7 @@ array_written marks known locals x new w = record {
 
 -- a new name is no array
 new_array : (program : Program) (known : Known) (x : Name) → is_new program known x ≡ true → is_array known x ≡ false
-new_array program known x h = not_there is_array_kind known x (test (is_among x (map (λ k. k.0) known)) h)
-  where
-    test : (b : Bool) → not (b || is_among x (globals program)) ≡ true → b ≡ false
-    test true g = cc
-    test false g = refl
+new_array program known x h = (new_name program known x h).1
 
 -- what is written among parameters is taken
 pushed_known : (such : NameKind → Bool) (x : Name) (ks : Known) (n : Name) (k : NameKind) → is_known x such (ks ++ (n, k) ∷ []) ≡ true → (is_known x such ks ≡ true) ⊎ ((same_name x n ≡ true) × (such k ≡ true))

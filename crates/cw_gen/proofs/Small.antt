@@ -13,10 +13,11 @@ use Rattle.cw_model.specs.Ownership.{ownership_faults}
 use Rattle.cw_model.specs.Answers.{main_name}
 use Rattle.cw_model.specs.WhileLaw.{WhilesAreLeast}
 use Rattle.cw_model.specs.lemmas.Lowest.{least_line}
+use Rattle.cw_tree.specs.declared.resolved.Function.{Function}
 use Rattle.cw_tree.specs.declared.resolved.Tree as source
 use Rattle.cw_tree.specs.Resolved.{lists_of, resolved}
 use Rattle.cw_tree.specs.Slots.{is_resolved}
-use Rattle.cw_tree.specs.ResolvedView.{resolved_of, program_of}
+use Rattle.cw_tree.specs.ResolvedView.{resolved_of, program_of, function_of}
 use Rattle.cw_tree.specs.lemmas.Looked.{slots_are_right}
 use Rattle.cw_code.specs.declared.code.Code as declared
 use Rattle.cw_code.specs.declared.code.Site.{Site}
@@ -139,3 +140,7 @@ module _ (least : WhilesAreLeast) (lowerable : OwnedIsLowerable) (answers : Lowe
           tags = tags_are_told program;
           small = none_passed (nat_le (static_size program) MOST_INSTRUCTIONS) (nat_le (call_count program) MOST_CALL_STATEMENTS) (at_most (static_size program) MOST_INSTRUCTIONS (omega (arith, size, h))) (at_most (call_count program) MOST_CALL_STATEMENTS few_calls);
         })
+
+-- the sites of the same functions
+pub emitted_same : {fs gs : List Function} → fs ≡ gs → emitted_sites_of (map function_of fs) ≡ emitted_sites_of (map function_of gs)
+emitted_same e = ap (λ l. emitted_sites_of (map function_of l)) e

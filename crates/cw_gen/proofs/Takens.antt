@@ -17,6 +17,11 @@ held_in cuts depth (SpawnIn d) = d == depth
 held_in cuts depth (ReaderIn d) = false
 held_in cuts depth CutOf = cuts
 
+-- past the entry of another name
+past : {taken held : Bool} → (held ≡ false → taken ≡ false) → (b : Bool) → (if b then true else held) ≡ false → (if b then true else taken) ≡ false
+past more true h = cc
+past more false h = more h
+
 -- what nothing holds is not taken
 pub loose_free : (x : Name) (taken : Taken) → is_held taken x ≡ false → is_taken taken x ≡ false
 loose_free x [] h = refl
@@ -25,16 +30,8 @@ loose_free x ((y, ReaderIn d) ∷ taken) h = test (loose_free x taken) (same_nam
     test : (is_held taken x ≡ false → is_taken taken x ≡ false) → (b : Bool) → (if b then true else is_held taken x) ≡ false → is_taken taken x ≡ false
     test more true h' = cc
     test more false h' = more h'
-loose_free x ((y, SpawnIn d) ∷ taken) h = test (loose_free x taken) (same_name x y) h
-  where
-    test : (is_held taken x ≡ false → is_taken taken x ≡ false) → (b : Bool) → (if b then true else is_held taken x) ≡ false → (if b then true else is_taken taken x) ≡ false
-    test more true h' = cc
-    test more false h' = more h'
-loose_free x ((y, CutOf) ∷ taken) h = test (loose_free x taken) (same_name x y) h
-  where
-    test : (is_held taken x ≡ false → is_taken taken x ≡ false) → (b : Bool) → (if b then true else is_held taken x) ≡ false → (if b then true else is_taken taken x) ≡ false
-    test more true h' = cc
-    test more false h' = more h'
+loose_free x ((y, SpawnIn d) ∷ taken) h = past (loose_free x taken) (same_name x y) h
+loose_free x ((y, CutOf) ∷ taken) h = past (loose_free x taken) (same_name x y) h
 
 module _ (cuts : Bool) where
   abbrev pub is_held_in : ℕ → Holder → Bool

@@ -96,6 +96,12 @@ alike_pay {C = C} {D = D} {S = S} cost left go go' f = by_test (nat_lt left cost
     by_test true e = both_over
     by_test false e = alike_after {t = shows (works cost)} {u = shows (works cost)} (omega arith) refl refl (same_events (works cost)) (f (ltb-false left cost e))
 
+-- too few instructions are left on both sides, or both trap
+pub both_stop : {A C D : Type 0} {S : C → D → Type 0} (left : ℕ) (trap : Trap) (line : ℕ) (go : A → ℕ → Outcome C) (go' : A → ℕ → Outcome D) (b : Bool) →
+    Alike S left (then_do (if b then Over else Trapped trap line []) go) (then_do (if b then Over else Trapped trap line []) go')
+both_stop left trap line go go' true = both_over
+both_stop left trap line go go' false = both_trapped refl
+
 -- how a part stands for its tree
 pub record Keeps (part : Tree → Event) : Type 0 where
   pub keeps : (t u : Tree) → Regrouped t u → SameEvents (part t ∷ []) (part u ∷ [])

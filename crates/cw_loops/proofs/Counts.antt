@@ -2,6 +2,7 @@
 use Rattle.std.proofs.Common.{◌≡◌, ℕ, ◌+◌, List, [], ◌∷◌, ◌++◌, length, arith, refl, ◌∙◌, ap, append-nil, length-append}
 use Rattle.std.specs.Prelude.{flat_map}
 use Rattle.std.proofs.lemmas.Grind.{flat_map-append}
+use Rattle.std.proofs.lemmas.List.{nil_from_length}
 use Rattle.cw_model.specs.Syntax.{Name, Stmt, Declare, DeclareArray, Assign, AssignElement, Reduce, Call, Start, Begin, Sync, If, IfElse, While, For, Scope, Cut, Region, Print, Return, Block, End, Then, Function, Program}
 use Rattle.cw_model.specs.Captured.{captured}
 use Rattle.cw_model.specs.Sites.{CallSite, sites_in, sites_in_block}
@@ -85,12 +86,8 @@ cuts_sites line (a ∷ over) b = length-append (sites_in_block (in_cuts line ove
 function_sites : (name : Name) (line : ℕ) (x : Name) (grain : ℕ) (ints over : List Name) (b : Block) → length (sites_in_block (loop_function name line x grain ints over b).body) ≡ length (sites_in_block b)
 function_sites name line x grain ints over b =
     let c = cuts_sites line over (both_halves line name (left_arguments ints over) (right_arguments ints over)) in
-    let n : sites_in_block (in_cuts line over (both_halves line name (left_arguments ints over) (right_arguments ints over))) ≡ [] = nothing _ c in
+    let n : sites_in_block (in_cuts line over (both_halves line name (left_arguments ints over) (right_arguments ints over))) ≡ [] = nil_from_length _ c in
     rw n (ap length (append-nil ((((sites_in_block b ++ []) ++ []) ++ [])) ∙ append-nil ((sites_in_block b ++ []) ++ []) ∙ append-nil (sites_in_block b ++ []) ∙ append-nil (sites_in_block b)))
-  where
-    nothing : (xs : List CallSite) → length xs ≡ 0 → xs ≡ []
-    nothing [] e = refl
-    nothing (x ∷ xs) e = absurd (omega arith)
 
 sites_both : (xs ys : List Function) → length (sites_of (xs ++ ys)) ≡ length (sites_of xs) + length (sites_of ys)
 sites_both xs ys = ap length (flat_map-append (λ (f : Function). sites_in_block f.body) xs ys) ∙ length-append (sites_of xs) (sites_of ys)

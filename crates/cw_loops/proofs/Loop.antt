@@ -1,5 +1,5 @@
 -- A `cilk_for`, and the first call of the function that it is lowered to.
-use Rattle.std.proofs.Common.{◌≡◌, ℕ, ◌+◌, ◌-◌, ◌≤◌, ◌<◌, ◌^◌, Bool, true, false, ℤ, pos, negsuc, ◌+ℤ◌, ◌-ℤ◌, List, [], arith, refl, sym, ◌∙◌, ap}
+use Rattle.std.proofs.Common.{◌≡◌, ℕ, ◌+◌, ◌-◌, ◌≤◌, ◌<◌, ◌^◌, Bool, true, false, ℤ, pos, negsuc, ◌+ℤ◌, ◌-ℤ◌, List, arith, refl, sym, ◌∙◌, ap}
 use Rattle.std.specs.Prelude.{if◌then◌else◌, nat_lt, int_le, int_lt}
 use Rattle.std.proofs.lemmas.Bool.{ltb-false}
 use Rattle.std.proofs.lemmas.Int.{ints}
@@ -9,9 +9,9 @@ use Rattle.cw_model.specs.declared.limits.TheConstants.{MOST_TURNS}
 use Rattle.cw_model.specs.Ints.{Result, Value, Fails, natural, fits}
 use Rattle.cw_model.specs.declared.trap.Trap.TheVariants as trap
 use Rattle.cw_model.specs.Expressions.{Evaluated, Gives, Traps, done_at}
-use Rattle.cw_model.specs.Outcome.{Outcome, Trapped, Over, then_do, pay_for}
+use Rattle.cw_model.specs.Outcome.{Outcome, then_do, pay_for}
 use Rattle.cw_model.specs.Loops.{loop_turns, lies_within}
-use Rattle.cw_loops.proofs.Alike.{Alike, both_trapped, both_over, alike_pay, value_pays}
+use Rattle.cw_loops.proofs.Alike.{Alike, alike_pay, value_pays, both_stop}
 use Rattle.cw_loops.proofs.Cuts.{alike_left, alike_right}
 
 -- a value with some property, or a trap
@@ -23,11 +23,7 @@ pub such_then : {C D : Type 0} {S : C → D → Type 0} (P : ℤ → Type 0) (ev
     ((v : ℤ) (l : ℕ) → P v → l ≤ left → Alike S l (go v l) (go' v l)) → Alike S left (then_do (pay_for ev line left) go) (then_do (pay_for ev' line left) go')
 such_then {C = C} {D = D} {S = S} P (Gives v k) ev' line left e f go go' h =
     alike_left (value_pays v k line left go) (alike_right (ap (λ ev. then_do (pay_for ev line left) go') e ∙ value_pays v k line left go') (alike_pay k left _ _ (λ enough. h v (left - k) f (omega arith))))
-such_then {C = C} {D = D} {S = S} P (Traps trap k) ev' line left e f go go' h = alike_right (ap (λ ev. then_do (pay_for ev line left) go') e) (by_test (nat_lt left k))
-  where
-    by_test : (b : Bool) → Alike S left (then_do (if b then Over else Trapped trap line []) go) (then_do (if b then Over else Trapped trap line []) go')
-    by_test true = both_over
-    by_test false = both_trapped refl
+such_then {C = C} {D = D} {S = S} P (Traps trap k) ev' line left e f go go' h = alike_right (ap (λ ev. then_do (pay_for ev line left) go') e) (both_stop left trap line go go' (nat_lt left k))
 
 -- the count of a loop's turns
 pub record Counted (lo hi : ℤ) (arrays : List (List ℤ)) (v : ℤ) : Type 0 where
@@ -72,8 +68,4 @@ pub such_paid : {C D : Type 0} {S : C → D → Type 0} (P : ℤ → Type 0) (r 
     ((v : ℤ) (l : ℕ) → P v → l + 1 ≤ left → Alike S l (go v l) (go' v l)) → Alike S left (then_do (pay_for (done_at 1 r) line left) go) (then_do (pay_for ev' line left) go')
 such_paid {C = C} {D = D} {S = S} P (Value v) ev' line left e f go go' h =
     alike_left (value_pays v 1 line left go) (alike_right (ap (λ ev. then_do (pay_for ev line left) go') e ∙ value_pays v 1 line left go') (alike_pay 1 left _ _ (λ enough. h v (left - 1) f (omega arith))))
-such_paid {C = C} {D = D} {S = S} P (Fails trap) ev' line left e f go go' h = alike_right (ap (λ ev. then_do (pay_for ev line left) go') e) (by_test (nat_lt left 1))
-  where
-    by_test : (b : Bool) → Alike S left (then_do (if b then Over else Trapped trap line []) go) (then_do (if b then Over else Trapped trap line []) go')
-    by_test true = both_over
-    by_test false = both_trapped refl
+such_paid {C = C} {D = D} {S = S} P (Fails trap) ev' line left e f go go' h = alike_right (ap (λ ev. then_do (pay_for ev line left) go') e) (both_stop left trap line go go' (nat_lt left 1))

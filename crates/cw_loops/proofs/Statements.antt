@@ -12,11 +12,11 @@ use Rattle.cw_model.specs.Syntax.{Name, Expr, Declare, DeclareArray, Assign, Red
 use Rattle.cw_model.specs.Names.{same_name, put}
 use Rattle.cw_model.specs.Frames.{Frame, new_int, new_array, set_int, set_array}
 use Rattle.cw_model.specs.Expressions.{Evaluated, Gives, Traps, evaluate, and_then, done_at, element, written}
-use Rattle.cw_model.specs.Outcome.{shows, quiet, Outcome, Done, Trapped, Over, then_do, pay_for}
+use Rattle.cw_model.specs.Outcome.{shows, quiet, Outcome, Done, then_do, pay_for}
 use Rattle.cw_model.specs.Meaning.{Completion, Normal, ByReturn, Calls, new_length, run}
 use Rattle.cw_loops.specs.Lowered.{lower_expr, lower_option}
 use Rattle.cw_loops.specs.Lowerable.{Surroundings, can_write, is_local, can_evaluate, can_lower}
-use Rattle.cw_loops.proofs.Alike.{Alike, both_done, both_trapped, both_over, alike_pay, alike_after, same_events, value_pays}
+use Rattle.cw_loops.proofs.Alike.{Alike, both_done, alike_pay, alike_after, same_events, value_pays, both_stop}
 use Rattle.cw_loops.proofs.Cuts.{alike_right, alike_left}
 use Rattle.cw_loops.proofs.Tables.{keys, put_past}
 use Rattle.cw_loops.proofs.Arguments.{keys-append}
@@ -47,11 +47,7 @@ pub value_then : {C D : Type 0} {S : C → D → Type 0} (ev ev' : Evaluated) (l
     ((v : ℤ) (l : ℕ) → fits v ≡ true → l ≤ left → Alike S l (go v l) (go' v l)) → Alike S left (then_do (pay_for ev line left) go) (then_do (pay_for ev' line left) go')
 value_then {C = C} {D = D} {S = S} (Gives v k) ev' line left e f go go' h =
     alike_left (value_pays v k line left go) (alike_right (ap (λ ev. then_do (pay_for ev line left) go') e ∙ value_pays v k line left go') (alike_pay k left _ _ (λ enough. h v (left - k) f (omega arith))))
-value_then {C = C} {D = D} {S = S} (Traps trap k) ev' line left e f go go' h = alike_right (ap (λ ev. then_do (pay_for ev line left) go') e) (by_test (nat_lt left k))
-  where
-    by_test : (b : Bool) → Alike S left (then_do (if b then Over else Trapped trap line []) go) (then_do (if b then Over else Trapped trap line []) go')
-    by_test true = both_over
-    by_test false = both_trapped refl
+value_then {C = C} {D = D} {S = S} (Traps trap k) ev' line left e f go go' h = alike_right (ap (λ ev. then_do (pay_for ev line left) go') e) (both_stop left trap line go go' (nat_lt left k))
 
 -- values of one cost on both sides
 pub values_then : {C D : Type 0} {S : C → D → Type 0} (ev ev' : Evaluated) (v v' : ℤ) (k line left : ℕ) → ev ≡ Gives v k → ev' ≡ Gives v' k → (go : ℤ → ℕ → Outcome C) (go' : ℤ → ℕ → Outcome D) →

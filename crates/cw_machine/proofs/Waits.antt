@@ -26,6 +26,7 @@ use Rattle.cw_machine.specs.Arrays.{is_among}
 use Rattle.cw_machine.specs.Hands.{is_cut_among, stays_here, lent_count, ComesRound}
 use Rattle.cw_machine.proofs.Order.{full_value}
 use Rattle.cw_machine.proofs.Places.{same_or}
+use Rattle.cw_machine.proofs.Rights.{same_head}
 
 -- a slot that is not found among some is none of them, and the other way round
 among_not : (a : ℕ) (bs : List ℕ) → is_among a bs ≡ false → IsNotAmong a bs
@@ -270,10 +271,7 @@ module _ (v : Verified) (ok : Ok v) (m : Machine) (s : State) (w : Waiting) (aro
   in_cells = subst (λ r. Round v ok m.cells.items m.first (length s.slots) (reverse m.frames.items) r) is_waiting shows.holds.round
 
   same_frame : in_cells.0 ≡ waiting_frame
-  same_frame = heads in_cells.0 waiting_frame in_cells.1 frames_beyond (sym in_cells.2 ∙ frames_are)
-    where
-      heads : (f g : Frame) (fs gs : List Frame) → f ∷ fs ≡ g ∷ gs → f ≡ g
-      heads f g fs gs e = cc
+  same_frame = same_head in_cells.0 waiting_frame in_cells.1 frames_beyond (sym in_cells.2 ∙ frames_are)
 
   pub stands : Stands v ok m.cells.items m.first waiting_frame w around
   stands = subst (λ f. Stands v ok m.cells.items m.first f w around) same_frame in_cells.3

@@ -1,7 +1,7 @@
 -- What each call on a meter does to what it tells.
 use Rattle.std.specs.Prelude.{◌≡◌, ℕ, ◌+◌, ◌≤◌, ◌<◌, Bool, false, List, [], ◌∷◌, ◌++◌, length, reverse, Option, Some, refl}
 use Rattle.std.proofs.Common.{sym, ◌∙◌, ap, subst, arith}
-use Rattle.std.proofs.lemmas.List.{append_assoc}
+use Rattle.std.proofs.lemmas.List.{append_assoc, nil_from_length}
 use Rattle.cw_facts.specs.Lists.{reverse_pushed}
 use Rattle.cw_model.specs.declared.burden.Burden.{Burden}
 use Rattle.cw_model.specs.declared.limits.TheConstants.{MOST_LIMIT, MOST_BURDEN}
@@ -165,12 +165,8 @@ pub part_closed : (old : Meter) (left : List Part) (part : Part) (t : Tables) (c
 part_closed old left part t count closes e = λ burden tags from o os es joined parts small light h.
     let a = parts_popped from tags o os part old.parts.items left e parts in (closes burden tags from o os es a.0 joined small light h, a.1)
 
-none_of : (parts : List Part) → length parts ≡ 0 → parts ≡ []
-none_of [] e = refl
-none_of (p ∷ parts) e = absurd (omega arith)
-
 pub nothing_closed : (old new : Meter) (count : ℕ) → length old.parts.items ≡ 0 → ClosesPart old new count
-nothing_closed old new count e = λ burden tags from o os es joined parts small light h. absurd (no_parts from tags o os old.parts.items (none_of old.parts.items e) parts)
+nothing_closed old new count e = λ burden tags from o os es joined parts small light h. absurd (no_parts from tags o os old.parts.items (nil_from_length old.parts.items e) parts)
 
 ended_in : (old mid new : Meter) (count : ℕ) → JoinsBlock old mid count → mid.tables.spawned ≡ false → mid.parts.items ≡ old.parts.items → ClosesPart mid new count → (burden : Burden) (tags : Tags) (from : Origin) (o : Open) (os : List Open) (es : List Event) (opens : List Open) (events : List Event) → count < MOST_LIMIT → burden.charge ≤ MOST_BURDEN → AreOpenAlike (o ∷ os) opens → AreAlike es events → TablesTell burden tags from count opens events old.tables → AreParts from tags opens (reverse old.parts.items) → Measured burden tags from (count + 1) os (ticked (closed o es)) new
 ended_in old mid new count joins joined e closes burden tags from o os es [] events small light alike_open alike h parts = absurd alike_open

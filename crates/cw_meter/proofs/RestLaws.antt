@@ -1,6 +1,7 @@
 -- The rest of a block ran apart, with a meter of its own.
 use Rattle.std.specs.Prelude.{◌≡◌, ℕ, ◌+◌, ◌≤◌, Bool, true, false, not, ◌||◌, List, [], ◌++◌, reverse, refl}
 use Rattle.std.proofs.Common.{sym, ◌∙◌, ap, subst, arith}
+use Rattle.std.proofs.Math.Bool.{not-not}
 use Rattle.cw_model.specs.declared.burden.Burden.{Burden}
 use Rattle.cw_model.specs.declared.limits.TheConstants.{MOST_LIMIT, MOST_BURDEN}
 use Rattle.cw_model.specs.Trees.{Event}
@@ -57,10 +58,6 @@ pub meter_here : (m : Meter) (burden : Burden) (tags : Tags) (from : Origin) (co
 meter_here m burden tags from count os es h = h.tables.sites.here_is ∙ sym (here_alike (base_of from) os h.told_open h.open_alike)
 
 -- the tables of a rest are taken in
-not_twice : (b : Bool) → b ≡ not (not b)
-not_twice true = refl
-not_twice false = refl
-
 either_way : (b c : Bool) → c ≡ true → b || c ≡ true
 either_way true c e = refl
 either_way false c e = e
@@ -77,7 +74,7 @@ pub rest_taken_in : (old rest new : Tables) (first : Bool) → first ≡ not old
 rest_taken_in old rest new first f joins appends regions b s = λ burden tags from count cost os es fs small light n h g.
     let k = counted_rest burden from count cost (here_in (base_of from) os) os es fs h.counted g.counted in
     let w = small_run burden from (count + cost) os (es ++ fs) small k in
-    let spawned : has_spawned es ≡ not first = sym h.spawned_is ∙ not_twice old.spawned ∙ ap not (sym f) in
+    let spawned : has_spawned es ≡ not first = sym h.spawned_is ∙ sym (not-not old.spawned) ∙ ap not (sym f) in
     record {
       sites = joins (base_of from) nothing_open os es fs spawned (either_way first (no_joins fs) n) w h.sites g.sites;
       path = appends burden os es fs spawned n w.work (fits_run burden from (count + cost) os (es ++ fs) small light k) h.path g.path;

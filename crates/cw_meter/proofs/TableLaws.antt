@@ -2,6 +2,7 @@
 use Rattle.std.specs.Prelude.{◌≡◌, ℕ, ◌+◌, ◌-◌, ◌≤◌, Bool, true, false, not, List, [], ◌∷◌, ◌++◌, Option, Some, None, refl}
 use Rattle.std.proofs.Common.{sym, ◌∙◌, ap, subst, arith}
 use Rattle.std.proofs.lemmas.List.{append-nil, append_assoc}
+use Rattle.std.proofs.Math.Bool.{not-not}
 use Rattle.cw_model.specs.declared.burden.Burden.{Burden}
 use Rattle.cw_model.specs.declared.limits.TheConstants.{MOST_LIMIT, MOST_BURDEN}
 use Rattle.cw_model.specs.Trees.{Mark, Invocation, Execution, Event, Work, Series, Fork, Join}
@@ -179,16 +180,12 @@ call_opened t s count site enters waits = λ burden tags from os es k small ligh
     (late_begun burden mark os es t.path (path_waits burden tags from count os es t waits small light h))
     (tags_opened burden tags from false mark os es t.regions tt h.regions) k h.burden_is refl
 
-pub not_twice : (b : Bool) → not (not b) ≡ b
-not_twice true = refl
-not_twice false = refl
-
 -- a spawned part begins, by a table's own rule
 spawned_path : (burden : Burden) (tags : Tags) (from : Origin) (count : ℕ) (os : List Open) (es : List Event) (t : Tables) (m p : BurdenedPath) (mark : Option Mark) → NotesLate t.path m count → SpawnsWeight m p count (not t.spawned) → count ≤ MOST_LIMIT → burden.charge ≤ MOST_BURDEN → TablesTell burden tags from count os es t → TellsWeight burden (opened true mark es os) [] p
 spawned_path burden tags from count os es t m p mark notes spawns small light h =
     let P : List Event → Type 0 = λ x. TellsWeight burden (opened true mark x os) [] p in
     let told = path_told burden tags from count os es t m notes small light h in
-    subst P (append-nil es) (spawns burden mark os es [] (none_since burden from count os es m h.counted told) (fits_now burden tags from count os es t h small light) (sym h.spawned_is ∙ sym (not_twice t.spawned)) told)
+    subst P (append-nil es) (spawns burden mark os es [] (none_since burden from count os es m h.counted told) (fits_now burden tags from count os es t h small light) (sym h.spawned_is ∙ sym (not-not t.spawned)) told)
 
 pub spawned_call_opened : (t : Tables) (s : SiteTable) (m p : BurdenedPath) (count site : ℕ) → Spawns t.sites s count site (not t.spawned) → NotesLate t.path m count → SpawnsWeight m p count (not t.spawned) → Opens t (with_tables t s p false) count true (Some (Invocation site))
 spawned_call_opened t s m p count site spawns notes heavier = λ burden tags from os es k small light h.
@@ -196,7 +193,7 @@ spawned_call_opened t s m p count site spawns notes heavier = λ burden tags fro
     let P : List Event → Type 0 = λ x. sites.Tells (base_of from) nothing_open (opened true mark x os) [] s in
     let S : List Event → Type 0 = λ x. Small nothing_open (opened true mark x os) [] in
     tables_told burden tags from count (opened true mark es os) [] (with_tables t s p false) (record {
-      sites = subst P h.all (spawns (base_of from) nothing_open os h.told h.since (sites_since burden tags from count os es t h) (told_spawned burden tags from count os es t h ∙ sym (not_twice t.spawned)) (subst S (sym h.all) (small_run burden from count (opened true mark es os) [] small k)) h.sites);
+      sites = subst P h.all (spawns (base_of from) nothing_open os h.told h.since (sites_since burden tags from count os es t h) (told_spawned burden tags from count os es t h ∙ sym (not-not t.spawned)) (subst S (sym h.all) (small_run burden from count (opened true mark es os) [] small k)) h.sites);
       path = spawned_path burden tags from count os es t m p mark notes heavier small light h;
       regions = tags_opened burden tags from true mark os es t.regions tt h.regions;
       counted = k;
@@ -208,7 +205,7 @@ pub half_opened : (t : Tables) (s : SiteTable) (m p : BurdenedPath) (count : ℕ
 half_opened t s m p count spawns notes heavier = λ burden tags from os es k small light h.
     let P : List Event → Type 0 = λ x. sites.Tells (base_of from) nothing_open (opened true None x os) [] s in
     tables_told burden tags from count (opened true None es os) [] (with_tables t s p false) (record {
-      sites = subst P h.all (spawns (base_of from) nothing_open None os h.told h.since tt (sites_since burden tags from count os es t h) (told_spawned burden tags from count os es t h ∙ sym (not_twice t.spawned)) (told_small burden tags from count os es t h small) h.sites);
+      sites = subst P h.all (spawns (base_of from) nothing_open None os h.told h.since tt (sites_since burden tags from count os es t h) (told_spawned burden tags from count os es t h ∙ sym (not-not t.spawned)) (told_small burden tags from count os es t h small) h.sites);
       path = spawned_path burden tags from count os es t m p None notes heavier small light h;
       regions = tags_opened burden tags from true None os es t.regions tt h.regions;
       counted = k;

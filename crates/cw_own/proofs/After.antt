@@ -1,7 +1,7 @@
 -- What is taken after a statement and after a block, by names and by slots.
 use Rattle.std.proofs.Common.{◌≡◌, ℕ, pos, ◌+◌, ◌≤◌, ◌==◌, nat_lt, Bool, true, false, not, ◌&&◌, ◌||◌, if◌then◌else◌, List, [], ◌∷◌, ◌++◌, length, map, Option, Some, None, option_map, ◌⊎◌, inl, inr, ⊎_elim, subst, refl, sym, ap, ◌∙◌}
 use Rattle.std.specs.List.{list_all}
-use Rattle.std.proofs.Math.Bool.{and-false}
+use Rattle.std.proofs.Math.Bool.{and-false, or_comm}
 use Rattle.cw_facts.specs.Tests.{neither_first, neither_second, not_lt_of, not_true}
 use Rattle.cw_model.specs.declared.syntax.CallKind.TheVariants.{Plain, Spawned}
 use Rattle.cw_model.specs.declared.syntax.NameKind.{NameKind}
@@ -21,7 +21,7 @@ use Rattle.cw_tree.specs.lemmas.NamedSlots.{turned}
 use Rattle.cw_tree.specs.lemmas.Names.{called_is}
 use Rattle.cw_own.specs.Sets.{Slots, with_slot, Row, no_local, either_row, both_rows}
 use Rattle.cw_own.specs.Taken.{Held, none_held, taking_int, taking_array, freezing, either_held, held_within, with_target, with_arrays, known_after, after, after_all, gain, cuts_after, cuts_after_all}
-use Rattle.cw_own.proofs.Words.{or_turn, or_swap, none_of_both}
+use Rattle.cw_own.proofs.Words.{or_swap, none_of_both}
 use Rattle.cw_own.proofs.Keeping.{same_rows, same_held, turn_law, cuts_stay, no_more, no_more_all}
 use Rattle.cw_own.proofs.Holding.{held, held_without}
 use Rattle.cw_own.proofs.Holding as holding
@@ -347,7 +347,7 @@ while_after program lists returns known locals depth outside e b taken here cuts
     let b' = spec.resolved_block lists locals b in
     let row = held_within (known_row locals) (after_all (known_row locals) b' here) in
     subst (λ r. Holds locals depth outside (taken_after program.functions depth (While e b) taken) r cuts) (turn_law (known_row locals) b' here)
-    (subst (λ c. Holds locals depth outside (taken_after program.functions depth (While e b) taken) (either_held here row) c) (λ i. λ n. (or_turn (cuts n) (cuts_after_all b' cuts n) ∙ cuts_stay b' cuts n) i)
+    (subst (λ c. Holds locals depth outside (taken_after program.functions depth (While e b) taken) (either_held here row) c) (λ i. λ n. (or_comm (cuts n) (cuts_after_all b' cuts n) ∙ cuts_stay b' cuts n) i)
     (holds_either locals depth outside taken _ here row cuts (cuts_after_all b' cuts) h
     (branch_after program lists returns known locals depth outside b taken here cuts k steady top fine h last)))
 

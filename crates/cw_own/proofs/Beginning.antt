@@ -1,10 +1,10 @@
 -- What is known as a function begins.
-use Rattle.std.proofs.Common.{◌≡◌, ℕ, ◌+◌, nat_lt, Bool, true, false, not, ◌||◌, if◌then◌else◌, cond, List, [], ◌∷◌, ◌++◌, length, map, filter, subst, refl, sym, ap, ◌∙◌, arith, length-append}
+use Rattle.std.proofs.Common.{◌≡◌, ℕ, ◌+◌, nat_lt, Bool, true, false, not, ◌||◌, if◌then◌else◌, cond, List, [], ◌∷◌, ◌++◌, length, map, filter, subst, refl, sym, ap, ◌∙◌, arith}
 use Rattle.std.proofs.lemmas.Bool.Decides.{nat_tests}
 use Rattle.std.proofs.lemmas.Slice.Eq.{bytes_eq-Decides}
-use Rattle.std.proofs.lemmas.List.{append_assoc, append-nil}
+use Rattle.std.proofs.lemmas.List.{append_assoc, append-nil, length_push}
 use Rattle.std.proofs.lemmas.Bool.{or_from}
-use Rattle.std.proofs.Math.Bool.{or-false}
+use Rattle.std.proofs.Math.Bool.{or-false, or-true, or_comm}
 use Rattle.cw_facts.specs.Tests.{not_true, below, not_below}
 use Rattle.cw_model.specs.Syntax.{Name, Param}
 use Rattle.cw_model.specs.Names.{same_name, is_among, differ}
@@ -16,7 +16,7 @@ use Rattle.cw_tree.specs.lemmas.NamedSlots.{among_push, slot_in, slot_out}
 use Rattle.cw_tree.specs.lemmas.Names.{among_append}
 use Rattle.cw_own.specs.Sets.{no_local, with_int, with_array}
 use Rattle.cw_own.specs.Taken.{with_params}
-use Rattle.cw_own.proofs.Words.{if_or, or_all, or_turn}
+use Rattle.cw_own.proofs.Words.{if_or}
 use Rattle.cw_own.proofs.Keeping.{same_rows}
 use Rattle.cw_own.proofs.Showing.{Shows, known_row}
 use Rattle.cw_own.proofs.Knowing.{Knows, Fresh, knows_int, knows_array, knows_const, known_int, known_array}
@@ -62,17 +62,14 @@ params_row : (ps : List Param) (locals : Locals) → with_params (length locals.
 params_row [] locals = refl
 params_row (p ∷ ps) locals = by (wants_array p) (params_row ps)
   where
-    one : (xs : List Name) (x : Name) → length (xs ++ x ∷ []) ≡ length xs + 1
-    one xs x = length-append xs (x ∷ [])
-
     by : (b : Bool) → ((locals : Locals) → with_params (length locals.ints) (length locals.arrays) ps (known_row locals) ≡ known_row (params_after locals ps)) → (if b then with_params (length locals.ints) (length locals.arrays + 1) ps (with_array (length locals.arrays) (known_row locals)) else with_params (length locals.ints + 1) (length locals.arrays) ps (with_int (length locals.ints) (known_row locals)))
         ≡ known_row (params_after (if b then spec.with_array p.name locals else spec.with_int p.name locals) ps)
     by true more =
-        ap (λ n. with_params (length locals.ints) n ps (with_array (length locals.arrays) (known_row locals))) (sym (one locals.arrays p.name))
+        ap (λ n. with_params (length locals.ints) n ps (with_array (length locals.arrays) (known_row locals))) (sym (length_push locals.arrays p.name))
         ∙ ap (with_params (length locals.ints) (length (locals.arrays ++ p.name ∷ [])) ps) (sym (known_array locals p.name))
         ∙ more (spec.with_array p.name locals)
     by false more =
-        ap (λ n. with_params n (length locals.arrays) ps (with_int (length locals.ints) (known_row locals))) (sym (one locals.ints p.name))
+        ap (λ n. with_params n (length locals.arrays) ps (with_int (length locals.ints) (known_row locals))) (sym (length_push locals.ints p.name))
         ∙ ap (with_params (length (locals.ints ++ p.name ∷ [])) (length locals.arrays) ps) (sym (known_int locals p.name))
         ∙ more (spec.with_int p.name locals)
 
@@ -106,7 +103,7 @@ fresh_params [] locals d f = tt
 fresh_params (p ∷ ps) locals d f =
     let out = not_true (is_among p.name (names_of ps)) (both_left (not (is_among p.name (names_of ps))) (differ (names_of ps)) d) in
     let here = f p.name (ap (λ b. if b then true else is_among p.name (names_of ps)) ((bytes_eq-Decides p.name p.name).1 refl)) in
-    let later = apart_all p.name locals ps out (λ q there. f q (if_or (same_name q p.name) (is_among q (names_of ps)) ∙ ap (λ b. same_name q p.name || b) there ∙ or_all (same_name q p.name))) in
+    let later = apart_all p.name locals ps out (λ q there. f q (if_or (same_name q p.name) (is_among q (names_of ps)) ∙ ap (λ b. same_name q p.name || b) there ∙ or-true (same_name q p.name))) in
     (record { no_int = here.0; no_array = here.1 }, by (wants_array p) later (λ l. fresh_params ps l (both_right (not (is_among p.name (names_of ps))) (differ (names_of ps)) d)))
   where
     by : (b : Bool) → ((q : Name) → is_among q (names_of ps) ≡ true → (NotIn (spec.with_int p.name locals) q) × (NotIn (spec.with_array p.name locals) q)) →
@@ -135,7 +132,7 @@ names_known x (p ∷ ps) =
     ∙ among_append x (map (λ k. k.0) (known_of ps)) (p.name ∷ [])
     ∙ ap (λ b. b || is_among x (p.name ∷ [])) (names_known x ps)
     ∙ ap (λ b. is_among x (names_of ps) || b) (if_or (same_name x p.name) false ∙ or-false (same_name x p.name))
-    ∙ or_turn (is_among x (names_of ps)) (same_name x p.name)
+    ∙ or_comm (is_among x (names_of ps)) (same_name x p.name)
     ∙ sym (if_or (same_name x p.name) (is_among x (names_of ps)))
 
 in_row : (x : Name) (names : List Name) → is_among x names ≡ nat_lt (slot_of x names) (length names)

@@ -1,7 +1,7 @@
 -- What is taken, by names and holders, is what the rows hold.
 use Rattle.std.proofs.Common.{◌≡◌, ℕ, ◌+◌, ◌≤◌, ◌==◌, Bool, true, false, not, ◌&&◌, ◌||◌, ◌∷◌, ◌++◌, refl, sym, ap, ◌∙◌, arith}
 use Rattle.std.proofs.lemmas.Bool.Decides.{nat_tests}
-use Rattle.std.proofs.Math.Bool.{or-false, and-false, or_assoc}
+use Rattle.std.proofs.Math.Bool.{or-false, and-false, or_assoc, and-true}
 use Rattle.cw_facts.specs.Tests.{equal}
 use Rattle.cw_model.specs.Syntax.{Name}
 use Rattle.cw_model.specs.Names.{same_name, is_among}
@@ -11,7 +11,7 @@ use Rattle.cw_tree.specs.Resolved as spec
 use Rattle.cw_tree.specs.lemmas.NamedSlots.{turned, one_slot}
 use Rattle.cw_own.specs.Sets.{Slots, with_slot, without_slot, either, Row, with_int, with_array, either_row}
 use Rattle.cw_own.specs.Taken.{Held, none_held, taking_int, taking_array, freezing, either_held}
-use Rattle.cw_own.proofs.Words.{and_all, four_or}
+use Rattle.cw_own.proofs.Words.{four_or}
 use Rattle.cw_own.proofs.Keeping.{same_rows}
 use Rattle.cw_own.proofs.Holding.{held, is_cut, but_spawn, but_cut, held_append, held_freed, uncut_test, held_uncut, held_same}
 use Rattle.cw_own.proofs.Showing.{Shows, shows_as, shows_row, shows_either, shows_int, shows_array, shows_push_int, shows_push_array}
@@ -201,7 +201,7 @@ freed_arrays r q a d m c u n e =
     ap (λ n. r || ((((q && not n) && a) || ((d && not n) && m)) || ((c && true) && u))) e
     ∙ ap (λ x. r || ((x || ((d && false) && m)) || ((c && true) && u))) (off q a)
     ∙ ap (λ x. r || (((q && false) || x) || ((c && true) && u))) (off d m)
-    ∙ ap (λ x. r || (((q && false) || (d && false)) || (x && u))) (and_all c)
+    ∙ ap (λ x. r || (((q && false) || (d && false)) || (x && u))) (and-true c)
 
 -- a join
 pub holds_freed : (locals : Locals) (depth : ℕ) (outside : (Holder → Bool) → Row) (taken : Taken) (here : Held) (cuts : Slots) → Steady depth outside →
@@ -232,8 +232,8 @@ pub steady_inside : (depth : ℕ) (outside : (Holder → Bool) → Row) (here : 
 steady_inside depth outside here s = record {
   spawns = λ d le p.
       let same = s.spawns d (omega (arith, le)) p in
-      let q : (p (SpawnIn depth) && not (depth == d)) ≡ p (SpawnIn depth) = ap (λ b. p (SpawnIn depth) && not b) (apart_depth depth d le) ∙ and_all (p (SpawnIn depth)) in
-      let w : (p (ReaderIn depth) && not (depth == d)) ≡ p (ReaderIn depth) = ap (λ b. p (ReaderIn depth) && not b) (apart_depth depth d le) ∙ and_all (p (ReaderIn depth)) in
+      let q : (p (SpawnIn depth) && not (depth == d)) ≡ p (SpawnIn depth) = ap (λ b. p (SpawnIn depth) && not b) (apart_depth depth d le) ∙ and-true (p (SpawnIn depth)) in
+      let w : (p (ReaderIn depth) && not (depth == d)) ≡ p (ReaderIn depth) = ap (λ b. p (ReaderIn depth) && not b) (apart_depth depth d le) ∙ and-true (p (ReaderIn depth)) in
       same_rows (entered outside depth here (but_spawn d p)) (entered outside depth here p)
       (λ k. ap (λ (r : Row). r.ints k || ((p (SpawnIn depth) && not (depth == d)) && here.ints k)) same ∙ ap (λ b. (outside p).ints k || (b && here.ints k)) q)
       (λ k. ap (λ (r : Row). r.arrays k || (((p (SpawnIn depth) && not (depth == d)) && here.arrays k) || ((p (ReaderIn depth) && not (depth == d)) && here.frozen k))) same
@@ -242,10 +242,10 @@ steady_inside depth outside here s = record {
   cuts = λ p.
       let same = s.cuts p in
       same_rows (entered outside depth here (but_cut p)) (entered outside depth here p)
-      (λ k. ap (λ (r : Row). r.ints k || ((p (SpawnIn depth) && true) && here.ints k)) same ∙ ap (λ b. (outside p).ints k || (b && here.ints k)) (and_all (p (SpawnIn depth))))
+      (λ k. ap (λ (r : Row). r.ints k || ((p (SpawnIn depth) && true) && here.ints k)) same ∙ ap (λ b. (outside p).ints k || (b && here.ints k)) (and-true (p (SpawnIn depth))))
       (λ k. ap (λ (r : Row). r.arrays k || (((p (SpawnIn depth) && true) && here.arrays k) || ((p (ReaderIn depth) && true) && here.frozen k))) same
-      ∙ ap (λ b. (outside p).arrays k || ((b && here.arrays k) || ((p (ReaderIn depth) && true) && here.frozen k))) (and_all (p (SpawnIn depth)))
-      ∙ ap (λ b. (outside p).arrays k || ((p (SpawnIn depth) && here.arrays k) || (b && here.frozen k))) (and_all (p (ReaderIn depth))));
+      ∙ ap (λ b. (outside p).arrays k || ((b && here.arrays k) || ((p (ReaderIn depth) && true) && here.frozen k))) (and-true (p (SpawnIn depth)))
+      ∙ ap (λ b. (outside p).arrays k || ((p (SpawnIn depth) && here.arrays k) || (b && here.frozen k))) (and-true (p (ReaderIn depth))));
 }
 
 entered_ints : (r q a n : Bool) → (r || (q && a)) ≡ ((r || (q && a)) || (n && false))
@@ -269,7 +269,7 @@ holds_inside locals depth outside taken here cuts h p =
 left_ints : (r q a m b n : Bool) → n ≡ true → ((r || ((q && true) && a)) || ((m && not n) && b)) ≡ (r || (q && a))
 left_ints r q a m b n e =
     ap (λ n. (r || ((q && true) && a)) || ((m && not n) && b)) e
-    ∙ ap (λ x. (r || (x && a)) || ((m && false) && b)) (and_all q)
+    ∙ ap (λ x. (r || (x && a)) || ((m && false) && b)) (and-true q)
     ∙ ap (λ x. (r || (q && a)) || x) (off m b ∙ and-false m)
     ∙ or-false (r || (q && a))
 
@@ -278,7 +278,7 @@ left_arrays r x m b d f c u n e =
     ap (λ n. (r || x) || ((((m && not n) && b) || ((d && not n) && f)) || ((c && true) && u))) e
     ∙ ap (λ y. (r || x) || ((y || ((d && false) && f)) || ((c && true) && u))) (off m b ∙ and-false m)
     ∙ ap (λ y. (r || x) || (y || ((c && true) && u))) (off d f ∙ and-false d)
-    ∙ ap (λ y. (r || x) || (y && u)) (and_all c)
+    ∙ ap (λ y. (r || x) || (y && u)) (and-true c)
     ∙ or_assoc r x (c && u)
 
 pub holds_left : (locals : Locals) (depth : ℕ) (outside : (Holder → Bool) → Row) (here : Held) (taken : Taken) (inner : Held) (cuts : Slots) → Steady depth outside →
@@ -287,8 +287,8 @@ holds_left locals depth outside here taken inner cuts steady h p =
     let left = but_spawn (depth + 1) p in
     let same = steady.spawns (depth + 1) (omega arith) p in
     let other : (p (SpawnIn depth) && not (depth == depth + 1)) ≡ (p (SpawnIn depth) && true) = ap (λ b. p (SpawnIn depth) && not b) (other_depth depth) in
-    let spawn : (p (SpawnIn depth) && not (depth == depth + 1)) ≡ p (SpawnIn depth) = other ∙ and_all (p (SpawnIn depth)) in
-    let reader : (p (ReaderIn depth) && not (depth == depth + 1)) ≡ p (ReaderIn depth) = ap (λ b. p (ReaderIn depth) && not b) (other_depth depth) ∙ and_all (p (ReaderIn depth)) in
+    let spawn : (p (SpawnIn depth) && not (depth == depth + 1)) ≡ p (SpawnIn depth) = other ∙ and-true (p (SpawnIn depth)) in
+    let reader : (p (ReaderIn depth) && not (depth == depth + 1)) ≡ p (ReaderIn depth) = ap (λ b. p (ReaderIn depth) && not b) (other_depth depth) ∙ and-true (p (ReaderIn depth)) in
     shows_as locals (held left taken) (held p (freed (depth + 1) taken)) _ (λ z. held_freed (depth + 1) p taken z)
     (shows_row locals (held left taken) (all_of left (depth + 1) (entered outside depth here) inner cuts) (all_of p depth outside here cuts)
     (same_rows (all_of left (depth + 1) (entered outside depth here) inner cuts) (all_of p depth outside here cuts)
@@ -383,14 +383,14 @@ holds_uncut locals depth outside taken here cuts a steady there h p = record {
         ∙ ap (λ (r : Row). (r.ints i || ((p (SpawnIn depth) && true) && here.ints i))
         || (r.arrays k || ((((p (SpawnIn depth) && true) && here.arrays k) || ((p (ReaderIn depth) && true) && here.frozen k)) || ((p CutOf && false) && cuts k)))) same
         ∙ ap (λ b. ((outside p).ints i || (b && here.ints i))
-        || ((outside p).arrays k || (((b && here.arrays k) || ((p (ReaderIn depth) && true) && here.frozen k)) || ((p CutOf && false) && cuts k)))) (and_all (p (SpawnIn depth)))
+        || ((outside p).arrays k || (((b && here.arrays k) || ((p (ReaderIn depth) && true) && here.frozen k)) || ((p CutOf && false) && cuts k)))) (and-true (p (SpawnIn depth)))
         ∙ ap (λ b. ((outside p).ints i || (p (SpawnIn depth) && here.ints i))
-        || ((outside p).arrays k || (((p (SpawnIn depth) && here.arrays k) || (b && here.frozen k)) || ((p CutOf && false) && cuts k)))) (and_all (p (ReaderIn depth)))
+        || ((outside p).arrays k || (((p (SpawnIn depth) && here.arrays k) || (b && here.frozen k)) || ((p CutOf && false) && cuts k)))) (and-true (p (ReaderIn depth)))
         ∙ ap (λ b. ((outside p).ints i || (p (SpawnIn depth) && here.ints i)) || b)
         (freed_cut ((outside p).arrays k) (spun p depth here k) (p CutOf) (cuts k) (k == slot_of a locals.arrays) one)
     by x false e =
         let one : (slot_of x locals.arrays == slot_of a locals.arrays) ≡ false = one_slot x a locals.arrays there ∙ turned x a ∙ e in
-        held_same (uncut_test a p x) p taken x (λ g. ap (λ b. p g && not (b && is_cut g)) e ∙ and_all (p g))
+        held_same (uncut_test a p x) p taken x (λ g. ap (λ b. p g && not (b && is_cut g)) e ∙ and-true (p g))
         ∙ (h p).same x
         ∙ ap (λ b. ((outside p).ints (slot_of x locals.ints) || (p (SpawnIn depth) && here.ints (slot_of x locals.ints)))
         || ((outside p).arrays (slot_of x locals.arrays) || (spun p depth here (slot_of x locals.arrays) || (p CutOf && (not b && cuts (slot_of x locals.arrays)))))) (sym one)

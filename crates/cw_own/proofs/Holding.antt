@@ -1,11 +1,11 @@
 -- What holds a name, by a test of holders.
 use Rattle.std.proofs.Common.{◌≡◌, ℕ, Bool, true, false, not, ◌&&◌, ◌||◌, cond, filter, map, List, [], ◌∷◌, ◌++◌, refl, sym, ap, ◌∙◌}
 use Rattle.std.proofs.lemmas.Slice.Eq.{bytes_eq-Decides}
-use Rattle.std.proofs.Math.Bool.{and-false, or_assoc}
+use Rattle.std.proofs.Math.Bool.{and-false, or_assoc, and-true}
 use Rattle.cw_model.specs.Syntax.{Name}
 use Rattle.cw_model.specs.Names.{same_name, is_among}
 use Rattle.cw_model.specs.Ownership.{Holder, SpawnIn, ReaderIn, CutOf, Taken, is_reader, is_taken, is_held, is_spawn_in, freed, is_cut_of, cut_ended, without}
-use Rattle.cw_own.proofs.Words.{if_or, and_all, none_of_both}
+use Rattle.cw_own.proofs.Words.{if_or, none_of_both}
 
 -- a holder of this kind holds the name
 abbrev pub held : (Holder → Bool) → Taken → Name → Bool
@@ -36,7 +36,7 @@ pub held_is : (taken : Taken) (x : Name) → is_held taken x ≡ held any_holder
 held_is [] x = refl
 held_is (t ∷ taken) x =
     if_or (same_name x t.0) (is_held taken x)
-    ∙ ap (λ b. b || is_held taken x) (sym (and_all (same_name x t.0)))
+    ∙ ap (λ b. b || is_held taken x) (sym (and-true (same_name x t.0)))
     ∙ ap (λ b. (same_name x t.0 && true) || b) (held_is taken x)
 
 pub taken_is : (taken : Taken) (x : Name) → is_taken taken x ≡ held no_reader taken x
@@ -48,7 +48,7 @@ taken_is (t ∷ taken) x = by (not (is_reader t.1)) refl (taken_is taken x)
         ≡ ((same_name x t.0 && not (is_reader t.1)) || held no_reader taken x)
     by true e h =
         if_or (same_name x t.0) (is_taken taken x)
-        ∙ ap (λ b. b || is_taken taken x) (sym (ap (λ b. same_name x t.0 && b) e ∙ and_all (same_name x t.0)))
+        ∙ ap (λ b. b || is_taken taken x) (sym (ap (λ b. same_name x t.0 && b) e ∙ and-true (same_name x t.0)))
         ∙ ap (λ b. (same_name x t.0 && not (is_reader t.1)) || b) h
     by false e h =
         h
@@ -68,7 +68,7 @@ held_freed depth p (t ∷ taken) x = by (not (is_spawn_in depth t.1)) refl (held
         held p (cond b (t ∷ freed depth taken) (freed depth taken)) x ≡ ((same_name x t.0 && (p t.1 && not (is_spawn_in depth t.1))) || held (but_spawn depth p) taken x)
     by true e h =
         ap (λ r. (same_name x t.0 && p t.1) || r) h
-        ∙ ap (λ b. (same_name x t.0 && b) || held (but_spawn depth p) taken x) (sym (ap (λ b. p t.1 && b) e ∙ and_all (p t.1)))
+        ∙ ap (λ b. (same_name x t.0 && b) || held (but_spawn depth p) taken x) (sym (ap (λ b. p t.1 && b) e ∙ and-true (p t.1)))
     by false e h = h ∙ ap (λ b. b || held (but_spawn depth p) taken x) (sym (ap (λ b. same_name x t.0 && (p t.1 && b)) e ∙ none_of_both (same_name x t.0) (p t.1)))
 
 pub held_without : (names : List Name) (p : Holder → Bool) (taken : Taken) (x : Name) → held p (without names taken) x ≡ (not (is_among x names) && held p taken x)
@@ -103,14 +103,14 @@ held_uncut a p ((n, h) ∷ taken) x = by (not (is_cut_of a (n, h))) refl (held_u
     cut_is : (h : Holder) → same_name x n ≡ true → is_cut_of a (n, h) ≡ (same_name a x && is_cut h)
     cut_is (SpawnIn d) s = sym (and-false (same_name a x))
     cut_is (ReaderIn d) s = sym (and-false (same_name a x))
-    cut_is CutOf s = ap (same_name a) (sym ((bytes_eq-Decides x n).0 s)) ∙ sym (and_all (same_name a x))
+    cut_is CutOf s = ap (same_name a) (sym ((bytes_eq-Decides x n).0 s)) ∙ sym (and-true (same_name a x))
 
     by : (b : Bool) → not (is_cut_of a (n, h)) ≡ b → held p (cut_ended a taken) x ≡ held (uncut_test a p x) taken x →
         held p (cond b ((n, h) ∷ cut_ended a taken) (cut_ended a taken)) x ≡ ((same_name x n && (p h && not (same_name a x && is_cut h))) || held (uncut_test a p x) taken x)
     by true e i = ap (λ r. (same_name x n && p h) || r) i ∙ ap (λ b. b || held (uncut_test a p x) taken x) (here (same_name x n) refl)
       where
         here : (s : Bool) → same_name x n ≡ s → (s && p h) ≡ (s && (p h && not (same_name a x && is_cut h)))
-        here true same = sym (ap (λ b. p h && not b) (sym (cut_is h same)) ∙ ap (λ b. p h && b) e ∙ and_all (p h))
+        here true same = sym (ap (λ b. p h && not b) (sym (cut_is h same)) ∙ ap (λ b. p h && b) e ∙ and-true (p h))
         here false same = refl
     by false e i = i ∙ ap (λ b. b || held (uncut_test a p x) taken x) (here (same_name x n) refl)
       where

@@ -1,10 +1,11 @@
 -- What is taken after a statement is what it takes where nothing is taken before it, and what it keeps of what was taken.
 use Rattle.std.proofs.Common.{◌≡◌, ℕ, Bool, true, false, not, ◌&&◌, ◌||◌, List, [], ◌∷◌, ◌==◌, Option, Some, None, refl, sym, ap, ◌∙◌}
+use Rattle.std.proofs.Math.Bool.{and-true}
 use Rattle.cw_model.specs.declared.syntax.CallKind.TheVariants.{Plain, Spawned}
 use Rattle.cw_tree.specs.Resolved.{Use, Argument, Int, Array, Shared, Stmt, Declare, DeclareArray, Assign, AssignElement, Reduce, Call, Sync, If, IfElse, While, For, Scope, Cut, Region, Print, Return, Block, End, Then}
 use Rattle.cw_own.specs.Sets.{Slots, with_slot, both, Row}
 use Rattle.cw_own.specs.Taken.{Held, none_held, taking_int, taking_array, freezing, either_held, held_within, with_target, with_arrays, known_after, after, after_all, gain, cuts_after, cuts_after_all}
-use Rattle.cw_own.proofs.Words.{and_all, two_steps, two_ways, turn_adds, masked, or_none_of}
+use Rattle.cw_own.proofs.Words.{two_steps, two_ways, turn_adds, masked, or_none_of}
 
 pub same_rows : (r s : Row) → ((k : ℕ) → r.ints k ≡ s.ints k) → ((k : ℕ) → r.arrays k ≡ s.arrays k) → r ≡ s
 same_rows r s f g = λ i. record { ints = λ k. f k i; arrays = λ k. g k i }
@@ -27,7 +28,7 @@ pub record Acts (f : Held → Held) : Type 0 where
 all_stays : Acts (λ here. here)
 all_stays = record {
   kept = every;
-  law = λ here. same_held here (either_held none_held (both_held here every)) (λ k. sym (and_all (here.ints k))) (λ k. sym (and_all (here.arrays k))) (λ k. sym (and_all (here.frozen k)));
+  law = λ here. same_held here (either_held none_held (both_held here every)) (λ k. sym (and-true (here.ints k))) (λ k. sym (and-true (here.arrays k))) (λ k. sym (and-true (here.frozen k)));
 }
 
 none_stays : (r : Held) → Acts (λ here. r)
@@ -87,21 +88,21 @@ int_more : (slot : ℕ) → Acts (taking_int slot)
 int_more slot = record {
   kept = every;
   law = λ here. same_held (taking_int slot here) (either_held (taking_int slot none_held) (both_held here every))
-      (λ k. one_slot_more (k == slot) (here.ints k)) (λ k. sym (and_all (here.arrays k))) (λ k. sym (and_all (here.frozen k)));
+      (λ k. one_slot_more (k == slot) (here.ints k)) (λ k. sym (and-true (here.arrays k))) (λ k. sym (and-true (here.frozen k)));
 }
 
 array_more : (slot : ℕ) → Acts (taking_array slot)
 array_more slot = record {
   kept = every;
   law = λ here. same_held (taking_array slot here) (either_held (taking_array slot none_held) (both_held here every))
-      (λ k. sym (and_all (here.ints k))) (λ k. one_slot_more (k == slot) (here.arrays k)) (λ k. sym (and_all (here.frozen k)));
+      (λ k. sym (and-true (here.ints k))) (λ k. one_slot_more (k == slot) (here.arrays k)) (λ k. sym (and-true (here.frozen k)));
 }
 
 frozen_more : (slot : ℕ) → Acts (freezing slot)
 frozen_more slot = record {
   kept = every;
   law = λ here. same_held (freezing slot here) (either_held (freezing slot none_held) (both_held here every))
-      (λ k. sym (and_all (here.ints k))) (λ k. sym (and_all (here.arrays k))) (λ k. one_slot_more (k == slot) (here.frozen k));
+      (λ k. sym (and-true (here.ints k))) (λ k. sym (and-true (here.arrays k))) (λ k. one_slot_more (k == slot) (here.frozen k));
 }
 
 target_acts : (target : Option Use) → Acts (with_target target)

@@ -1,7 +1,7 @@
 -- What the typing of a program knows of its locals.
 use Rattle.std.proofs.Common.{◌≡◌, ℕ, ◌+◌, ◌==◌, nat_lt, Bool, true, false, not, ◌&&◌, ◌||◌, if◌then◌else◌, [], ◌∷◌, ◌++◌, length, map, refl, sym, ap, ◌∙◌, arith, length-append}
 use Rattle.std.proofs.lemmas.Bool.Decides.{nat_tests}
-use Rattle.std.proofs.Math.Bool.{or-false}
+use Rattle.std.proofs.Math.Bool.{or-false, or-true}
 use Rattle.cw_facts.specs.Tests.{neither_first, neither_second, below, not_below}
 use Rattle.cw_model.specs.Syntax.{Name, Program}
 use Rattle.cw_model.specs.Names.{same_name, is_among}
@@ -11,7 +11,6 @@ use Rattle.cw_tree.specs.Resolved as spec
 use Rattle.cw_tree.specs.lemmas.NamedSlots.{among_push, slot_in, slot_out}
 use Rattle.cw_tree.specs.lemmas.Names.{same_are}
 use Rattle.cw_own.specs.Sets.{Row, with_int, with_array, both_rows}
-use Rattle.cw_own.proofs.Words.{or_all}
 use Rattle.cw_own.proofs.Keeping.{same_rows}
 use Rattle.cw_own.proofs.Showing.{known_row, Shows, slot_kept}
 use Rattle.cw_model.specs.declared.syntax.NameKind.TheVariants as name_kind
@@ -56,7 +55,7 @@ knows_int known locals y f k = record {
 }
   where
     ints_by : (x : Name) (b : Bool) → same_name x y ≡ b → (if b then true else is_int known x) ≡ true → (is_among x locals.ints || same_name x y) ≡ true
-    ints_by x true e h = ap (λ b. is_among x locals.ints || b) e ∙ or_all (is_among x locals.ints)
+    ints_by x true e h = ap (λ b. is_among x locals.ints || b) e ∙ or-true (is_among x locals.ints)
     ints_by x false e h = ap (λ b. b || same_name x y) (k.ints x h)
 
     arrays_by : (x : Name) (b : Bool) → same_name x y ≡ b → (if b then false else is_array known x) ≡ true → is_among x locals.arrays ≡ true
@@ -68,7 +67,7 @@ knows_int known locals y f k = record {
     apart_by x false e h = ap (λ n. is_among n locals.arrays) (same_are x y (sym (ap (λ b. b || same_name x y) e) ∙ h)) ∙ f.no_array
 
     names_by : (x : Name) (b : Bool) → same_name x y ≡ b → (if b then true else is_among x (map (λ e. e.0) known)) ≡ (is_among x (locals.ints ++ y ∷ []) || is_among x locals.arrays)
-    names_by x true e = sym (ap (λ b. b || is_among x locals.arrays) (among_push x locals.ints y ∙ ap (λ b. is_among x locals.ints || b) e ∙ or_all (is_among x locals.ints)))
+    names_by x true e = sym (ap (λ b. b || is_among x locals.arrays) (among_push x locals.ints y ∙ ap (λ b. is_among x locals.ints || b) e ∙ or-true (is_among x locals.ints)))
     names_by x false e =
         k.names x ∙ sym (ap (λ b. b || is_among x locals.arrays) (among_push x locals.ints y ∙ ap (λ b. is_among x locals.ints || b) e ∙ or-false (is_among x locals.ints)))
 
@@ -85,7 +84,7 @@ knows_array known locals y f k = record {
     ints_by x false e h = k.ints x h
 
     arrays_by : (x : Name) (b : Bool) → same_name x y ≡ b → (if b then true else is_array known x) ≡ true → (is_among x locals.arrays || same_name x y) ≡ true
-    arrays_by x true e h = ap (λ b. is_among x locals.arrays || b) e ∙ or_all (is_among x locals.arrays)
+    arrays_by x true e h = ap (λ b. is_among x locals.arrays || b) e ∙ or-true (is_among x locals.arrays)
     arrays_by x false e h = ap (λ b. b || same_name x y) (k.arrays x h)
 
     apart_by : (x : Name) (b : Bool) → same_name x y ≡ b → is_among x locals.ints ≡ true → (is_among x locals.arrays || same_name x y) ≡ false
@@ -94,7 +93,7 @@ knows_array known locals y f k = record {
     apart_by x false e h = ap (λ b. is_among x locals.arrays || b) e ∙ or-false (is_among x locals.arrays) ∙ k.apart x h
 
     names_by : (x : Name) (b : Bool) → same_name x y ≡ b → (if b then true else is_among x (map (λ e. e.0) known)) ≡ (is_among x locals.ints || is_among x (locals.arrays ++ y ∷ []))
-    names_by x true e = sym (ap (λ b. is_among x locals.ints || b) (among_push x locals.arrays y ∙ ap (λ b. is_among x locals.arrays || b) e ∙ or_all (is_among x locals.arrays)) ∙ or_all (is_among x locals.ints))
+    names_by x true e = sym (ap (λ b. is_among x locals.ints || b) (among_push x locals.arrays y ∙ ap (λ b. is_among x locals.arrays || b) e ∙ or-true (is_among x locals.arrays)) ∙ or-true (is_among x locals.ints))
     names_by x false e =
         k.names x ∙ sym (ap (λ b. is_among x locals.ints || b) (among_push x locals.arrays y ∙ ap (λ b. is_among x locals.arrays || b) e ∙ or-false (is_among x locals.arrays)))
 

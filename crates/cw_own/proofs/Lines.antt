@@ -1,7 +1,7 @@
 -- The lines that break a rule, by names and by slots.
 use Rattle.std.proofs.Common.{◌≡◌, ℕ, suc, ◌+◌, nat_le, Bool, true, false, not, ◌&&◌, ◌||◌, if◌then◌else◌, List, [], ◌∷◌, ◌++◌, length, map, Option, Some, None, inl, subst, refl, sym, ap, ◌∙◌}
 use Rattle.std.specs.List.{list_all}
-use Rattle.std.proofs.Math.Bool.{or-false}
+use Rattle.std.proofs.Math.Bool.{or-false, or-true}
 use Rattle.cw_model.specs.declared.limits.TheConstants.{MOST_GRAIN}
 use Rattle.cw_model.specs.declared.syntax.NameKind.TheVariants as name_kind
 use Rattle.cw_model.specs.lemmas.Fits.{writable_array, writable_arrays}
@@ -23,7 +23,7 @@ use Rattle.cw_own.specs.Taken as rows
 use Rattle.cw_own.specs.Taken.{Held, none_held, either_held, int_taken, array_held, known_after, after, after_all, cuts_after, cuts_after_all, gain}
 use Rattle.cw_own.specs.Rules as rules
 use Rattle.cw_own.specs.Rules.{Loop, with_uses, keeps, left_line, left_lines, left_at_end, seen_by, lines_within, lines_in}
-use Rattle.cw_own.proofs.Words.{if_or, or_all, four_or}
+use Rattle.cw_own.proofs.Words.{if_or, four_or}
 use Rattle.cw_own.proofs.Keeping.{same_rows, no_more}
 use Rattle.cw_own.proofs.Holding.{held, any_holder, no_reader, taken_is, held_is}
 use Rattle.cw_own.proofs.Showing.{Shows, shows_as, shows_row, shows_none, shows_int, shows_array, shows_push_int, shows_push_array, int_shown, array_shown, known_row, slot_kept}
@@ -138,7 +138,7 @@ Names locals known = Shows locals (λ x. is_among x known) (known_row locals)
 
 names_int : (locals : Locals) (x : Name) (known : List Name) → Fresh x locals → Names locals known → Shows (spec.with_int x locals) (λ y. is_among y (x ∷ known)) (with_int (length locals.ints) (known_row locals))
 names_int locals x known f n =
-    let there = among_push x locals.ints x ∙ ap (λ b. is_among x locals.ints || b) (same_itself x) ∙ or_all (is_among x locals.ints) in
+    let there = among_push x locals.ints x ∙ ap (λ b. is_among x locals.ints || b) (same_itself x) ∙ or-true (is_among x locals.ints) in
     shows_as (spec.with_int x locals) (λ y. same_name y x || is_among y known) (λ y. is_among y (x ∷ known)) _ (λ y. if_or (same_name y x) (is_among y known))
     (shows_row (spec.with_int x locals) (λ y. same_name y x || is_among y known) (with_int (slot_of x (locals.ints ++ x ∷ [])) (known_row locals)) (with_int (length locals.ints) (known_row locals))
     (ap (λ k. with_int k (known_row locals)) (slot_new x locals.ints f.no_int (same_itself x)))
@@ -146,7 +146,7 @@ names_int locals x known f n =
 
 names_array : (locals : Locals) (x : Name) (known : List Name) → Fresh x locals → Names locals known → Shows (spec.with_array x locals) (λ y. is_among y (x ∷ known)) (with_array (length locals.arrays) (known_row locals))
 names_array locals x known f n =
-    let there = among_push x locals.arrays x ∙ ap (λ b. is_among x locals.arrays || b) (same_itself x) ∙ or_all (is_among x locals.arrays) in
+    let there = among_push x locals.arrays x ∙ ap (λ b. is_among x locals.arrays || b) (same_itself x) ∙ or-true (is_among x locals.arrays) in
     shows_as (spec.with_array x locals) (λ y. same_name y x || is_among y known) (λ y. is_among y (x ∷ known)) _ (λ y. if_or (same_name y x) (is_among y known))
     (shows_row (spec.with_array x locals) (λ y. same_name y x || is_among y known) (with_array (slot_of x (locals.arrays ++ x ∷ [])) (known_row locals)) (with_array (length locals.arrays) (known_row locals))
     (ap (λ k. with_array k (known_row locals)) (slot_new x locals.arrays f.no_array (same_itself x)))
@@ -296,12 +296,12 @@ left_same : (program : Program) (lists : Lists) (returns : Returns) (known : Kno
     left_taken (declared_by line s declared) taken ≡ left_line t line (spec.resolved_stmt lists locals s) ++ left_taken declared taken
 left_same program lists returns known locals line (Declare x e) b taken t declared k fine e' s =
     let f = fresh_at program known locals x e line k fine in
-    let there = among_push x locals.ints x ∙ ap (λ b. is_among x locals.ints || b) (same_itself x) ∙ or_all (is_among x locals.ints) in
+    let there = among_push x locals.ints x ∙ ap (λ b. is_among x locals.ints || b) (same_itself x) ∙ or-true (is_among x locals.ints) in
     let stays = int_stays x (spec.with_int x locals) b there in
     ap (λ ls. ls ++ left_taken declared taken) (left_int x (length locals.ints) (all_locals (spec.with_int x locals) b) taken t line (e'.knows.apart x stays.there) (stays.slot ∙ slot_new x locals.ints f.no_int (same_itself x)) s)
 left_same program lists returns known locals line (DeclareArray x e) b taken t declared k fine e' s =
     let f = fresh_at program known locals x e line k fine in
-    let there = among_push x locals.arrays x ∙ ap (λ b. is_among x locals.arrays || b) (same_itself x) ∙ or_all (is_among x locals.arrays) in
+    let there = among_push x locals.arrays x ∙ ap (λ b. is_among x locals.arrays || b) (same_itself x) ∙ or-true (is_among x locals.arrays) in
     let stays = array_stays x (spec.with_array x locals) b there in
     ap (λ ls. ls ++ left_taken declared taken) (left_array x (length locals.arrays) (all_locals (spec.with_array x locals) b) taken t line (array_apart e'.known (all_locals (spec.with_array x locals) b) x e'.knows stays.there) (stays.slot ∙ slot_new x locals.arrays f.no_array (same_itself x)) s)
 left_same program lists returns known locals line (Assign x v) b taken t declared k fine e' s = refl
@@ -490,7 +490,7 @@ mutual
       let s = sees locals depth outside outer taken here cuts steady h in
       let t = taken_rows outer here cuts in
       let f = fresh_name program known locals x k head.variable in
-      let there = among_push x locals.ints x ∙ ap (λ b. is_among x locals.ints || b) (same_itself x) ∙ or_all (is_among x locals.ints) in
+      let there = among_push x locals.ints x ∙ ap (λ b. is_among x locals.ints || b) (same_itself x) ∙ or-true (is_among x locals.ints) in
       let inner = holds_inside locals depth outside taken here cuts h in
       let loop : Loop = record { outer = with_int (length locals.ints) (known_row locals); variable = length locals.ints; over = with_uses (map (use_of locals.arrays) over) no_slot } in
       let rounds : Inner (spec.with_int x locals) (x ∷ names) x over loop = record {

@@ -1,7 +1,7 @@
 -- Calls and heads of loops, by names and by slots.
 use Rattle.std.proofs.Common.{◌≡◌, Bool, true, false, not, ◌&&◌, ◌||◌, if◌then◌else◌, List, [], ◌∷◌, ◌++◌, map, Option, Some, None, option_map, subst, refl, sym, ap, ◌∙◌}
 use Rattle.std.specs.List.{list_all, list_any}
-use Rattle.std.proofs.Math.Bool.{or-false, and-false}
+use Rattle.std.proofs.Math.Bool.{or-false, and-false, and-true, and_assoc}
 use Rattle.cw_model.specs.declared.syntax.NameKind.{NameKind}
 use Rattle.cw_model.specs.declared.syntax.NameKind.TheVariants as name_kind
 use Rattle.cw_model.specs.lemmas.Fits.{writable_array}
@@ -20,7 +20,7 @@ use Rattle.cw_own.specs.Sets.{Slots, no_slot, with_slot, Row}
 use Rattle.cw_own.specs.Taken as rows
 use Rattle.cw_own.specs.Rules as rules
 use Rattle.cw_own.specs.Rules.{Loop, passed_once, given_away, none_read, named_once}
-use Rattle.cw_own.proofs.Words.{if_or, and_all, and_group, not_either, four_or}
+use Rattle.cw_own.proofs.Words.{if_or, not_either, four_or}
 use Rattle.cw_own.proofs.Showing.{Shows, shows_as, shows_row, shows_none, shows_array, array_shown}
 use Rattle.cw_own.proofs.Knowing.{Knows, array_apart}
 use Rattle.cw_own.proofs.After.{param, int_argument, array_argument}
@@ -68,7 +68,7 @@ none_among [] = refl
 none_among (x ∷ xs) = none_among xs
 
 differ_is : (xs : List Name) → differ xs ≡ once [] xs
-differ_is xs = sym (once_is [] xs ∙ ap (λ b. differ xs && not b) (none_among xs) ∙ and_all (differ xs))
+differ_is xs = sym (once_is [] xs ∙ ap (λ b. differ xs && not b) (none_among xs) ∙ and-true (differ xs))
 
 abbrev arrays_row : Slots → Row
 arrays_row set = record { ints = no_slot; arrays = set }
@@ -302,7 +302,7 @@ write_append around taken [] ys = refl
 write_append around taken (x ∷ xs) ys =
     write_more around taken x (xs ++ ys)
     ∙ ap (λ b. may_write around taken (x ∷ []) && b) (write_append around taken xs ys)
-    ∙ sym (and_group (may_write around taken (x ∷ [])) (may_write around taken xs) (may_write around taken ys))
+    ∙ sym (and_assoc (may_write around taken (x ∷ [])) (may_write around taken xs) (may_write around taken ys))
     ∙ ap (λ b. b && may_write around taken ys) (sym (write_more around taken x xs))
 
 call_words : (r w g d i n : Bool) → (((r && (w && g)) && d) && (i && n)) ≡ (((((r && g) && i) && w) && d) && n)

@@ -5,24 +5,6 @@ pub if_or : (a b : Bool) → (if a then true else b) ≡ (a || b)
 if_or true b = refl
 if_or false b = refl
 
-pub and_all : (a : Bool) → (a && true) ≡ a
-and_all true = refl
-and_all false = refl
-
-pub or_all : (a : Bool) → (a || true) ≡ true
-or_all true = refl
-or_all false = refl
-
-pub or_turn : (a b : Bool) → (a || b) ≡ (b || a)
-or_turn true true = refl
-or_turn true false = refl
-or_turn false true = refl
-or_turn false false = refl
-
-pub and_group : (a b c : Bool) → ((a && b) && c) ≡ (a && (b && c))
-and_group true b c = refl
-and_group false b c = refl
-
 -- the parts of two sums, by their sorts
 pub four_or : (a b c d : Bool) → ((a || b) || (c || d)) ≡ ((a || c) || (b || d))
 four_or true b c d = refl

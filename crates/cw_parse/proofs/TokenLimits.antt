@@ -1,7 +1,7 @@
 -- What the walk over the tokens keeps is the least line of one that passes a limit, with a limit that is passed there.
-use Rattle.std.proofs.Common.{◌≡◌, ◌<◌, ℕ, nat_le, Bool, true, false, if◌then◌else◌, List, [], ◌∷◌, ◌++◌, Option, Some, None, option_map, IfSome, MatchOption, Contains, arith, refl, sym, ap, ◌∙◌, subst}
+use Rattle.std.proofs.Common.{◌≡◌, ℕ, nat_le, Bool, true, false, if◌then◌else◌, List, [], ◌∷◌, ◌++◌, Option, Some, None, option_map, IfSome, MatchOption, Contains, arith, refl, sym, ap, ◌∙◌, subst}
 use Rattle.std.proofs.lemmas.List.Elements.{Contains-append_left, Contains-append_right}
-use Rattle.std.proofs.lemmas.Bool.Decides.{nat_tests}
+use Rattle.std.proofs.lemmas.Bool.{leb-false}
 use Rattle.cw_model.specs.declared.limits.TheConstants.{MOST_OPEN_BRACKETS, MOST_TOKENS_IN_A_ROW}
 use Rattle.cw_model.specs.declared.token.Token.{Token}
 use Rattle.cw_model.specs.Lines.{lowest, unless}
@@ -50,9 +50,6 @@ lines_passed first brackets row (t ∷ ts) =
     rest : List ℕ
     rest = token_faults opened next ts
 
-above : (a b : ℕ) → nat_le a b ≡ false → b < a
-above a b e = grind (arith, nat_tests)
-
 module _ (tokens : List Token) where
   -- what is told of a line holds there
   abbrev Holds : At TooNested → Type 0
@@ -75,8 +72,8 @@ module _ (tokens : List Token) where
   all_hold first brackets row (t ∷ ts) within h =
       all_hold (noted short reason.Row t.line (noted few reason.Brackets t.line first)) opened next ts
       (λ n found. within n (Contains-append_right (here ∷ []) (nestings opened next ts) n found))
-      (noted_holds short reason.Row t.line (noted few reason.Brackets t.line first) (λ e. at_here reason.Row (above next MOST_TOKENS_IN_A_ROW e))
-      (noted_holds few reason.Brackets t.line first (λ e. at_here reason.Brackets (above opened MOST_OPEN_BRACKETS e)) h))
+      (noted_holds short reason.Row t.line (noted few reason.Brackets t.line first) (λ e. at_here reason.Row (leb-false next MOST_TOKENS_IN_A_ROW e))
+      (noted_holds few reason.Brackets t.line first (λ e. at_here reason.Brackets (leb-false opened MOST_OPEN_BRACKETS e)) h))
     where
       opened : ℕ
       opened = open_after brackets t.kind

@@ -1,6 +1,6 @@
 -- A plan follows the block that codes are read as.
 use Rattle.std.proofs.Common.{◌≡◌, ℕ, ◌+◌, ◌-◌, ◌<◌, Bool, true, false, List, [], ◌∷◌, ◌++◌, Option, Some, None, length, length-append, append_assoc, arith, set, drop, get_or, refl, ap, sym, ◌∙◌, subst}
-use Rattle.std.proofs.lemmas.List.{set_at, get_or_at, drop_more}
+use Rattle.std.proofs.lemmas.List.{set_at, get_or_at, drop_more, same_from_push}
 use Rattle.std.proofs.lemmas.Option.{none-some, same_Some}
 use Rattle.cw_greedy.specs.declared.code.Code.{Code}
 use Rattle.cw_greedy.specs.declared.code.Code.TheVariants.{Instructions, Spawned, Ended, Joined, Called}
@@ -173,25 +173,6 @@ made block p (frame ∷ frames) begun h e = absurd (none-some block e)
 pub makes_all : (block : Block) (p : Planning) → Makes block [] p → p.strands.items ++ p.last ∷ [] ≡ strands_of Start block
 makes_all block p h = made block p h.frames h.begun h.plans h.reads
 
--- joins
-pub snoc_same : {A : Type 0} (xs ys : List A) (x y : A) → xs ++ x ∷ [] ≡ ys ++ y ∷ [] → (xs ≡ ys) × (x ≡ y)
-snoc_same {A = A} [] [] x y e = (refl, head x y e)
-  where
-    head : (x y : A) → x ∷ [] ≡ y ∷ [] → x ≡ y
-    head x y e = cc
-snoc_same {A = A} [] (z ∷ ys) x y e = absurd (let f = ap length e in omega (arith, f, length-append ys (y ∷ [])))
-snoc_same {A = A} (z ∷ xs) [] x y e = absurd (let f = ap length e in omega (arith, f, length-append xs (x ∷ [])))
-snoc_same {A = A} (z ∷ xs) (u ∷ ys) x y e =
-    let f : z ≡ u = head z u (xs ++ x ∷ []) (ys ++ y ∷ []) e in
-    let g = snoc_same xs ys x y (tail z u (xs ++ x ∷ []) (ys ++ y ∷ []) e) in
-    (ap (λ (w : A). w ∷ xs) f ∙ ap (λ (l : List A). u ∷ l) g.0, g.1)
-  where
-    head : (a b : A) (as' bs : List A) → a ∷ as' ≡ b ∷ bs → a ≡ b
-    head a b as' bs e = cc
-
-    tail : (a b : A) (as' bs : List A) → a ∷ as' ≡ b ∷ bs → as' ≡ bs
-    tail a b as' bs e = cc
-
 -- one join of several: the last one, or the others are left
 abbrev pub Left : (first : Bool) → (end : List Frame × Block) → Planning → Type 0
 Left true end p = Plans end.0 end.1 p
@@ -203,12 +184,12 @@ step : (end : List Frame × Block) (p p' : Planning) (outer : List Open) (top : 
 step end p p' outer top [] begun h e s a b d = absurd (none-some end e)
 step end p p' outer top (InChild first c ∷ frames) begun h e s a b d = absurd (none-some end e)
 step end p p' outer top (InRest true c child ∷ frames) begun h e s a b d =
-    let q = snoc_same outer (opens_of frames) top (open_at (length (strands_before (InRest true c child ∷ frames))) true) (sym s ∙ h.spawns) in
+    let q = same_from_push outer (opens_of frames) top (open_at (length (strands_before (InRest true c child ∷ frames))) true) (sym s ∙ h.spawns) in
     let plans = one_joined frames true c child begun p p' top.at (ap (λ (x : Open). x.at) q.1) h a b (d ∙ q.0) in
     let same : (frames, fork_at_end c child begun) ≡ end = same_Some {A = List Frame × Block} (frames, fork_at_end c child begun) end e in
     subst (λ f. Left f end p') (sym (ap (λ (x : Open). x.first) q.1)) (subst (λ (x : List Frame × Block). Plans x.0 x.1 p') same plans)
 step end p p' outer top (InRest false c child ∷ frames) begun h e s a b d =
-    let q = snoc_same outer (opens_of frames) top (open_at (length (strands_before (InRest false c child ∷ frames))) false) (sym s ∙ h.spawns) in
+    let q = same_from_push outer (opens_of frames) top (open_at (length (strands_before (InRest false c child ∷ frames))) false) (sym s ∙ h.spawns) in
     let plans = one_joined frames false c child begun p p' top.at (ap (λ (x : Open). x.at) q.1) h a b (d ∙ q.0) in
     let left : Joins end p' = record { frames = frames; begun = fork_at_end c child begun; plans = plans; joins = e } in
     subst (λ f. Left f end p') (sym (ap (λ (x : Open). x.first) q.1)) left

@@ -1,7 +1,7 @@
 -- The paths behind a block that codes are read as weigh what it does, and that is the span of its tree.
 use Rattle.std.proofs.Common.{◌≡◌, ℕ, ◌+◌, ◌<◌, Bool, true, false, List, [], ◌∷◌, ◌++◌, Some, length, length-append, arith, refl, ap, ap₂, sym, ◌∙◌, subst, drop, get_or}
 use Rattle.std.specs.Prelude.{max}
-use Rattle.std.proofs.lemmas.List.{drop_more}
+use Rattle.std.proofs.lemmas.List.{drop_more, same_from_push}
 use Rattle.std.proofs.lemmas.Option.{none-some, same_Some}
 use Rattle.cw_model.specs.Trees.{Tree, Leaf, Seq, Par, Marked, span}
 use Rattle.cw_greedy.specs.declared.code.Code.{Code}
@@ -12,7 +12,7 @@ use Rattle.cw_schedule.specs.declared.weights.Spawn.{Spawn}
 use Rattle.cw_schedule.specs.declared.weights.Ways.{Ways}
 use Rattle.cw_schedule.specs.Reading.{Frame, InChild, InRest, add_at_end, fork_at_end, joined, read}
 use Rattle.cw_schedule.specs.Weighed.{path_of, counted, spawn, spawn_of, spawns_of, Weighs, WillWeigh, WillJoin}
-use Rattle.cw_schedule.proofs.Plans.{snoc_same, read_joined}
+use Rattle.cw_schedule.proofs.Plans.{read_joined}
 
 -- nothing is charged at a fork
 span_fork : (c r : Tree) → span (Par c r) ≡ max (span c) (span r)
@@ -113,7 +113,7 @@ one_joined : (frames : List Frame) (first : Bool) (b child begun : Block) (w w' 
     → w'.path ≡ counted (top.before + max top.child w.path) → w'.spawns.items ≡ outer
     → Weighs frames (fork_at_end b child begun) w' × (top.first ≡ first)
 one_joined frames first b child begun w w' outer top h s e f =
-    let same = snoc_same outer (spawns_of frames) top (spawn_of (InRest first b child)) (sym s ∙ h.spawns) in (
+    let same = same_from_push outer (spawns_of frames) top (spawn_of (InRest first b child)) (sym s ∙ h.spawns) in (
       record {
         path = e ∙ ap₂ (λ (o : Spawn) (p : ℕ). counted (o.before + max o.child p)) same.1 h.path
             ∙ counted_join (path_of b) (path_of child) (path_of begun) ∙ ap counted (sym (path_fork b child begun));

@@ -3,7 +3,7 @@ use Rattle.std.proofs.Common.{◌≡◌, ◌≢◌, ◌⊎◌, ℕ, zero, suc, �
 use Rattle.std.proofs.lemmas.List.{length-set}
 use Rattle.std.specs.Prelude.{slice_get, slice_set}
 use Rattle.std.proofs.lemmas.Option.{slice_get_within}
-use Rattle.cw_facts.specs.Lists.{set_gives, added_gives, get_before, get_last}
+use Rattle.cw_facts.specs.Lists.{set_gives, added_gives, get_before, get_last, set_other}
 use Rattle.cw_code.specs.Code.{Code}
 use Rattle.cw_strand_laws.specs.Jobs.{Job, Memory}
 use Rattle.cw_strand_laws.specs.Strands.{Strand}
@@ -24,13 +24,6 @@ record Owned (world : World) : Type 0 where
   pub even : length parents ≡ length world.jobs
   pub even' : length parents ≡ length world.places
   pub listed : (i worker : ℕ) (job : Job) (strand : Strand) (numbers : List ℕ) → Has world i job (Runs worker strand numbers) → Listed parents world.places i numbers × Falls numbers
-
-set_other : (xs : List Place) (a b : ℕ) (y : Place) → b ≢ a → slice_get (slice_set xs a y) b ≡ slice_get xs b
-set_other [] a b y n = refl
-set_other (x ∷ xs) zero zero y n = absurd (n refl)
-set_other (x ∷ xs) zero (suc b) y n = refl
-set_other (x ∷ xs) (suc a) zero y n = refl
-set_other (x ∷ xs) (suc a) (suc b) y n = set_other xs a b y (λ e. n (ap suc e))
 
 -- a place that is set is open where the new one is
 open_set : (places : List Place) (k n : ℕ) (new : Place) → new ≢ Spent → IsOpen (slice_get places n) → IsOpen (slice_get (slice_set places k new) n)
@@ -79,6 +72,9 @@ open_in parents places i n (m ∷ numbers) a h = elim a [
   | inr b ↦ open_in parents places i n numbers b h.2
 ]
 
+runs_spent : (w : ℕ) (s : Strand) (ns : List ℕ) → Runs w s ns ≡ Spent → ⊥
+runs_spent w s ns e = cc
+
 -- the place of one job becomes another, which is open; where it runs, it has these jobs out
 module _ (world : World) (owned : Owned world) where
   abbrev Fine : ℕ → Place → Type 0
@@ -115,9 +111,6 @@ module _ (world : World) (owned : Owned world) where
     ];
   }
     where
-      runs_spent : (w : ℕ) (s : Strand) (ns : List ℕ) → Runs w s ns ≡ Spent → ⊥
-      runs_spent w s ns e = cc
-
       now : Listed owned.parents world.places i (n ∷ numbers) × Falls (n ∷ numbers)
       now = owned.listed i worker job strand (n ∷ numbers) has
 
@@ -188,9 +181,6 @@ spawn_owned world i worker job out strand new numbers owned has = record {
 
     undecided : (w : ℕ) (s : Strand) (ns : List ℕ) → Runs w s ns ≡ Undecided worker → ⊥
     undecided w s ns e = cc
-
-    runs_spent : (w : ℕ) (s : Strand) (ns : List ℕ) → Runs w s ns ≡ Spent → ⊥
-    runs_spent w s ns e = cc
 
     carried : (k : ℕ) (numbers' : List ℕ) → Listed owned.parents world.places k numbers' × Falls numbers'
         → Listed (owned.parents ++ i ∷ []) (slice_set (world.places ++ Undecided worker ∷ []) i (Runs worker new (length world.jobs ∷ numbers))) k numbers' × Falls numbers'

@@ -1,5 +1,6 @@
 -- In code that fits no strand of any world finds what does not fit.
-use Rattle.std.proofs.Common.{◌≡◌, ℕ, zero, suc, ◌+◌, ◌<◌, ◌≤◌, ℤ, Bool, true, false, ◌&&◌, nat_lt, if◌then◌else◌, Option, Some, List, [], ◌∷◌, ◌++◌, length, refl, sym, ap, ◌∙◌, subst, inl, inr, arith}
+use Rattle.std.proofs.Common.{◌≡◌, ℕ, zero, suc, ◌+◌, ◌≤◌, ℤ, Bool, true, false, ◌&&◌, nat_lt, if◌then◌else◌, Option, Some, List, [], ◌∷◌, ◌++◌, length, refl, sym, ap, ◌∙◌, subst, inl, inr, arith}
+use Rattle.std.proofs.lemmas.Option.{slice_get_within}
 use Rattle.std.specs.Prelude.{slice_get}
 use Rattle.cw_facts.specs.Lists.{set_gives, added_gives, get_before, get_last}
 use Rattle.cw_model.specs.declared.syntax.CallKind.{CallKind}
@@ -16,13 +17,13 @@ use Rattle.cw_strand_laws.specs.Jobs.{Extent, WholeCall, ToJoin, joins, is_first
 use Rattle.cw_strand_laws.specs.Strands.{Strand, Going, Waits, Halted, outs_of, rest_at, Turn, turn_back, turn_in, turn_call, turn_of, turn, cost_of}
 use Rattle.cw_strand_laws.specs.Promises.{IsOutHere, Outs, OutsHere, IsStrandOf}
 use Rattle.cw_strand_laws.specs.Steps.{started, Advanced, Ran as Instruction, Handed, AtSync, Finished, Unfit, finished, turned, went_on, advance, given_to, give, skip, take_back, out_of_memory, WaitsFor}
-use Rattle.cw_strand_laws.specs.Worlds.{Place, Undecided, Kept, Offered, Runs, Made, Settled, Spent, World, IsUnrun, effect_in, IsWaiting, placed, joined_by, Has, Next, Run, Spawn, Offer, Inline, Begin, Skip, Resume, End, Settle, Give, Want, GiveUp, After, Now, Later, world_of, NoneIsUnfit}
+use Rattle.cw_strand_laws.specs.Worlds.{Place, Undecided, Kept, Offered, Runs, Made, Settled, Spent, World, IsUnrun, IsWaiting, placed, joined_by, Has, Next, Run, Spawn, Offer, Inline, Begin, Skip, Resume, End, Settle, Give, Want, GiveUp, After, Now, Later, world_of, NoneIsUnfit}
 use Rattle.cw_strand_laws.specs.lemmas.Acts.{acts_by}
 use Rattle.cw_strand_laws.specs.lemmas.Rests.{GoesOn, act_goes}
 use Rattle.cw_strand_laws.proofs.Budgets.{meaning_stands}
 use Rattle.cw_strand_laws.specs.lemmas.JobsFit.{Base, Alone, Upon, lifted, LiftedTransition, lifted_step, FitJob, hands_fit, arrived, gives_fit}
 use Rattle.cw_strand_laws.specs.Over.{under}
-use Rattle.cw_strand_laws.proofs.WorldLaws.{one_there, Named, PlaceOk, WorldOk, next_ok, begins_ok}
+use Rattle.cw_strand_laws.proofs.WorldLaws.{one_there, Named, WorldOk, next_ok, begins_ok, effect_means, waits_for}
 
 abbrev GoesNowhere : Transition → Type 0
 GoesNowhere (On s) = ⊥
@@ -205,11 +206,6 @@ module _ (code : Code) (fits : Fits code) (steps_well : FitSteps code fits) (set
     | inr p ↦ fit k job' place' (record { job_is = has'.job_is; place_is = p })
   ]
 
-  within : {A : Type 0} (xs : List A) (k : ℕ) (x : A) → slice_get xs k ≡ Some x → k < length xs
-  within [] k x e = cc
-  within (y ∷ xs) zero x e = omega arith
-  within (y ∷ xs) (suc k) x e = let lt = within xs k x e in omega (arith, lt)
-
   add_fit : (world : World) (job : Job) (place : Place) → length world.jobs ≡ length world.places → WorldFit world → PlaceFit job place → WorldFit (joined_by world job place)
   add_fit world job place even fit h k job' place' has' = elim (added_gives world.places k place place' has'.place_is) [
     | inl p ↦
@@ -217,7 +213,7 @@ module _ (code : Code) (fits : Fits code) (steps_well : FitSteps code fits) (set
         (subst (λ j. PlaceFit j place)
         (one_there (slice_get (world.jobs ++ job ∷ []) (length world.jobs)) job job' (get_last world.jobs job) (ap (slice_get (world.jobs ++ job ∷ [])) (even ∙ sym p.0) ∙ has'.job_is)) h)
     | inr p ↦ elim (added_gives world.jobs k job job' has'.job_is) [
-      | inl q ↦ absurd (let lt = within world.places k place' p in let same = q.0 in omega (arith, lt, even, same))
+      | inl q ↦ absurd (let lt = slice_get_within world.places k place' p in let same = q.0 in omega (arith, lt, even, same))
       | inr q ↦ fit k job' place' (record { job_is = q; place_is = p })
     ]
   ]
@@ -237,29 +233,15 @@ module _ (code : Code) (fits : Fits code) (steps_well : FitSteps code fits) (set
   advanced : (job : Job) (strand : Strand) (ran : Advanced) (h : FitRun job strand) → IsStrandOf code job strand → advance code job strand ≡ ran → FitAdvanced h.base ran
   advanced job strand ran h ok e = subst (λ r. FitAdvanced h.base r) e (advance_fits job h.base strand ok h.fit)
 
-  effect_of : (jobs : List Job) (job : Job) (place : Place) (e : Effect) → effect_in place ≡ Some e → PlaceOk code jobs job place → JobMeaning code job e
-  effect_of jobs job (Undecided worker) e is h = cc
-  effect_of jobs job (Kept worker) e is h = cc
-  effect_of jobs job (Offered worker) e is h = cc
-  effect_of jobs job (Runs worker strand numbers) e is h = cc
-  effect_of jobs job (Made worker e') e is h = subst (JobMeaning code job) (one_there (Some e') e' e refl is) h
-  effect_of jobs job (Settled e') e is h = subst (JobMeaning code job) (one_there (Some e') e' e refl is) h
-  effect_of jobs job Spent e is h = cc
-
   gave : (jobs : List Job) (job out : Job) (n : ℕ) (numbers : List ℕ) (strand : Strand) (e : Effect) → IsWaiting strand → slice_get jobs n ≡ Some out → JobMeaning code out e
       → IsStrandOf code job strand → Named jobs (n ∷ numbers) (outs_of strand) → FitRun job strand → FitRun job (give job strand e)
   gave jobs job out n numbers strand e waits is means ok named h = newest (outs_of strand) refl named
     where
-      for_it : (strand' : Strand) (out' : Job) (outs : List Job) → IsWaiting strand' → outs_of strand' ≡ out' ∷ outs → WaitsFor strand' out' outs
-      for_it (Going s count os) out' outs w same = absurd w
-      for_it (Waits s count os) out' outs w same = same
-      for_it (Halted e' os) out' outs w same = same
-
       newest : (os : List Job) → outs_of strand ≡ os → Named jobs (n ∷ numbers) os → FitRun job (give job strand e)
       newest [] same k = absurd k
       newest (out' ∷ outs) same k = record {
         base = h.base;
-        fit = give_fits job h.base strand out' outs e ok (for_it strand out' outs waits same) (subst (λ j. JobMeaning code j e) (one_there (slice_get jobs n) out out' is k.0) means) h.fit;
+        fit = give_fits job h.base strand out' outs e ok (waits_for strand out' outs waits same) (subst (λ j. JobMeaning code j e) (one_there (slice_get jobs n) out out' is k.0) means) h.fit;
       }
 
   next_fit : (world next : World) → Next code world next → WorldOk code world → WorldFit world → WorldFit next
@@ -286,7 +268,7 @@ module _ (code : Code) (fits : Fits code) (steps_well : FitSteps code fits) (set
   next_fit world next (Give _ i n worker job out strand numbers place e has waits has' is) ok fit =
       let now = ok.each i job (Runs worker strand (n ∷ numbers)) has in
       set_fit (placed world n Spent) i job (Runs worker (give job strand e) numbers) (spent_fit world n fit) has.job_is
-      (gave world.jobs job out n numbers strand e waits has'.job_is (effect_of world.jobs out place e is (ok.each n out place has')) now.0 now.1 (fit i job (Runs worker strand (n ∷ numbers)) has))
+      (gave world.jobs job out n numbers strand e waits has'.job_is (effect_means code world.jobs out place e is (ok.each n out place has')) now.0 now.1 (fit i job (Runs worker strand (n ∷ numbers)) has))
   next_fit world next (Want _ i worker job strand numbers has) ok fit =
       let h = fit i job (Runs worker strand numbers) has in set_fit world i job (Runs worker (out_of_memory strand) numbers) fit has.job_is (record { base = h.base; fit = tt })
   next_fit world next (GiveUp _ i worker job place has unrun) ok fit = set_fit world i job (Made worker Memory) fit has.job_is tt

@@ -1,6 +1,7 @@
 -- Each event keeps what is true of each job's place.
-use Rattle.std.proofs.Common.{◌≡◌, ℕ, zero, suc, ◌+◌, ◌<◌, ◌≤◌, List, [], ◌∷◌, ◌++◌, Option, Some, None, refl, sym, ap, ◌∙◌, subst, inl, inr, arith, length, length-append}
+use Rattle.std.proofs.Common.{◌≡◌, ℕ, zero, suc, ◌+◌, ◌≤◌, List, [], ◌∷◌, ◌++◌, Option, Some, None, refl, sym, ap, ◌∙◌, subst, inl, inr, arith, length, length-append}
 use Rattle.std.proofs.lemmas.List.{length-set}
+use Rattle.std.proofs.lemmas.Option.{slice_get_within}
 use Rattle.std.specs.Prelude.{slice_get}
 use Rattle.cw_facts.specs.Lists.{set_gives, added_gives, get_before, get_last}
 use Rattle.cw_code.specs.Code.{Code}
@@ -52,6 +53,12 @@ pub record WorldOk (code : Code) (world : World) : Type 0 where
   pub even : length world.jobs ≡ length world.places
   pub each : (i : ℕ) (job : Job) (place : Place) → Has world i job place → PlaceOk code world.jobs job place
 
+-- a strand waits for the first of those that it has out
+pub waits_for : (strand : Strand) (out : Job) (outs : List Job) → IsWaiting strand → outs_of strand ≡ out ∷ outs → WaitsFor strand out outs
+waits_for (Going s count os) out outs w same = absurd w
+waits_for (Waits s count os) out outs w same = same
+waits_for (Halted e os) out outs w same = same
+
 module _ (code : Code) where
   place_ok : (world : World) (i : ℕ) (job : Job) (place new : Place) → WorldOk code world → Has world i job place → PlaceOk code world.jobs job new → WorldOk code (placed world i new)
   place_ok world i job place new ok has h = record {
@@ -97,14 +104,9 @@ module _ (code : Code) where
     ];
   }
     where
-      within : {A : Type 0} (xs : List A) (k : ℕ) (x : A) → slice_get xs k ≡ Some x → k < length xs
-      within [] k x e = cc
-      within (y ∷ xs) zero x e = omega arith
-      within (y ∷ xs) (suc k) x e = let lt = within xs k x e in omega (arith, lt)
-
       old : (k : ℕ) (job' : Job) (place' : Place) → slice_get (world.jobs ++ job ∷ []) k ≡ Some job' → slice_get world.places k ≡ Some place' → PlaceOk code (world.jobs ++ job ∷ []) job' place'
       old k job' place' is at = elim (added_gives world.jobs k job job' is) [
-        | inl p ↦ absurd (let lt = within world.places k place' at in let even = ok.even in let same = p.0 in omega (arith, lt, even, same))
+        | inl p ↦ absurd (let lt = slice_get_within world.places k place' at in let even = ok.even in let same = p.0 in omega (arith, lt, even, same))
         | inr p ↦ place_on code world.jobs job job' place' (ok.each k job' place' (record { job_is = p; place_is = at }))
       ]
 
@@ -120,7 +122,7 @@ module _ (code : Code) where
   may_begin jobs job (Settled e) u h = absurd u
   may_begin jobs job Spent u h = absurd u
 
-  effect_means : (jobs : List Job) (job : Job) (place : Place) (e : Effect) → effect_in place ≡ Some e → PlaceOk code jobs job place → JobMeaning code job e
+  pub effect_means : (jobs : List Job) (job : Job) (place : Place) (e : Effect) → effect_in place ≡ Some e → PlaceOk code jobs job place → JobMeaning code job e
   effect_means jobs job (Undecided worker) e is h = cc
   effect_means jobs job (Kept worker) e is h = cc
   effect_means jobs job (Offered worker) e is h = cc
@@ -147,15 +149,10 @@ module _ (code : Code) where
       → IsStrandOf code job strand × Named jobs (n ∷ numbers) (outs_of strand) → PlaceOk code jobs job (Runs worker (give job strand e) numbers)
   given jobs job out worker n numbers strand e waits is means h = newest (outs_of strand) refl h.1
     where
-      for_it : (strand' : Strand) (out' : Job) (outs : List Job) → IsWaiting strand' → outs_of strand' ≡ out' ∷ outs → WaitsFor strand' out' outs
-      for_it (Going s count os) out' outs w same = absurd w
-      for_it (Waits s count os) out' outs w same = same
-      for_it (Halted e' os) out' outs w same = same
-
       newest : (os : List Job) → outs_of strand ≡ os → Named jobs (n ∷ numbers) os → PlaceOk code jobs job (Runs worker (give job strand e) numbers)
       newest [] same k = absurd k
       newest (out' ∷ outs) same k =
-          let kept = (calls_keep code).giving job strand out' outs e h.0 (for_it strand out' outs waits same) (subst (λ j. JobMeaning code j e) (one_there (slice_get jobs n) out out' is k.0) means) in
+          let kept = (calls_keep code).giving job strand out' outs e h.0 (waits_for strand out' outs waits same) (subst (λ j. JobMeaning code j e) (one_there (slice_get jobs n) out out' is k.0) means) in
           (kept.0, subst (λ l. Named jobs numbers l) (sym kept.1) k.1)
 
   pub next_ok : (world next : World) → Next code world next → WorldOk code world → WorldOk code next

@@ -1,5 +1,6 @@
 -- The heads of functions.
 use Rattle.std.proofs.Common.{◌≡◌, Bool, true, false, not, ◌&&◌, ◌||◌, if◌then◌else◌, List, [], ◌∷◌, map, refl, sym, ap, ◌∙◌}
+use Rattle.std.proofs.Math.Bool.{and_assoc}
 use Rattle.std.specs.List.{list_any}
 use Rattle.cw_model.specs.Names.{same_name, is_among, differ}
 use Rattle.cw_model.specs.Syntax.{Name, Param, Function, Program}
@@ -63,10 +64,6 @@ nothing_apart (x ∷ xs) = nothing_apart xs
 pub head_by_parts : (program : Program) (f : Function) →
     is_head program f ≡ (are_new program [] f.params && (returns_well f && is_right_main f))
 head_by_parts program f =
-    grouped (differ (names_of f.params) && none_global (globals program) f.params) (returns_well f) (is_right_main f)
+    and_assoc (differ (names_of f.params) && none_global (globals program) f.params) (returns_well f) (is_right_main f)
     ∙ ap (λ b. (b && (differ (names_of f.params) && none_global (globals program) f.params)) && (returns_well f && is_right_main f)) (sym (nothing_apart (names_of f.params)))
     ∙ ap (λ b. b && (returns_well f && is_right_main f)) (sym (new_all program [] f.params))
-  where
-    grouped : (a b c : Bool) → ((a && b) && c) ≡ (a && (b && c))
-    grouped true b c = refl
-    grouped false b c = refl

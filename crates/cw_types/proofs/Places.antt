@@ -1,7 +1,8 @@
 -- The place of a name, where one more name comes.
-use Rattle.std.proofs.Common.{arith, ◌≡◌, ℕ, suc, ◌+◌, ◌<◌, ◌^◌, Bool, true, false, if◌then◌else◌, cond, bytes_eq, List, [], ◌∷◌, ◌++◌, length, Option, Some, None, IfSome, option_map, is_some, refl, sym, ap, ◌∙◌, Bor, length-append}
+use Rattle.std.proofs.Common.{arith, ◌≡◌, ℕ, suc, ◌+◌, ◌<◌, ◌^◌, Bool, true, false, if◌then◌else◌, cond, bytes_eq, List, [], ◌∷◌, ◌++◌, length, Option, Some, None, IfSome, option_map, is_some, refl, sym, ap, ◌∙◌, Bor, length-append, map}
 use Rattle.std.proofs.lemmas.Slice.Eq.{bytes_eq-Decides}
 use Rattle.std.proofs.lemmas.Map.Text.{hash_map_updates_str}
+use Rattle.std.proofs.lemmas.List.{map-append}
 use Rattle.std.specs.HashMap as hash
 use Rattle.std.specs.HashMap.{HashMap, get_by}
 use Rattle.cw_model.specs.Syntax.{Name}
@@ -194,3 +195,7 @@ among_has_place x (y ∷ names) = first (among_has_place x names) (same_name x y
     first h false = h ∙ sym (some_later (place_of x names))
 
 pub ruleset found = (slot_found, slot_missing)
+
+-- names that are borrowed, and one more
+pub one_more_name : (ks ls : List (Bor (List ℕ))) (k : Bor (List ℕ)) → ls ≡ ks ++ k ∷ [] → map (λ k. k.now) ls ≡ map (λ k. k.now) ks ++ k.now ∷ []
+one_more_name ks ls k e = ap (λ l. map (λ k. k.now) l) e ∙ map-append (λ k. k.now) ks (k ∷ [])

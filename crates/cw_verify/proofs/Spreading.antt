@@ -28,6 +28,9 @@ shapes_at items k o d lt e = slice_get-map (option_map shape_view) items k ∙ a
 pub shapes_set : (items : List (Option Found)) (k : ℕ) (y z : Option Found) → shapes_of (slice_set (slice_set items k y) k z) ≡ slice_set (shapes_of items) k (option_map shape_view z)
 shapes_set items k y z = ap shapes_of (set-set items k y z) ∙ map-set (option_map shape_view) items k z
 
+nowhere : {k : ℕ} → IsIn k [] → ⊥
+nowhere (j, e) = cc
+
 -- what is left to do
 unreached_new : (shapes : Shapes) (k : ℕ) (s : Shape) → slice_get shapes k ≡ Some None → suc (unreached (slice_set shapes k (Some s))) ≡ unreached shapes
 unreached_new [] k s e = cc
@@ -187,9 +190,6 @@ closed_is_table code f shapes inside h = record {
         let lt = slice_get_within shapes (place - f.start) (Some s) p.1 in
         let d : IsDone code f.start shapes (place - f.start) = ⊎_elim (λ (q : IsIn (place - f.start) []). absurd (nowhere q)) (λ (d : IsDone code f.start shapes (place - f.start)). d) (h.done (place - f.start) lt) in
         subst (λ n. (may_act code s i ≡ true) × FlowsIntoEach (table_of f.start shapes) (leaves code s i) (nexts n i)) same (d s i p.1 is')
-      where
-        nowhere : {k : ℕ} → IsIn k [] → ⊥
-        nowhere (j, e) = cc
 
 -- why there is no answer
 pub fails_from : (e : Fault) (found : Option Shapes) (old new : Search) (none : Type 0) → Tells (Err e) found old new → (found ≡ None → none) → Fails none e
@@ -235,9 +235,6 @@ begins code f shapes work order e w = subst (λ l. IsSearch code f l work) (sym 
         let is : first_shape f ≡ s = cc in
         subst (λ p. FlowsInto t p s) (sym zero_more) (subst (λ y. FlowsInto t f.start y) is table.starts)
     below t table (suc k) s q = absurd (nothing (f.end - f.start - 1) k s q)
-
-    nowhere : {k : ℕ} → IsIn k [] → ⊥
-    nowhere (j, e) = cc
 
     at_most_one : (k : ℕ) → IsIn k work → k < length first
     at_most_one k q = ⊎_elim (λ (p : IsIn k []). absurd (nowhere p)) (λ (p : k ≡ 0). omega (arith, p)) (w.from k q)

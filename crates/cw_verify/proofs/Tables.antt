@@ -1,9 +1,9 @@
 -- A table that is found step by step has no more than any table of the function.
-use Rattle.std.proofs.Common.{◌≡◌, ⊎_elim, ℕ, zero, suc, ◌+◌, ◌-◌, ◌<◌, ◌≤◌, Bool, true, false, ◌||◌, ◌&&◌, nat_le, nat_eq, if◌then◌else◌, Option, Some, None, List, [], ◌∷◌, length, refl, sym, ap, ◌∙◌, subst, arith}
+use Rattle.std.proofs.Common.{◌≡◌, ⊎_elim, ℕ, zero, suc, ◌+◌, ◌-◌, ◌<◌, ◌≤◌, Bool, true, false, ◌&&◌, nat_le, nat_eq, if◌then◌else◌, Option, Some, None, List, [], ◌∷◌, length, refl, sym, ap, ◌∙◌, subst, arith}
 use Rattle.std.specs.Prelude.{map, is_none, slice_get, slice_set, option_map}
 use Rattle.std.proofs.lemmas.List.{length-set}
 use Rattle.std.proofs.lemmas.Option.{slice_get_within, same_Some}
-use Rattle.std.proofs.lemmas.Bool.{cases_eq}
+use Rattle.std.proofs.lemmas.Bool.{cases_eq, or_from}
 use Rattle.cw_facts.specs.Lists.{missing, get_set, set_other}
 use Rattle.cw_facts.specs.Tests.{taken, not_taken, both_true, first_true, second_true, first_false, second_false, at_most, equal, eq_of, le_of, neither_first, neither_second}
 use Rattle.cw_model.specs.declared.syntax.CallKind.{CallKind}
@@ -27,12 +27,7 @@ covers_either [] [] zs c d = tt
 covers_either [] (y ∷ ys) zs c d = absurd c
 covers_either (x ∷ xs) [] zs c d = absurd c
 covers_either (x ∷ xs) (y ∷ ys) [] c d = absurd d
-covers_either (x ∷ xs) (y ∷ ys) (z ∷ zs) c d = (λ e. neither y z (c.0 e) (d.0 e), covers_either xs ys zs c.1 d.1)
-  where
-    neither : (a b : Bool) → a ≡ false → b ≡ false → (a || b) ≡ false
-    neither false false h k = refl
-    neither true b h k = cc
-    neither false true h k = cc
+covers_either (x ∷ xs) (y ∷ ys) (z ∷ zs) c d = (λ e. or_from y z (c.0 e) (d.0 e), covers_either xs ys zs c.1 d.1)
 
 either_first : (ys zs : Row) → Covers (either_empty ys zs) ys
 either_first [] zs = tt
@@ -501,16 +496,16 @@ come_goes start shapes k s t below l lt e = at (slice_get shapes k) refl e
         never true h x e = cc
         never false h x e = cc
 
+had : {x : Shape} (o : Option (Option Shape)) → shape_at o ≡ Some x → o ≡ Some (Some x)
+had None e = cc
+had (Some o) e = ap Some e
+
 grows_trans : (start : ℕ) (a b c : Shapes) → Grows start a b → Grows start b c → Grows start a c
 grows_trans start a b c g h = λ k s f.
     let l = g k s f in
     let was : slice_get b k ≡ Some (Some l.there) = had (slice_get b k) (sym (table_at start b k) ∙ l.found) in
     let m = h k l.there was in
     leads_less (table_of start c) (start + k) l.there s l.as_many (covers_all l) m
-  where
-    had : {x : Shape} (o : Option (Option Shape)) → shape_at o ≡ Some x → o ≡ Some (Some x)
-    had None e = cc
-    had (Some o) e = ap Some e
 
 -- each place is at or after another
 abbrev AllFrom : ℕ → List ℕ → Type 0
@@ -524,10 +519,6 @@ leads_grown start old new place s le g l =
     let found : shape_at (slice_get old (place - start)) ≡ Some l.there = sym (table_at start old (place - start)) ∙ ap (table_of start old) same ∙ l.found in
     let more = g (place - start) l.there (had (slice_get old (place - start)) found) in
     leads_less (table_of start new) place l.there s l.as_many (covers_all l) (subst (λ p. FlowsInto (table_of start new) p l.there) same more)
-  where
-    had : {x : Shape} (o : Option (Option Shape)) → shape_at o ≡ Some x → o ≡ Some (Some x)
-    had None e = cc
-    had (Some o) e = ap Some e
 
 all_grown : (start : ℕ) (old new : Shapes) (s : Shape) (ps : List ℕ) → AllFrom start ps → Grows start old new → FlowsIntoEach (table_of start old) s ps → FlowsIntoEach (table_of start new) s ps
 all_grown start old new s [] from g l = tt
@@ -660,10 +651,6 @@ module _ (code : Code) (f : Func) (shapes : Shapes) (k : ℕ) (i : Instr) (is : 
 pub held : (start : ℕ) (shapes : Shapes) (place : ℕ) (s : Shape) → table_of start shapes place ≡ Some s → (start ≤ place) × (slice_get shapes (place - start) ≡ Some (Some s))
 held start shapes place s e = by (nat_le start place) refl e
   where
-    had : (o : Option (Option Shape)) → shape_at o ≡ Some s → o ≡ Some (Some s)
-    had None e = cc
-    had (Some o) e = ap Some e
-
     by : (b : Bool) → nat_le start place ≡ b → (if b then shape_at (slice_get shapes (place - start)) else None) ≡ Some s → (start ≤ place) × (slice_get shapes (place - start) ≡ Some (Some s))
     by false b e = cc
     by true b e = (le_of start place b, had (slice_get shapes (place - start)) e)

@@ -1,26 +1,9 @@
-use Rattle.std.proofs.Common.{rules, ◌≡◌, ◌≢◌, ◌∙◌, ◌⊎◌, inl, inr, ℕ, sym, subst}
-use Rattle.cw_words.specs.declared.asked.Mode.{Mode}
+use Rattle.std.proofs.Common.{rules, ◌≢◌, subst}
 use Rattle.cw_words.specs.declared.asked.Mode.TheVariants as mode
 use Rattle.cw_cli.specs.Told.{HasTables}
+use Rattle.cw_cli.proofs.Modes.{gain_is_no_check, has_tables, run_is_no_check, running, schedule_is_no_check}
 use Rattle.cw_cli.proofs.Runs.{checked, refusal, run_is}
 use Rattle.cw_cli.proofs.analysis.analyse_alone.Goals as goal
-
--- what runs is none of a check
-running : (m k : Mode) → m ≡ k → k ≢ mode.Check → m ≢ mode.Check
-running m k is not check = not (sym is ∙ check)
-
-run_is_no_check : mode.Run ≡ mode.Check → ⊥
-run_is_no_check e = cc
-
-schedule_is_no_check : {p : ℕ} → mode.Greedy p ≡ mode.Check → ⊥
-schedule_is_no_check e = cc
-
-gain_is_no_check : {top : ℕ} → mode.Gain top ≡ mode.Check → ⊥
-gain_is_no_check e = cc
-
-has_tables : (m : Mode) → (m ≡ mode.Scale) ⊎ (m ≡ mode.Sites) → HasTables m
-has_tables m (inl is) = subst HasTables (sym is) tt
-has_tables m (inr is) = subst HasTables (sym is) tt
 
 pub returns-in_err-made : goal.returns-in_err-made
 returns-in_err-made g c = refusal g.W.Sink.seen c.args.out.now c.args.bytes.now c.args.args.now c.args.options _ c.in_err-made.ensures c.from_residual.result (search rules)

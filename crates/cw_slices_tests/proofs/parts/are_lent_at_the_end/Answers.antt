@@ -1,4 +1,5 @@
 use Rattle.std.proofs.Common.{◌≡◌, ◌+◌, ℤ, List, [], ◌∷◌, length, slice_get, refl, ap, ap₂, ◌∙◌, subst, arith}
+use Rattle.std.proofs.lemmas.List.{nil_from_length}
 use Prim.Native.Nat.{suc}
 use Rattle.cw_slices.specs.Blocks.{IsIn, ins, outs, patched}
 use Rattle.cw_slices.specs.lemmas.Patches.{are_in}
@@ -9,10 +10,6 @@ one_of [] e = let e' : 0 ≡ 1 = e in absurd (omega (arith, e'))
 one_of (x ∷ []) e = (x, refl)
 one_of (x ∷ y ∷ xs) e = let e' : suc (suc (length xs)) ≡ 1 = e in absurd (omega (arith, e'))
 
-none_of : (xs : List ℤ) → length xs ≡ 0 → xs ≡ []
-none_of [] e = refl
-none_of (x ∷ xs) e = let e' : suc (length xs) ≡ 0 = e in absurd (omega (arith, e'))
-
 pub lend-last-requires-clause-there : goal.lend-last-requires-clause-there
 lend-last-requires-clause-there c =
     let cells = c.lend-end.ensures.cells ∙ ap (λ l. patched 3 (outs 0) l) c.requires.cells.2 in
@@ -21,7 +18,7 @@ lend-last-requires-clause-there c =
 
 pub returns-clause-cells : goal.returns-clause-cells
 returns-clause-cells c =
-    let last = one_of c.lend-last.result.items c.lend-last.ensures.count in let end = none_of c.lend-end.result.items c.lend-end.ensures.count in
+    let last = one_of c.lend-last.result.items c.lend-last.ensures.count in let end = nil_from_length c.lend-end.result.items c.lend-end.ensures.count in
     let lent = c.lend-end.ensures.cells ∙ ap (λ l. patched 3 (outs 0) l) c.requires.cells.2 in
     let both = c.lend-last.ensures.cells ∙ ap (λ l. patched 2 (outs 1) l) lent in
     let back = c.give_back.ensures.cells ∙ ap₂ (λ xs l. patched 2 (ins xs) l) last.1 both in
