@@ -9,6 +9,7 @@ use Rattle.cw_model.specs.Syntax.{Name}
 use Rattle.cw_model.specs.Names.{same_name, is_among}
 use Rattle.cw_tree.specs.Resolved.{slot_of}
 use Rattle.cw_tree.specs.lemmas.Names.{same_itself}
+use Rattle.cw_tree.specs.lemmas.NamedSlots.{turned}
 use Rattle.cw_types.specs.Places.{place_of, ArePlaces}
 
 abbrev pub place_or : Option ℕ → ℕ → ℕ
@@ -65,15 +66,6 @@ pub place_stays : (x : Name) (names : List Name) (y : Name) (q : ℕ) → place_
 place_stays x names y q h =
     push_if x names y
     ∙ kept (place_of x names) (same_name x y) q (length names) (λ b. ap (λ z. place_of z names) ((bytes_eq-Decides x y).0 b) ∙ h)
-
-pub turned : (x y : Name) → bytes_eq x y ≡ bytes_eq y x
-turned x y = one (bytes_eq x y) (bytes_eq y x) (bytes_eq-Decides x y).0 (bytes_eq-Decides x y).1 (bytes_eq-Decides y x).0 (bytes_eq-Decides y x).1
-  where
-    one : (a b : Bool) → (a ≡ true → x ≡ y) → (x ≡ y → a ≡ true) → (b ≡ true → y ≡ x) → (y ≡ x → b ≡ true) → a ≡ b
-    one true true f g h i = refl
-    one false false f g h i = refl
-    one true false f g h i = sym (i (sym (f refl)))
-    one false true f g h i = g (sym (h refl))
 
 added : (p : Option ℕ) (b : Bool) (n : ℕ) → (b ≡ true → p ≡ None) → after_push p b n ≡ cond b (Some n) p
 added (Some r) true n h = cc (h refl)
