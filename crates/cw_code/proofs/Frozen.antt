@@ -3,9 +3,10 @@ use Rattle.std.proofs.Common.{◌≡◌, inl, inr, ⊎_elim, ℕ, suc, ◌+◌, 
 use Rattle.std.specs.Coded.{Coded, Coded-set, code_by, coded×, coded_option, coded_ℕ, coded_bool}
 use Rattle.std.specs.Prelude.{take, drop, map, slice_get, slice_set, is_none}
 use Rattle.std.proofs.lemmas.Option.{same_Some}
+use Rattle.std.proofs.lemmas.Bool.{false≢true}
 use Rattle.cw_facts.specs.Lists.{set_other}
 use Rattle.cw_facts.specs.Tests.{first_true, second_true}
-use Rattle.cw_code.specs.lemmas.Slots.{not_in_first, whole_slots, covers_true, set_frozen}
+use Rattle.cw_code.specs.lemmas.Slots.{not_in_first, whole_slots, covers_true, set_frozen, back_slots, settled_beside}
 use Rattle.cw_model.specs.declared.syntax.CallKind.{CallKind}
 use Rattle.cw_model.specs.declared.syntax.CallKind.TheVariants.{Plain, Spawned}
 use Rattle.cw_model.specs.Ints.{natural}
@@ -17,7 +18,7 @@ use Rattle.cw_code.specs.declared.code.Instr.{Instr}
 use Rattle.cw_code.specs.declared.code.Loan.{Loan}
 use Rattle.cw_code.specs.declared.code.Instr.TheVariants as instr
 use Rattle.cw_code.specs.Code.{Code}
-use Rattle.cw_code.specs.Run.{Slots, Results, Waiting, Around, Caller, Block, Taken, Whole, State, Transition, On, Ends, Stops, Stuck, on_slot, is_full, settled, put_in, slot_taken, Entering, begun, call_of, moved_out, parts_of, given, and_result, restored, given_back, awaited, result_of, going_on, returns_to, back, resumes, closed, resumes_uncut, cut_ends, cut_arrays, synced, passed_by, lent_by, act, step}
+use Rattle.cw_code.specs.Run.{Slots, Results, Waiting, Around, Caller, Block, Whole, State, Transition, On, Ends, Stops, Stuck, on_slot, is_full, settled, put_in, slot_taken, Entering, begun, call_of, moved_out, parts_of, given, given_back, awaited, result_of, going_on, returns_to, back, resumes, closed, resumes_uncut, cut_ends, cut_arrays, synced, passed_by, lent_by, act, step}
 use Rattle.cw_code.specs.Fits.{Row, Outer, Shape, frozen_rows, is_full_in, full_in_all, none_frozen, slots_cut, slots_uncut, changes, changes_back, is_thawed, with_gone, slots_lent, with_lent, closed_shape, uncut_shape, leaves, nexts, CoversEach, Table, FlowsInto, FlowsIntoEach, Fits}
 use Rattle.cw_code.specs.Good.{IsNotAmong, slots_in, arrays_round, all_of, CutsAgree, Seat, AllResume, GoodState, Facts}
 use Rattle.cw_code.specs.Staying.{outermost}
@@ -56,12 +57,9 @@ further_out depth row rows a lt h = ⊎_elim (λ t. absurd (omega (arith, lt, t.
 not_thawed : (depth : ℕ) (rows : List Row) (a : ℕ) → IsFrozenIn depth rows a → full_in_all rows a ≡ true → ⊥
 not_thawed depth [] a h k = h
 not_thawed depth (row ∷ rows) a h k = ⊎_elim
-    (λ t. never (sym t.1 ∙ first_true (is_full_in (slice_get row a)) (full_in_all rows a) k))
+    (λ t. false≢true (sym t.1 ∙ first_true (is_full_in (slice_get row a)) (full_in_all rows a) k))
     (λ t. not_thawed depth rows a t (second_true (is_full_in (slice_get row a)) (full_in_all rows a) k))
     h
-  where
-    never : false ≡ true → ⊥
-    never e = cc
 
 spared : (depth : ℕ) (rows : List Row) (a : ℕ) (slots : List ℕ) → IsFrozenIn depth rows a → none_frozen rows slots ≡ true → IsNotAmong a slots
 spared depth rows a [] h k = tt
@@ -79,11 +77,7 @@ lent_frozen Plain loans row a h = h
 lent_frozen Spawned loans row a h = gone_frozen (slots_lent loans) row a h
 
 module _ {A : Type 0} where
-  -- what goes back, or is moved, leaves each other slot as it is
-  settled_other : (results : Results A) (slots : Slots A) (a : ℕ) → IsNotAmong a (slots_in results) → slice_get (settled results slots) a ≡ slice_get slots a
-  settled_other [] slots a n = refl
-  settled_other (r ∷ results) slots a n = settled_other results (slice_set slots r.0 (Some r.1)) a n.1 ∙ set_other slots r.0 a (Some r.1) n.0
-
+  -- what is moved leaves each other slot as it is
   moved_other : (passed : List ℕ) (slots : Slots A) (a : ℕ) → IsNotAmong a passed → slice_get (moved_out passed slots) a ≡ slice_get slots a
   moved_other [] slots a n = refl
   moved_other (b ∷ passed) slots a n = set_other (moved_out passed slots) b a None n.0 ∙ moved_other passed slots a n.1
@@ -93,22 +87,6 @@ parts_apart : (from : ℕ) (passed : List ℕ) (given : List (List ℤ)) (a : �
 parts_apart from [] given a n = tt
 parts_apart from (b ∷ passed) [] a n = tt
 parts_apart from (b ∷ passed) (xs ∷ given) a n = (n.0, parts_apart from passed given a n.1)
-
--- what comes back goes into the slots that were taken
-back_slots : (taken : List Taken) (arrays : Slots (List ℤ)) (results : Results (List ℤ)) → given_back taken arrays ≡ Some results → slots_in results ≡ map slot_taken taken
-back_slots [] arrays results e = let same : [] ≡ results = some_same [] results e in ap slots_in (sym same)
-  where
-    some_same : (x y : Results (List ℤ)) → Some x ≡ Some y → x ≡ y
-    some_same x y e = cc
-back_slots (x ∷ taken) [] results e = cc
-back_slots (x ∷ taken) (None ∷ arrays) results e = cc
-back_slots (x ∷ taken) (Some xs ∷ arrays) results e = cases (given_back taken arrays) (λ others f. back_slots taken arrays others f) e
-  where
-    cases : (o : Option (Results (List ℤ))) → ((others : Results (List ℤ)) → o ≡ Some others → slots_in others ≡ map slot_taken taken) → and_result x (Some xs) o ≡ Some results → slots_in results ≡ map slot_taken (x ∷ taken)
-    cases None rest k = cc
-    cases (Some others) rest k =
-        let same : ((slot_taken x, restored x xs) ∷ others) ≡ results = cc in
-        ap slots_in (sym same) ∙ ap (λ ks. slot_taken x ∷ ks) (rest others refl)
 
 func_code : Coded Func
 func_code = code_by (ℕ × (ℕ × (Bool × (ℕ × (ℕ × (ℕ × (ℕ × ℕ))))))) (coded× coded_ℕ (coded× coded_ℕ (coded× coded_bool (coded× coded_ℕ (coded× coded_ℕ (coded× coded_ℕ (coded× coded_ℕ coded_ℕ)))))))
@@ -191,7 +169,7 @@ module _ (code : Code) (fits : Fits code) where
 
       come_back : (results : Results (List ℤ)) → slots_in results ≡ map slot_taken w.taken → Still w.place (settled results w.arrays) around
       come_back results same = moves around w.place w.place w.arrays (settled results w.arrays)
-          (λ blocks t. (t.0, settled_other results w.arrays a (subst (λ ks. IsNotAmong a ks) (sym same) (apart (ap is_full t.1))) ∙ t.1))
+          (λ blocks t. (t.0, settled_beside results w.arrays a (subst (λ ks. IsNotAmong a ks) (sym same) (apart (ap is_full t.1))) ∙ t.1))
           h
 
       result_stays : (kind : CallKind) (target : Option ℕ) (v : Option ℤ) (results : Results (List ℤ)) (t : Trace) → slots_in results ≡ map slot_taken w.taken → Stays (result_of kind target v results (going_on w around t))
@@ -238,7 +216,7 @@ module _ (code : Code) (fits : Fits code) where
       -- what waited for the join goes back into slots that are empty
       joined_has : slice_get s.arrays a ≡ Some (Some xs) → slice_get (settled s.arrived s.arrays) a ≡ Some (Some xs)
       joined_has has =
-          settled_other s.arrived s.arrays a (not_in_first a (slots_in s.arrived) (all_of (arrays_round s.around)) (good.call.arrays.apart a (ap is_full has))) ∙ has
+          settled_beside s.arrived s.arrays a (not_in_first a (slots_in s.arrived) (all_of (arrays_round s.around)) (good.call.arrays.apart a (ap is_full has))) ∙ has
 
       module _ (here : Still s.place s.arrays s.around) where
         -- the same call goes on, with its arrays as they were and its rows

@@ -4,11 +4,11 @@ use Rattle.std.specs.Prelude.{slice_get, slice_set, not, nat_eq}
 use Rattle.std.proofs.lemmas.List.{length-set, length-map, append-nil}
 use Rattle.cw_facts.specs.Lists.{set_other}
 use Rattle.cw_facts.specs.Tests.{first_true, second_true, ne_of}
-use Rattle.cw_code.specs.lemmas.Slots.{not_in_first, not_in_both, row_there}
+use Rattle.cw_code.specs.lemmas.Slots.{not_in_first, not_in_both, row_there, once_in_second, none_waits, full_is_full, settled_count}
 use Rattle.cw_code.specs.Run.{Slots, Results, is_full, settled, full, moved_out}
 use Rattle.cw_code.specs.Fits.{Row, is_full_in, full_in_all, none_empty, is_none_of, with_gone}
 use Rattle.cw_code.specs.Good.{IsNotAmong, IsOnce, slots_in, all_of, RowHolds, RowsHold, Holds}
-use Rattle.cw_code.proofs.Slots.{set_full, was_full, full_apart, row_apart, AllFull, AllApart, settled_full, settled_apart, count_settled, full_is_full, none_waits, empty_row, fewer_wait, filled_row, once_in_second}
+use Rattle.cw_code.proofs.Slots.{set_full, was_full, full_apart, row_apart, AllFull, AllApart, settled_full, settled_apart, empty_row, fewer_wait, filled_row}
 
 -- a slot is none of those that the test says
 pub none_of : (a : ℕ) (bs : List ℕ) → is_none_of a bs ≡ true → IsNotAmong a bs
@@ -102,7 +102,7 @@ module _ {A : Type 0} (width : ℕ) where
   with_settled row rows slots newest waits others g =
       let same = append_assoc (slots_in newest) waits (all_of others) in
       record {
-        as_wide = omega (arith, g.as_wide, count_settled newest slots);
+        as_wide = omega (arith, g.as_wide, settled_count newest slots);
         row_holds = fewer_wait width row (slots_in newest) waits g.row_holds;
         rows_hold = g.rows_hold;
         awaited = settled_full newest (waits ++ all_of others) slots (subst (λ xs. AllFull xs slots) same g.awaited);

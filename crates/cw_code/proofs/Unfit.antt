@@ -1,5 +1,5 @@
 -- The unruly codes do not fit.
-use Rattle.std.proofs.Common.{◌&&◌, pos, true, false, None, ◌∷◌, refl, arith}
+use Rattle.std.proofs.Common.{◌&&◌, pos, true, None, ◌∷◌, refl, arith}
 use Rattle.std.specs.Prelude.{nat_eq, slice_get}
 use Rattle.std.proofs.lemmas.Bool.{false≢true}
 use Rattle.cw_facts.specs.Tests.{first_true, eq_of}

@@ -4,7 +4,7 @@ use Rattle.std.specs.Prelude.{take, drop, map, replicate, slice_get, slice_set, 
 use Rattle.std.proofs.lemmas.List.{length-drop, length-reverse, length-take, length-map, length-replicate}
 use Rattle.cw_facts.specs.Tests.{taken, both_true, first_true, second_true, at_most, equal, le_of, lt_of, eq_of}
 use Rattle.cw_facts.specs.Lists.{missing, there_at, set_other}
-use Rattle.cw_code.specs.lemmas.Slots.{not_in_first, whole_slots, row_there}
+use Rattle.cw_code.specs.lemmas.Slots.{not_in_first, whole_slots, row_there, none_waits}
 use Rattle.cw_model.specs.declared.trap.Trap.TheVariants as trap
 use Rattle.cw_model.specs.declared.limits.TheConstants.{MOST_DEPTH}
 use Rattle.cw_model.specs.Syntax.{Name}
@@ -29,7 +29,7 @@ use Rattle.cw_code.specs.Code.{Code, reducer_names}
 use Rattle.cw_code.specs.Run.{Slots, Results, Readers, reader, loaned, lent_in, has_readers, lent_by, Whole, Waiting, Around, Caller, Block, State, Transition, On, Ends, Stops, Stuck, RunOutcome, ticked, synced, inside, on_top, on_two, on_slot, is_full, operated, set_array, apply_unary, adds, settled, put_in, slots_of, arrays_of, may_take, slot_taken, moved_out, Entering, arguments_of, has_room, may_keep, may_begin, waiting_at, begun, begins, call_of, on_arrays, enter, recur, parts_of, looped, on_range, start, given, going_on, returns_to, back, opened_at, opened, opened_region, cut_arrays, may_cut, cuts, resumes, closed, resumes_uncut, cut_ends, passed_by, jumped, act, step, go_on, steps, first_state, first_transition, reducers_of, code_serial}
 use Rattle.cw_code.specs.Fits.{params_of, array_params_of, readers_of, gives_value, NeverStuck, is_site, names_target, names_callee, is_none_of, names_arrays, names_passed, names_loan, names_loans, names_lent, names_inner, names_well, Row, Outer, Shape, empty_rows, gone_rows, full_in_all, is_full_in, has_slot, has_array, has_arrays, has_loan, has_loans, has_target, has_arguments, none_open, can_close, has_parts, can_uncut, is_no_part, are_no_parts, is_ready, with_target, with_gone, with_passed, with_lent, none_empty, cleared, first_shape, closed_shape, with_uncut, uncut_shape, opened_shape, outer_of, cut_outer, popped, leaves, nexts, Table, FlowsInto, FlowsIntoEach, Fits}
 use Rattle.cw_code.specs.Good.{IsNotAmong, slots_in, slot_cut, ints_round, arrays_round, all_of, Holds, CutsAgree, Seat, Good, IsGiven, Resumed, Resumes, AllResume, GoodState, GoodTransition, Facts, FitBegins, FitFacts, FitSteps, NeverStuckFrom}
-use Rattle.cw_code.proofs.Slots.{set_full, full_there, slots_in_both, none_waits}
+use Rattle.cw_code.proofs.Slots.{set_full, full_there, slots_in_both}
 use Rattle.cw_code.proofs.Keeps.{none_of, AllThere, still_full, finds, with_rows, with_slot, with_taken, with_all_taken, with_block, with_outer, with_settled, with_filled, begins_full}
 use Rattle.cw_code.proofs.Taken.{lie_within, gives_back, there_arrays, reader_full, AllLoaned, there_lent, part_slots, covered, joined}
 

@@ -9,7 +9,7 @@ use Rattle.cw_model.specs.Syntax.{Name}
 use Rattle.cw_model.specs.Names.{same_name, is_among, find, put}
 use Rattle.cw_model.specs.Ownership.{Taken, is_taken, cut_ended, freed, without}
 use Rattle.cw_code.specs.Run.{Slots, Results, is_full, full, settled}
-use Rattle.cw_code.specs.lemmas.Slots.{settled_count, settled_append}
+use Rattle.cw_code.specs.lemmas.Slots.{settled_count, settled_append, full_is_full}
 use Rattle.cw_tree.specs.Resolved.{slot_of}
 use Rattle.cw_tree.specs.lemmas.NamedSlots.{slot_stays, slot_in}
 use Rattle.cw_loops.specs.lemmas.Naming.{among_left}
@@ -223,12 +223,7 @@ module _ (cuts : Bool) {A : Type 0} where
       let all = values_in entries ++ agrees.rest in
       let n : length slots ≡ length all = sym (settled_count (all_of waits) slots) ∙ ap length agrees.held ∙ length-map all (λ v. Some v) in
       ap is_full (sym (get-settled a (all_of waits) slots free) ∙ ap (λ l. slice_get l a) agrees.held)
-      ∙ found all a (omega (arith, n))
-    where
-      found : (xs : List A) (i : ℕ) → i < length xs → is_full (slice_get (full xs) i) ≡ true
-      found [] i h = absurd (omega (arith, h))
-      found (x ∷ xs) zero h = refl
-      found (x ∷ xs) (suc i) h = found xs i (omega (arith, h))
+      ∙ full_is_full all a (omega (arith, n))
 
   -- how many slots there are
   pub count_slots : (names : List Name) (taken : Taken) (entries : Entries A) (slots : Slots A) (waits : List (Results A)) (a : AgreesOf names taken entries slots waits) → length slots ≡ length names + length a.rest

@@ -6,6 +6,7 @@ use Rattle.cw_slices.specs.Placed.{Placed}
 use Rattle.cw_code.specs.Run.{Slots, Results, Readers, Around, Caller, Block, is_full, moved_out, settled}
 use Rattle.cw_code.specs.Frozen.{AreBlocks, outermost_arrays}
 use Rattle.cw_code.specs.Good.{IsNotAmong, slots_in}
+use Rattle.cw_code.specs.lemmas.Slots.{settled_beside}
 use Rattle.cw_jobs.specs.Calls.{placed}
 use Rattle.cw_machine.specs.declared.machine.View.{View}
 use Rattle.cw_machine.specs.Arrays.{view, outermost_readers, SharesStay}
@@ -48,10 +49,6 @@ module _ (given : List Placed) (slots : ℕ) (views : List View) where
   }
 
 -- what waits for a join goes back into slots that are empty
-pub settled_beside : {A : Type 0} (results : Results A) (slots : Slots A) (a : ℕ) → IsNotAmong a (slots_in results) → slice_get (settled results slots) a ≡ slice_get slots a
-settled_beside [] slots a none = refl
-settled_beside (r ∷ results) slots a none = settled_beside results (slice_set slots r.0 (Some r.1)) a none.1 ∙ set_other slots r.0 a (Some r.1) none.0
-
 pub keeps_settled : (given : List Placed) (slots : ℕ) (arrived : Results (List ℤ)) (arrays : Slots (List ℤ)) → ((a : ℕ) → is_full (slice_get arrays a) ≡ true → IsNotAmong a (slots_in arrived)) → KeepsShared given slots arrays (settled arrived arrays)
 keeps_settled given slots arrived arrays apart a lt some e = settled_beside arrived arrays a (apart a (ap is_full e)) ∙ e
 
