@@ -1,10 +1,9 @@
 -- A source goes through one stage after another, and each either goes on with one value or stops in one line.
-use Rattle.std.proofs.Common.{◌≡◌, ℕ, ◌≤◌, ◌<◌, List, [], length, Result, Ok, Err, ◌⊎◌, inl, inr, refl, sym, ap, ◌∙◌, subst, arith}
-use Rattle.std.proofs.lemmas.Bool.{cases_lt}
+use Rattle.std.proofs.Common.{◌≡◌, ℕ, ◌≤◌, List, [], length, Result, Ok, Err, ◌⊎◌, inl, inr, refl, sym, ap, ◌∙◌, subst, arith}
 use Rattle.cw_model.specs.declared.token.Token.{Token}
 use Rattle.cw_model.specs.declared.limits.TheConstants.{MOST_SOURCE_BYTES}
 use Rattle.cw_model.specs.Lines.{IsLeastLine}
-use Rattle.cw_model.specs.Text.{IsAscii, IsSourceText, line_at, IsFirstAbove, IsTooLong, IsNotAscii}
+use Rattle.cw_model.specs.Text.{IsAscii, IsSourceText, line_at, IsTooLong, IsNotAscii}
 use Rattle.cw_model.specs.Tokens.{IsTokenCut, HasLexicalFault, HasNameFault}
 use Rattle.cw_model.specs.Syntax.{Program}
 use Rattle.cw_model.specs.Ownership.{ownership_faults}
@@ -13,6 +12,7 @@ use Rattle.cw_model.specs.lemmas.Lowest.{no_least, one_least}
 use Rattle.cw_lex.specs.Laws.{HasOneCut, FaultsExcludeCuts, FaultsExcludeOneAnother, LexicalFaultHasOneLine, NameFaultHasOneLine}
 use Rattle.cw_model.specs.Grammar.{Derives, HasSyntaxFault}
 use Rattle.cw_model.specs.Typing.{type_faults}
+use Rattle.cw_model.specs.lemmas.Firsts.{same_above}
 use Rattle.cw_parse.specs.Parsed.{HasOneTree, FaultsAreOne}
 use Rattle.cw_text.specs.declared.fault.Place.{Place}
 use Rattle.cw_text.specs.declared.fault.Fault.{Fault}
@@ -76,17 +76,6 @@ abbrev Answer : List ℕ → Result Program Fault → Type 0
 Answer bytes =
     Stage {A = Unit {0}} (λ _. length bytes ≤ MOST_SOURCE_BYTES) (IsTooLong bytes) (λ at. fault.Size at)
     (λ _. Stage {A = Unit {0}} (λ _. IsAscii bytes) (IsNotAscii bytes) (λ at. fault.Lexical at) (λ _. AfterText bytes))
-
-not_before : (bytes : List ℕ) (at other : ℕ) → IsFirstAbove bytes at → IsFirstAbove bytes other → at < other → ⊥
-not_before bytes at other a b h = let low = b.before at h in omega (arith, low, a.above)
-
-same_above : (bytes : List ℕ) (at other : ℕ) → IsFirstAbove bytes at → IsFirstAbove bytes other → at ≡ other
-same_above bytes at other a b = by_order (cases_lt at other) (cases_lt other at)
-  where
-    by_order : (at < other) ⊎ (other ≤ at) → (other < at) ⊎ (at ≤ other) → at ≡ other
-    by_order (inl h) _ = absurd (not_before bytes at other a b h)
-    by_order _ (inl k) = absurd (not_before bytes other at b a k)
-    by_order (inr h) (inr k) = omega (arith, h, k)
 
 length_choice : (bytes : List ℕ) → IsChoice {A = Unit {0}} (λ _. length bytes ≤ MOST_SOURCE_BYTES) (IsTooLong bytes)
 length_choice bytes = record {

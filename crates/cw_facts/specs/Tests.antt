@@ -1,11 +1,13 @@
 -- Booleans, and tests on numbers: what a test answers where a fact holds, and what holds where it answers so.
-use Rattle.std.proofs.Common.{◌≡◌, ℕ, ◌+◌, ◌<◌, Bool, true, false, ◌&&◌, ◌||◌, nat_eq, refl, arith}
+use Rattle.std.proofs.Common.{◌≡◌, ◌==◌, ℕ, suc, ◌+◌, ◌<◌, Bool, true, false, ◌&&◌, ◌||◌, nat_eq, refl, arith}
 use Rattle.std.proofs.lemmas.Bool.Decides.{nat_tests}
 -- both hold: (a && b) is true, or is false for the first's or the second's sake
 pub use Rattle.std.proofs.lemmas.Bool.{and_from as both_true, and_left as first_false, and_right as second_false}
 -- a conditional goes the way of its test, or the other way
 pub use Rattle.std.proofs.lemmas.Bool.{cond-true as taken, cond-false as not_taken}
 pub use Rattle.std.proofs.lemmas.Bool.{not-true as not_true}
+-- one of two holds for the first's or the second's sake, and not so where that would be absurd
+pub use Rattle.std.proofs.lemmas.Bool.{or_left as either_left, or_right as either_right, false_from_ne_true as refuted}
 -- the test on a and b answers true, or false
 pub use Rattle.std.proofs.lemmas.Bool.{le-leb as at_most, lt-leb as not_at_most, lt-ltb as below, le-ltb as not_below, eq-eqb as equal, ne_eqb as not_equal}
 -- what holds of a and b where the test answers true, or false
@@ -32,6 +34,28 @@ less_differs a b h = grind (arith, nat_tests)
 
 pub less_where_it_differs : (a b : ℕ) → b < a + 1 → nat_eq a b ≡ false → b < a
 less_where_it_differs a b h e = grind (arith, nat_tests)
+
+pub suc_same : (m n : ℕ) → (suc m == suc n) ≡ (m == n)
+suc_same m n = grind (arith, nat_tests)
+
+pub suc_not : (m : ℕ) → (suc m == 0) ≡ false
+suc_not m = grind (arith, nat_tests)
+
+pub not_suc : (m : ℕ) → (0 == suc m) ≡ false
+not_suc m = grind (arith, nat_tests)
+
+pub never : {A : Type 0} (b : Bool) → b ≡ true → b ≡ false → A
+never true h g = absurd cc
+never false h g = absurd cc
+
+-- which of the two it is
+pub data Told (b : Bool) : Type 0 where
+  yes_is : b ≡ true → Told b
+  no_is : b ≡ false → Told b
+
+pub told : (b : Bool) → Told b
+told true = yes_is refl
+told false = no_is refl
 
 pub four_and : (a b c d : Bool) → ((a && b) && (c && d)) ≡ ((a && c) && (b && d))
 four_and false b c d = refl

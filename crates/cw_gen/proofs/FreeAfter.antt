@@ -4,6 +4,7 @@ use Rattle.std.proofs.Common.{◌≡◌, ℕ, ◌+◌, List, [], ◌∷◌, ◌+
 use Rattle.std.specs.Prelude.{not, ◌&&◌, ◌||◌, Option}
 use Rattle.std.specs.List.{list_all}
 use Rattle.std.proofs.lemmas.Bool.{and_parts}
+use Rattle.cw_facts.specs.Tests.{either_right}
 use Rattle.cw_model.specs.declared.syntax.CallKind.TheVariants.{Plain, Spawned}
 use Rattle.cw_model.specs.Lines.{unless}
 use Rattle.cw_model.specs.Syntax.{Name, Expr, Stmt, Declare, DeclareArray, Assign, AssignElement, Reduce, Call, Start, Begin, Sync, If, IfElse, While, For, Scope, Cut, Region, Print, Return, Block, End, Then, Function, Program}
@@ -16,7 +17,6 @@ use Rattle.cw_model.specs.lemmas.Kept.{left_none, right_none, kept}
 use Rattle.cw_tree.specs.lemmas.Names.{later_among}
 use Rattle.cw_loops.specs.Lowered.{is_plain, lower_exprs, lower_stmt, lower_block, loop_count, loop_count_in}
 use Rattle.cw_loops.specs.SourceLike.{is_source_expr, is_source_target, is_source_stmt, is_source_block}
-use Rattle.cw_loops.specs.lemmas.Tests.{either_right}
 use Rattle.cw_loops.specs.lemmas.Knowing.{known_array_more}
 use Rattle.cw_loops.specs.lemmas.Declaring.{CutKept, cut_kept}
 use Rattle.cw_loops.specs.lemmas.Seeing.{SameKnown, after_known, CallKept, call_kept}

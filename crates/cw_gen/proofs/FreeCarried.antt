@@ -3,7 +3,7 @@ use Rattle.std.proofs.Common.{◌≡◌, ℕ, ◌+◌, ◌≤◌, ◌==◌, List
 use Rattle.std.specs.Prelude.{map, not, if◌then◌else◌, Option, Some, None}
 use Rattle.std.specs.List.{list_all}
 use Rattle.std.proofs.lemmas.Bool.{eq-eqb, eqb-true, and_parts}
-use Rattle.cw_facts.specs.Tests.{not_true}
+use Rattle.cw_facts.specs.Tests.{not_true, told, yes_is, no_is, Told, never, refuted, either_left, either_right}
 use Rattle.cw_model.specs.Syntax.{is_written_kind, is_const_kind, Name, Expr, Variable, Stmt, Declare, DeclareArray, Block, Then, Param, Function}
 use Rattle.cw_model.specs.Names.{is_among}
 use Rattle.cw_model.specs.Meaning.{function_named}
@@ -15,7 +15,6 @@ use Rattle.cw_model.specs.lemmas.Fits.{writable_array}
 use Rattle.cw_tree.specs.lemmas.Names.{front_among, later_among}
 use Rattle.cw_loops.specs.Lowered.{is_plain}
 use Rattle.cw_loops.specs.SourceLike.{is_source_expr, is_source_target}
-use Rattle.cw_loops.specs.lemmas.Tests.{told, yes_is, no_is, Told, never, refuted, either_left, either_right}
 use Rattle.cw_loops.specs.lemmas.Naming.{Placed, at_front, after_it, placed, Side, in_first, in_second, side, among_left, among_right, among_split}
 use Rattle.cw_loops.specs.lemmas.Seeing.{SameKnown, CallKept}
 use Rattle.cw_gen.proofs.FreeMembers.{In, in_append, in_left, in_right, in_filter, in_kept, in_taken, not_in, in_held, not_held, by_holder, holder_has, Outer, either_way}

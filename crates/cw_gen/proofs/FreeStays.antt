@@ -5,6 +5,7 @@ use Rattle.std.specs.Prelude.{map, not, ◌&&◌, ◌||◌, if◌then◌else◌,
 use Rattle.std.specs.List.{list_all}
 use Rattle.std.proofs.lemmas.Slice.Eq.{bytes_eq-Decides}
 use Rattle.std.proofs.lemmas.Bool.{and_parts}
+use Rattle.cw_facts.specs.Tests.{never, refuted}
 use Rattle.cw_model.specs.declared.syntax.CallKind.TheVariants.{Plain, Spawned}
 use Rattle.cw_model.specs.Lines.{unless}
 use Rattle.cw_model.specs.Syntax.{Name, Expr, Stmt, Declare, DeclareArray, Assign, AssignElement, Reduce, Call, Start, Begin, Sync, If, IfElse, While, For, Scope, Cut, Region, Print, Return, Block, End, Then, Program}
@@ -14,7 +15,6 @@ use Rattle.cw_model.specs.Typing.{Known, Returns, Nowhere, is_fine, is_int, is_a
 use Rattle.cw_model.specs.Ownership.{Holder, SpawnIn, ReaderIn, CutOf, Taken, is_reader, is_taken, is_held, is_spawn_in, is_cut_of, freed, taken_by, without, own_names, where_it_goes_on, target_names, given, lent, names_in, are_free, are_loose, may_read, may_write, may_lend, may_index, keeps_loop, are_inner, for_head, Around, InLoop, Closing, Joins, Leaves, Declared, declared_by, known_after, taken_after, taken_after_all, owner_faults, owner_faults_in}
 use Rattle.cw_model.specs.lemmas.Kept.{left_none, right_none, kept}
 use Rattle.cw_tree.specs.lemmas.Names.{front_among, later_among}
-use Rattle.cw_loops.specs.lemmas.Tests.{never, refuted}
 use Rattle.cw_loops.specs.lemmas.Naming.{none_among}
 use Rattle.cw_loops.specs.lemmas.Knowing.{Unknown, new_unknown, known_more, known_array_more}
 use Rattle.cw_loops.specs.lemmas.Declaring.{CutKept, cut_kept, head_kept, block_new}

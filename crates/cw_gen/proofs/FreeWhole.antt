@@ -1,5 +1,5 @@
 -- No name that a lowered program uses is taken.
-use Rattle.cw_facts.specs.Tests.{not_true}
+use Rattle.cw_facts.specs.Tests.{not_true, never, refuted, either_right}
 use Rattle.cw_model.specs.declared.syntax.NameKind.TheVariants as name_kind
 use Rattle.std.proofs.Common.{◌≡◌, ℕ, zero, suc, ◌+◌, ◌≤◌, List, [], ◌∷◌, ◌++◌, true, false, refl, sym, ap, ◌∙◌, arith, inr}
 use Rattle.std.specs.Prelude.{map, flat_map, not, ◌&&◌, ◌||◌, if◌then◌else◌, Option, Some, None}
@@ -20,7 +20,6 @@ use Rattle.cw_loops.specs.Lowered.{is_plain, low, lower_expr, lower_exprs, lower
 use Rattle.cw_loops.specs.Lowerable.{is_lowerable}
 use Rattle.cw_loops.specs.SourceLike.{is_source_expr, is_source_target, is_source_stmt, is_source_block, is_source_function}
 use Rattle.cw_loops.specs.LoweringLaws.{IsOwnedSource}
-use Rattle.cw_loops.specs.lemmas.Tests.{never, refuted, either_right}
 use Rattle.cw_loops.specs.lemmas.Naming.{Placed, at_front, after_it, placed, each_of, among_left, among_right, new_are_there}
 use Rattle.cw_loops.specs.lemmas.Knowing.{known_more, known_array_more, new_unknown, not_both}
 use Rattle.cw_loops.specs.lemmas.Declaring.{HeadKept, head_kept, CutKept, cut_kept}

@@ -8,7 +8,7 @@ use Rattle.cw_model.specs.Names.{same_name}
 use Rattle.cw_model.specs.Meaning.{function_named}
 use Rattle.cw_model.specs.Captured.{captured}
 use Rattle.cw_model.specs.Typing.{called}
-use Rattle.cw_tree.specs.lemmas.Names.{same_itself}
+use Rattle.cw_model.specs.lemmas.Names.{same_itself}
 use Rattle.cw_loops.specs.Lowered.{is_plain, loop_name, loop_function, loop_count, loop_count_in, lower_block, lower_function, lower_functions, made_by, made_in, made_of}
 use Rattle.cw_loops.specs.Lowerable.{can_lower_function}
 use Rattle.cw_loops.specs.lemmas.Apart.{apart, apart_plain}

@@ -1,3 +1,2 @@
--- Lemmas on boards as lists and on spans, which the proofs of crates above cite.
+-- Lemmas on boards as lists, which the proofs of crates above cite.
 pub mod Slots
-pub mod Spans

@@ -1,9 +1,9 @@
 -- Bytes are not cut for one reason, in one line.
-use Rattle.std.proofs.Common.{◌≡◌, ℕ, ◌<◌, ◌≤◌, List, [], ◌∷◌, length, get_or, take, drop, sym, ap, subst, ◌∙◌, arith, inl, inr, ◌⊎◌}
-use Rattle.std.proofs.lemmas.Bool.{cases_lt}
+use Rattle.std.proofs.Common.{◌≡◌, ℕ, ◌≤◌, List, [], ◌∷◌, length, get_or, take, drop, sym, ap, subst, ◌∙◌, arith, inl, inr}
 use Rattle.cw_model.specs.declared.limits.TheConstants.{MOST_SOURCE_BYTES}
-use Rattle.cw_model.specs.Text.{line_at, IsFirstAbove, IsNotAscii, IsSourceText, IsTooLong}
+use Rattle.cw_model.specs.Text.{line_at, IsNotAscii, IsSourceText, IsTooLong}
 use Rattle.cw_model.specs.Tokens.{FaultAt}
+use Rattle.cw_model.specs.lemmas.Firsts.{same_above}
 use Rattle.cw_lex.specs.declared.reason.Uncut.{Uncut}
 use Rattle.cw_lex.specs.declared.reason.Uncut.TheVariants as reason
 use Rattle.cw_lex.specs.Laws.{HasOneReason, content_of}
@@ -60,17 +60,6 @@ above_apart bytes l f s = let low = s.ascii f.at 0 f.above.within in omega (arit
 
 long_apart : (bytes : List ℕ) (l : ℕ) → IsTooLong bytes l → length bytes ≤ MOST_SOURCE_BYTES → ⊥
 long_apart bytes l f short = omega (arith, f.long)
-
-not_before : (bytes : List ℕ) (m n : ℕ) → IsFirstAbove bytes m → IsFirstAbove bytes n → m < n → ⊥
-not_before bytes m n f g lt = let low = g.before m lt in omega (arith, low, f.above)
-
-same_above : (bytes : List ℕ) (m n : ℕ) → IsFirstAbove bytes m → IsFirstAbove bytes n → m ≡ n
-same_above bytes m n f g = by_order (cases_lt m n) (cases_lt n m)
-  where
-    by_order : (m < n) ⊎ (n ≤ m) → (n < m) ⊎ (m ≤ n) → m ≡ n
-    by_order (inl h) _ = absurd (not_before bytes m n f g h)
-    by_order _ (inl k) = absurd (not_before bytes n m g f k)
-    by_order (inr h) (inr k) = omega (arith, h, k)
 
 one_above : (bytes : List ℕ) (b c l m : ℕ) (f : IsNotAscii bytes l) (g : IsNotAscii bytes m) → b ≡ get_or bytes f.at 0 → c ≡ get_or bytes g.at 0 → AreOne (reason.NotAscii b) (reason.NotAscii c) l m
 one_above bytes b c l m f g e h =

@@ -12,7 +12,7 @@ use Rattle.cw_model.specs.Answers.{main_name}
 use Rattle.cw_model.specs.Typing.{known_of, is_head, Returns, WithInt, Alone, faults_of, IsWellTyped}
 use Rattle.cw_model.specs.Ownership.{NoLoop, Joins, owner_faults_of, KeepsOwnership}
 use Rattle.cw_model.specs.lemmas.Kept.{left_none, right_none, kept}
-use Rattle.cw_tree.specs.lemmas.NamedSlots.{turned}
+use Rattle.cw_model.specs.lemmas.Names.{turned}
 use Rattle.cw_loops.specs.Lowered.{is_plain}
 use Rattle.cw_loops.specs.Lowerable.{nothing_around, integers_of, arrays_of, can_lower_function, is_lowerable}
 use Rattle.cw_loops.specs.LoweringLaws.{MainTakesIntegers}

@@ -2,18 +2,17 @@
 use Rattle.std.proofs.Common.{◌≡◌, Bool, true, false, List, [], ◌∷◌, ◌++◌, refl, sym, ◌∙◌, ap, append_assoc}
 use Rattle.std.specs.Prelude.{if◌then◌else◌, not, ◌&&◌, ◌||◌, Option}
 use Rattle.std.proofs.lemmas.Bool.{and_parts, or_parts}
-use Rattle.cw_facts.specs.Tests.{not_true, both_true}
+use Rattle.cw_facts.specs.Tests.{not_true, both_true, never, refuted}
 use Rattle.cw_model.specs.declared.syntax.NameKind.TheVariants as name_kind
 use Rattle.cw_model.specs.Syntax.{Name, Expr, Number, Variable, Element, Length, Negative, Not, Binary}
 use Rattle.cw_model.specs.Names.{same_name, is_among}
 use Rattle.cw_model.specs.Captured.{read_by}
 use Rattle.cw_model.specs.Typing.{Known, is_int, is_array, Returns, may_return}
 use Rattle.cw_model.specs.Ownership.{Around, NoLoop, InLoop, for_head, is_outer, may_index, keeps_loop}
-use Rattle.cw_tree.specs.lemmas.Names.{same_itself}
+use Rattle.cw_model.specs.lemmas.Names.{same_itself}
 use Rattle.cw_loops.specs.Lowered.{is_plain}
 use Rattle.cw_loops.specs.Lowerable.{Surroundings, can_write, can_read, is_local, is_variable, can_evaluate}
 use Rattle.cw_loops.specs.SourceLike.{is_source_expr}
-use Rattle.cw_loops.specs.lemmas.Tests.{never, refuted}
 use Rattle.cw_loops.specs.lemmas.Naming.{among_left, among_right, neither_among, pushed, passed}
 use Rattle.cw_loops.specs.lemmas.Knowing.{Unknown, not_both, known_more, known_array_more}
 

@@ -5,6 +5,7 @@ use Rattle.std.specs.List.{list_all}
 use Rattle.std.proofs.lemmas.Bool.Decides.{nat_tests}
 use Rattle.std.proofs.lemmas.List.{map-append, length-map}
 use Rattle.std.proofs.lemmas.Bool.{and_parts}
+use Rattle.cw_facts.specs.Tests.{Told, yes_is, no_is, told, never, refuted, either_right}
 use Rattle.cw_model.specs.declared.syntax.CallKind.{CallKind}
 use Rattle.cw_model.specs.declared.syntax.Operator.TheVariants.{Minus}
 use Rattle.cw_model.specs.declared.syntax.NameKind.TheVariants as name_kind
@@ -16,18 +17,17 @@ use Rattle.cw_model.specs.Meaning.{function_named}
 use Rattle.cw_model.specs.Captured.{captured}
 use Rattle.cw_model.specs.Typing.{Known, is_int, is_array, is_fine, is_new, is_head_of_loop, faults_in, faults_in_block, declares, ends_block, surely_returns, Returns, Nowhere}
 use Rattle.cw_model.specs.lemmas.Kept.{left_none, right_none, kept}
+use Rattle.cw_model.specs.lemmas.Names.{same_are, turned}
 use Rattle.cw_tree.specs.Resolved.{Lists, Locals, slot_of, use_of, resolved_expr, resolved_argument, resolved_stmt, resolved_block, with_int, with_array, locals_after, head_with, resolved_arguments}
 use Rattle.cw_tree.specs.Resolved as source
 use Rattle.cw_tree.specs.Bounds.{Counts, fits_expr, fits_head, fits_parts, fits_stmt, fits_block}
-use Rattle.cw_tree.specs.lemmas.NamedSlots.{turned}
-use Rattle.cw_tree.specs.lemmas.Names.{among_append, same_are, front_among, later_among}
+use Rattle.cw_tree.specs.lemmas.Names.{among_append, front_among, later_among}
 use Rattle.cw_loops.specs.Lowered.{is_plain, low, high, loop_name, lower_index, lower_expr, lower_exprs, lower_option, loop_count, loop_count_in, lower_stmt, lower_block, made_by, made_in, loop_function}
 use Rattle.cw_loops.specs.Lowerable.{Surroundings, can_write, can_read, is_local, is_variable, can_evaluate, can_pass, can_pass_all, can_target, new_integers, new_arrays, can_loop, inside, can_lower, can_lower_all}
 use Rattle.cw_loops.specs.Slotted.{slotted_expr, slotted_argument, slotted_stmt, slotted_block, slotted_function, slotted_arguments}
 use Rattle.cw_loops.specs.Slotted as slotted
 use Rattle.cw_loops.specs.Moved.{slot, Moves, slots_of, moves_of, moved_int, moved_array, is_over, from_low, moved_expr, moved_argument, moved_target, moved_return, moved_ints, moved_arrays, arrays_after, Loop, moved_head, loop_with, loop_index, Made, MadeAll, made_stmt, made_block}
 use Rattle.cw_loops.specs.Expanded.{loop_text, loop_texts}
-use Rattle.cw_loops.specs.lemmas.Tests.{Told, yes_is, no_is, told, never, refuted, either_right}
 use Rattle.cw_loops.specs.lemmas.Naming.{each_of, Side, in_first, in_second, side, among_right}
 use Rattle.cw_loops.specs.lemmas.Knowing.{new_unknown, not_both}
 use Rattle.cw_loops.specs.lemmas.Declaring.{HeadKept, head_kept, CutKept, cut_kept, same_after}

@@ -5,8 +5,8 @@ use Rattle.std.proofs.lemmas.Bool.{and_parts}
 use Rattle.cw_facts.specs.Tests.{not_true}
 use Rattle.cw_model.specs.Syntax.{Name, Expr, Number, Variable, Element, Length, Negative, Not, Binary, Stmt, Declare, DeclareArray, Assign, AssignElement, Reduce, Call, Start, Begin, Sync, If, IfElse, While, For, Scope, Cut, Region, Print, Return}
 use Rattle.cw_model.specs.Names.{is_among, differ}
+use Rattle.cw_model.specs.lemmas.Names.{same_are}
 use Rattle.cw_tree.specs.Resolved.{Locals, with_int, with_array, locals_after}
-use Rattle.cw_tree.specs.lemmas.Names.{same_are}
 use Rattle.cw_loops.specs.Lowered.{is_plain}
 use Rattle.cw_loops.specs.Lowerable.{Surroundings, can_read, is_local, is_variable, can_evaluate, new_integers, new_arrays, can_capture, can_slice, can_loop}
 use Rattle.cw_loops.specs.lemmas.Capturing.{each_captured, each_sliced}

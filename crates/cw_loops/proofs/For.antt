@@ -14,7 +14,8 @@ use Rattle.cw_model.specs.Outcome.{Done, then_do, quiet, joined_up}
 use Rattle.cw_model.specs.Loops.{lies_within, halves}
 use Rattle.cw_model.specs.LoopLaws.{for_body}
 use Rattle.cw_model.specs.Meaning.{Normal, Returned, SameDepth, Calls, function_named, loop_frame, with_slice, slices_back, call}
-use Rattle.cw_tree.specs.lemmas.Names.{same_are, front_among, later_among}
+use Rattle.cw_model.specs.lemmas.Names.{same_are}
+use Rattle.cw_tree.specs.lemmas.Names.{front_among, later_among}
 use Rattle.cw_loops.specs.Lowered.{is_plain, low, high, loop_function}
 use Rattle.cw_loops.specs.Lowerable.{Surroundings, can_read, is_local, can_capture, can_slice, can_loop}
 use Rattle.cw_loops.specs.lemmas.Apart.{plain_apart}

@@ -3,7 +3,7 @@ use Rattle.std.proofs.Common.{◌≡◌, ℕ, zero, suc, ◌+◌, ◌*◌, Bool,
 use Rattle.std.specs.Prelude.{if◌then◌else◌, not, ◌||◌, replicate, filter}
 use Rattle.std.proofs.lemmas.List.{map-append}
 use Rattle.std.proofs.lemmas.Bool.{and_parts}
-use Rattle.cw_facts.specs.Tests.{not_true}
+use Rattle.cw_facts.specs.Tests.{not_true, never, refuted}
 use Rattle.cw_model.specs.declared.syntax.NameKind.{NameKind}
 use Rattle.cw_model.specs.declared.syntax.NameKind.TheVariants as name_kind
 use Rattle.cw_model.specs.declared.syntax.CallKind.TheVariants.{Plain, Spawned}
@@ -11,15 +11,15 @@ use Rattle.cw_model.specs.declared.syntax.Operator.TheVariants.{AtMost, Less, Pl
 use Rattle.cw_model.specs.Syntax.{Name, Param, wants_array}
 use Rattle.cw_model.specs.Syntax as model
 use Rattle.cw_model.specs.Names.{same_name, is_among, differ}
+use Rattle.cw_model.specs.lemmas.Names.{same_itself, same_are}
 use Rattle.cw_tree.specs.Resolved.{Lists, Locals, slot_of, params_of}
 use Rattle.cw_tree.specs.lemmas.NamedSlots.{slot_stays}
-use Rattle.cw_tree.specs.lemmas.Names.{among_append, same_itself, same_are, front_among, later_among}
+use Rattle.cw_tree.specs.lemmas.Names.{among_append, front_among, later_among}
 use Rattle.cw_loops.specs.Lowered.{is_plain, low, high, middle, left_part, right_part, int_params, array_params, variables, loop_function, leaf_block, node_block, both_halves, in_cuts, left_arguments, right_arguments}
 use Rattle.cw_loops.specs.Slotted.{Expr, Number, Variable, Binary, Int, Array, Declare, Assign, Start, IfElse, While, Scope, Cut, Block, End, Then, Function, slotted_name, slotted_argument, slotted_block, slotted_function, slotted_arguments}
 use Rattle.cw_loops.specs.Expanded.{turn_slot, left_slot, right_slot, numbers, half, loop_text}
 use Rattle.cw_loops.specs.Expanded as by_slot
 use Rattle.cw_loops.specs.Moved.{Loop}
-use Rattle.cw_loops.specs.lemmas.Tests.{never, refuted}
 use Rattle.cw_loops.specs.lemmas.Apart.{plain_apart, apart_plain}
 use Rattle.cw_loops.specs.lemmas.Naming.{Placed, at_front, after_it, placed, among_right, map_same}
 use Rattle.cw_loops.proofs.Fresh.{left_left, right_right}

@@ -3,7 +3,7 @@ use Rattle.std.proofs.Common.{◌≡◌, ℕ, suc, ◌+◌, ◌==◌, Bool, true
 use Rattle.std.specs.Prelude.{if◌then◌else◌, not, ◌&&◌, ◌||◌, nat_le, Option, Some, None}
 use Rattle.std.specs.List.{list_all}
 use Rattle.std.proofs.lemmas.Bool.{and_parts}
-use Rattle.cw_facts.specs.Tests.{equal, not_true, both_true}
+use Rattle.cw_facts.specs.Tests.{equal, not_true, both_true, never, refuted, either_left}
 use Rattle.cw_model.specs.lemmas.Fits.{fits_kind, fit_kinds, arguments_fit}
 use Rattle.cw_model.specs.declared.syntax.CallKind.{CallKind}
 use Rattle.cw_model.specs.Lines.{unless}
@@ -15,12 +15,11 @@ use Rattle.cw_model.specs.Captured.{captured, read_by, read_by_all, read_in, rea
 use Rattle.cw_model.specs.Typing.{Known, is_int, is_array, is_fine, is_new, is_argument, are_arguments, is_call, is_head_of_loop, called, may_return, ends_block, surely_returns, faults_in, faults_in_block, declares, Returns, Nowhere}
 use Rattle.cw_model.specs.Ownership.{Around, InLoop, for_head, is_outer, may_index, keeps_loop, may_read, may_write, are_free, are_inner, names_in, target_names, known_after, Taken, Declared, Closing, Leaves, Joins, CutOf, taken_after, declared_by, owner_faults, owner_faults_in, are_loose}
 use Rattle.cw_model.specs.lemmas.Kept.{left_none, right_none, kept}
+use Rattle.cw_model.specs.lemmas.Names.{turned}
 use Rattle.cw_tree.specs.lemmas.Names.{front_among, later_among}
-use Rattle.cw_tree.specs.lemmas.NamedSlots.{turned}
 use Rattle.cw_loops.specs.Lowered.{is_plain, low, high}
 use Rattle.cw_loops.specs.Lowerable.{Surroundings, can_write, can_read, is_local, is_variable, can_evaluate, can_pass, can_pass_all, can_target, new_integers, new_arrays, can_capture, can_slice, can_loop, inside, can_lower, can_lower_all}
 use Rattle.cw_loops.specs.SourceLike.{is_source_expr, is_source_stmt, is_source_block, is_source_target}
-use Rattle.cw_loops.specs.lemmas.Tests.{never, refuted, either_left}
 use Rattle.cw_loops.specs.lemmas.Naming.{Placed, at_front, after_it, placed, Side, in_first, in_second, side, each_of, among_left, among_right, neither_among, new_are_there, new_are_all, new_differ, pushed, passed}
 use Rattle.cw_loops.specs.lemmas.Knowing.{Unknown, new_unknown, Adds, an_int, an_array, nothing, adds, known_more}
 use Rattle.cw_loops.specs.lemmas.Declaring.{HeadKept, head_kept, CutKept, cut_kept, block_new}

@@ -2,18 +2,18 @@
 use Rattle.std.proofs.Common.{◌≡◌, ℕ, nat_lt, Bool, true, false, List, [], ◌∷◌, ◌++◌, length, map, arith, refl, sym, ◌∙◌, ap, subst, append_assoc, append-nil, drop}
 use Rattle.std.specs.Prelude.{if◌then◌else◌, nat_le, ◌==◌, not, ◌&&◌, ◌||◌, Some, None}
 use Rattle.std.proofs.lemmas.Bool.{and_parts}
-use Rattle.cw_facts.specs.Tests.{not_below, not_true}
+use Rattle.cw_facts.specs.Tests.{not_below, not_true, Told, yes_is, no_is, told, never}
 use Rattle.cw_model.specs.Syntax.{Name, Expr, Number, Variable, Element, Length, Negative, Not, Binary, Stmt, Declare, DeclareArray, Assign, AssignElement, Reduce, Call, Start, Begin, Sync, If, IfElse, While, For, Scope, Cut, Region, Print, Return, Block, End, Then, Param}
 use Rattle.cw_model.specs.Names.{same_name, is_among, new_names}
 use Rattle.cw_model.specs.Meaning.{function_named}
 use Rattle.cw_loops.specs.Lowered.{is_plain}
 use Rattle.cw_model.specs.Captured.{captured, read_by, read_by_all, read_in, read_in_block, declared_in, declared_in_block}
+use Rattle.cw_model.specs.lemmas.Names.{same_are}
 use Rattle.cw_tree.specs.Resolved.{Lists, Locals, Use, slot_of, use_of, resolved_expr, resolved_argument, resolved_stmt, resolved_block, with_int, with_array, reads, argument_reads, arguments_read, reads_in, reads_in_block, captured_in, resolved_arguments}
 use Rattle.cw_tree.specs.Resolved as spec
 use Rattle.cw_tree.specs.lemmas.NamedSlots.{slot_stays}
-use Rattle.cw_tree.specs.lemmas.Names.{same_are, front_among, later_among}
+use Rattle.cw_tree.specs.lemmas.Names.{front_among, later_among}
 use Rattle.cw_loops.specs.Lowerable.{Surroundings, can_write, can_read, is_local, is_variable, can_evaluate, can_pass, can_pass_all, can_target, new_integers, new_arrays, can_loop, inside, can_lower, can_lower_all}
-use Rattle.cw_loops.specs.lemmas.Tests.{Told, yes_is, no_is, told, never}
 use Rattle.cw_loops.specs.lemmas.Naming.{Side, in_first, in_second, side, among_left, among_right, neither_among, new_are_there, new_are_all}
 use Rattle.cw_loops.proofs.Shifting.{slot_past}
 use Rattle.cw_loops.proofs.Taken.{Matches, both_match, kept_match, own_match, dropped_match, fewer_match, each_match, matched}

@@ -5,8 +5,9 @@ use Rattle.std.proofs.lemmas.Bool.Decides.{nat_tests}
 use Rattle.cw_facts.specs.Tests.{below, not_below}
 use Rattle.cw_model.specs.Syntax.{Name}
 use Rattle.cw_model.specs.Names.{same_name, is_among}
+use Rattle.cw_model.specs.lemmas.Names.{turned}
 use Rattle.cw_tree.specs.Resolved.{slot_of}
-use Rattle.cw_tree.specs.lemmas.NamedSlots.{one_slot, slot_in, slot_stays, turned}
+use Rattle.cw_tree.specs.lemmas.NamedSlots.{one_slot, slot_in, slot_stays}
 use Rattle.cw_loops.specs.Lowered.{is_plain, low, high}
 use Rattle.cw_loops.specs.Moved.{most_slot, slot, Moves, place_from, moved_int, moved_array}
 use Rattle.cw_loops.specs.lemmas.Apart.{plain_apart}

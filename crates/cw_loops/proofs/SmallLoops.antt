@@ -4,7 +4,7 @@ use Rattle.std.specs.Prelude.{if◌then◌else◌, nat_le, ◌&&◌}
 use Rattle.std.specs.List.{list_all}
 use Rattle.std.proofs.lemmas.List.{length-map, length_push}
 use Rattle.std.proofs.lemmas.Bool.{and_parts}
-use Rattle.cw_facts.specs.Tests.{le_of}
+use Rattle.cw_facts.specs.Tests.{le_of, Told, yes_is, no_is, told, never}
 use Rattle.cw_model.specs.declared.syntax.NameKind.{NameKind}
 use Rattle.cw_model.specs.declared.limits.TheConstants.{MOST_FUNCTIONS, MOST_GRAIN, MOST_LOOPS}
 use Rattle.cw_model.specs.Lines.{unless}
@@ -27,7 +27,6 @@ use Rattle.cw_loops.specs.Moved.{Loop, Moves, slot, moves_of, nothing_moved, arr
 use Rattle.cw_loops.specs.Slotted as slotted
 use Rattle.cw_loops.specs.Lowers.{Bodies, arrays_from, made_bodies, made_of_tree}
 use Rattle.cw_loops.specs.Small.{IsSmallLoop, AreSmallLoops}
-use Rattle.cw_loops.specs.lemmas.Tests.{Told, yes_is, no_is, told, never}
 use Rattle.cw_loops.specs.lemmas.Naming.{Placed, at_front, after_it, placed}
 use Rattle.cw_loops.specs.lemmas.Knowing.{not_there}
 use Rattle.cw_loops.specs.lemmas.Declaring.{head_kept}

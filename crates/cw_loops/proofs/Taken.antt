@@ -1,14 +1,14 @@
 -- The integers that a resolved body takes from outside are those that it names by name.
 use Rattle.std.proofs.Common.{◌≡◌, ℕ, nat_lt, Bool, true, false, List, [], ◌∷◌, ◌++◌, length, map, refl, sym, ◌∙◌, ap, append_assoc, append-nil}
 use Rattle.std.specs.Prelude.{if◌then◌else◌, not, ◌&&◌, ◌||◌}
-use Rattle.cw_facts.specs.Tests.{below}
+use Rattle.cw_facts.specs.Tests.{below, either_left}
 use Rattle.cw_model.specs.Syntax.{Name}
 use Rattle.cw_model.specs.Names.{same_name, is_among, new_names}
+use Rattle.cw_model.specs.lemmas.Names.{same_itself, turned}
 use Rattle.cw_tree.specs.Resolved.{Use, slot_of, use_of, is_slot_in, with_first, first_uses}
-use Rattle.cw_tree.specs.lemmas.NamedSlots.{one_slot, slot_in, among_push, turned}
-use Rattle.cw_tree.specs.lemmas.Names.{same_itself, front_among, later_among}
+use Rattle.cw_tree.specs.lemmas.NamedSlots.{one_slot, slot_in, among_push}
+use Rattle.cw_tree.specs.lemmas.Names.{front_among, later_among}
 use Rattle.std.proofs.lemmas.List.{map-append}
-use Rattle.cw_loops.specs.lemmas.Tests.{either_left}
 use Rattle.cw_loops.specs.lemmas.Naming.{Placed, at_front, after_it, placed}
 
 -- the names found so far, and behind them a name that is neither known nor found

@@ -2,16 +2,16 @@
 use Rattle.std.proofs.Common.{◌≡◌, ℕ, suc, ◌+◌, ◌-◌, ◌≤◌, nat_lt, Bool, true, false, List, [], ◌∷◌, ◌++◌, length, map, arith, refl, sym, ◌∙◌, ap, append_assoc, length-append}
 use Rattle.std.specs.Prelude.{if◌then◌else◌, not, ◌&&◌, ◌||◌}
 use Rattle.std.proofs.lemmas.Bool.{and_parts}
-use Rattle.cw_facts.specs.Tests.{below, not_below, not_true, both_true}
+use Rattle.cw_facts.specs.Tests.{below, not_below, not_true, both_true, Told, yes_is, no_is, told, never, refuted}
 use Rattle.cw_model.specs.Syntax.{Name, Function}
 use Rattle.cw_model.specs.Names.{same_name, is_among, differ}
+use Rattle.cw_model.specs.lemmas.Names.{same_itself, same_are}
 use Rattle.cw_tree.specs.Resolved.{Use, slot_of, use_of, is_slot_in}
 use Rattle.cw_tree.specs.lemmas.NamedSlots.{slot_in, slot_out, slot_stays}
-use Rattle.cw_tree.specs.lemmas.Names.{same_itself, same_are, front_among, later_among}
+use Rattle.cw_tree.specs.lemmas.Names.{front_among, later_among}
 use Rattle.cw_loops.specs.Lowered.{is_plain, low, high}
 use Rattle.cw_loops.specs.Lowerable.{Surroundings, can_write, can_read, is_local, nothing_around, inside}
 use Rattle.cw_loops.specs.Moved.{slot, Moves, nothing_moved, moved_int, moved_array, is_over}
-use Rattle.cw_loops.specs.lemmas.Tests.{Told, yes_is, no_is, told, never, refuted}
 use Rattle.cw_loops.specs.lemmas.Apart.{plain_apart}
 use Rattle.cw_loops.specs.lemmas.Naming.{Placed, at_front, after_it, placed, Side, in_first, in_second, side, among_right, neither_among}
 use Rattle.cw_loops.proofs.Shifting.{small_slot, slot_past, int_moved, past_int, own_int_moved, array_moved, past_array, own_array_moved}

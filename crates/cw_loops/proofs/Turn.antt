@@ -10,7 +10,8 @@ use Rattle.cw_model.specs.Names.{same_name, is_among, find, put}
 use Rattle.cw_model.specs.Frames.{Frame, new_int, inside_loop, leave}
 use Rattle.cw_model.specs.Outcome.{Done, quiet}
 use Rattle.cw_model.specs.Meaning.{Completion, Normal, onward, going, Calls, run_all, call, with_slice}
-use Rattle.cw_tree.specs.lemmas.Names.{same_itself, same_are, front_among, later_among}
+use Rattle.cw_model.specs.lemmas.Names.{same_itself, same_are, swapped}
+use Rattle.cw_tree.specs.lemmas.Names.{front_among, later_among}
 use Rattle.cw_loops.specs.Lowered.{is_plain, low, high}
 use Rattle.cw_loops.specs.Lowerable.{Surroundings}
 use Rattle.cw_loops.specs.lemmas.Apart.{plain_apart}
@@ -25,7 +26,7 @@ use Rattle.cw_loops.proofs.HalvesCall.{Reached, counted, length_of_table}
 use Rattle.cw_loops.proofs.Fitting.{Good, AllFit, fine-put, find_fine, fit-append}
 use Rattle.cw_loops.proofs.Statements.{Out, goes, returns, OutAll, alike_done, length-keys, fine_set}
 use Rattle.cw_loops.proofs.Worlds.{World, Rel, related, source, target, find_in}
-use Rattle.cw_loops.proofs.Slices.{mapped, Distinct, keys-mapped, find_mapped, mapped_alike, find_put_other, put_put, put_unmapped, swapped}
+use Rattle.cw_loops.proofs.Slices.{mapped, Distinct, keys-mapped, find_mapped, mapped_alike, find_put_other, put_put, put_unmapped}
 use Rattle.cw_loops.proofs.Ranges.{Agrees, Put, get_slice, set_slice}
 
 pub among_one : (x y : Name) → is_among x (y ∷ []) ≡ true → x ≡ y

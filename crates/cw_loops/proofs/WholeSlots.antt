@@ -5,6 +5,7 @@ use Rattle.std.specs.List.{list_all}
 use Rattle.std.proofs.lemmas.Bool.Decides.{nat_tests}
 use Rattle.std.proofs.lemmas.List.{map-append, length-map}
 use Rattle.std.proofs.lemmas.Bool.{and_parts}
+use Rattle.cw_facts.specs.Tests.{Told, yes_is, no_is, told}
 use Rattle.cw_model.specs.Meaning.{function_named}
 use Rattle.cw_model.specs.declared.limits.TheConstants.{MOST_DECLARED}
 use Rattle.cw_model.specs.Lines.{unless}
@@ -33,7 +34,6 @@ use Rattle.cw_loops.specs.Slotted as slotted
 use Rattle.cw_loops.specs.Moved.{slot, nothing_moved, Loop, MadeAll, made_body}
 use Rattle.cw_loops.specs.Lowers.{Bodies, arrays_from, made_bodies, made_of_tree}
 use Rattle.cw_loops.specs.Expanded.{loop_texts, with_bodies, expanded, lowered_by_slot}
-use Rattle.cw_loops.specs.lemmas.Tests.{Told, yes_is, no_is, told}
 use Rattle.cw_loops.specs.lemmas.Apart.{apart_plain}
 use Rattle.cw_loops.specs.lemmas.Heads.{int_kind, head_of, heads_kept}
 use Rattle.cw_loops.specs.lemmas.Numbering.{Made, count_of, made_functions, names_stay, numbered_slot}

@@ -1,5 +1,4 @@
 -- Lemmas on these definitions, which proofs of this crate and of crates above cite.
-pub mod Tests
 pub mod Apart
 pub mod Naming
 pub mod Knowing

@@ -6,13 +6,13 @@ use Rattle.std.proofs.Math.Seq.{take-suc}
 use Rattle.std.specs.Global.{Vec}
 use Rattle.std.specs.List.{enumerate_from, range_with_len, zip}
 use Rattle.std.specs.Str.{bytes_eq}
-use Rattle.std.proofs.lemmas.Bool.{cases_Bool, and_parts, or_parts}
+use Rattle.std.proofs.lemmas.Bool.{and_parts, or_parts}
 use Rattle.std.proofs.lemmas.Bool.Decides.{nat_tests}
 use Rattle.std.proofs.lemmas.List.{append-nil, length-take-le, map-append}
-use Rattle.std.proofs.lemmas.Slice.Eq.{bytes_eq-Decides}
 use Rattle.std.proofs.lemmas.Slice.Zip.{firsts-zip, seconds-zip}
 use Rattle.cw_facts.specs.Tests.{not_true}
 use Rattle.cw_model.specs.Syntax.{Name}
+use Rattle.cw_model.specs.lemmas.Names.{swapped}
 use Rattle.cw_code.specs.Fits.{is_among, are_apart}
 use Rattle.indexmap.specs.IndexMap.{insert_entry}
 use Rattle.cw_machine.specs.Runs.{named}
@@ -66,10 +66,6 @@ not_among : (name : Name) (front : List Name) (tag : Name) (rest : List Name)
 not_among name [] tag rest h = (or_parts (bytes_eq name tag) _ h).0
 not_among name (x ∷ front) tag rest h = not_among name front tag rest (or_parts (bytes_eq name x) _ h).1
 
-turned : (x y : Name) → bytes_eq x y ≡ false → bytes_eq y x ≡ false
-turned x y h = elim (cases_Bool (bytes_eq y x)) [
-  | inl same ↦ let back = (bytes_eq-Decides x y).1 (sym ((bytes_eq-Decides y x).0 same)) in cc
-  | inr other ↦ other
 ]
 
 -- a row under a tag that differs from those before it goes last
@@ -79,7 +75,7 @@ pub next_tag : {X : Type 0} (entries : List (Vec ℕ × X)) (key : Vec ℕ) (row
 next_tag [] key row tag rest e apart = refl
 next_tag (entry ∷ entries) key row tag rest e apart =
     let split = and_parts (not (is_among entry.0.items (texts entries ++ tag ∷ rest))) _ apart in
-    let other = turned entry.0.items tag (not_among entry.0.items (texts entries) tag rest (not_true _ split.0)) in
+    let other = swapped entry.0.items tag (not_among entry.0.items (texts entries) tag rest (not_true _ split.0)) in
     let differs : bytes_eq key.items entry.0.items ≡ false = subst (λ k. bytes_eq k entry.0.items ≡ false) (sym e) other in
     rw differs (ap (λ l. entry ∷ l) (next_tag entries key row tag rest e split.1))
 

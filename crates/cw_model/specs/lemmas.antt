@@ -1,5 +1,8 @@
 -- Lemmas on the definitions, which the proofs of the crates above cite.
 pub mod Kept
+pub mod Spans
+pub mod Firsts
+pub mod Names
 pub mod Lowest
 pub mod Parts
 pub mod Regrouping

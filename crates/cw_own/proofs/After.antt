@@ -2,7 +2,7 @@
 use Rattle.std.proofs.Common.{◌≡◌, ℕ, pos, ◌+◌, ◌≤◌, ◌==◌, nat_lt, Bool, true, false, not, ◌&&◌, ◌||◌, if◌then◌else◌, List, [], ◌∷◌, ◌++◌, length, map, Option, Some, None, option_map, ◌⊎◌, inl, inr, ⊎_elim, subst, refl, sym, ap, ◌∙◌}
 use Rattle.std.specs.List.{list_all}
 use Rattle.std.proofs.Math.Bool.{and-false, or_comm}
-use Rattle.cw_facts.specs.Tests.{neither_first, neither_second, not_lt_of, not_true}
+use Rattle.cw_facts.specs.Tests.{neither_first, neither_second, not_lt_of, not_true, first_true, second_true}
 use Rattle.cw_model.specs.declared.syntax.CallKind.TheVariants.{Plain, Spawned}
 use Rattle.cw_model.specs.declared.syntax.NameKind.{NameKind}
 use Rattle.cw_model.specs.declared.syntax.NameKind.TheVariants as name_kind
@@ -14,10 +14,10 @@ use Rattle.cw_model.specs.Answers.{main_name}
 use Rattle.cw_model.specs.Meaning.{function_named}
 use Rattle.cw_model.specs.Typing.{Known, Returns, Nowhere, is_int, is_array, is_writable, is_new, globals, is_fine, is_argument, are_arguments, called, is_target, is_call, declares, surely_returns, block_returns, ends_block, is_head_of_loop, is_cut, faults_in, faults_in_block}
 use Rattle.cw_model.specs.Ownership.{arrays_lent, lent, frozen_by, ReaderIn, Holder, SpawnIn, CutOf, Taken, freed, without, names_in, arrays_given, given, target_names, taken_by, where_it_goes_on, own_names, taken_after, taken_after_all}
-use Rattle.cw_model.specs.lemmas.Kept.{both_left, both_right, left_none, right_none, kept}
+use Rattle.cw_model.specs.lemmas.Kept.{left_none, right_none, kept}
+use Rattle.cw_model.specs.lemmas.Names.{turned}
 use Rattle.cw_tree.specs.Resolved.{Locals, Lists, slot_of, use_of, resolved_expr, resolved_argument, resolved_arguments}
 use Rattle.cw_tree.specs.Resolved as spec
-use Rattle.cw_tree.specs.lemmas.NamedSlots.{turned}
 use Rattle.cw_tree.specs.lemmas.Names.{called_is}
 use Rattle.cw_own.specs.Sets.{Slots, with_slot, Row, no_local, either_row, both_rows}
 use Rattle.cw_own.specs.Taken.{Held, none_held, taking_int, taking_array, freezing, either_held, held_within, with_target, with_arrays, known_after, after, after_all, gain, cuts_after, cuts_after_all}
@@ -98,8 +98,8 @@ holds_given known locals depth outside [] [] taken here cuts k h held = held
 holds_given known locals depth outside [] (e ∷ es) taken here cuts k h held = cc
 holds_given known locals depth outside (p ∷ ps) [] taken here cuts k h held = cc
 holds_given known locals depth outside (p ∷ ps) (e ∷ es) taken here cuts k h held =
-    by p.kind e (both_left (is_argument known p.kind e) (are_arguments known ps es) h)
-    (holds_given known locals depth outside ps es taken here cuts k (both_right (is_argument known p.kind e) (are_arguments known ps es) h) held)
+    by p.kind e (first_true (is_argument known p.kind e) (are_arguments known ps es) h)
+    (holds_given known locals depth outside ps es taken here cuts k (second_true (is_argument known p.kind e) (are_arguments known ps es) h) held)
   where
     by : (kind : NameKind) (e : Expr) → is_argument known kind e ≡ true →
         Holds locals depth outside (frozen_by depth (arrays_lent ps es) (taken_by depth (arrays_given ps es) taken)) (with_arrays (resolved_arguments locals ps es) here) cuts →
@@ -143,7 +143,7 @@ holds_call known locals depth outside fs target f es taken here cuts k h held = 
         Holds locals depth outside (frozen_by depth (arrays_lent g.params es) (taken_by depth (target_names target ++ arrays_given g.params es) taken)) (with_arrays (resolved_arguments locals g.params es) (with_target (option_map (use_of locals.ints) target) here)) cuts
     into g None t a = holds_given known locals depth outside g.params es taken here cuts k a held
     into g (Some x) t a =
-        let there = k.ints x (both_left (is_int known x) g.gives_int t) in
+        let there = k.ints x (first_true (is_int known x) g.gives_int t) in
         subst (λ r. Holds locals depth outside (frozen_by depth (arrays_lent g.params es) (taken_by depth (x ∷ arrays_given g.params es) taken)) r cuts) (sym (int_later (resolved_arguments locals g.params es) (slot_of x locals.ints) here))
         (holds_among locals depth outside (arrays_lent g.params es) (x, SpawnIn depth) (taken_by depth (arrays_given g.params es) taken) (taking_int (slot_of x locals.ints) (with_arrays (resolved_arguments locals g.params es) here)) cuts
         (holds_int locals depth outside (frozen_by depth (arrays_lent g.params es) (taken_by depth (arrays_given g.params es) taken)) (with_arrays (resolved_arguments locals g.params es) here) cuts x there
@@ -153,10 +153,10 @@ holds_call known locals depth outside fs target f es taken here cuts k h held = 
         Holds locals depth outside (frozen_by depth (lent fs f es) (taken_by depth (target_names target ++ given fs f es) taken)) (with_arrays (resolved_arguments locals (function_named f fs).params es) (with_target (option_map (use_of locals.ints) target) here)) cuts
     by None e h = cc
     by (Some g) e h =
-        let two = both_left (is_target known g target && are_arguments known g.params es) (not (same_name g.name main_name)) h in
+        let two = first_true (is_target known g target && are_arguments known g.params es) (not (same_name g.name main_name)) h in
         subst (λ (d : Function). Holds locals depth outside (frozen_by depth (arrays_lent d.params es) (taken_by depth (target_names target ++ arrays_given d.params es) taken)) (with_arrays (resolved_arguments locals d.params es) (with_target (option_map (use_of locals.ints) target) here)) cuts)
         (sym (called_is f fs g e))
-        (into g target (both_left (is_target known g target) (are_arguments known g.params es) two) (both_right (is_target known g target) (are_arguments known g.params es) two))
+        (into g target (first_true (is_target known g target) (are_arguments known g.params es) two) (second_true (is_target known g target) (are_arguments known g.params es) two))
 
 pub still_none : (a b : Bool) → (a ≡ true → b ≡ true) → b ≡ false → a ≡ false
 still_none true b f h = let g = f refl in cc
@@ -248,9 +248,9 @@ known_next lists locals (Return e) = refl
 -- typing knows the locals after a statement
 pub knows_next : (program : Program) (returns : Returns) (known : Known) (locals : Locals) (line : ℕ) (s : Stmt) → Knows known locals → faults_in program returns known line s ≡ [] → Knows (declares s known) (spec.locals_after locals s)
 knows_next program returns known locals line (Declare x e) k fine =
-    knows_int known locals x (fresh_name program known locals x k (both_right (is_fine known e) (is_new program known x) (kept (is_fine known e && is_new program known x) line fine))) k
+    knows_int known locals x (fresh_name program known locals x k (second_true (is_fine known e) (is_new program known x) (kept (is_fine known e && is_new program known x) line fine))) k
 knows_next program returns known locals line (DeclareArray x e) k fine =
-    knows_array known locals x (fresh_name program known locals x k (both_right (is_fine known e) (is_new program known x) (kept (is_fine known e && is_new program known x) line fine))) k
+    knows_array known locals x (fresh_name program known locals x k (second_true (is_fine known e) (is_new program known x) (kept (is_fine known e && is_new program known x) line fine))) k
 knows_next program returns known locals line (Assign x e) k fine = k
 knows_next program returns known locals line (AssignElement x i e) k fine = k
 knows_next program returns known locals line (Reduce how x e) k fine = k
@@ -306,19 +306,19 @@ pub record Cuts (program : Program) (known : Known) (a : Name) (l r : Name) : Ty
 
 pub cut_keeps : (program : Program) (known : Known) (a : Name) (e : Expr) (l r : Name) → is_cut program known a e l r ≡ true → Cuts program known a l r
 cut_keeps program known a e l r h =
-    let four = both_left (is_writable known a && is_fine known e && is_new program known l && is_new program known r) (not (same_name l r)) h in
-    let three = both_left (is_writable known a && is_fine known e && is_new program known l) (is_new program known r) four in
+    let four = first_true (is_writable known a && is_fine known e && is_new program known l && is_new program known r) (not (same_name l r)) h in
+    let three = first_true (is_writable known a && is_fine known e && is_new program known l) (is_new program known r) four in
     record {
-      array = writable_array known a (both_left (is_writable known a) (is_fine known e) (both_left (is_writable known a && is_fine known e) (is_new program known l) three));
-      left = both_right (is_writable known a && is_fine known e) (is_new program known l) three;
-      right = both_right (is_writable known a && is_fine known e && is_new program known l) (is_new program known r) four;
-      apart = both_right (is_writable known a && is_fine known e && is_new program known l && is_new program known r) (not (same_name l r)) h;
+      array = writable_array known a (first_true (is_writable known a) (is_fine known e) (first_true (is_writable known a && is_fine known e) (is_new program known l) three));
+      left = second_true (is_writable known a && is_fine known e) (is_new program known l) three;
+      right = second_true (is_writable known a && is_fine known e && is_new program known l) (is_new program known r) four;
+      apart = second_true (is_writable known a && is_fine known e && is_new program known l && is_new program known r) (not (same_name l r)) h;
     }
 
 -- the variable of a loop is new
 pub head_new : (program : Program) (known : Known) (x y z : Name) (from to : Expr) (grain : ℕ) (over : List Name) → is_head_of_loop program known x y z from to grain over ≡ true → is_new program known x ≡ true
 head_new program known x y z from to grain over h =
-    both_left _ _ (both_left _ _ (both_left _ _ (both_left _ _ (both_left _ _ (both_left _ _ (both_left _ (list_all (λ a. is_writable known a) over) h))))))
+    first_true _ _ (first_true _ _ (first_true _ _ (first_true _ _ (first_true _ _ (first_true _ _ (first_true _ (list_all (λ a. is_writable known a) over) h))))))
 
 -- the two names of a cut are known in its block
 pub knows_cut : (program : Program) (known : Known) (locals : Locals) (a l r : Name) → Knows known locals → Cuts program known a l r →

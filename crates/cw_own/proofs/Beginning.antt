@@ -5,11 +5,10 @@ use Rattle.std.proofs.lemmas.Slice.Eq.{bytes_eq-Decides}
 use Rattle.std.proofs.lemmas.List.{append_assoc, append-nil, length_push}
 use Rattle.std.proofs.lemmas.Bool.{or_from}
 use Rattle.std.proofs.Math.Bool.{or-false, or-true, or_comm}
-use Rattle.cw_facts.specs.Tests.{not_true, below, not_below}
+use Rattle.cw_facts.specs.Tests.{not_true, below, not_below, first_true, second_true}
 use Rattle.cw_model.specs.Syntax.{Name, Param}
 use Rattle.cw_model.specs.Names.{same_name, is_among, differ}
 use Rattle.cw_model.specs.Typing.{Known, known_of}
-use Rattle.cw_model.specs.lemmas.Kept.{both_left, both_right}
 use Rattle.cw_tree.specs.Resolved.{Locals, slot_of, locals_of}
 use Rattle.cw_tree.specs.Resolved as spec
 use Rattle.cw_tree.specs.lemmas.NamedSlots.{among_push, slot_in, slot_out}
@@ -101,10 +100,10 @@ apart_all x locals ps out f p there =
 fresh_params : (ps : List Param) (locals : Locals) → differ (names_of ps) ≡ true → ((p : Name) → is_among p (names_of ps) ≡ true → NotIn locals p) → AreFresh locals ps
 fresh_params [] locals d f = tt
 fresh_params (p ∷ ps) locals d f =
-    let out = not_true (is_among p.name (names_of ps)) (both_left (not (is_among p.name (names_of ps))) (differ (names_of ps)) d) in
+    let out = not_true (is_among p.name (names_of ps)) (first_true (not (is_among p.name (names_of ps))) (differ (names_of ps)) d) in
     let here = f p.name (ap (λ b. if b then true else is_among p.name (names_of ps)) ((bytes_eq-Decides p.name p.name).1 refl)) in
     let later = apart_all p.name locals ps out (λ q there. f q (if_or (same_name q p.name) (is_among q (names_of ps)) ∙ ap (λ b. same_name q p.name || b) there ∙ or-true (same_name q p.name))) in
-    (record { no_int = here.0; no_array = here.1 }, by (wants_array p) later (λ l. fresh_params ps l (both_right (not (is_among p.name (names_of ps))) (differ (names_of ps)) d)))
+    (record { no_int = here.0; no_array = here.1 }, by (wants_array p) later (λ l. fresh_params ps l (second_true (not (is_among p.name (names_of ps))) (differ (names_of ps)) d)))
   where
     by : (b : Bool) → ((q : Name) → is_among q (names_of ps) ≡ true → (NotIn (spec.with_int p.name locals) q) × (NotIn (spec.with_array p.name locals) q)) →
         ((l : Locals) → ((q : Name) → is_among q (names_of ps) ≡ true → NotIn l q) → AreFresh l ps) →

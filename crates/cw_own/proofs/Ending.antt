@@ -1,13 +1,13 @@
 -- The end of a block, by names and by slots.
 use Rattle.std.proofs.Common.{◌≡◌, ℕ, ◌≤◌, nat_lt, Bool, true, false, not, ◌&&◌, ◌||◌, if◌then◌else◌, [], ◌∷◌, ◌++◌, length, refl, sym, arith, length-append}
-use Rattle.cw_facts.specs.Tests.{not_lt_of}
+use Rattle.cw_facts.specs.Tests.{not_lt_of, second_true}
 use Rattle.cw_model.specs.declared.syntax.NameKind.TheVariants as name_kind
 use Rattle.cw_model.specs.Syntax.{Name, Program, Declare, DeclareArray, Assign, AssignElement, Reduce, Call, Start, Begin, Sync, If, IfElse, While, For, Scope, Cut, Region, Print, Return, Block, End, Then}
 use Rattle.cw_model.specs.Lines.{unless}
 use Rattle.cw_model.specs.Names.{same_name, is_among}
 use Rattle.cw_model.specs.Typing.{Known, Returns, is_new, is_fine, surely_returns, ends_block, faults_in, faults_in_block}
 use Rattle.cw_model.specs.Ownership.{own_names}
-use Rattle.cw_model.specs.lemmas.Kept.{both_right, left_none, right_none, kept}
+use Rattle.cw_model.specs.lemmas.Kept.{left_none, right_none, kept}
 use Rattle.cw_tree.specs.Resolved.{Locals}
 use Rattle.cw_tree.specs.Resolved as spec
 use Rattle.cw_own.specs.Sets.{Row, both_rows}
@@ -53,7 +53,7 @@ drop_block program returns known locals End P row k fine s =
 drop_block program returns known locals (Then line (Declare y e) b) P row k fine s =
     let here = left_none (unless (is_fine known e && is_new program known y) line) _ fine in
     let rest = right_none (unless (not (surely_returns (Declare y e)) || ends_block b) line) _ (right_none (unless (is_fine known e && is_new program known y) line) _ fine) in
-    let fresh = fresh_name program known locals y k (both_right (is_fine known e) (is_new program known y) (kept (is_fine known e && is_new program known y) line here)) in
+    let fresh = fresh_name program known locals y k (second_true (is_fine known e) (is_new program known y) (kept (is_fine known e && is_new program known y) line here)) in
     let count = length-append locals.ints (y ∷ []) in
     shows_as locals (λ x. not (same_name x y) && (not (is_among x (own_names b)) && P x)) _ _ (λ x. one_dropped (same_name x y) (is_among x (own_names b)) (P x))
     (shows_row locals (λ x. not (same_name x y) && (not (is_among x (own_names b)) && P x)) (both_rows (known_row locals) (both_rows (known_row (spec.with_int y locals)) row)) (both_rows (known_row locals) row)
@@ -65,7 +65,7 @@ drop_block program returns known locals (Then line (Declare y e) b) P row k fine
 drop_block program returns known locals (Then line (DeclareArray y e) b) P row k fine s =
     let here = left_none (unless (is_fine known e && is_new program known y) line) _ fine in
     let rest = right_none (unless (not (surely_returns (DeclareArray y e)) || ends_block b) line) _ (right_none (unless (is_fine known e && is_new program known y) line) _ fine) in
-    let fresh = fresh_name program known locals y k (both_right (is_fine known e) (is_new program known y) (kept (is_fine known e && is_new program known y) line here)) in
+    let fresh = fresh_name program known locals y k (second_true (is_fine known e) (is_new program known y) (kept (is_fine known e && is_new program known y) line here)) in
     let count = length-append locals.arrays (y ∷ []) in
     shows_as locals (λ x. not (same_name x y) && (not (is_among x (own_names b)) && P x)) _ _ (λ x. one_dropped (same_name x y) (is_among x (own_names b)) (P x))
     (shows_row locals (λ x. not (same_name x y) && (not (is_among x (own_names b)) && P x)) (both_rows (known_row locals) (both_rows (known_row (spec.with_array y locals)) row)) (both_rows (known_row locals) row)

@@ -6,9 +6,10 @@ use Rattle.cw_facts.specs.Tests.{equal}
 use Rattle.cw_model.specs.Syntax.{Name}
 use Rattle.cw_model.specs.Names.{same_name, is_among}
 use Rattle.cw_model.specs.Ownership.{Holder, SpawnIn, ReaderIn, CutOf, Taken, freed, cut_ended}
+use Rattle.cw_model.specs.lemmas.Names.{turned}
 use Rattle.cw_tree.specs.Resolved.{Locals, slot_of}
 use Rattle.cw_tree.specs.Resolved as spec
-use Rattle.cw_tree.specs.lemmas.NamedSlots.{turned, one_slot}
+use Rattle.cw_tree.specs.lemmas.NamedSlots.{one_slot}
 use Rattle.cw_own.specs.Sets.{Slots, with_slot, without_slot, either, Row, with_int, with_array, either_row}
 use Rattle.cw_own.specs.Taken.{Held, none_held, taking_int, taking_array, freezing, either_held}
 use Rattle.cw_own.proofs.Words.{four_or}

@@ -9,11 +9,11 @@ use Rattle.cw_model.specs.Typing.{Known, is_int, is_array, is_new, globals}
 use Rattle.cw_tree.specs.Resolved.{Locals, slot_of}
 use Rattle.cw_tree.specs.Resolved as spec
 use Rattle.cw_tree.specs.lemmas.NamedSlots.{among_push, slot_in, slot_out}
-use Rattle.cw_tree.specs.lemmas.Names.{same_are}
 use Rattle.cw_own.specs.Sets.{Row, with_int, with_array, both_rows}
 use Rattle.cw_own.proofs.Keeping.{same_rows}
 use Rattle.cw_own.proofs.Showing.{known_row, Shows, slot_kept}
 use Rattle.cw_model.specs.declared.syntax.NameKind.TheVariants as name_kind
+use Rattle.cw_model.specs.lemmas.Names.{same_are}
 
 -- the kinds that typing knows are those of the locals, and no name is of both
 pub record Knows (known : Known) (locals : Locals) : Type 0 where

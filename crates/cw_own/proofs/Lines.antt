@@ -2,6 +2,7 @@
 use Rattle.std.proofs.Common.{◌≡◌, ℕ, suc, ◌+◌, nat_le, Bool, true, false, not, ◌&&◌, ◌||◌, if◌then◌else◌, List, [], ◌∷◌, ◌++◌, length, map, Option, Some, None, inl, subst, refl, sym, ap, ◌∙◌}
 use Rattle.std.specs.List.{list_all}
 use Rattle.std.proofs.Math.Bool.{or-false, or-true}
+use Rattle.cw_facts.specs.Tests.{first_true, second_true}
 use Rattle.cw_model.specs.declared.limits.TheConstants.{MOST_GRAIN}
 use Rattle.cw_model.specs.declared.syntax.NameKind.TheVariants as name_kind
 use Rattle.cw_model.specs.lemmas.Fits.{writable_array, writable_arrays}
@@ -13,11 +14,12 @@ use Rattle.cw_model.specs.Names.{same_name, is_among, differ}
 use Rattle.cw_model.specs.Typing.{Known, Returns, Nowhere, WithInt, Alone, is_int, is_array, is_writable, is_new, is_fine, may_return, is_reducer, called, is_call, declares, surely_returns, ends_block, is_head_of_loop, is_cut, faults_in, faults_in_block}
 use Rattle.cw_model.specs.Ownership as own
 use Rattle.cw_model.specs.Ownership.{CutOf, Taken, is_taken, is_held, are_loose, freed, Around, InLoop, for_head, may_read, may_write, may_index, left_taken, Declared, declared_by, Closing, Joins, Leaves, taken_after, taken_after_all, owner_faults, owner_faults_in}
-use Rattle.cw_model.specs.lemmas.Kept.{both_left, both_right, left_none, right_none, kept}
+use Rattle.cw_model.specs.lemmas.Kept.{left_none, right_none, kept}
+use Rattle.cw_model.specs.lemmas.Names.{same_itself}
 use Rattle.cw_tree.specs.Resolved.{Locals, Lists, slot_of, use_of}
 use Rattle.cw_tree.specs.Resolved as spec
 use Rattle.cw_tree.specs.lemmas.NamedSlots.{among_push}
-use Rattle.cw_tree.specs.lemmas.Names.{same_itself, among_more}
+use Rattle.cw_tree.specs.lemmas.Names.{among_more}
 use Rattle.cw_own.specs.Sets.{Slots, no_slot, with_slot, Row, with_int, with_array}
 use Rattle.cw_own.specs.Taken as rows
 use Rattle.cw_own.specs.Taken.{Held, none_held, either_held, int_taken, array_held, known_after, after, after_all, cuts_after, cuts_after_all, gain}
@@ -159,7 +161,7 @@ pub names_with_array : (locals : Locals) (x : Name) (known : List Name) → Fres
 names_with_array locals x known f n = shows_row (spec.with_array x locals) (λ y. is_among y (x ∷ known)) (with_array (length locals.arrays) (known_row locals)) (known_row (spec.with_array x locals)) (sym (known_array locals x)) (names_array locals x known f n)
 
 fresh_at : (program : Program) (known : Known) (locals : Locals) (x : Name) (e : Expr) (line : ℕ) → Knows known locals → unless (is_fine known e && is_new program known x) line ≡ [] → Fresh x locals
-fresh_at program known locals x e line k fine = fresh_name program known locals x k (both_right (is_fine known e) (is_new program known x) (kept (is_fine known e && is_new program known x) line fine))
+fresh_at program known locals x e line k fine = fresh_name program known locals x k (second_true (is_fine known e) (is_new program known x) (kept (is_fine known e && is_new program known x) line fine))
 
 names_next : (program : Program) (returns : Returns) (known : Known) (locals : Locals) (line : ℕ) (s : Stmt) (names : List Name) → Knows known locals → faults_in program returns known line s ≡ [] → Names locals names → Names (spec.locals_after locals s) (own.known_after names s)
 names_next program returns known locals line (Declare x e) names k fine n = names_with_int locals x names (fresh_at program known locals x e line k fine) n
@@ -215,9 +217,9 @@ uses_shown : (known : Known) (locals : Locals) (xs : List Name) (P : Name → Bo
     Shows locals (λ y. is_among y xs || P y) (arrays_of (with_uses (map (use_of locals.arrays) xs) set))
 uses_shown known locals [] P set k h s = s
 uses_shown known locals (x ∷ xs) P set k h s =
-    let array = k.arrays x (both_left (is_array known x) (list_all (λ a. is_array known a) xs) h) in
+    let array = k.arrays x (first_true (is_array known x) (list_all (λ a. is_array known a) xs) h) in
     shows_as locals (λ y. is_among y xs || (same_name y x || P y)) (λ y. is_among y (x ∷ xs) || P y) _ (λ y. sym (over_words (is_among y xs) (same_name y x) (P y)))
-    (uses_shown known locals xs (λ y. same_name y x || P y) (with_slot (slot_of x locals.arrays) set) k (both_right (is_array known x) (list_all (λ a. is_array known a) xs) h)
+    (uses_shown known locals xs (λ y. same_name y x || P y) (with_slot (slot_of x locals.arrays) set) k (second_true (is_array known x) (list_all (λ a. is_array known a) xs) h)
     (shows_array locals x P (arrays_of set) array s))
 
 pub over_shown : (known : Known) (locals : Locals) (xs : List Name) → Knows known locals → list_all (λ a. is_array known a) xs ≡ true → Shows locals (λ y. is_among y xs) (arrays_of (with_uses (map (use_of locals.arrays) xs) no_slot))
@@ -366,9 +368,9 @@ together here more xs ls es left' left declared f g e = record {
 
 cut_at : (program : Program) (known : Known) (a : Name) (e : Expr) (l r : Name) → is_cut program known a e l r ≡ true → is_fine known e ≡ true
 cut_at program known a e l r h =
-    both_right (is_writable known a) (is_fine known e) (both_left (is_writable known a && is_fine known e) (is_new program known l)
-    (both_left (is_writable known a && is_fine known e && is_new program known l) (is_new program known r)
-    (both_left (is_writable known a && is_fine known e && is_new program known l && is_new program known r) (not (same_name l r)) h)))
+    second_true (is_writable known a) (is_fine known e) (first_true (is_writable known a && is_fine known e) (is_new program known l)
+    (first_true (is_writable known a && is_fine known e && is_new program known l) (is_new program known r)
+    (first_true (is_writable known a && is_fine known e && is_new program known l && is_new program known r) (not (same_name l r)) h)))
 
 cut_fresh : (program : Program) (known : Known) (locals : Locals) (a l r : Name) → Knows known locals → Cuts program known a l r → Fresh r (spec.with_array l locals)
 cut_fresh program known locals a l r k c =
@@ -383,14 +385,14 @@ record Heads (program : Program) (known : Known) (x : Name) (d e : Expr) (xs : L
 
 head_keeps : (program : Program) (known : Known) (x y z : Name) (from to : Expr) (grain : ℕ) (over : List Name) → is_head_of_loop program known x y z from to grain over ≡ true → Heads program known x from to over
 head_keeps program known x y z from to grain over h =
-    let seven = both_left (is_new program known x && same_name y x && same_name z x && is_fine known from && is_fine known to && nat_le 1 grain && nat_le grain MOST_GRAIN) (list_all (λ a. is_writable known a) over) h in
-    let five = both_left (is_new program known x && same_name y x && same_name z x && is_fine known from && is_fine known to) (nat_le 1 grain) (both_left (is_new program known x && same_name y x && same_name z x && is_fine known from && is_fine known to && nat_le 1 grain) (nat_le grain MOST_GRAIN) seven) in
-    let four = both_left (is_new program known x && same_name y x && same_name z x && is_fine known from) (is_fine known to) five in
+    let seven = first_true (is_new program known x && same_name y x && same_name z x && is_fine known from && is_fine known to && nat_le 1 grain && nat_le grain MOST_GRAIN) (list_all (λ a. is_writable known a) over) h in
+    let five = first_true (is_new program known x && same_name y x && same_name z x && is_fine known from && is_fine known to) (nat_le 1 grain) (first_true (is_new program known x && same_name y x && same_name z x && is_fine known from && is_fine known to && nat_le 1 grain) (nat_le grain MOST_GRAIN) seven) in
+    let four = first_true (is_new program known x && same_name y x && same_name z x && is_fine known from) (is_fine known to) five in
     record {
       variable = head_new program known x y z from to grain over h;
-      from = both_right (is_new program known x && same_name y x && same_name z x) (is_fine known from) four;
-      to = both_right (is_new program known x && same_name y x && same_name z x && is_fine known from) (is_fine known to) five;
-      over = writable_arrays known over (both_right (is_new program known x && same_name y x && same_name z x && is_fine known from && is_fine known to && nat_le 1 grain && nat_le grain MOST_GRAIN) (list_all (λ a. is_writable known a) over) h);
+      from = second_true (is_new program known x && same_name y x && same_name z x) (is_fine known from) four;
+      to = second_true (is_new program known x && same_name y x && same_name z x && is_fine known from) (is_fine known to) five;
+      over = writable_arrays known over (second_true (is_new program known x && same_name y x && same_name z x && is_fine known from && is_fine known to && nat_le 1 grain && nat_le grain MOST_GRAIN) (list_all (λ a. is_writable known a) over) h);
     }
 
 mutual
@@ -400,30 +402,30 @@ mutual
       (unless (keeps l (seen_by (known_row locals) (taken_rows outer here cuts) (spec.resolved_stmt lists locals s)) (spec.resolved_stmt lists locals s)) line
       ++ lines_within l (known_row locals) (seen_by (known_row locals) (taken_rows outer here cuts) (spec.resolved_stmt lists locals s)) (spec.resolved_stmt lists locals s))
   stmt_lines program lists same returns known names locals depth outside outer around l line (Declare x e) taken here cuts k n steady top r fine h =
-      one_rule _ _ line (read_same known locals around l taken (taken_rows outer here cuts) e k (both_left (is_fine known e) (is_new program known x) (kept (is_fine known e && is_new program known x) line fine)) r (sees locals depth outside outer taken here cuts steady h))
+      one_rule _ _ line (read_same known locals around l taken (taken_rows outer here cuts) e k (first_true (is_fine known e) (is_new program known x) (kept (is_fine known e && is_new program known x) line fine)) r (sees locals depth outside outer taken here cuts steady h))
   stmt_lines program lists same returns known names locals depth outside outer around l line (DeclareArray x e) taken here cuts k n steady top r fine h =
-      one_rule _ _ line (read_same known locals around l taken (taken_rows outer here cuts) e k (both_left (is_fine known e) (is_new program known x) (kept (is_fine known e && is_new program known x) line fine)) r (sees locals depth outside outer taken here cuts steady h))
+      one_rule _ _ line (read_same known locals around l taken (taken_rows outer here cuts) e k (first_true (is_fine known e) (is_new program known x) (kept (is_fine known e && is_new program known x) line fine)) r (sees locals depth outside outer taken here cuts steady h))
   stmt_lines program lists same returns known names locals depth outside outer around l line (Assign x e) taken here cuts k n steady top r fine h =
       let both = kept (is_int known x && is_fine known e) line fine in
       let s = sees locals depth outside outer taken here cuts steady h in
       one_rule _ _ line (both_rules (may_read around taken e) _ (may_write around taken (x ∷ [])) _
-      (read_same known locals around l taken (taken_rows outer here cuts) e k (both_right (is_int known x) (is_fine known e) both) r s)
-      (write_same known locals around l taken (taken_rows outer here cuts) x k (both_left (is_int known x) (is_fine known e) both) r s))
+      (read_same known locals around l taken (taken_rows outer here cuts) e k (second_true (is_int known x) (is_fine known e) both) r s)
+      (write_same known locals around l taken (taken_rows outer here cuts) x k (first_true (is_int known x) (is_fine known e) both) r s))
   stmt_lines program lists same returns known names locals depth outside outer around l line (AssignElement a i e) taken here cuts k n steady top r fine h =
       let all = kept (is_writable known a && is_fine known i && is_fine known e) line fine in
-      let two = both_left (is_writable known a && is_fine known i) (is_fine known e) all in
-      let array = writable_array known a (both_left (is_writable known a) (is_fine known i) two) in
-      let index = both_right (is_writable known a) (is_fine known i) two in
+      let two = first_true (is_writable known a && is_fine known i) (is_fine known e) all in
+      let array = writable_array known a (first_true (is_writable known a) (is_fine known i) two) in
+      let index = second_true (is_writable known a) (is_fine known i) two in
       let s = sees locals depth outside outer taken here cuts steady h in
       let t = taken_rows outer here cuts in
       one_rule _ _ line (both_rules (may_read around taken i && may_read around taken e && are_loose taken (a ∷ [])) _ (may_index around a i) _
       (both_rules (may_read around taken i && may_read around taken e) _ (are_loose taken (a ∷ [])) _
       (both_rules (may_read around taken i) _ (may_read around taken e) _ (read_same known locals around l taken t i k index r s)
-      (read_same known locals around l taken t e k (both_right (is_writable known a && is_fine known i) (is_fine known e) all) r s))
+      (read_same known locals around l taken t e k (second_true (is_writable known a && is_fine known i) (is_fine known e) all) r s))
       (loose_same known locals taken t a k array s))
       (index_same known locals around l a i k array index r))
   stmt_lines program lists same returns known names locals depth outside outer around l line (Reduce how a e) taken here cuts k n steady top r fine h =
-      one_rule _ _ line (read_same known locals around l taken (taken_rows outer here cuts) e k (both_right (is_reducer program how a) (is_fine known e) (kept (is_reducer program how a && is_fine known e) line fine)) r (sees locals depth outside outer taken here cuts steady h))
+      one_rule _ _ line (read_same known locals around l taken (taken_rows outer here cuts) e k (second_true (is_reducer program how a) (is_fine known e) (kept (is_reducer program how a && is_fine known e) line fine)) r (sees locals depth outside outer taken here cuts steady h))
   stmt_lines program lists same returns known names locals depth outside outer around l line (Call kind site target f es) taken here cuts k n steady top r fine h =
       subst (λ (fs : List Function). Same (owner_faults program.functions around names depth taken line (Call kind site target f es)) (unless (slot_call locals l (taken_rows outer here cuts) (function_named f fs).params target es) line ++ []))
       (sym same)

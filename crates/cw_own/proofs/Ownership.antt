@@ -2,6 +2,7 @@
 use Rattle.std.proofs.Common.{◌≡◌, Bool, true, false, not, ◌&&◌, ◌||◌, if◌then◌else◌, List, [], ◌∷◌, map, flat_map, None, inr, refl, sym, ap, ◌∙◌}
 use Rattle.std.specs.List.{list_all, list_any}
 use Rattle.std.proofs.Math.Bool.{and-false}
+use Rattle.cw_facts.specs.Tests.{first_true, second_true}
 use Rattle.cw_model.specs.Lines.{unless, lowest}
 use Rattle.cw_model.specs.Names.{is_among, differ}
 use Rattle.cw_model.specs.Syntax.{Program, Param}
@@ -23,7 +24,7 @@ use Rattle.cw_own.proofs.Holding as holding
 use Rattle.cw_own.proofs.Showing as showing
 use Rattle.cw_own.proofs.Following as following
 use Rattle.cw_model.specs.Ownership.{Holder, SpawnIn, ReaderIn, CutOf}
-use Rattle.cw_model.specs.lemmas.Kept.{both_left, both_right, left_none, right_none, kept}
+use Rattle.cw_model.specs.lemmas.Kept.{left_none, right_none, kept}
 use Rattle.cw_tree.specs.lemmas.Looked.{body_is, all_right}
 use Rattle.cw_own.proofs.Keeping.{same_rows}
 
@@ -33,9 +34,9 @@ function_by_slot program lists same f right fine =
     let g = plain_function f in
     let head = kept (is_head program g) f.line (left_none (unless (is_head program g) f.line) _ fine) in
     let body = right_none (unless (is_head program g) f.line) (faults_in_block program (if f.gives_int then WithInt else Alone) (known_of f.params) g.body) fine in
-    let apart = both_left (differ (map (λ (p : Param). p.name) f.params)) (not (list_any (λ (p : Param). is_among p.name (globals program)) f.params))
-    (both_left (differ (map (λ (p : Param). p.name) f.params) && not (list_any (λ (p : Param). is_among p.name (globals program)) f.params)) (not f.gives_int || block_returns g.body)
-    (both_left (differ (map (λ (p : Param). p.name) f.params) && not (list_any (λ (p : Param). is_among p.name (globals program)) f.params) && (not f.gives_int || block_returns g.body)) _ head)) in
+    let apart = first_true (differ (map (λ (p : Param). p.name) f.params)) (not (list_any (λ (p : Param). is_among p.name (globals program)) f.params))
+    (first_true (differ (map (λ (p : Param). p.name) f.params) && not (list_any (λ (p : Param). is_among p.name (globals program)) f.params)) (not f.gives_int || block_returns g.body)
+    (first_true (differ (map (λ (p : Param). p.name) f.params) && not (list_any (λ (p : Param). is_among p.name (globals program)) f.params) && (not f.gives_int || block_returns g.body)) _ head)) in
     record {
       at = λ o. (block_whole program lists (map (λ (p : Param). p.name) f.params) (locals_of f.params) 1 none_held NoLoop None Joins g.body [] none_held no_slot
           (lines.block_lines program lists same (if f.gives_int then WithInt else Alone) (known_of f.params) (map (λ (p : Param). p.name) f.params) (locals_of f.params) 1 (λ p. no_local) none_held NoLoop None Joins g.body [] none_held no_slot []
@@ -58,8 +59,8 @@ functions_by_slot : (program : Program) (lists : Lists) → lists.callees ≡ pr
 functions_by_slot program lists same [] right fine = record { at = λ o. refl }
 functions_by_slot program lists same (f ∷ fs) right fine =
     same_append (owner_faults_of program.functions (plain_function f)) (function_lines f) (flat_map (owner_faults_of program.functions) (map plain_function fs)) (flat_map function_lines fs)
-    (function_by_slot program lists same f (both_left (is_right_function lists f) (list_all (is_right_function lists) fs) right) (left_none (faults_of program (plain_function f)) (flat_map (faults_of program) (map plain_function fs)) fine))
-    (functions_by_slot program lists same fs (both_right (is_right_function lists f) (list_all (is_right_function lists) fs) right) (right_none (faults_of program (plain_function f)) (flat_map (faults_of program) (map plain_function fs)) fine))
+    (function_by_slot program lists same f (first_true (is_right_function lists f) (list_all (is_right_function lists) fs) right) (left_none (faults_of program (plain_function f)) (flat_map (faults_of program) (map plain_function fs)) fine))
+    (functions_by_slot program lists same fs (second_true (is_right_function lists f) (list_all (is_right_function lists) fs) right) (right_none (faults_of program (plain_function f)) (flat_map (faults_of program) (map plain_function fs)) fine))
 
 -- the least line by slots is that of the language
 pub ownership_by_slot : (tree : Resolved) → is_resolved tree ≡ true → type_faults (plain tree) ≡ [] →

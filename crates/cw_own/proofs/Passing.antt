@@ -2,6 +2,7 @@
 use Rattle.std.proofs.Common.{◌≡◌, Bool, true, false, not, ◌&&◌, ◌||◌, if◌then◌else◌, List, [], ◌∷◌, ◌++◌, map, Option, Some, None, option_map, subst, refl, sym, ap, ◌∙◌}
 use Rattle.std.specs.List.{list_all, list_any}
 use Rattle.std.proofs.Math.Bool.{or-false, and-false, and-true, and_assoc}
+use Rattle.cw_facts.specs.Tests.{first_true, second_true}
 use Rattle.cw_model.specs.declared.syntax.NameKind.{NameKind}
 use Rattle.cw_model.specs.declared.syntax.NameKind.TheVariants as name_kind
 use Rattle.cw_model.specs.lemmas.Fits.{writable_array}
@@ -11,10 +12,9 @@ use Rattle.cw_model.specs.Names.{same_name, is_among, differ}
 use Rattle.cw_model.specs.Answers.{main_name}
 use Rattle.cw_model.specs.Typing.{Known, is_int, is_array, is_argument, are_arguments, is_target, is_call, called}
 use Rattle.cw_model.specs.Ownership.{Taken, is_taken, is_held, names_in, arrays_given, arrays_lent, target_names, Around, is_outer, are_inner, may_read, may_write, may_lend}
-use Rattle.cw_model.specs.lemmas.Kept.{both_left, both_right}
+use Rattle.cw_model.specs.lemmas.Names.{turned}
 use Rattle.cw_tree.specs.Resolved.{Locals, slot_of, use_of, resolved_argument, resolved_arguments}
 use Rattle.cw_tree.specs.Resolved as spec
-use Rattle.cw_tree.specs.lemmas.NamedSlots.{turned}
 use Rattle.cw_tree.specs.lemmas.Names.{called_is}
 use Rattle.cw_own.specs.Sets.{Slots, no_slot, with_slot, Row}
 use Rattle.cw_own.specs.Taken as rows
@@ -84,9 +84,9 @@ named_is : (known : Known) (locals : Locals) (xs seen : List Name) (set : Slots)
     once seen xs ≡ named_once set (map (use_of locals.arrays) xs)
 named_is known locals [] seen set k h s = refl
 named_is known locals (x ∷ xs) seen set k h s =
-    let array = both_left (is_array known x) (list_all (λ a. is_array known a) xs) h in
+    let array = first_true (is_array known x) (list_all (λ a. is_array known a) xs) h in
     ap (λ b. not b && once (x ∷ seen) xs) (array_shown locals (λ y. is_among y seen) (arrays_row set) x (array_apart known locals x k (k.arrays x array)) s)
-    ∙ ap (λ b. not (set (slot_of x locals.arrays)) && b) (named_is known locals xs (x ∷ seen) (with_slot (slot_of x locals.arrays) set) k (both_right (is_array known x) (list_all (λ a. is_array known a) xs) h) (seen_more locals x seen set (k.arrays x array) s))
+    ∙ ap (λ b. not (set (slot_of x locals.arrays)) && b) (named_is known locals xs (x ∷ seen) (with_slot (slot_of x locals.arrays) set) k (second_true (is_array known x) (list_all (λ a. is_array known a) xs) h) (seen_more locals x seen set (k.arrays x array) s))
 
 pub differ_named : (known : Known) (locals : Locals) (xs : List Name) → Knows known locals → list_all (λ a. is_array known a) xs ≡ true → differ xs ≡ named_once no_slot (map (use_of locals.arrays) xs)
 differ_named known locals xs k h = differ_is xs ∙ named_is known locals xs [] no_slot k h (shows_none locals)
@@ -96,10 +96,10 @@ pub over_same : (known : Known) (locals : Locals) (around : Around) (l : Option 
     may_write around taken xs ≡ list_all (λ (u : spec.Use). rules.may_pass l t u.slot) (map (use_of locals.arrays) xs)
 over_same known locals around l taken t [] k h r s = refl
 over_same known locals around l taken t (x ∷ xs) k h r s =
-    let array = both_left (is_array known x) (list_all (λ a. is_array known a) xs) h in
+    let array = first_true (is_array known x) (list_all (λ a. is_array known a) xs) h in
     write_more around taken x xs
     ∙ ap (λ b. b && may_write around taken xs) (pass_same known locals around l taken t x k array r s)
-    ∙ ap (λ b. rules.may_pass l t (slot_of x locals.arrays) && b) (over_same known locals around l taken t xs k (both_right (is_array known x) (list_all (λ a. is_array known a) xs) h) r s)
+    ∙ ap (λ b. rules.may_pass l t (slot_of x locals.arrays) && b) (over_same known locals around l taken t xs k (second_true (is_array known x) (list_all (λ a. is_array known a) xs) h) r s)
 
 -- what an argument gives away, and what is only read of it
 abbrev given_of : NameKind → Expr → List Name
@@ -118,8 +118,8 @@ args_same known locals around l taken t [] [] k h r s = refl
 args_same known locals around l taken t [] (e ∷ es) k h r s = cc
 args_same known locals around l taken t (p ∷ ps) [] k h r s = cc
 args_same known locals around l taken t (p ∷ ps) (e ∷ es) k h r s =
-    by p.kind e (both_left (is_argument known p.kind e) (are_arguments known ps es) h)
-    (args_same known locals around l taken t ps es k (both_right (is_argument known p.kind e) (are_arguments known ps es) h) r s)
+    by p.kind e (first_true (is_argument known p.kind e) (are_arguments known ps es) h)
+    (args_same known locals around l taken t ps es k (second_true (is_argument known p.kind e) (are_arguments known ps es) h) r s)
   where
     int_words : (a b c d : Bool) → (((a && b) && c) && d) ≡ (a && ((b && c) && d))
     int_words true b c d = refl
@@ -189,8 +189,8 @@ passed_is known locals [] [] seen set k h s = refl
 passed_is known locals [] (e ∷ es) seen set k h s = cc
 passed_is known locals (p ∷ ps) [] seen set k h s = cc
 passed_is known locals (p ∷ ps) (e ∷ es) seen set k h s =
-    by p.kind e (both_left (is_argument known p.kind e) (are_arguments known ps es) h)
-    (λ seen set s. passed_is known locals ps es seen set k (both_right (is_argument known p.kind e) (are_arguments known ps es) h) s)
+    by p.kind e (first_true (is_argument known p.kind e) (are_arguments known ps es) h)
+    (λ seen set s. passed_is known locals ps es seen set k (second_true (is_argument known p.kind e) (are_arguments known ps es) h) s)
   where
     by : (kind : NameKind) (e : Expr) → is_argument known kind e ≡ true →
         ((seen : List Name) (set : Slots) → Shows locals (λ x. is_among x seen) (arrays_row set) → once seen (arrays_given ps es) ≡ passed_once set (resolved_arguments locals ps es)) →
@@ -222,8 +222,8 @@ away_shown known locals [] [] P set k h s = s
 away_shown known locals [] (e ∷ es) P set k h s = cc
 away_shown known locals (p ∷ ps) [] P set k h s = cc
 away_shown known locals (p ∷ ps) (e ∷ es) P set k h s =
-    by p.kind e (both_left (is_argument known p.kind e) (are_arguments known ps es) h)
-    (λ Q set s. away_shown known locals ps es Q set k (both_right (is_argument known p.kind e) (are_arguments known ps es) h) s)
+    by p.kind e (first_true (is_argument known p.kind e) (are_arguments known ps es) h)
+    (λ Q set s. away_shown known locals ps es Q set k (second_true (is_argument known p.kind e) (are_arguments known ps es) h) s)
   where
     words : (a b c : Bool) → ((if b then true else a) || c) ≡ (a || (b || c))
     words true true c = refl
@@ -266,8 +266,8 @@ read_is known locals [] [] away set k h s = refl
 read_is known locals [] (e ∷ es) away set k h s = cc
 read_is known locals (p ∷ ps) [] away set k h s = cc
 read_is known locals (p ∷ ps) (e ∷ es) away set k h s =
-    by p.kind e (both_left (is_argument known p.kind e) (are_arguments known ps es) h)
-    (read_is known locals ps es away set k (both_right (is_argument known p.kind e) (are_arguments known ps es) h) s)
+    by p.kind e (first_true (is_argument known p.kind e) (are_arguments known ps es) h)
+    (read_is known locals ps es away set k (second_true (is_argument known p.kind e) (are_arguments known ps es) h) s)
   where
     by : (kind : NameKind) (e : Expr) → is_argument known kind e ≡ true →
         not (list_any (λ a. is_among a away) (arrays_lent ps es)) ≡ none_read set (resolved_arguments locals ps es) →
@@ -295,7 +295,7 @@ read_is known locals (p ∷ ps) (e ∷ es) away set k h s =
 target_same : (known : Known) (locals : Locals) (around : Around) (l : Option Loop) (taken : Taken) (t : rows.Taken) (g : Function) (target : Option Name) → Knows known locals → is_target known g target ≡ true → Rounds locals around l → Sees locals taken t →
     may_write around taken (target_names target) ≡ rules.may_target l t (option_map (use_of locals.ints) target)
 target_same known locals around l taken t g None k h r s = refl
-target_same known locals around l taken t g (Some x) k h r s = write_same known locals around l taken t x k (both_left (is_int known x) g.gives_int h) r s
+target_same known locals around l taken t g (Some x) k h r s = write_same known locals around l taken t x k (first_true (is_int known x) g.gives_int h) r s
 
 write_append : (around : Around) (taken : Taken) (xs ys : List Name) → may_write around taken (xs ++ ys) ≡ (may_write around taken xs && may_write around taken ys)
 write_append around taken [] ys = refl
@@ -355,7 +355,7 @@ call_same known locals around l taken t fs target f es k h r s = by (called f fs
         model_call around taken (function_named f fs).params target es ≡ slot_call locals l t (function_named f fs).params target es
     by None e h = cc
     by (Some g) e h =
-        let two = both_left (is_target known g target && are_arguments known g.params es) (not (same_name g.name main_name)) h in
+        let two = first_true (is_target known g target && are_arguments known g.params es) (not (same_name g.name main_name)) h in
         subst (λ (d : Function). model_call around taken d.params target es ≡ slot_call locals l t d.params target es)
         (sym (called_is f fs g e))
-        (into g (both_left (is_target known g target) (are_arguments known g.params es) two) (both_right (is_target known g target) (are_arguments known g.params es) two))
+        (into g (first_true (is_target known g target) (are_arguments known g.params es) two) (second_true (is_target known g target) (are_arguments known g.params es) two))

@@ -2,11 +2,11 @@
 use Rattle.std.proofs.Common.{◌≡◌, ◌==◌, Bool, true, false, not, ◌&&◌, ◌||◌, List, [], ◌∷◌, ◌++◌, Option, Some, None, refl, sym, ap, ◌∙◌}
 use Rattle.std.specs.List.{list_any}
 use Rattle.std.proofs.Math.Bool.{or-false, or_assoc}
+use Rattle.cw_facts.specs.Tests.{first_true, second_true}
 use Rattle.cw_model.specs.Syntax.{Name, Expr, Number, Variable, Element, Length, Negative, Not, Binary}
 use Rattle.cw_model.specs.Names.{same_name, is_among}
 use Rattle.cw_model.specs.Typing.{Known, is_int, is_array, is_fine}
 use Rattle.cw_model.specs.Ownership.{Taken, is_taken, is_held, are_loose, names_in, Around, NoLoop, InLoop, for_head, is_outer, may_index, keeps_loop, may_read, may_write}
-use Rattle.cw_model.specs.lemmas.Kept.{both_left, both_right}
 use Rattle.cw_tree.specs.Resolved.{Locals, slot_of, resolved_expr}
 use Rattle.cw_tree.specs.Resolved as spec
 use Rattle.cw_tree.specs.lemmas.NamedSlots.{one_slot, among_push}
@@ -144,8 +144,8 @@ pub read_same : (known : Known) (locals : Locals) (around : Around) (l : Option 
 read_same known locals around l taken t (Number n) k f r s = refl
 read_same known locals around l taken t (Variable x) k f r s = one_word (is_taken taken x) ∙ ap not (int_free known locals taken t x k f s)
 read_same known locals around l taken t (Element a e) k f r s =
-    let array = both_left (is_array known a) (is_fine known e) f in
-    let index = both_right (is_array known a) (is_fine known e) f in
+    let array = first_true (is_array known a) (is_fine known e) f in
+    let index = second_true (is_array known a) (is_fine known e) f in
     element_words (is_taken taken a) (list_any (λ x. is_taken taken x) (names_in e)) (may_index around a e) (keeps_loop around e)
     ∙ ap (λ b. (not b && may_index around a e) && (not (list_any (λ x. is_taken taken x) (names_in e)) && keeps_loop around e)) (array_free known locals taken t a k array s)
     ∙ ap (λ b. (not (array_taken t (slot_of a locals.arrays)) && b) && (not (list_any (λ x. is_taken taken x) (names_in e)) && keeps_loop around e)) (index_same known locals around l a e k array index r)
@@ -158,8 +158,8 @@ read_same known locals around l taken t (Not e) k f r s = read_same known locals
 read_same known locals around l taken t (Binary o d e) k f r s =
     ap (λ b. not b && (keeps_loop around d && keeps_loop around e)) (any_append (λ x. is_taken taken x) (names_in d) (names_in e))
     ∙ element_words (list_any (λ x. is_taken taken x) (names_in d)) (list_any (λ x. is_taken taken x) (names_in e)) (keeps_loop around d) (keeps_loop around e)
-    ∙ ap (λ b. b && (not (list_any (λ x. is_taken taken x) (names_in e)) && keeps_loop around e)) (read_same known locals around l taken t d k (both_left (is_fine known d) (is_fine known e) f) r s)
-    ∙ ap (λ b. rules.may_read l t (resolved_expr locals d) && b) (read_same known locals around l taken t e k (both_right (is_fine known d) (is_fine known e) f) r s)
+    ∙ ap (λ b. b && (not (list_any (λ x. is_taken taken x) (names_in e)) && keeps_loop around e)) (read_same known locals around l taken t d k (first_true (is_fine known d) (is_fine known e) f) r s)
+    ∙ ap (λ b. rules.may_read l t (resolved_expr locals d) && b) (read_same known locals around l taken t e k (second_true (is_fine known d) (is_fine known e) f) r s)
 
 one_written : (a b : Bool) → (not (a || false) && not (b || false)) ≡ (not a && not b)
 one_written true b = refl

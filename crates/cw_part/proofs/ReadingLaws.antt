@@ -1,8 +1,7 @@
 -- What is read of a trace, and the part of a run that one strand ran.
 use Rattle.std.specs.Prelude.{◌≡◌, ℕ, zero, suc, ℤ, ◌-◌, ◌≤◌, ◌==◌, min, Bool, true, false, if◌then◌else◌, List, [], ◌∷◌, refl}
 use Rattle.std.proofs.Common.{sym, ◌∙◌, ap, arith}
-use Rattle.std.proofs.lemmas.Bool.Decides.{nat_tests}
-use Rattle.cw_facts.specs.Tests.{eq_of, not_lt_of, not_below}
+use Rattle.cw_facts.specs.Tests.{eq_of, not_lt_of, not_below, suc_same, suc_not, not_suc}
 use Rattle.cw_model.specs.declared.burden.Burden.{Burden}
 use Rattle.cw_model.specs.Syntax.{Name}
 use Rattle.cw_model.specs.declared.limits.TheConstants.{MOST_LIMIT}
@@ -33,24 +32,11 @@ abbrev totals_of : Numbering → List (Name × ℤ) → List Held
 totals_of numbering [] = []
 totals_of numbering (x ∷ more) = totals_joined (one_update numbering x) (totals_of numbering more)
 
-differ_first : (q : ℕ) → (0 == suc q) ≡ false
-differ_first q = grind (arith, nat_tests)
-
-differ_later : (k : ℕ) → (suc k == 0) ≡ false
-differ_later k = grind (arith, nat_tests)
-
-same_later : (k q : ℕ) → (suc k == suc q) ≡ (k == q)
-same_later k q = by_test (k == q) refl
-  where
-    by_test : (b : Bool) → (k == q) ≡ b → (suc k == suc q) ≡ b
-    by_test true e = grind (arith, nat_tests)
-    by_test false e = grind (arith, nat_tests)
-
 one_read : (k q : ℕ) (w : Held) → held_of (one_total k w) q ≡ (if k == q then w else none_held)
 one_read zero zero w = refl
-one_read zero (suc q) w = ap (λ (b : Bool). if b then w else none_held) (sym (differ_first q))
-one_read (suc k) zero w = ap (λ (b : Bool). if b then w else none_held) (sym (differ_later k))
-one_read (suc k) (suc q) w = one_read k q w ∙ ap (λ (b : Bool). if b then w else none_held) (sym (same_later k q))
+one_read zero (suc q) w = ap (λ (b : Bool). if b then w else none_held) (sym (not_suc q))
+one_read (suc k) zero w = ap (λ (b : Bool). if b then w else none_held) (sym (suc_not k))
+one_read (suc k) (suc q) w = one_read k q w ∙ ap (λ (b : Bool). if b then w else none_held) (sym (suc_same k q))
 
 none_read : (q : ℕ) → held_of [] q ≡ none_held
 none_read zero = refl

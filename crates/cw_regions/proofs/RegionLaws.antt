@@ -1,7 +1,6 @@
 -- A table tells of a run so far, and its calls keep it so.
 use Rattle.std.specs.Prelude.{◌≡◌, ℕ, ◌==◌, ◌≤◌, ◌<◌, Bool, true, false, List, [], ◌∷◌, ◌++◌, Some, refl}
 use Rattle.std.proofs.Common.{sym, ◌∙◌, ap, subst, true≢false, arith}
-use Rattle.std.proofs.lemmas.Slice.Eq.{bytes_eq-Decides}
 use borrow.Author.Tests.{eqb-true}
 use Rattle.cw_facts.specs.Tests.{equal}
 use Rattle.cw_model.specs.declared.burden.Burden.{Burden}
@@ -9,6 +8,7 @@ use Rattle.cw_model.specs.Syntax.{Name}
 use Rattle.cw_model.specs.Names.{same_name}
 use Rattle.cw_model.specs.Trees.{Execution, Tree, Event, tree_of, work, span, burdened_span}
 use Rattle.cw_model.specs.Rows.{is_tag, region_row}
+use Rattle.cw_model.specs.lemmas.Names.{same_itself}
 use Rattle.cw_measure.specs.OpenParts.{Open, closed, has_spawned, sum_in, work_in}
 use Rattle.cw_measure.specs.Outermost.{is_counted, Tally, begun_at, begun, ended_at, ended, Counts}
 use Rattle.cw_measure.specs.BlockWeights.{burdened_work, burdened_work_in}
@@ -95,10 +95,6 @@ small_closed burden tags busy o os es small = record {
   active = λ k. let a = small.active k in omega arith;
 }
 
--- a tag is its own, and no other's
-same_self : (y : Name) → same_name y y ≡ true
-same_self y = (bytes_eq-Decides y y).1 refl
-
 other_tag : (tags : Tags) (q tag : ℕ) (b : Bool) → same_name (tags.name q) (tags.name tag) ≡ b → q < tags.count → tag < tags.count → (tag == q) ≡ false → b ≡ false
 other_tag tags q tag true e l m n =
     let same = tags.differ q tag l m e in
@@ -115,7 +111,7 @@ region_begins burden along tags busy os es old new tag count path heavy known c 
         let at_work = c ∙ sym (sum_begun work work_adds o os) in
         let at_path = p ∙ sym (along.path_is.at_begin o.mark os es) in
         let at_burdened = b ∙ sym (along.burdened_is.at_begin o.mark os es) in
-        let row = row_entered burden along (tags.name tag) (busy tag) o os (row_of old.rows tag) count path heavy (same_self (tags.name tag)) at_work at_path at_burdened (h tag known) in
+        let row = row_entered burden along (tags.name tag) (busy tag) o os (row_of old.rows tag) count path heavy (same_itself (tags.name tag)) at_work at_path at_burdened (h tag known) in
         let D : Row → Type 0 = λ r. CountsTag burden along (tags.name tag) (busy tag) (o ∷ os) [] r in
         let P : ℕ → Type 0 = λ x. CountsTag burden along (tags.name x) (busy x) (o ∷ os) [] (row_of new.rows x) in
         subst P (eqb-true tag q e) (subst D (sym (own (fits_row burden along tags busy (o ∷ os) [] tag (entered count path heavy (row_of old.rows tag)) small row))) row)
@@ -131,7 +127,7 @@ region_ends burden along tags busy os before es old new tag count path heavy kno
     by_tag : (q : ℕ) → q < tags.count → (x : Bool) → (tag == q) ≡ x → CountsTag burden along (tags.name q) (busy q) os (closed (record { spawned = false; mark = Some (Execution (tags.name tag)); outer = before }) es) (row_of new.rows q)
     by_tag q less true e =
         let o : Open = record { spawned = false; mark = Some (Execution (tags.name tag)); outer = before } in
-        let row = row_left burden along (tags.name tag) (busy tag) o os es (row_of old.rows tag) count path heavy (same_self (tags.name tag)) j c p b (h tag known) in
+        let row = row_left burden along (tags.name tag) (busy tag) o os es (row_of old.rows tag) count path heavy (same_itself (tags.name tag)) j c p b (h tag known) in
         let D : Row → Type 0 = λ r. CountsTag burden along (tags.name tag) (busy tag) os (closed o es) r in
         let P : ℕ → Type 0 = λ x. CountsTag burden along (tags.name x) (busy x) os (closed o es) (row_of new.rows x) in
         subst P (eqb-true tag q e) (subst D (sym (own (fits_row burden along tags busy os (closed o es) tag (left count path heavy (row_of old.rows tag)) (small_closed burden tags busy o os es small) row))) row)

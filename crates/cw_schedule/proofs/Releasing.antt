@@ -1,7 +1,7 @@
 -- A strand of which nothing is left is taken off, and the state that follows stands on the board.
 use Rattle.std.proofs.Common.{◌≡◌, ◌≢◌, ℕ, ◌+◌, ◌≤◌, ◌<◌, Bool, true, false, Option, Some, None, arith, refl, ap, sym, ◌∙◌, subst}
 use Rattle.std.specs.Prelude.{nat_lt}
-use Rattle.std.proofs.lemmas.Bool.{ltb-false, ltb-true, true≢false}
+use Rattle.std.proofs.lemmas.Bool.{ltb-false, ltb-true}
 use Rattle.std.proofs.lemmas.Option.{none-some, same_Some}
 use Rattle.cw_greedy.specs.Jumping.{Block, Last, Fork, size, Going, Ready, Before, Both, Child, Rest, After, start, IsOver, Released}
 use Rattle.cw_greedy.specs.Jumping as j
@@ -11,6 +11,7 @@ use Rattle.cw_schedule.specs.declared.plan.Strand.{Strand}
 use Rattle.cw_schedule.specs.Planned.{strand, first_weight}
 use Rattle.cw_schedule.specs.Shown.{Quiet, Half, Shows, PlanAt, join_of, Forks, Arrives, Joins, Releases}
 use Rattle.cw_schedule.specs.Shown as v
+use Rattle.cw_facts.specs.Tests.{never}
 
 abbrev S : Type 0
 S = ℕ → Option ℕ
@@ -31,9 +32,6 @@ no_slot {A} {x} e f = absurd (differ x e f)
   where
     differ : (x : Option ℕ) → x ≡ None → x ≡ Some 0 → ⊥
     differ x e f = cc
-
-not_both : {A : Type 0} {x : Bool} → x ≡ true → x ≡ false → A
-not_both {A} {x} e f = absurd (true≢false (sym e ∙ f))
 
 pub some_size : (b : Block) → 1 ≤ size b
 some_size (Last k) = omega arith
@@ -117,12 +115,12 @@ at_first : (p : ℕ → Strand) (s : S) (f : F) (s' : S) (f' : F) (i join : ℕ)
     join_of (p (i + 1)).begins (i + 1) ≡ Some join → f join ≡ false → Arrives s f s' f' i join
 at_first p s f s' f' i join (v.forks n e h) d g = absurd (no_fork (p (i + 1)).begins (i + 1) n join e d)
 at_first p s f s' f' i join (v.arrives n e h) d g = subst (λ m. Arrives s f s' f' i m) (same_Some n join (sym e ∙ d)) h
-at_first p s f s' f' i join (v.joins n e h) d g = not_both (subst (λ m. f m ≡ true) (same_Some n join (sym e ∙ d)) h.second) g
+at_first p s f s' f' i join (v.joins n e h) d g = never _ (subst (λ m. f m ≡ true) (same_Some n join (sym e ∙ d)) h.second) g
 
 at_second : (p : ℕ → Strand) (s : S) (f : F) (s' : S) (f' : F) (i join : ℕ) → Releases p s f s' f' i →
     join_of (p (i + 1)).begins (i + 1) ≡ Some join → f join ≡ true → Joins p s f s' f' i join
 at_second p s f s' f' i join (v.forks n e h) d g = absurd (no_fork (p (i + 1)).begins (i + 1) n join e d)
-at_second p s f s' f' i join (v.arrives n e h) d g = not_both g (subst (λ m. f m ≡ false) (same_Some n join (sym e ∙ d)) h.first)
+at_second p s f s' f' i join (v.arrives n e h) d g = never _ g (subst (λ m. f m ≡ false) (same_Some n join (sym e ∙ d)) h.first)
 at_second p s f s' f' i join (v.joins n e h) d g = subst (λ m. Joins p s f s' f' i m) (same_Some n join (sym e ∙ d)) h
 
 -- what taking off a strand makes of a state: its end, or the next one

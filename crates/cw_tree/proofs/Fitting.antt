@@ -4,7 +4,7 @@ use Rattle.std.specs.List.{list_all}
 use Rattle.std.proofs.lemmas.List.{length-map, length_push}
 use Rattle.std.proofs.lemmas.List.Folds.{list_all-append}
 use Rattle.std.proofs.lemmas.Slice.Eq.{bytes_eq-Decides}
-use Rattle.cw_facts.specs.Tests.{below, lt_of, at_most}
+use Rattle.cw_facts.specs.Tests.{below, lt_of, at_most, first_true, second_true}
 use Rattle.cw_model.specs.declared.limits.TheConstants.{MOST_GRAIN, MOST_DECLARED}
 use Rattle.cw_model.specs.Lines.{unless}
 use Rattle.cw_model.specs.Names.{same_name, is_among}
@@ -13,7 +13,7 @@ use Rattle.cw_model.specs.Syntax.{Name, Param, Reducer, Program}
 use Rattle.cw_model.specs.Answers.{main_name}
 use Rattle.cw_model.specs.Sizes.{first_places, regions_in, regions_in_block, regions_of, function_limits, limit_faults}
 use Rattle.cw_model.specs.Typing.{Known, is_known, is_int, is_array, is_writable, is_new, is_fine, are_arguments, called, is_target, is_call, is_reducer, Returns, Nowhere, WithInt, Alone, may_return, declares, surely_returns, ends_block, is_head_of_loop, is_cut, faults_in, faults_in_block, known_of, is_head, faults_of, type_faults}
-use Rattle.cw_model.specs.lemmas.Kept.{left_none, right_none, kept, both_left, both_right}
+use Rattle.cw_model.specs.lemmas.Kept.{left_none, right_none, kept}
 use Rattle.cw_tree.specs.Resolved as spec
 use Rattle.cw_tree.specs.Bounds.{Counts, is_below, fits_expr, fits_argument, fits_target, fits_return, fits_head, fits_parts, fits_stmt, fits_block, counts_of, fits_function, is_fitting}
 use Rattle.cw_tree.proofs.Plain.{function_faults}
@@ -173,14 +173,14 @@ fit_expr : (n : Counts) (known : Known) (l : spec.Locals) → Agree known l → 
 fit_expr n known l a r (model.Number v) h = refl
 fit_expr n known l a r (model.Variable x) h = slot_below x l.ints n.ints (a.ints x h) r.ints
 fit_expr n known l a r (model.Element x e) h =
-    both (slot_below x l.arrays n.arrays (a.arrays x (both_left (is_array known x) (is_fine known e) h)) r.arrays)
-    (fit_expr n known l a r e (both_right (is_array known x) (is_fine known e) h))
+    both (slot_below x l.arrays n.arrays (a.arrays x (first_true (is_array known x) (is_fine known e) h)) r.arrays)
+    (fit_expr n known l a r e (second_true (is_array known x) (is_fine known e) h))
 fit_expr n known l a r (model.Length x) h = slot_below x l.arrays n.arrays (a.arrays x h) r.arrays
 fit_expr n known l a r (model.Negative e) h = fit_expr n known l a r e h
 fit_expr n known l a r (model.Not e) h = fit_expr n known l a r e h
 fit_expr n known l a r (model.Binary o d e) h =
-    both (fit_expr n known l a r d (both_left (is_fine known d) (is_fine known e) h))
-    (fit_expr n known l a r e (both_right (is_fine known d) (is_fine known e) h))
+    both (fit_expr n known l a r d (first_true (is_fine known d) (is_fine known e) h))
+    (fit_expr n known l a r e (second_true (is_fine known d) (is_fine known e) h))
 
 fit_passed : (n : Counts) (ps : List Param) (u : spec.Use) → is_below n.arrays u ≡ true → fits_argument n (spec.passed_to ps u) ≡ true
 fit_passed n ps u h = first (spec.is_reader ps)
@@ -220,13 +220,13 @@ fit_arguments : (n : Counts) (known : Known) (l : spec.Locals) → Agree known l
 fit_arguments n known l a r qs ps [] h = refl
 fit_arguments n known l a r qs [] (e ∷ es) h = cc
 fit_arguments n known l a r qs (p ∷ ps) (e ∷ es) h =
-    both (fit_argument n known l a r qs (wants_array p) e (both_left (fits_kind known (wants_array p) e) (fit_kinds known ps es) h))
-    (fit_arguments n known l a r (drop 1 qs) ps es (both_right (fits_kind known (wants_array p) e) (fit_kinds known ps es) h))
+    both (fit_argument n known l a r qs (wants_array p) e (first_true (fits_kind known (wants_array p) e) (fit_kinds known ps es) h))
+    (fit_arguments n known l a r (drop 1 qs) ps es (second_true (fits_kind known (wants_array p) e) (fit_kinds known ps es) h))
 
 fit_target : (n : Counts) (known : Known) (l : spec.Locals) → Agree known l → Room n l → (g : model.Function) (target : Option Name) →
     is_target known g target ≡ true → fits_target n (option_map (spec.use_of l.ints) target) ≡ true
 fit_target n known l a r g None h = refl
-fit_target n known l a r g (Some x) h = slot_below x l.ints n.ints (a.ints x (both_left (is_int known x) g.gives_int h)) r.ints
+fit_target n known l a r g (Some x) h = slot_below x l.ints n.ints (a.ints x (first_true (is_int known x) g.gives_int h)) r.ints
 
 fit_return : (n : Counts) (known : Known) (l : spec.Locals) → Agree known l → Room n l → (returns : Returns) (e : Option model.Expr) →
     may_return returns known e ≡ true → fits_return n (option_map (spec.resolved_expr l) e) ≡ true
@@ -250,12 +250,12 @@ is_called known target f es (g ∷ gs) h = first (same_name f g.name) refl h (is
     first : (b : Bool) → same_name f g.name ≡ b → is_call known target (if b then Some g else called f gs) es ≡ true →
         (is_call known target (called f gs) es ≡ true → IsCalled known target f es gs) → IsCalled known target f es (g ∷ gs)
     first true e h' more =
-        let two = both_left (is_target known g target && are_arguments known g.params es) (not (same_name g.name main_name)) h' in
+        let two = first_true (is_target known g target && are_arguments known g.params es) (not (same_name g.name main_name)) h' in
         record {
           callee = g;
           there = ap (λ b. if b then true else is_among f (spec.function_names gs)) e;
-          gives = both_left (is_target known g target) (are_arguments known g.params es) two;
-          given = both_right (is_target known g target) (are_arguments known g.params es) two;
+          gives = first_true (is_target known g target) (are_arguments known g.params es) two;
+          given = second_true (is_target known g target) (are_arguments known g.params es) two;
         }
     first false e h' more =
         let rest = more h' in
@@ -282,8 +282,8 @@ fit_over : (n : Counts) (known : Known) (l : spec.Locals) → Agree known l → 
     list_all (λ x. is_array known x) over ≡ true → list_all (is_below n.arrays) (map (spec.use_of l.arrays) over) ≡ true
 fit_over n known l a r [] h = refl
 fit_over n known l a r (x ∷ xs) h =
-    both (slot_below x l.arrays n.arrays (a.arrays x (both_left (is_array known x) (list_all (λ y. is_array known y) xs) h)) r.arrays)
-    (fit_over n known l a r xs (both_right (is_array known x) (list_all (λ y. is_array known y) xs) h))
+    both (slot_below x l.arrays n.arrays (a.arrays x (first_true (is_array known x) (list_all (λ y. is_array known y) xs) h)) r.arrays)
+    (fit_over n known l a r xs (second_true (is_array known x) (list_all (λ y. is_array known y) xs) h))
 
 fit_head : (program : Program) (n : Counts) (known : Known) (l : spec.Locals) → Agree known l → Room n l →
     (x y z : Name) (from to : model.Expr) (grain : ℕ) (over : List Name) (b : spec.Block) → length l.ints < n.ints →
@@ -297,12 +297,12 @@ fit_head program n known l a r x y z from to grain over body new h =
     let g = nat_le grain MOST_GRAIN in
     let i = is_new program known x in
     let arrays = list_all (λ w. is_writable known w) over in
-    let most = both_left ((((i && b) && c) && d) && e) f (both_left (((((i && b) && c) && d) && e) && f) g (both_left ((((((i && b) && c) && d) && e) && f) && g) arrays h)) in
-    let start = both_right ((i && b) && c) d (both_left (((i && b) && c) && d) e most) in
-    let end = both_right (((i && b) && c) && d) e most in
+    let most = first_true ((((i && b) && c) && d) && e) f (first_true (((((i && b) && c) && d) && e) && f) g (first_true ((((((i && b) && c) && d) && e) && f) && g) arrays h)) in
+    let start = second_true ((i && b) && c) d (first_true (((i && b) && c) && d) e most) in
+    let end = second_true (((i && b) && c) && d) e most in
     both (both (both (both (below (length l.ints) n.ints new) (fit_expr n known l a r from start)) (fit_expr n known l a r to end))
     (fit_first (length l.ints) n.ints r.ints [] (spec.reads_in_block body) refl))
-    (fit_over n known l a r over (writable_arrays known over (both_right ((((((i && b) && c) && d) && e) && f) && g) arrays h)))
+    (fit_over n known l a r over (writable_arrays known over (second_true ((((((i && b) && c) && d) && e) && f) && g) arrays h)))
 
 fit_parts : (program : Program) (n : Counts) (known : Known) (l : spec.Locals) → Agree known l → Room n l →
     (x : Name) (e : model.Expr) (left right : Name) → length (l.arrays ++ left ∷ []) < n.arrays →
@@ -310,9 +310,9 @@ fit_parts : (program : Program) (n : Counts) (known : Known) (l : spec.Locals) �
 fit_parts program n known l a r x e left right new h =
     let i = is_writable known x in
     let f = is_fine known e in
-    let two = both_left (i && f) (is_new program known left) (both_left ((i && f) && is_new program known left) (is_new program known right) (both_left (((i && f) && is_new program known left) && is_new program known right) (not (same_name left right)) h)) in
+    let two = first_true (i && f) (is_new program known left) (first_true ((i && f) && is_new program known left) (is_new program known right) (first_true (((i && f) && is_new program known left) && is_new program known right) (not (same_name left right)) h)) in
     let one = length_push l.arrays left in
-    both (both (both (slot_below x l.arrays n.arrays (a.arrays x (writable_array known x (both_left i f two))) r.arrays) (fit_expr n known l a r e (both_right i f two)))
+    both (both (both (slot_below x l.arrays n.arrays (a.arrays x (writable_array known x (first_true i f two))) r.arrays) (fit_expr n known l a r e (second_true i f two)))
     (below (length l.arrays) n.arrays (omega (arith, new, one)))) (below (length (l.arrays ++ left ∷ [])) n.arrays new)
 
 -- there are no fewer slots after a statement
@@ -498,27 +498,27 @@ module _ (program : Program) (n : Counts) (tables : Tables program n) where
         let r = has_room n l i j (spec.resolved_stmt (spec.lists_of program) l (model.Declare x e)) stands needs in
         let k = kept (is_fine known e && is_new program known x) line h in
         let u = needs.0 in
-        both (below (length l.ints) n.ints (omega (arith, u))) (fit_expr n known l a r e (both_left (is_fine known e) (is_new program known x) k))
+        both (below (length l.ints) n.ints (omega (arith, u))) (fit_expr n known l a r e (first_true (is_fine known e) (is_new program known x) k))
     fit_stmt returns known l i j a stands line (model.DeclareArray x e) needs tagged h =
         let r = has_room n l i j (spec.resolved_stmt (spec.lists_of program) l (model.DeclareArray x e)) stands needs in
         let k = kept (is_fine known e && is_new program known x) line h in
         let u = needs.1 in
-        both (below (length l.arrays) n.arrays (omega (arith, u))) (fit_expr n known l a r e (both_left (is_fine known e) (is_new program known x) k))
+        both (below (length l.arrays) n.arrays (omega (arith, u))) (fit_expr n known l a r e (first_true (is_fine known e) (is_new program known x) k))
     fit_stmt returns known l i j a stands line (model.Assign x e) needs tagged h =
         let r = has_room n l i j (spec.resolved_stmt (spec.lists_of program) l (model.Assign x e)) stands needs in
         let k = kept (is_int known x && is_fine known e) line h in
-        both (slot_below x l.ints n.ints (a.ints x (both_left (is_int known x) (is_fine known e) k)) r.ints) (fit_expr n known l a r e (both_right (is_int known x) (is_fine known e) k))
+        both (slot_below x l.ints n.ints (a.ints x (first_true (is_int known x) (is_fine known e) k)) r.ints) (fit_expr n known l a r e (second_true (is_int known x) (is_fine known e) k))
     fit_stmt returns known l i j a stands line (model.AssignElement x d e) needs tagged h =
         let r = has_room n l i j (spec.resolved_stmt (spec.lists_of program) l (model.AssignElement x d e)) stands needs in
         let k = kept ((is_writable known x && is_fine known d) && is_fine known e) line h in
-        let two = both_left (is_writable known x && is_fine known d) (is_fine known e) k in
-        both (both (slot_below x l.arrays n.arrays (a.arrays x (writable_array known x (both_left (is_writable known x) (is_fine known d) two))) r.arrays) (fit_expr n known l a r d (both_right (is_writable known x) (is_fine known d) two)))
-        (fit_expr n known l a r e (both_right (is_writable known x && is_fine known d) (is_fine known e) k))
+        let two = first_true (is_writable known x && is_fine known d) (is_fine known e) k in
+        both (both (slot_below x l.arrays n.arrays (a.arrays x (writable_array known x (first_true (is_writable known x) (is_fine known d) two))) r.arrays) (fit_expr n known l a r d (second_true (is_writable known x) (is_fine known d) two)))
+        (fit_expr n known l a r e (second_true (is_writable known x && is_fine known d) (is_fine known e) k))
     fit_stmt returns known l i j a stands line (model.Reduce how s e) needs tagged h =
         let r = has_room n l i j (spec.resolved_stmt (spec.lists_of program) l (model.Reduce how s e)) stands needs in
         let k = kept (is_reducer program how s && is_fine known e) line h in
-        let named = is_named how s program.reducers (both_left (is_reducer program how s) (is_fine known e) k) in
-        both (slot_below s (spec.reducer_names program.reducers) n.reducers named tables.reducers) (fit_expr n known l a r e (both_right (is_reducer program how s) (is_fine known e) k))
+        let named = is_named how s program.reducers (first_true (is_reducer program how s) (is_fine known e) k) in
+        both (slot_below s (spec.reducer_names program.reducers) n.reducers named tables.reducers) (fit_expr n known l a r e (second_true (is_reducer program how s) (is_fine known e) k))
     fit_stmt returns known l i j a stands line (model.Call kind site target f es) needs tagged h =
         let r = has_room n l i j (spec.resolved_stmt (spec.lists_of program) l (model.Call kind site target f es)) stands needs in
         let c = is_called known target f es program.functions (kept (is_call known target (called f program.functions) es) line h) in

@@ -2,6 +2,7 @@
 use Rattle.std.proofs.Common.{◌≡◌, ℕ, Bool, true, false, not, ◌&&◌, ◌||◌, nat_le, if◌then◌else◌, List, [], ◌∷◌, ◌++◌, drop, map, flat_map, Option, Some, None, option_map, refl, sym, ap, ◌∙◌}
 use Rattle.std.specs.List.{list_all}
 use Rattle.std.proofs.lemmas.Slice.Eq.{bytes_eq-Decides}
+use Rattle.cw_facts.specs.Tests.{first_true, second_true}
 use Rattle.cw_model.specs.declared.limits.TheConstants.{MOST_GRAIN}
 use Rattle.cw_model.specs.Lines.{unless}
 use Rattle.cw_model.specs.Names.{same_name, is_among}
@@ -9,7 +10,7 @@ use Rattle.cw_model.specs.Syntax as model
 use Rattle.cw_model.specs.Syntax.{Name, Program}
 use Rattle.cw_model.specs.Answers.{main_name}
 use Rattle.cw_model.specs.Typing.{Known, Returns, Nowhere, is_fine, is_new, is_writable, is_head_of_loop, is_cut, is_head, repeated_names, type_faults, faults_in, faults_in_block, faults_of, declares, surely_returns, ends_block, known_of, WithInt, Alone}
-use Rattle.cw_model.specs.lemmas.Kept.{left_none, right_none, kept, both_left, both_right}
+use Rattle.cw_model.specs.lemmas.Kept.{left_none, right_none, kept}
 use Rattle.cw_tree.specs.Resolved as Resolved
 use Rattle.cw_model.specs.declared.syntax.NameKind.TheVariants as name_kind
 
@@ -71,9 +72,9 @@ head_names program known x y z from to grain over h =
     let e = is_fine known to in
     let f = nat_le 1 grain in
     let g = nat_le grain MOST_GRAIN in
-    let most = both_left ((((a && b) && c) && d) && e) f (both_left (((((a && b) && c) && d) && e) && f) g (both_left ((((((a && b) && c) && d) && e) && f) && g) (list_all (λ n. is_writable known n) over) h)) in
-    let three = both_left ((a && b) && c) d (both_left (((a && b) && c) && d) e most) in
-    (sym ((bytes_eq-Decides y x).0 (both_right a b (both_left (a && b) c three))), sym ((bytes_eq-Decides z x).0 (both_right (a && b) c three)))
+    let most = first_true ((((a && b) && c) && d) && e) f (first_true (((((a && b) && c) && d) && e) && f) g (first_true ((((((a && b) && c) && d) && e) && f) && g) (list_all (λ n. is_writable known n) over) h)) in
+    let three = first_true ((a && b) && c) d (first_true (((a && b) && c) && d) e most) in
+    (sym ((bytes_eq-Decides y x).0 (second_true a b (first_true (a && b) c three))), sym ((bytes_eq-Decides z x).0 (second_true (a && b) c three)))
 
 mutual
   pub plain_of_stmt : (program : Program) (returns : Returns) (known : Known) (lists : Resolved.Lists) (l : Resolved.Locals) (line : ℕ) (s : model.Stmt) →

@@ -10,12 +10,12 @@ use Rattle.cw_model.specs.declared.syntax.NameKind.{NameKind}
 use Rattle.cw_model.specs.Syntax.{Name}
 use Rattle.cw_model.specs.Names.{same_name, is_among}
 use Rattle.cw_model.specs.Typing.{is_known}
+use Rattle.cw_model.specs.lemmas.Names.{turned}
 use Rattle.cw_types.specs.declared.known.Entry.{Entry}
 use Rattle.cw_types.specs.declared.known.Local.{Local}
 use Rattle.cw_types.specs.Names.{IsUnknown, known_as, known_names, may_stand}
 use Rattle.cw_types.specs.Scope.{Declared, kind_and_line, kinds, newest, oldest}
 use Rattle.cw_types.specs.Shadows.{known_from, local_of, with_entry, ShadowsRight, AreNewest}
-use Rattle.cw_tree.specs.lemmas.NamedSlots.{turned}
 
 -- a name is known as its newest says
 pub known_so : (x : Name) (such : NameKind → Bool) (ds : List Declared) (l : Local) → Some l ≡ local_of x ds → is_known x such (kinds ds) ≡ such l.kind

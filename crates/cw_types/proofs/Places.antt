@@ -7,9 +7,8 @@ use Rattle.std.specs.HashMap as hash
 use Rattle.std.specs.HashMap.{HashMap, get_by}
 use Rattle.cw_model.specs.Syntax.{Name}
 use Rattle.cw_model.specs.Names.{same_name, is_among}
+use Rattle.cw_model.specs.lemmas.Names.{same_itself, turned}
 use Rattle.cw_tree.specs.Resolved.{slot_of}
-use Rattle.cw_tree.specs.lemmas.Names.{same_itself}
-use Rattle.cw_tree.specs.lemmas.NamedSlots.{turned}
 use Rattle.cw_types.specs.Places.{place_of, ArePlaces}
 
 abbrev pub place_or : Option ℕ → ℕ → ℕ

@@ -3,7 +3,7 @@ use Rattle.std.proofs.Common.{◌≡◌, Bool, true, false, List, ◌∷◌, ref
 use Rattle.std.specs.Prelude.{if◌then◌else◌}
 use Rattle.cw_model.specs.Syntax.{Name}
 use Rattle.cw_model.specs.Names.{same_name, is_among}
-use Rattle.cw_tree.specs.lemmas.Names.{same_are}
+use Rattle.cw_model.specs.lemmas.Names.{same_are}
 use Rattle.cw_loops.specs.Lowered.{is_plain}
 
 -- apart where their being one is absurd

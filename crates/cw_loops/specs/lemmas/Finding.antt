@@ -7,7 +7,7 @@ use Rattle.std.proofs.lemmas.Bool.{and_parts}
 use Rattle.cw_model.specs.Syntax.{Name, Function}
 use Rattle.cw_model.specs.Names.{same_name}
 use Rattle.cw_model.specs.Meaning.{no_function, function_named}
-use Rattle.cw_tree.specs.lemmas.Names.{same_itself}
+use Rattle.cw_model.specs.lemmas.Names.{same_itself}
 use Rattle.cw_loops.specs.Lowered.{is_plain, loop_name, loop_count_in, made_in, lower_function, lower_functions}
 use Rattle.cw_loops.specs.Lowered.{made_of}
 use Rattle.cw_loops.specs.Lowerable.{can_lower_function}

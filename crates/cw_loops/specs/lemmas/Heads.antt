@@ -3,7 +3,7 @@ use Rattle.std.proofs.Common.{◌≡◌, Bool, true, false, List, [], ◌∷◌,
 use Rattle.std.specs.Prelude.{if◌then◌else◌, not, ◌&&◌, ◌||◌, flat_map, map}
 use Rattle.std.specs.List.{list_any}
 use Rattle.std.proofs.lemmas.Bool.{and_parts, or_parts}
-use Rattle.cw_facts.specs.Tests.{not_true}
+use Rattle.cw_facts.specs.Tests.{not_true, never, either_right}
 use Rattle.cw_model.specs.declared.syntax.NameKind.{NameKind}
 use Rattle.cw_model.specs.Lines.{unless}
 use Rattle.cw_model.specs.Syntax.{Name, Param, Function, Program, is_array_kind, wants_array}
@@ -12,9 +12,8 @@ use Rattle.cw_model.specs.Answers.{main_name}
 use Rattle.cw_model.specs.Typing.{Known, is_known, is_int, is_array, globals, block_returns, known_of, is_head}
 use Rattle.cw_model.specs.Typing.{faults_of, repeated_names, IsWellTyped}
 use Rattle.cw_model.specs.lemmas.Kept.{left_none, right_none, kept}
-use Rattle.cw_tree.specs.lemmas.Names.{same_are}
+use Rattle.cw_model.specs.lemmas.Names.{same_are}
 use Rattle.cw_loops.specs.Lowerable.{integers_of, arrays_of}
-use Rattle.cw_loops.specs.lemmas.Tests.{never, either_right}
 use Rattle.cw_loops.specs.lemmas.Knowing.{not_there}
 
 -- the names of parameters

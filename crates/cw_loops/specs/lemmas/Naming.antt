@@ -3,11 +3,11 @@ use Rattle.std.proofs.Common.{◌≡◌, Bool, true, false, List, [], ◌∷◌,
 use Rattle.std.specs.Prelude.{if◌then◌else◌, not, ◌||◌, map}
 use Rattle.std.specs.List.{list_any, list_all}
 use Rattle.std.proofs.lemmas.Bool.{and_parts, or_parts}
-use Rattle.cw_facts.specs.Tests.{both_true}
+use Rattle.cw_facts.specs.Tests.{both_true, either_left, either_right, never, refuted}
 use Rattle.cw_model.specs.Syntax.{Name}
 use Rattle.cw_model.specs.Names.{same_name, is_among, differ, new_names}
-use Rattle.cw_tree.specs.lemmas.Names.{among_append, same_are, front_among, later_among}
-use Rattle.cw_loops.specs.lemmas.Tests.{either_left, either_right, never, refuted}
+use Rattle.cw_model.specs.lemmas.Names.{same_are}
+use Rattle.cw_tree.specs.lemmas.Names.{among_append, front_among, later_among}
 use Rattle.cw_loops.specs.lemmas.Apart.{not_later, apart}
 
 -- names that are joined

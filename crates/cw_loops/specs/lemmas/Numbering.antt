@@ -5,8 +5,8 @@ use Rattle.cw_model.specs.Syntax.{Stmt, Declare, DeclareArray, Assign, AssignEle
 use Rattle.cw_model.specs.Syntax.{Sync, If, IfElse, While, For, Scope, Cut, Region, Print, Return, Block, End, Then}
 use Rattle.cw_model.specs.Syntax.{Function}
 use Rattle.cw_model.specs.Names.{same_name}
+use Rattle.cw_model.specs.lemmas.Names.{same_itself}
 use Rattle.cw_tree.specs.Resolved.{function_names, slot_of}
-use Rattle.cw_tree.specs.lemmas.Names.{same_itself}
 use Rattle.cw_loops.specs.Lowered.{loop_name, loop_count, loop_count_in, lower_functions, made_by, made_in, made_of}
 use Rattle.cw_loops.specs.lemmas.Apart.{apart}
 

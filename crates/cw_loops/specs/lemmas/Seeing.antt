@@ -3,7 +3,7 @@ use Rattle.std.proofs.Common.{◌≡◌, ℕ, ◌+◌, Bool, true, false, List, 
 use Rattle.std.specs.Prelude.{if◌then◌else◌, not, ◌&&◌, ◌||◌, Option, Some, None}
 use Rattle.std.specs.List.{list_all}
 use Rattle.std.proofs.lemmas.Bool.{and_parts, or_parts}
-use Rattle.cw_facts.specs.Tests.{not_true}
+use Rattle.cw_facts.specs.Tests.{not_true, never}
 use Rattle.cw_model.specs.declared.syntax.NameKind.{NameKind}
 use Rattle.cw_model.specs.lemmas.Fits.{fits_kind, fit_kinds, arguments_fit}
 use Rattle.cw_model.specs.Lines.{unless}
@@ -25,10 +25,10 @@ use Rattle.cw_model.specs.Ownership.{names_in, arrays_given, given, target_names
 use Rattle.cw_model.specs.Ownership.{Closing, Leaves, Joins, CutOf, taken_after, declared_by, owner_faults}
 use Rattle.cw_model.specs.Ownership.{owner_faults_in, are_loose, may_lend, lent, arrays_lent}
 use Rattle.cw_model.specs.lemmas.Kept.{left_none, right_none, kept}
-use Rattle.cw_tree.specs.lemmas.Names.{same_are, called_is, front_among, later_among}
+use Rattle.cw_model.specs.lemmas.Names.{same_are}
+use Rattle.cw_tree.specs.lemmas.Names.{called_is, front_among, later_among}
 use Rattle.cw_loops.specs.Lowered.{is_plain}
 use Rattle.cw_loops.specs.SourceLike.{is_source_expr, is_source_stmt, is_source_block, is_source_target}
-use Rattle.cw_loops.specs.lemmas.Tests.{never}
 use Rattle.cw_loops.specs.lemmas.Naming.{Placed, at_front, after_it, placed, Side, in_first, in_second, side}
 use Rattle.cw_loops.specs.lemmas.Naming.{none_any, among_left, among_right}
 use Rattle.cw_loops.specs.lemmas.Knowing.{Adds, an_int, an_array, nothing, adds, known_more, known_array_more}

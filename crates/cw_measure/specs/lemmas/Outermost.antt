@@ -6,6 +6,7 @@ use borrow.Author.Tests.{eqb-true}
 use Rattle.std.proofs.lemmas.List.Sums.{sum_by-append}
 use Rattle.cw_model.specs.Trees.{Mark, Tree, Leaf, Seq, Par, Marked, Event, Work, Join, tree_of, work, span}
 use Rattle.cw_model.specs.Rows.{outermost}
+use Rattle.cw_model.specs.lemmas.Spans.{span_within}
 use Rattle.cw_measure.specs.OpenParts.{Open, marked, event_of, closed, has_spawned, sum_in}
 use Rattle.cw_measure.specs.Outermost.{is_counted, one_if, active_in, outer_sum, outer_in, Reading, Meters, BeganAt}
 use Rattle.cw_measure.specs.Outermost.{Began, Tally, begun_at, begun, ended_at, ended, Counts, TalliesKeep, unless_at}
@@ -357,12 +358,6 @@ pub unless_nothing : (b : Bool) → unless_at b 0 ≡ 0
 unless_nothing true = refl
 unless_nothing false = refl
 
-pub spans_within_work : (t : Tree) → span t ≤ work t
-spans_within_work (Leaf k) = omega arith
-spans_within_work (Seq a b) = let g = spans_within_work a in let h = spans_within_work b in omega arith
-spans_within_work (Par a b) = let g = spans_within_work a in let h = spans_within_work b in omega arith
-spans_within_work (Marked mark t) = spans_within_work t
-
 pub work_bounds : Bounds work work
 work_bounds = record {
   above = λ t. omega arith;
@@ -373,7 +368,7 @@ work_bounds = record {
 
 pub span_bounds : Bounds span work
 span_bounds = record {
-  above = spans_within_work;
+  above = span_within;
   series = λ a b. omega arith;
   fork = λ a b. omega arith;
   in_mark = λ m t. omega arith;

@@ -2,13 +2,13 @@
 use Rattle.std.specs.Prelude.{◌≡◌, Bool, true, false, ◌&&◌, if◌then◌else◌, List, [], ◌∷◌}
 use Rattle.std.proofs.Common.{refl}
 use Rattle.std.specs.List.{list_all}
+use Rattle.std.proofs.lemmas.Bool.{and_parts}
 use Rattle.cw_model.specs.declared.syntax.NameKind.{NameKind}
 use Rattle.cw_model.specs.declared.syntax.NameKind.TheVariants as name_kind
 use Rattle.cw_model.specs.Syntax.{Name, Expr, Number, Variable, Element, Length, Negative, Not, Binary, Param}
 use Rattle.cw_model.specs.Syntax.{is_array_kind, is_written_kind, wants_array}
 use Rattle.cw_model.specs.Names.{same_name}
 use Rattle.cw_model.specs.Typing.{Known, is_fine, is_array, is_writable, is_argument, are_arguments}
-use Rattle.cw_model.specs.lemmas.Kept.{both_left, both_right}
 
 -- an expression for an integer, and an array alone for an array
 abbrev pub fits_kind : Known → (array : Bool) → Expr → Bool
@@ -42,9 +42,9 @@ pub writable_arrays : (known : Known) (over : List Name) → list_all (λ a. is_
     → list_all (λ a. is_array known a) over ≡ true
 writable_arrays known [] h = refl
 writable_arrays known (a ∷ over) h =
-    let first = writable_array known a (both_left (is_writable known a) (list_all (λ a. is_writable known a) over) h) in
+    let first = writable_array known a (and_parts (is_writable known a) (list_all (λ a. is_writable known a) over) h).0 in
     let more =
-    writable_arrays known over (both_right (is_writable known a) (list_all (λ a. is_writable known a) over) h) in
+    writable_arrays known over (and_parts (is_writable known a) (list_all (λ a. is_writable known a) over) h).1 in
     cc
 
 pub argument_fits : (known : Known) (k : NameKind) (e : Expr) → is_argument known k e ≡ true
@@ -71,7 +71,7 @@ arguments_fit known [] [] h = refl
 arguments_fit known [] (e ∷ es) h = cc
 arguments_fit known (p ∷ ps) [] h = cc
 arguments_fit known (p ∷ ps) (e ∷ es) h =
-    let first = argument_fits known p.kind e (both_left (is_argument known p.kind e) (are_arguments known ps es) h) in
+    let first = argument_fits known p.kind e (and_parts (is_argument known p.kind e) (are_arguments known ps es) h).0 in
     let more =
-    arguments_fit known ps es (both_right (is_argument known p.kind e) (are_arguments known ps es) h) in
+    arguments_fit known ps es (and_parts (is_argument known p.kind e) (are_arguments known ps es) h).1 in
     cc

@@ -1,5 +1,5 @@
--- Rules that are kept: both of two tests hold, neither of two lists has a line.
-use Rattle.std.proofs.Common.{◌≡◌, ℕ, Bool, true, false, ◌&&◌, List, [], ◌∷◌, ◌++◌, refl}
+-- Rules that are kept: neither of two lists has a line.
+use Rattle.std.proofs.Common.{◌≡◌, ℕ, Bool, true, false, List, [], ◌∷◌, ◌++◌, refl}
 use Rattle.cw_model.specs.Lines.{unless}
 
 pub left_none : (xs ys : List ℕ) → xs ++ ys ≡ [] → xs ≡ []
@@ -14,11 +14,3 @@ right_none (x ∷ xs) ys h = cc
 pub kept : (b : Bool) (line : ℕ) → unless b line ≡ [] → b ≡ true
 kept true line h = refl
 kept false line h = cc
-
-pub both_left : (a b : Bool) → (a && b) ≡ true → a ≡ true
-both_left true b h = refl
-both_left false b h = h
-
-pub both_right : (a b : Bool) → (a && b) ≡ true → b ≡ true
-both_right true b h = h
-both_right false b h = cc

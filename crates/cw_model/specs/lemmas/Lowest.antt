@@ -1,8 +1,9 @@
 -- The least of lines, in whatever order they are noted.
-use Rattle.std.proofs.Common.{◌≡◌, ℕ, ◌≤◌, ◌<◌, Bool, true, false, nat_le, if◌then◌else◌, List, [], ◌∷◌, ◌++◌, Option}
+use Rattle.std.proofs.Common.{◌≡◌, ℕ, ◌≤◌, Bool, true, false, nat_le, if◌then◌else◌, List, [], ◌∷◌, ◌++◌, Option}
 use Rattle.std.proofs.Common.{Some, None, All, Contains, ◌⊎◌, refl, sym, ap, ◌∙◌, arith, inl, inr, subst}
 use Rattle.std.proofs.lemmas.List.Elements.{All-cons, All-contains, Contains-append_left, Contains-append_right}
 use Rattle.std.proofs.lemmas.List.Elements.{Contains-push}
+use Rattle.std.proofs.lemmas.Bool.{leb-false, leb-true}
 use Rattle.std.proofs.lemmas.Bool.Decides.{nat_tests}
 use Rattle.cw_model.specs.Lines.{IsLeastLine, lesser, lowest}
 
@@ -39,15 +40,9 @@ here x xs n e =
     let P : ℕ
     → Type 0 = λ k. Contains (x ∷ xs) k in subst P (sym e) (Contains-append_left (x ∷ []) xs x (Contains-push [] x))
 
-at_most : (m x : ℕ) → nat_le m x ≡ true → m ≤ x
-at_most m x e = grind (arith, nat_tests)
-
-above : (m x : ℕ) → nat_le m x ≡ false → x < m
-above m x e = grind (arith, nat_tests)
-
 one_more : (m x : ℕ) (xs : List ℕ) (b : Bool) → nat_le m x ≡ b → Lowest (if b then m else x) xs → Lowest m (x ∷ xs)
 one_more m x xs true e l =
-    let bound = at_most m x e in
+    let bound = leb-true m x e in
     let less : l.least ≤ x = omega (arith, bound, l.below) in
     record {
       least = l.least;
@@ -57,7 +52,7 @@ one_more m x xs true e l =
       from = elim l.from [ inl h ↦ inl h | inr c ↦ inr (later x xs l.least c) ];
     }
 one_more m x xs false e l =
-    let bound = above m x e in
+    let bound = leb-false m x e in
     record {
       least = l.least;
       is = ap (λ b. lowest (Some (if b then m else x)) xs) e ∙ l.is;

@@ -1,31 +1,12 @@
 -- Slots of names: a name that is known has one below their count, and no two names have the same.
-use Rattle.std.proofs.Common.{◌≡◌, ℕ, suc, ◌<◌, ◌==◌, Bool, true, false, ◌||◌, if◌then◌else◌, List, [], ◌∷◌, ◌++◌}
+use Rattle.std.proofs.Common.{◌≡◌, suc, ◌<◌, ◌==◌, Bool, true, false, ◌||◌, if◌then◌else◌, List, [], ◌∷◌, ◌++◌}
 use Rattle.std.proofs.Common.{length, refl, sym, ap, ◌∙◌, arith}
-use Rattle.std.proofs.lemmas.Bool.Decides.{nat_tests}
 use Rattle.std.proofs.lemmas.Slice.Eq.{bytes_eq-Decides}
 use Rattle.cw_model.specs.Syntax.{Name}
 use Rattle.cw_model.specs.Names.{same_name, is_among}
+use Rattle.cw_model.specs.lemmas.Names.{turned}
 use Rattle.cw_tree.specs.Resolved.{slot_of}
-
-pub turned : (x y : Name) → same_name x y ≡ same_name y x
-turned x y =
-    one (same_name x y) (same_name y x) (bytes_eq-Decides x y).0 (bytes_eq-Decides x y).1 (bytes_eq-Decides y x).0
-    (bytes_eq-Decides y x).1
-  where
-    one : (a b : Bool) → (a ≡ true → x ≡ y) → (x ≡ y → a ≡ true) → (b ≡ true → y ≡ x) → (y ≡ x → b ≡ true) → a ≡ b
-    one true true f g h i = refl
-    one false false f g h i = refl
-    one true false f g h i = sym (i (sym (f refl)))
-    one false true f g h i = g (sym (h refl))
-
-suc_same : (m n : ℕ) → (suc m == suc n) ≡ (m == n)
-suc_same m n = grind (arith, nat_tests)
-
-suc_not : (m : ℕ) → (suc m == 0) ≡ false
-suc_not m = grind (arith, nat_tests)
-
-not_suc : (m : ℕ) → (0 == suc m) ≡ false
-not_suc m = grind (arith, nat_tests)
+use Rattle.cw_facts.specs.Tests.{suc_same, suc_not, not_suc}
 
 same_as_third : (x y z : Name) → same_name x z ≡ true → same_name y z ≡ same_name y x
 same_as_third x y z h = ap (λ w. same_name y w) (sym ((bytes_eq-Decides x z).0 h))

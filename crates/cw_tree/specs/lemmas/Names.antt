@@ -1,16 +1,10 @@
 -- Names, lists of names, and the functions that they call.
 use Rattle.std.proofs.Common.{◌≡◌, Bool, true, false, ◌||◌, if◌then◌else◌, Some, List, [], ◌∷◌, ◌++◌, refl, ap}
-use Rattle.std.proofs.lemmas.Slice.Eq.{bytes_eq-Decides}
 use Rattle.cw_model.specs.Syntax.{Name, Function}
 use Rattle.cw_model.specs.Names.{same_name, is_among}
 use Rattle.cw_model.specs.Meaning.{function_named}
 use Rattle.cw_model.specs.Typing.{called}
-
-pub same_itself : (x : Name) → same_name x x ≡ true
-same_itself x = (bytes_eq-Decides x x).1 refl
-
-pub same_are : (x y : Name) → same_name x y ≡ true → x ≡ y
-same_are x y e = (bytes_eq-Decides x y).0 e
+use Rattle.cw_model.specs.lemmas.Names.{same_itself}
 
 pub among_append : (x : Name) (xs ys : List Name) → is_among x (xs ++ ys) ≡ (is_among x xs || is_among x ys)
 among_append x [] ys = refl

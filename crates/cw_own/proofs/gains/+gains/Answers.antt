@@ -1,6 +1,6 @@
 use Rattle.std.proofs.Common.{◌≡◌, ◌++◌, ◌∷◌, ◌+◌, rules, map, drop, slice_set, ap, sym, ◌∙◌, arith}
 use Rattle.std.proofs.lemmas.Grind.{common_steps}
-use Rattle.cw_model.specs.lemmas.Kept.{both_left, both_right}
+use Rattle.cw_facts.specs.Tests.{first_true, second_true}
 use Rattle.cw_tree.specs.declared.resolved.Stmt.TheViews.{the_lemmas}
 use Rattle.cw_tree.specs.Resolved as spec
 use Rattle.cw_tree.specs.ResolvedView.{expr_of, stmt_of, block_of}
@@ -38,7 +38,7 @@ after_all-loop-line-preserved t c =
     let split : block_of (drop c.loop-line.line-index c.args.lines.now) ≡ spec.Then line.line s (block_of rest) = ap block_of first ∙ line_is line rest in
     let next : row_of c.know.new.known ≡ known_after known s = c.know.ensures in
     record {
-      small = both_right (small_stmt s) (small_block (block_of rest)) (ap small_block (sym split) ∙ c.loop-line.invariant.small);
+      small = second_true (small_stmt s) (small_block (block_of rest)) (ap small_block (sym split) ∙ c.loop-line.invariant.small);
       row = ap (λ k. after_all k (block_of rest) (held_of c.after.new.here)) next
           ∙ ap (after_all (known_after known s) (block_of rest)) c.after.ensures.row
           ∙ ap (λ b. after_all known b (held_of c.loop-line.here)) (sym split)
@@ -58,7 +58,7 @@ after_all-know-requires t c =
     let line = c.line-item.result in
     let rest = drop (c.loop-line.line-index + 1) c.args.lines.now in
     let first : drop c.loop-line.line-index c.args.lines.now ≡ line ∷ rest = grind (arith, common_steps) in
-    both_left (small_stmt (stmt_of line.stmt)) (small_block (block_of rest)) (ap small_block (sym (ap block_of first ∙ line_is line rest)) ∙ c.loop-line.invariant.small)
+    first_true (small_stmt (stmt_of line.stmt)) (small_block (block_of rest)) (ap small_block (sym (ap block_of first ∙ line_is line rest)) ∙ c.loop-line.invariant.small)
 
 pub after_either-after_block-requires-in-IfElse : goal.after_either-after_block-requires-in-IfElse
 after_either-after_block-requires-in-IfElse t c =
@@ -67,7 +67,7 @@ after_either-after_block-requires-in-IfElse t c =
     let e : stmt_of c.args.stmt.now ≡ spec.IfElse (expr_of c.in-IfElse.field-0) b d = ap stmt_of c.in-IfElse.is ∙ if_else_is c.in-IfElse.field-0 c.in-IfElse.block c.in-IfElse.other in
     let small =
     ap (λ ls. small_block (block_of ls)) (c.deref-in-IfElse-2.ensures.value ∙ ap (λ v. v.items) c.deref-in-IfElse.ensures)
-    ∙ both_right (small_block b) (small_block d) (sym (ap small_stmt e) ∙ c.requires.small) in
+    ∙ second_true (small_block b) (small_block d) (sym (ap small_stmt e) ∙ c.requires.small) in
     (search (rules, the_lemmas), small)
 
 pub after_either-returns-in-IfElse-clause-gains : goal.after_either-returns-in-IfElse-clause-gains

@@ -1,7 +1,7 @@
 use Rattle.std.proofs.Common.{◌≡◌, List, ◌∷◌, ◌+◌, map, flat_map, drop, ap, sym, ◌∙◌, arith}
 use Rattle.std.specs.List.{list_all}
 use Rattle.std.proofs.lemmas.Grind.{common_steps}
-use Rattle.cw_model.specs.lemmas.Kept.{both_left, both_right}
+use Rattle.cw_facts.specs.Tests.{first_true, second_true}
 use Rattle.cw_tree.specs.Resolved as spec
 use Rattle.cw_tree.specs.ResolvedView.{function_of}
 use Rattle.cw_own.specs.Bounds.{small_function}
@@ -16,7 +16,7 @@ note_function-requires c =
     let f = function_of c.function-item.result in
     let rest = map function_of (drop (c.loop-function.function-index + 1) c.args.functions.now) in
     let split : map function_of (drop c.loop-function.function-index c.args.functions.now) ≡ f ∷ rest = grind (arith, common_steps) in
-    both_left (small_function f) (list_all small_function rest) (ap (list_all small_function) (sym split) ∙ c.loop-function.invariant.small)
+    first_true (small_function f) (list_all small_function rest) (ap (list_all small_function) (sym split) ∙ c.loop-function.invariant.small)
 
 pub loop-function-preserved : goal.loop-function-preserved
 loop-function-preserved c =
@@ -24,7 +24,7 @@ loop-function-preserved c =
     let rest = map function_of (drop (c.loop-function.function-index + 1) c.args.functions.now) in
     let split : map function_of (drop c.loop-function.function-index c.args.functions.now) ≡ f ∷ rest = grind (arith, common_steps) in
     record {
-      small = both_right (small_function f) (list_all small_function rest) (ap (list_all small_function) (sym split) ∙ c.loop-function.invariant.small);
+      small = second_true (small_function f) (list_all small_function rest) (ap (list_all small_function) (sym split) ∙ c.loop-function.invariant.small);
       same =
           ap (λ o. kept line_in o (flat_map function_reasons rest)) c.in_ok-note_function.ensures
           ∙ sym (kept_append (places_told c.loop-function.told) (function_reasons f) (flat_map function_reasons rest))

@@ -1,10 +1,10 @@
 use Rattle.std.proofs.Common.{rules, ◌≡◌, ◌++◌, ◌∷◌, ◌+◌, [], map, option_map, length, drop, ap, sym, ◌∙◌, arith, true}
 use Rattle.cw_model.specs.Ownership.{Leaves}
-use Rattle.cw_model.specs.lemmas.Kept.{both_left, both_right}
 use Rattle.cw_tree.specs.declared.resolved.Stmt.TheViews.{the_lemmas}
 use Rattle.cw_tree.specs.Resolved as spec
 use Rattle.cw_tree.specs.ResolvedView.{expr_of, stmt_of, block_of}
 use Rattle.std.proofs.lemmas.Grind.{common_steps}
+use Rattle.cw_facts.specs.Tests.{first_true, second_true}
 use Rattle.cw_own.specs.Bounds.{small_stmt, small_block}
 use Rattle.cw_own.specs.Sets.{row_of}
 use Rattle.cw_own.specs.Taken.{held_of, taken_of, taken_after, taken_after_all, left_by, known_after, turns, turns_in, turns_within}
@@ -22,7 +22,7 @@ note_all-of_stmt-requires t c =
     let line = c.line-item.result in
     let rest = drop (c.loop-line.line-index + 1) c.args.lines.now in
     let first : drop c.loop-line.line-index c.args.lines.now ≡ line ∷ rest = grind (arith, common_steps) in
-    both_left (small_stmt (stmt_of line.stmt)) (small_block (block_of rest)) (ap small_block (sym (ap block_of first ∙ line_is line rest)) ∙ c.loop-line.invariant.small)
+    first_true (small_stmt (stmt_of line.stmt)) (small_block (block_of rest)) (ap small_block (sym (ap block_of first ∙ line_is line rest)) ∙ c.loop-line.invariant.small)
 
 pub note_all-loop-line-preserved : goal.note_all-loop-line-preserved
 note_all-loop-line-preserved t c =
@@ -47,7 +47,7 @@ note_all-loop-line-preserved t c =
     ∙ ap (λ t. kept line_in (kept line_in first_so_far (reasons_at line.line (why around t s))) (reasons_within around known t line.line s)) seen in
     let left = drop (length (turns_in (row_of c.args.known.now) (block_of c.args.lines.now))) (map held_of c.args.rest.now.left.now) in
     record {
-      small = both_right (small_stmt s) (small_block (block_of rest)) (ap small_block (sym split) ∙ c.loop-line.invariant.small);
+      small = second_true (small_stmt s) (small_block (block_of rest)) (ap small_block (sym split) ∙ c.loop-line.invariant.small);
       taken =
           ap (λ k. taken_after_all k (block_of rest) (taken_of c.note_within.new.taken)) next
           ∙ ap (taken_after_all (known_after known s) (block_of rest)) after
@@ -90,7 +90,7 @@ note_either-note_block-requires-in-IfElse t c =
     ∙ ap (drop (length (turns_in known b))) (begun ∙ appended (turns_in known b) (turns_in known d) rest)
     ∙ rest_is (turns_in known b) (turns_in known d ++ rest) in
     let here : c.deref-in-IfElse-2.result.now ≡ c.in-IfElse.other.value.items = c.deref-in-IfElse-2.ensures.value ∙ ap (λ v. v.items) c.deref-in-IfElse.ensures in
-    let small : small_block d ≡ true = both_right (small_block b) (small_block d) (sym (ap small_stmt e) ∙ c.requires.small) in (
+    let small : small_block d ≡ true = second_true (small_block b) (small_block d) (sym (ap small_stmt e) ∙ c.requires.small) in (
       search (rules, the_lemmas),
       (
         ap (λ ls. small_block (block_of ls)) here ∙ small,
@@ -135,4 +135,4 @@ note_all-know-requires t c =
     let line = c.line-item.result in
     let rest = drop (c.loop-line.line-index + 1) c.args.lines.now in
     let first : drop c.loop-line.line-index c.args.lines.now ≡ line ∷ rest = grind (arith, common_steps) in
-    both_left (small_stmt (stmt_of line.stmt)) (small_block (block_of rest)) (ap small_block (sym (ap block_of first ∙ line_is line rest)) ∙ c.loop-line.invariant.small)
+    first_true (small_stmt (stmt_of line.stmt)) (small_block (block_of rest)) (ap small_block (sym (ap block_of first ∙ line_is line rest)) ∙ c.loop-line.invariant.small)

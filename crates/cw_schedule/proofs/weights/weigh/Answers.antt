@@ -1,6 +1,6 @@
 use Rattle.std.proofs.Common.{arith}
 use Rattle.cw_greedy.specs.Blocks.{block_of}
-use Rattle.cw_greedy.specs.lemmas.Spans.{span_within}
+use Rattle.cw_model.specs.lemmas.Spans.{span_within}
 use Rattle.cw_schedule.proofs.Reading.{record_is_read, record_has_work}
 use Rattle.cw_schedule.proofs.State.{record_of}
 use Rattle.cw_schedule.proofs.Weighing.{path_is_span}
