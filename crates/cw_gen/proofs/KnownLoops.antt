@@ -12,7 +12,7 @@ use Rattle.cw_model.specs.Names.{same_name, is_among, differ}
 use Rattle.cw_model.specs.Captured.{captured}
 use Rattle.cw_model.specs.Typing.{Returns, Nowhere, Alone, Known, is_array, is_fine, is_cut, is_head_of_loop, called, surely_returns, ends_block, declares, faults_in, faults_in_block}
 use Rattle.cw_model.specs.lemmas.Kept.{kept, left_none, right_none}
-use Rattle.cw_model.specs.lemmas.Names.{same_are}
+use Rattle.cw_model.specs.lemmas.Names.{same_are, names_of}
 use Rattle.cw_tree.specs.Resolved.{Locals, with_int, with_array, locals_after, locals_of}
 use Rattle.cw_tree.specs.lemmas.Names.{front_among, later_among}
 use Rattle.cw_loops.specs.Lowered.{is_plain, low, high, middle, left_part, right_part, loop_name, int_params, array_params, variables, leaf_block, left_arguments, right_arguments, both_halves, in_cuts, node_block, loop_function, loop_count, loop_count_in, lower_block, made_by, made_in}
@@ -20,7 +20,6 @@ use Rattle.cw_loops.specs.Lowerable.{Surroundings, is_local, can_evaluate, new_i
 use Rattle.cw_loops.specs.lemmas.Apart.{plain_apart}
 use Rattle.cw_loops.specs.lemmas.Naming.{among_left, among_right, Placed, at_front, after_it, placed, none_among}
 use Rattle.cw_loops.specs.lemmas.Knowing.{not_both}
-use Rattle.cw_loops.specs.lemmas.Heads.{names_of}
 use Rattle.cw_loops.specs.lemmas.Capturing.{each_captured, each_sliced}
 use Rattle.cw_gen.proofs.Held.{has_no_half_in}
 use Rattle.cw_gen.proofs.Fine.{Begins, marks_for}

@@ -10,11 +10,12 @@ use Rattle.cw_model.specs.Names.{same_name, is_among, differ}
 use Rattle.cw_model.specs.Answers.{main_name}
 use Rattle.cw_model.specs.Typing.{WithInt, Alone, globals, block_returns, faults_in_block, known_of, is_head, called, faults_of, repeated_names, IsWellTyped}
 use Rattle.cw_model.specs.lemmas.Kept.{kept, left_none, right_none}
+use Rattle.cw_model.specs.lemmas.Names.{names_of}
 use Rattle.cw_tree.specs.Resolved.{locals_of}
 use Rattle.cw_loops.specs.Lowered.{is_plain, loop_name, loop_function, loop_count, loop_count_in, lower_block, lower_function, lower_functions, made_by, made_in, made_of, lowered}
 use Rattle.cw_loops.specs.Lowerable.{nothing_around, integers_of, arrays_of, can_lower_function, is_lowerable}
 use Rattle.cw_loops.specs.LoweringLaws.{IsOwnedSource}
-use Rattle.cw_loops.specs.lemmas.Heads.{names_of, array_kind}
+use Rattle.cw_loops.specs.lemmas.Heads.{array_kind}
 use Rattle.cw_gen.proofs.OwnNames.{AllOwnNames, unread_own, head_written, block_own}
 use Rattle.cw_gen.proofs.KnownParams.{local_arrays, loop_unread}
 use Rattle.cw_gen.proofs.Fine.{marks_for}

@@ -3,10 +3,10 @@ use Rattle.std.proofs.Common.{◌≡◌, Bool, true, false, List, [], ◌∷◌,
 use Rattle.std.specs.Prelude.{◌==◌, if◌then◌else◌, not, map, filter}
 use Rattle.cw_gen.specs.Marks.{readers_in, marks_in, marks_of}
 use Rattle.cw_model.specs.Syntax.{wants_array, Name, Param}
+use Rattle.cw_model.specs.lemmas.Names.{names_of}
 use Rattle.cw_tree.specs.Resolved.{locals_of}
 use Rattle.cw_loops.specs.Lowered.{int_params, array_params}
 use Rattle.cw_loops.specs.Lowerable.{integers_of, arrays_of}
-use Rattle.cw_loops.specs.lemmas.Heads.{names_of}
 
 -- the locals of parameters are these
 pub local_ints : (ps : List Param) → (locals_of ps).ints ≡ integers_of ps

@@ -9,14 +9,14 @@ use Rattle.cw_model.specs.Names.{is_among, differ}
 use Rattle.cw_model.specs.Typing.{Known, is_int, is_array, is_new, is_fine, is_target, globals, declares, known_of, faults_in, Returns, Nowhere, WithInt, Alone, may_return}
 use Rattle.cw_model.specs.lemmas.Kept.{kept}
 use Rattle.cw_model.specs.lemmas.Fits.{fits_kind, fit_kinds}
-use Rattle.cw_model.specs.lemmas.Names.{same_are}
+use Rattle.cw_model.specs.lemmas.Names.{same_are, names_of}
 use Rattle.cw_tree.specs.Resolved.{Locals, with_int, with_array, locals_after, locals_of}
 use Rattle.cw_tree.specs.lemmas.Names.{front_among, later_among}
 use Rattle.cw_loops.specs.Lowered.{is_plain, low, high, lower_index, lower_expr, lower_exprs, lower_option}
 use Rattle.cw_loops.specs.Lowerable.{Surroundings, nothing_around, can_write, can_read, is_local, is_variable, can_evaluate, can_pass, can_pass_all, can_target, new_integers, new_arrays, can_capture, can_slice, inside, integers_of, arrays_of}
 use Rattle.cw_loops.specs.lemmas.Naming.{among_left, among_right, neither_among, none_among, pushed, passed}
 use Rattle.cw_loops.specs.lemmas.Knowing.{not_there, not_both}
-use Rattle.cw_loops.specs.lemmas.Heads.{names_of, int_kind, array_kind}
+use Rattle.cw_loops.specs.lemmas.Heads.{int_kind, array_kind}
 use Rattle.cw_gen.proofs.Kept.{ExprKnown, ArgKnown, ArgsKnown, TargetKnown, ReturnKnown, AllKnown}
 use Rattle.cw_gen.proofs.KnownNames.{in_second}
 use Rattle.cw_gen.proofs.KnownParams.{local_ints, local_arrays}

@@ -12,12 +12,12 @@ use Rattle.cw_model.specs.Answers.{main_name}
 use Rattle.cw_model.specs.Typing.{known_of, is_head, Returns, WithInt, Alone, faults_of, IsWellTyped}
 use Rattle.cw_model.specs.Ownership.{NoLoop, Joins, owner_faults_of, KeepsOwnership}
 use Rattle.cw_model.specs.lemmas.Kept.{left_none, right_none, kept}
-use Rattle.cw_model.specs.lemmas.Names.{turned}
+use Rattle.cw_model.specs.lemmas.Names.{turned, names_of}
 use Rattle.cw_loops.specs.Lowered.{is_plain}
 use Rattle.cw_loops.specs.Lowerable.{nothing_around, integers_of, arrays_of, can_lower_function, is_lowerable}
 use Rattle.cw_loops.specs.LoweringLaws.{MainTakesIntegers}
 use Rattle.cw_loops.specs.SourceLike.{is_source_block, is_source_function, is_source_like}
-use Rattle.cw_loops.specs.lemmas.Heads.{names_of, no_kind, others_differ, int_kind, array_kind, parameters_known, head_of, heads_kept}
+use Rattle.cw_loops.specs.lemmas.Heads.{no_kind, others_differ, int_kind, array_kind, parameters_known, head_of, heads_kept}
 use Rattle.cw_loops.proofs.Agreeing.{Agree}
 use Rattle.cw_loops.proofs.Lowering.{block_can}
 

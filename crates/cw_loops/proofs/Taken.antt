@@ -1,12 +1,12 @@
 -- The integers that a resolved body takes from outside are those that it names by name.
-use Rattle.std.proofs.Common.{◌≡◌, ℕ, nat_lt, Bool, true, false, List, [], ◌∷◌, ◌++◌, length, map, refl, sym, ◌∙◌, ap, append_assoc, append-nil}
+use Rattle.std.proofs.Common.{◌≡◌, nat_lt, Bool, true, false, List, [], ◌∷◌, ◌++◌, length, map, refl, sym, ◌∙◌, ap, append_assoc, append-nil}
 use Rattle.std.specs.Prelude.{if◌then◌else◌, not, ◌&&◌, ◌||◌}
 use Rattle.cw_facts.specs.Tests.{below, either_left}
 use Rattle.cw_model.specs.Syntax.{Name}
 use Rattle.cw_model.specs.Names.{same_name, is_among, new_names}
 use Rattle.cw_model.specs.lemmas.Names.{same_itself, turned}
-use Rattle.cw_tree.specs.Resolved.{Use, slot_of, use_of, is_slot_in, with_first, first_uses}
-use Rattle.cw_tree.specs.lemmas.NamedSlots.{one_slot, slot_in, among_push}
+use Rattle.cw_tree.specs.Resolved.{Use, slot_of, use_of, is_slot_in, first_uses}
+use Rattle.cw_tree.specs.lemmas.NamedSlots.{one_slot, slot_in, among_push, uses_append}
 use Rattle.cw_tree.specs.lemmas.Names.{front_among, later_among}
 use Rattle.std.proofs.lemmas.List.{map-append}
 use Rattle.cw_loops.specs.lemmas.Naming.{Placed, at_front, after_it, placed}
@@ -46,10 +46,6 @@ new_are known found k (y ∷ xs) same = go (is_among y k) (same y) (λ f j h. ne
 all-append : (known found xs ys : List Name) → all_new known found (xs ++ ys) ≡ all_new known (all_new known found xs) ys
 all-append known found [] ys = refl
 all-append known found (x ∷ xs) ys = all-append known (with_new known found x) xs ys
-
-uses-append : (n : ℕ) (found us ws : List Use) → first_uses n found (us ++ ws) ≡ first_uses n (first_uses n found us) ws
-uses-append n found [] ws = refl
-uses-append n found (u ∷ us) ws = uses-append n (with_first n found u) us ws
 
 -- a name that is known or found stays so
 either_more : (k f s : Bool) → (k || f) ≡ true → (k || (f || s)) ≡ true
@@ -97,7 +93,7 @@ Matches names known us vs =
 
 pub both_match : (names known : List Name) (us ws : List Use) (vs xs : List Name) → Matches names known us vs → Matches names known ws xs → Matches names known (us ++ ws) (vs ++ xs)
 both_match names known us ws vs xs h g found =
-    uses-append (length names) (map (use_of names) found) us ws ∙ ap (λ f. first_uses (length names) f ws) (h found) ∙ g (all_new known found vs)
+    uses_append (length names) (map (use_of names) found) us ws ∙ ap (λ f. first_uses (length names) f ws) (h found) ∙ g (all_new known found vs)
     ∙ sym (ap (map (use_of names)) (all-append known found vs xs))
 
 pub slots_among : (names : List Name) (v : Name) (found : List Name) → is_among v names ≡ true → is_slot_in (slot_of v names) (map (λ (w : Use). w.slot) (map (use_of names) found)) ≡ is_among v found

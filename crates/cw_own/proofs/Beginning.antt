@@ -4,7 +4,7 @@ use Rattle.std.proofs.lemmas.Bool.Decides.{nat_tests}
 use Rattle.std.proofs.lemmas.Slice.Eq.{bytes_eq-Decides}
 use Rattle.std.proofs.lemmas.List.{append_assoc, append-nil, length_push}
 use Rattle.std.proofs.lemmas.Bool.{or_from}
-use Rattle.std.proofs.Math.Bool.{or-false, or-true, or_comm}
+use Rattle.std.proofs.Math.Bool.{or-true}
 use Rattle.cw_facts.specs.Tests.{not_true, below, not_below, first_true, second_true}
 use Rattle.cw_model.specs.Syntax.{Name, Param}
 use Rattle.cw_model.specs.Names.{same_name, is_among, differ}
@@ -12,7 +12,6 @@ use Rattle.cw_model.specs.Typing.{Known, known_of}
 use Rattle.cw_tree.specs.Resolved.{Locals, slot_of, locals_of}
 use Rattle.cw_tree.specs.Resolved as spec
 use Rattle.cw_tree.specs.lemmas.NamedSlots.{among_push, slot_in, slot_out}
-use Rattle.cw_tree.specs.lemmas.Names.{among_append}
 use Rattle.cw_own.specs.Sets.{no_local, with_int, with_array}
 use Rattle.cw_own.specs.Taken.{with_params}
 use Rattle.cw_own.proofs.Words.{if_or}
@@ -22,6 +21,7 @@ use Rattle.cw_own.proofs.Knowing.{Knows, Fresh, knows_int, knows_array, knows_co
 use Rattle.cw_model.specs.declared.syntax.NameKind.{NameKind}
 use Rattle.cw_model.specs.declared.syntax.NameKind.TheVariants as name_kind
 use Rattle.cw_model.specs.Syntax.{wants_array, is_array_kind}
+use Rattle.cw_model.specs.lemmas.Names.{names_of, heads_are}
 
 -- these parameters, after locals that are known
 abbrev pub params_after : Locals → List Param → Locals
@@ -80,9 +80,6 @@ head_row ps =
     none : (k : ℕ) → false ≡ nat_lt k 0
     none k = grind (arith, nat_tests)
 
-abbrev names_of : List Param → List Name
-names_of ps = map (λ p. p.name) ps
-
 abbrev NotIn : Locals → Name → Type 0
 NotIn locals x = (is_among x locals.ints ≡ false) × (is_among x locals.arrays ≡ false)
 
@@ -120,20 +117,6 @@ head_known ps d =
     (subst (λ ks. Knows ks (params_after (record { ints = []; arrays = [] }) ps)) (append-nil (known_of ps))
     (params_known ps [] (record { ints = []; arrays = [] }) (fresh_params ps (record { ints = []; arrays = [] }) d (λ p there. (refl, refl))) nothing_known))
 
-map_append : (xs ys : Known) → map (λ k. k.0) (xs ++ ys) ≡ map (λ k. k.0) xs ++ map (λ k. k.0) ys
-map_append [] ys = refl
-map_append (x ∷ xs) ys = ap (λ r. x.0 ∷ r) (map_append xs ys)
-
-names_known : (x : Name) (ps : List Param) → is_among x (map (λ k. k.0) (known_of ps)) ≡ is_among x (names_of ps)
-names_known x [] = refl
-names_known x (p ∷ ps) =
-    ap (is_among x) (map_append (known_of ps) ((p.name, p.kind) ∷ []))
-    ∙ among_append x (map (λ k. k.0) (known_of ps)) (p.name ∷ [])
-    ∙ ap (λ b. b || is_among x (p.name ∷ [])) (names_known x ps)
-    ∙ ap (λ b. is_among x (names_of ps) || b) (if_or (same_name x p.name) false ∙ or-false (same_name x p.name))
-    ∙ or_comm (is_among x (names_of ps)) (same_name x p.name)
-    ∙ sym (if_or (same_name x p.name) (is_among x (names_of ps)))
-
 in_row : (x : Name) (names : List Name) → is_among x names ≡ nat_lt (slot_of x names) (length names)
 in_row x names = by (is_among x names) refl
   where
@@ -144,7 +127,7 @@ in_row x names = by (is_among x names) refl
 pub head_names : (ps : List Param) → differ (names_of ps) ≡ true → Shows (locals_of ps) (λ x. is_among x (names_of ps)) (known_row (locals_of ps))
 head_names ps d = record {
   same = λ x.
-      sym (names_known x ps) ∙ (head_known ps d).names x
+      sym (heads_are x ps) ∙ (head_known ps d).names x
       ∙ ap (λ b. b || is_among x (locals_of ps).arrays) (in_row x (locals_of ps).ints)
       ∙ ap (λ b. nat_lt (slot_of x (locals_of ps).ints) (length (locals_of ps).ints) || b) (in_row x (locals_of ps).arrays);
   ints_end = λ k h. not_below k (length (locals_of ps).ints) h;

@@ -5,11 +5,8 @@ use Rattle.std.specs.List.{list_any}
 use Rattle.cw_model.specs.Names.{same_name, is_among, differ}
 use Rattle.cw_model.specs.Syntax.{Name, Param, Function, Program}
 use Rattle.cw_model.specs.Typing.{Known, globals, is_head}
-use Rattle.cw_model.specs.lemmas.Names.{turned}
+use Rattle.cw_model.specs.lemmas.Names.{turned, names_of}
 use Rattle.cw_types.specs.Typing.{are_new, is_right_main, returns_well}
-
-abbrev names_of : List Param → List Name
-names_of ps = map (λ p. p.name) ps
 
 abbrev known_names : Known → List Name
 known_names ks = map (λ k. k.0) ks

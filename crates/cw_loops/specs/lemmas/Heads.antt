@@ -12,13 +12,9 @@ use Rattle.cw_model.specs.Answers.{main_name}
 use Rattle.cw_model.specs.Typing.{Known, is_known, is_int, is_array, globals, block_returns, known_of, is_head}
 use Rattle.cw_model.specs.Typing.{faults_of, repeated_names, IsWellTyped}
 use Rattle.cw_model.specs.lemmas.Kept.{left_none, right_none, kept}
-use Rattle.cw_model.specs.lemmas.Names.{same_are}
+use Rattle.cw_model.specs.lemmas.Names.{same_are, names_of, heads_are}
 use Rattle.cw_loops.specs.Lowerable.{integers_of, arrays_of}
 use Rattle.cw_loops.specs.lemmas.Knowing.{not_there}
-
--- the names of parameters
-abbrev pub names_of : List Param → List Name
-names_of ps = map (λ p. p.name) ps
 
 -- a parameter is an integer or an array
 kind_among : (x : Name) (ps : List Param) →
@@ -53,25 +49,6 @@ known_push such (k ∷ ks) n kind x = go (same_name x k.0) (known_push such ks n
         ((n, kind) ∷ []))
     go true h = refl
     go false h = h
-
-among_push : (x : Name) (ks : Known) (n : Name) (kind : NameKind)
-    → is_among x (map (λ k. k.0) (ks ++ (n, kind) ∷ []))
-    ≡ (if same_name x n then true else is_among x (map (λ k. k.0) ks))
-among_push x [] n kind = refl
-among_push x (k ∷ ks) n kind = go (same_name x k.0) (same_name x n) (among_push x ks n kind)
-  where
-    go : (s q : Bool) →
-        is_among x (map (λ k. k.0) (ks ++ (n, kind) ∷ [])) ≡ (if q then true else is_among x (map (λ k. k.0) ks)) →
-        (if s then true else is_among x (map (λ k. k.0) (ks ++ (n, kind) ∷ [])))
-        ≡ (if q then true else (if s then true else is_among x (map (λ k. k.0) ks)))
-    go true true h = refl
-    go true false h = refl
-    go false q h = h
-
-heads_are : (x : Name) (ps : List Param) → is_among x (map (λ k. k.0) (known_of ps)) ≡ is_among x (names_of ps)
-heads_are x [] = refl
-heads_are x (p ∷ ps) =
-    among_push x (known_of ps) p.name p.kind ∙ ap (λ b. if same_name x p.name then true else b) (heads_are x ps)
 
 -- no parameter after the first has its name
 pub others_differ : (p : Param) (ps : List Param) → differ (names_of (p ∷ ps)) ≡ true →

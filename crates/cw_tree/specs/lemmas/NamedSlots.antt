@@ -1,11 +1,11 @@
 -- Slots of names: a name that is known has one below their count, and no two names have the same.
-use Rattle.std.proofs.Common.{◌≡◌, suc, ◌<◌, ◌==◌, Bool, true, false, ◌||◌, if◌then◌else◌, List, [], ◌∷◌, ◌++◌}
+use Rattle.std.proofs.Common.{◌≡◌, suc, ◌<◌, ◌==◌, Bool, true, false, ◌||◌, if◌then◌else◌, List, [], ◌∷◌, ◌++◌, ℕ}
 use Rattle.std.proofs.Common.{length, refl, sym, ap, ◌∙◌, arith}
 use Rattle.std.proofs.lemmas.Slice.Eq.{bytes_eq-Decides}
 use Rattle.cw_model.specs.Syntax.{Name}
 use Rattle.cw_model.specs.Names.{same_name, is_among}
 use Rattle.cw_model.specs.lemmas.Names.{turned}
-use Rattle.cw_tree.specs.Resolved.{slot_of}
+use Rattle.cw_tree.specs.Resolved.{slot_of, Use, first_uses, with_first}
 use Rattle.cw_facts.specs.Tests.{suc_same, suc_not, not_suc}
 
 same_as_third : (x y z : Name) → same_name x z ≡ true → same_name y z ≡ same_name y x
@@ -74,3 +74,8 @@ slot_stays x (y ∷ names) more h = first (same_name x y) (slot_stays x names mo
         (if b then 0 else suc (slot_of x (names ++ more))) ≡ (if b then 0 else suc (slot_of x names))
     first true f g = refl
     first false f g = ap suc (f g)
+
+-- uses that are read one after another
+pub uses_append : (n : ℕ) (found xs ys : List Use) → first_uses n found (xs ++ ys) ≡ first_uses n (first_uses n found xs) ys
+uses_append n found [] ys = refl
+uses_append n found (x ∷ xs) ys = uses_append n (with_first n found x) xs ys

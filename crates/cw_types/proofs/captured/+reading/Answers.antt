@@ -5,7 +5,7 @@ use Rattle.cw_tree.specs.declared.resolved.Line.{the_lemmas}
 use Rattle.cw_tree.specs.declared.resolved.Stmt.{the_lemmas as stmt_lemmas}
 use Rattle.cw_tree.specs.Resolved.{Then, reads, reads_in, reads_in_block, first_uses}
 use Rattle.cw_tree.specs.ResolvedView.{use_of, expr_of, stmt_of, block_of}
-use Rattle.cw_types.proofs.Reading.{uses_append}
+use Rattle.cw_tree.specs.lemmas.NamedSlots.{uses_append}
 use Rattle.cw_types.proofs.captured.+reading.Goals as goal
 
 pub block-loop-line-preserved : goal.block-loop-line-preserved
