@@ -1,11 +1,10 @@
 -- Texts that a source can begin with.
-use Rattle.std.specs.Prelude.{ℕ, List, ◌++◌, ◌⊎◌, All, codes}
+use Rattle.std.specs.Prelude.{ℕ, List, ◌++◌, ◌⊎◌, codes}
 use Rattle.cw_model.specs.declared.token.Token.{Token}
 use Rattle.cw_model.specs.Grammar.{Derives, HasSyntaxFault}
 use Rattle.cw_model.specs.Syntax.{Program}
 use Rattle.cw_model.specs.Text.{end_line}
 use Rattle.cw_model.specs.Tokens.{IsTokenCut}
-use Rattle.cw_explain.specs.declared.grammar.Choice.{Choice}
 
 -- the tokens of the text are a source, or refused no sooner than at the line of the text's end
 pub record GoesOn (text : List ℕ) : Type 0 where
@@ -20,7 +19,3 @@ followed text word = text ++ codes "\n" ++ word ++ codes "\n"
 -- the word can stand behind the text
 abbrev pub CanFollow : (text word : List ℕ) → Type 0
 CanFollow text word = GoesOn (followed text word)
-
--- each of these can
-abbrev pub AllCanFollow : (text : List ℕ) → List Choice → Type 0
-AllCanFollow text choices = All (λ choice. CanFollow text choice.word.now) choices

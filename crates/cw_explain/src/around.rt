@@ -1,17 +1,19 @@
 //! Where a source is refused: the tokens round that place, and what is open there.
 
 use crate::near::is_declared;
+use crate::phrase::Marks;
 use crate::word::Word;
 use crate::words::{OPERATORS, STORAGE, TYPES};
 use cw_model::token::{Kind, Token};
 use std::alloc::{AllocError, Global};
 use std::fmt;
 
-/// A bracket that is open: its token, and the place of it.
+/// A bracket that is open: its token, the place of it, and the first token of its statement.
 #[derive(Clone, Copy)]
 struct Bracket {
     token: Token,
     place: usize,
+    front: Option<Kind>,
 }
 
 /// The brackets that are open behind some tokens, and the statement there.
@@ -25,8 +27,18 @@ pub struct Opened {
     braces: usize,
     /// The place of the first token of the statement that is not complete.
     first: usize,
+    /// That token, if there is one.
+    front: Option<Kind>,
     /// Whether the last token closes the bracket right behind that one.
     is_headed: bool,
+}
+
+// Whether a statement of this kind has a block which is left at its end only.
+fn is_left_at_its_end(kind: Option<Kind>) -> bool {
+    matches!(
+        kind,
+        Some(Kind::Cut) | Some(Kind::Region) | Some(Kind::Scope) | Some(Kind::For)
+    )
 }
 
 impl Opened {
@@ -37,6 +49,7 @@ impl Opened {
             brackets: Vec::new(alloc),
             braces: 0,
             first: 0,
+            front: None,
             is_headed: false,
         }
     }
@@ -54,6 +67,21 @@ impl Opened {
         self.braces
     }
 
+    /// The first token of the statement that is not complete, if there is one.
+    pub fn front(&self) -> Option<Kind> {
+        self.front
+    }
+
+    /// Whether a block is open that is left at its end only.
+    pub fn is_in_closed_block(&self) -> bool {
+        for bracket in self.brackets.as_slice() {
+            if bracket.token.kind == Kind::LeftBrace && is_left_at_its_end(bracket.front) {
+                return true;
+            }
+        }
+        false
+    }
+
     /// Whether a bracket is open behind the last brace.
     pub fn is_in_brackets(&self) -> bool {
         match self.innermost() {
@@ -64,8 +92,11 @@ impl Opened {
 
     // A bracket opens.
     fn open(&mut self, token: Token) -> Result<(), AllocError> {
-        let place = self.count;
-        self.brackets.push(Bracket { token, place })?;
+        self.brackets.push(Bracket {
+            token,
+            place: self.count,
+            front: self.front,
+        })?;
         Ok(())
     }
 
@@ -79,11 +110,13 @@ impl Opened {
     // The statement ends with the last token.
     fn end(&mut self) {
         self.first = self.count.saturating_add(1);
+        self.front = None;
     }
 
     /// One token more.
     pub fn add(&mut self, token: Token) -> Result<(), AllocError> {
         self.is_headed = false;
+        self.front = self.front.or(Some(token.kind));
         match token.kind {
             Kind::LeftBrace => {
                 self.open(token)?;
@@ -276,26 +309,10 @@ impl<'a> Around<'a> {
             _ => self.before(mark.wrapping_sub(b'0') as usize),
         }
     }
+}
 
-    /// Writes a text, with the words of tokens and, for the mark `{`, the line of the open bracket, in place of its marks, each
-    /// behind an `@`.
-    pub fn write<W: fmt::Write>(&self, f: &mut fmt::Formatter<W>, says: &str) -> fmt::Result {
-        let mut is_mark = false;
-        for byte in says.as_bytes() {
-            if is_mark {
-                self.write_mark(f, *byte)?;
-                is_mark = false;
-            } else if *byte == b'@' {
-                is_mark = true;
-            } else {
-                let shown = char::from(*byte);
-                write!(f, "{shown}")?;
-            }
-        }
-        Ok(())
-    }
-
-    // Writes what a mark stands for.
+/// The words of tokens and, for the mark `{`, the line of the open bracket.
+impl Marks for Around<'_> {
     fn write_mark<W: fmt::Write>(&self, f: &mut fmt::Formatter<W>, mark: u8) -> fmt::Result {
         if mark == b'{' {
             let line = self.open.map(|token| token.line).unwrap_or(1);

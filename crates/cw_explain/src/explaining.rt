@@ -7,13 +7,13 @@ use crate::excerpt::add_lines;
 use crate::further::{add_refusals, add_text, add_tokens};
 use crate::hinting::{closed_return, hint_in, near_main};
 use crate::lexical::OfText;
+use crate::limits;
 use crate::others::{Named, of_run, parameters_of_main};
 use crate::owning::Text;
 use crate::refusals::{OfOwnership, OfTypes, Refusals};
 use crate::traps::trapped;
-use crate::unparsed::{Unparsed, first_unparsed};
+use crate::unparsed::first_unparsed;
 use crate::words::BYTES;
-use crate::{limits, parts};
 use cw_gen::excess_of;
 use cw_lex::{Uncut, first_uncut, lex};
 use cw_loops::lower;
@@ -26,6 +26,10 @@ use cw_text::{Fault, Source};
 use cw_tree::syntax::Ast;
 use cw_types::{IllTyped, check, ill_typed, too_large};
 use std::alloc::{AllocError, Global};
+use std::fmt;
+
+/// What is said where it is not known which rule.
+const BROKEN: &str = "a rule is broken here";
 
 /// What is refused: a source, with the words that it was run with.
 #[derive(Clone, Copy)]
@@ -40,6 +44,25 @@ pub struct Refused<'a> {
     pub limit: u64,
     /// The most strands of a run that a schedule is made of.
     pub strands: u64,
+}
+
+/// What is told of: a line of a source.
+#[derive(Clone, Copy)]
+pub struct Subject<'a> {
+    pub file: Named<'a>,
+    pub bytes: &'a [u8],
+    pub line: u32,
+}
+
+impl<'a> Refused<'a> {
+    // A line of it.
+    fn at(&self, line: u32) -> Subject<'a> {
+        Subject {
+            file: Named { path: self.file },
+            bytes: self.bytes,
+            line,
+        }
+    }
 }
 
 /// Why a source is refused with this fault, or its run: the rule that is broken, in words, with its names, on one line that begins
@@ -61,31 +84,13 @@ fn add_reason(
     refused: &Refused<'_>,
     fault: &Fault,
 ) -> Result<(), Fault> {
-    let file = refused.file;
-    let bytes = refused.bytes;
     match fault {
-        Fault::Lexical(place) => {
-            add_place(out, file, place.line)?;
-            of_text(out, bytes, place.line)?;
-            add_text(out, Named { path: file }, bytes, place.line)
-        }
-        Fault::Syntax(place) => {
-            add_place(out, file, place.line)?;
-            of_grammar(alloc, out, refused, place.line)
-        }
-        Fault::Types(place) => {
-            add_place(out, file, place.line)?;
-            of_types(alloc, out, refused, place.line)
-        }
-        Fault::Ownership(place) => {
-            add_place(out, file, place.line)?;
-            of_ownership(alloc, out, refused, place.line)
-        }
-        Fault::Size(place) => {
-            add_place(out, file, place.line)?;
-            of_size(alloc, out, bytes, place.line)
-        }
-        Fault::Trap { code, line, .. } => of_trap(out, refused, *code, *line),
+        Fault::Lexical(place) => of_text(out, &refused.at(place.line)),
+        Fault::Syntax(place) => of_grammar(alloc, out, &refused.at(place.line)),
+        Fault::Types(place) => of_types(alloc, out, &refused.at(place.line)),
+        Fault::Ownership(place) => of_ownership(alloc, out, &refused.at(place.line)),
+        Fault::Size(place) => of_size(alloc, out, &refused.at(place.line)),
+        Fault::Trap { code, line, .. } => of_trap(out, &refused.at(*line), *code),
         Fault::Arguments => of_arguments(alloc, out, refused),
         _ => {
             of_run(out, refused, fault)?;
@@ -94,13 +99,28 @@ fn add_reason(
     }
 }
 
-// Of a trap.
-fn of_trap(out: &mut String, refused: &Refused<'_>, code: Trap, line: u32) -> Result<(), Fault> {
-    let rule = trapped(code);
-    add_place(out, refused.file, line)?;
-    write!(out, "{rule}\n")?;
-    add_lines(out, refused.bytes, line, None)?;
+// Adds the source and a line of it, as editors read it.
+fn add_place(out: &mut String, file: Named<'_>, line: u32) -> Result<(), Fault> {
+    write!(out, "{file}:{line}: ")?;
     Ok(())
+}
+
+// Adds the rule that is broken, and the lines that matter.
+fn add_rule<D: fmt::Display>(
+    out: &mut String,
+    subject: &Subject<'_>,
+    rule: &D,
+    other_line: Option<u32>,
+) -> Result<(), Fault> {
+    write!(out, "{rule}\n")?;
+    add_lines(out, subject.bytes, subject.line, other_line)?;
+    Ok(())
+}
+
+// Of a trap.
+fn of_trap(out: &mut String, subject: &Subject<'_>, code: Trap) -> Result<(), Fault> {
+    add_place(out, subject.file, subject.line)?;
+    add_rule(out, subject, &trapped(code), None)
 }
 
 // Of the arguments of main.
@@ -108,7 +128,7 @@ fn of_arguments(alloc: Global, out: &mut String, refused: &Refused<'_>) -> Resul
     let (_source, tokens) = tokens_of(alloc, refused.bytes)?;
     if let Some((count, line)) = parameters_of_main(refused.bytes, tokens.as_slice()) {
         let given = refused.args;
-        add_place(out, refused.file, line)?;
+        add_place(out, Named { path: refused.file }, line)?;
         write!(
             out,
             "main has parameters: {count}, and arguments are given behind the source: {given}\n"
@@ -117,23 +137,14 @@ fn of_arguments(alloc: Global, out: &mut String, refused: &Refused<'_>) -> Resul
     Ok(())
 }
 
-// Adds the source and a line of it, as editors read it.
-fn add_place(out: &mut String, file: &str, line: u32) -> Result<(), Fault> {
-    let file = Named { path: file };
-    write!(out, "{file}:{line}: ")?;
-    Ok(())
-}
-
 // Of bytes that are not cut into tokens.
-fn of_text(out: &mut String, bytes: &[u8], line: u32) -> Result<(), Fault> {
-    match first_uncut(bytes) {
-        Some(found) => add_uncut(out, bytes, &found),
-        None => {
-            out.push_str("a rule is broken here\n")?;
-            add_lines(out, bytes, line, None)?;
-            Ok(())
-        }
+fn of_text(out: &mut String, subject: &Subject<'_>) -> Result<(), Fault> {
+    add_place(out, subject.file, subject.line)?;
+    match first_uncut(subject.bytes) {
+        Some(found) => add_uncut(out, subject.bytes, &found)?,
+        None => add_rule(out, subject, &BROKEN, None)?,
     }
+    add_text(out, subject)
 }
 
 // Adds why bytes are not cut into tokens, and the line that matters, unless they are too many.
@@ -172,49 +183,31 @@ fn tokens_of(alloc: Global, bytes: &[u8]) -> Result<(Source, Vec<Token>), Fault>
 }
 
 // Of the grammar.
-fn of_grammar(
-    alloc: Global,
-    out: &mut String,
-    refused: &Refused<'_>,
-    line: u32,
-) -> Result<(), Fault> {
-    let (source, tokens) = tokens_of(alloc, refused.bytes)?;
-    let bytes = refused.bytes;
+fn of_grammar(alloc: Global, out: &mut String, subject: &Subject<'_>) -> Result<(), Fault> {
+    add_place(out, subject.file, subject.line)?;
+    let (source, tokens) = tokens_of(alloc, subject.bytes)?;
     let tokens = tokens.as_slice();
-    match first_unparsed(alloc, &source, bytes, tokens)? {
-        Some(reason) => add_unparsed(out, bytes, line, &reason)?,
+    match first_unparsed(alloc, &source, subject.bytes, tokens)? {
+        Some(reason) => add_rule(out, subject, &reason, reason.other_line())?,
         None => out.push_str("a token cannot stand here\n")?,
     }
-    let path = refused.file;
-    add_tokens(alloc, out, Named { path }, bytes, tokens, line)
-}
-
-// Adds why a token cannot stand, and the lines that matter.
-fn add_unparsed(
-    out: &mut String,
-    bytes: &[u8],
-    line: u32,
-    reason: &Unparsed<'_>,
-) -> Result<(), AllocError> {
-    write!(out, "{reason}\n")?;
-    add_lines(out, bytes, line, reason.other_line())
+    add_tokens(alloc, out, subject, tokens)
 }
 
 // Adds what the tokens say of a name behind the first reason of names and types, if something.
 fn add_hint(
     alloc: Global,
     out: &mut String,
-    refused: &Refused<'_>,
+    subject: &Subject<'_>,
     tokens: &[Token],
-    line: u32,
     reason: &IllTyped<'_>,
 ) -> Result<(), Fault> {
     let hint = match reason {
-        IllTyped::NoMain => near_main(refused.bytes, tokens),
-        _ => hint_in(alloc, refused.bytes, tokens, line)?,
+        IllTyped::NoMain => near_main(subject.bytes, tokens),
+        _ => hint_in(alloc, subject.bytes, tokens, subject.line)?,
     };
     if let Some((hint, line)) = hint {
-        add_place(out, refused.file, line)?;
+        add_place(out, subject.file, line)?;
         write!(out, "{hint}\n")?;
     }
     Ok(())
@@ -227,44 +220,33 @@ fn inside_of(
     tokens: &[Token],
     line: u32,
 ) -> Result<Option<u32>, AllocError> {
-    let Some(at) = first else {
-        return Ok(None);
-    };
-    match at.reason {
-        IllTyped::MayNotReturn(_) => closed_return(alloc, tokens, line),
+    match first.map(|at| at.reason) {
+        Some(IllTyped::MayNotReturn(_)) => closed_return(alloc, tokens, line),
         _ => Ok(None),
     }
 }
 
 // Of names and types.
-fn of_types(
-    alloc: Global,
-    out: &mut String,
-    refused: &Refused<'_>,
-    line: u32,
-) -> Result<(), Fault> {
-    let (source, tokens) = tokens_of(alloc, refused.bytes)?;
+fn of_types(alloc: Global, out: &mut String, subject: &Subject<'_>) -> Result<(), Fault> {
+    add_place(out, subject.file, subject.line)?;
+    let (source, tokens) = tokens_of(alloc, subject.bytes)?;
     let tokens = tokens.as_slice();
     let ast = parse(alloc, &source, tokens)?;
     let told = ill_typed(alloc, &ast)?;
     let first = told.first();
-    let inside = inside_of(alloc, first, tokens, line)?;
+    let inside = inside_of(alloc, first, tokens, subject.line)?;
     let told = OfTypes { told, inside };
-    add_first(out, refused.bytes, line, &told)?;
+    add_first(out, subject, &told)?;
     if let Some(at) = first {
-        add_hint(alloc, out, refused, tokens, line, &at.reason)?;
+        add_hint(alloc, out, subject, tokens, &at.reason)?;
     }
-    add_refusals(out, Named { path: refused.file }, &told)
+    add_refusals(out, subject.file, &told)
 }
 
 // Of ownership.
-fn of_ownership(
-    alloc: Global,
-    out: &mut String,
-    refused: &Refused<'_>,
-    line: u32,
-) -> Result<(), Fault> {
-    let bytes = refused.bytes;
+fn of_ownership(alloc: Global, out: &mut String, subject: &Subject<'_>) -> Result<(), Fault> {
+    add_place(out, subject.file, subject.line)?;
+    let bytes = subject.bytes;
     let (source, tokens) = tokens_of(alloc, bytes)?;
     let ast = parse(alloc, &source, tokens.as_slice())?;
     let typed = check(alloc, ast)?;
@@ -276,79 +258,51 @@ fn of_ownership(
         told: disowned(alloc, &typed)?,
         text,
     };
-    add_first(out, bytes, line, &told)?;
-    add_refusals(out, Named { path: refused.file }, &told)
+    add_first(out, subject, &told)?;
+    add_refusals(out, subject.file, &told)
 }
 
 // Adds the rule that the first line breaks, and the lines that matter.
-fn add_first<R: Refusals>(
-    out: &mut String,
-    bytes: &[u8],
-    line: u32,
-    told: &R,
-) -> Result<(), Fault> {
+fn add_first<R: Refusals>(out: &mut String, subject: &Subject<'_>, told: &R) -> Result<(), Fault> {
     match told.at(0) {
-        Some(first) => {
-            let rule = first.phrase;
-            write!(out, "{rule}\n")?;
-            add_lines(out, bytes, line, first.other_line)?;
-        }
-        None => {
-            out.push_str("a rule is broken here\n")?;
-            add_lines(out, bytes, line, None)?;
-        }
+        Some(first) => add_rule(out, subject, &first.phrase, first.other_line),
+        None => add_rule(out, subject, &BROKEN, None),
     }
-    Ok(())
 }
 
 // Of limits: of the bytes, a name, the tokens, the program's parts, and its code, in this order.
-fn of_size(alloc: Global, out: &mut String, bytes: &[u8], line: u32) -> Result<(), Fault> {
-    if let Some(found) = first_uncut(bytes) {
-        return add_uncut(out, bytes, &found);
+fn of_size(alloc: Global, out: &mut String, subject: &Subject<'_>) -> Result<(), Fault> {
+    add_place(out, subject.file, subject.line)?;
+    if let Some(found) = first_uncut(subject.bytes) {
+        return add_uncut(out, subject.bytes, &found);
     }
-    let (source, tokens) = tokens_of(alloc, bytes)?;
-    of_tokens(alloc, out, &source, tokens.as_slice())?;
-    add_lines(out, bytes, line, None)?;
-    Ok(())
-}
-
-// Of tokens.
-fn of_tokens(
-    alloc: Global,
-    out: &mut String,
-    source: &Source,
-    tokens: &[Token],
-) -> Result<(), Fault>
-    requires { IsTokenCut source.now tokens.now }
-{
-    match passed_by_tokens(tokens) {
-        Some(at) => {
-            let limit = limits::of_tokens(at.reason);
-            write!(out, "{limit}\n")?;
-            Ok(())
-        }
-        None => {
-            let ast = parse(alloc, source, tokens)?;
-            of_parts(alloc, out, ast)
-        }
+    let (source, tokens) = tokens_of(alloc, subject.bytes)?;
+    if let Some(at) = passed_by_tokens(tokens.as_slice()) {
+        return add_rule(out, subject, &limits::of_tokens(at.reason), None);
     }
+    let ast = parse(alloc, &source, tokens.as_slice())?;
+    of_parts(alloc, out, subject, ast)
 }
 
 // Of parts, loops and code.
-fn of_parts(alloc: Global, out: &mut String, ast: Ast) -> Result<(), Fault> {
-    let is_told = add_parts(alloc, out, &ast)?;
+fn of_parts(alloc: Global, out: &mut String, subject: &Subject<'_>, ast: Ast) -> Result<(), Fault> {
+    let is_told = add_parts(alloc, out, subject, &ast)?;
     if is_told {
         return Ok(());
     }
-    of_code(alloc, out, ast)
+    of_code(alloc, out, subject, ast)
 }
 
 // Adds the limit of parts that is passed, and says whether there is one.
-fn add_parts(alloc: Global, out: &mut String, ast: &Ast) -> Result<bool, Fault> {
+fn add_parts(
+    alloc: Global,
+    out: &mut String,
+    subject: &Subject<'_>,
+    ast: &Ast,
+) -> Result<bool, Fault> {
     match too_large(alloc, ast)? {
         Some(at) => {
-            let limit = parts::phrase_of(&at.reason);
-            write!(out, "{limit}\n")?;
+            add_rule(out, subject, &limits::of_parts(&at.reason), None)?;
             Ok(true)
         }
         None => Ok(false),
@@ -356,7 +310,7 @@ fn add_parts(alloc: Global, out: &mut String, ast: &Ast) -> Result<bool, Fault> 
 }
 
 // Of loops and code.
-fn of_code(alloc: Global, out: &mut String, ast: Ast) -> Result<(), Fault> {
+fn of_code(alloc: Global, out: &mut String, subject: &Subject<'_>, ast: Ast) -> Result<(), Fault> {
     let typed = check(alloc, ast)?;
     let owned = own(alloc, typed)?;
     let limit = match lower(alloc, owned) {
@@ -364,6 +318,5 @@ fn of_code(alloc: Global, out: &mut String, ast: Ast) -> Result<(), Fault> {
         Err(Fault::Size(_place)) => limits::of_loops(),
         Err(fault) => return Err(fault),
     };
-    write!(out, "{limit}\n")?;
-    Ok(())
+    add_rule(out, subject, &limit, None)
 }

@@ -2,10 +2,12 @@
 //! types and ownership what their stages tell.
 
 use crate::around::{Around, Opened};
+use crate::explaining::Subject;
 use crate::lexical::OfText;
 use crate::others::Named;
+use crate::phrase::Marks;
 use crate::refusals::Refusals;
-use crate::unparsed::BARE;
+use crate::unparsed::{BARE, row_of};
 use crate::words::{OUTSIDE, WORDS};
 use cw_lex::{Uncut, first_uncut};
 use cw_model::token::Token;
@@ -39,35 +41,28 @@ impl fmt::Display for Said<'_> {
 // What is said of the token, if no source has it there, whatever stands before its statement.
 fn said_of(around: &Around<'_>) -> Option<&'static str> {
     let rows = if around.is_inside { WORDS } else { OUTSIDE };
-    for (front, before, from, says) in rows {
-        let is_here = around.is_at_front() || !before.is_empty() || !from.is_empty();
-        if is_here && around.is_like(front, before, from) {
-            return Some(*says);
-        }
+    match row_of(around, rows, around.is_at_front()) {
+        None if around.is_inside && around.is_bare() => Some(BARE),
+        says => says,
     }
-    if around.is_inside && around.is_bare() {
-        return Some(BARE);
-    }
-    None
 }
 
 /// Adds what is said of lines behind this one, each with its source and line in front.
 pub fn add_tokens(
     alloc: Global,
     out: &mut String,
-    file: Named<'_>,
-    text: &[u8],
+    subject: &Subject<'_>,
     tokens: &[Token],
-    line: u32,
 ) -> Result<(), Fault> {
+    let file = subject.file;
     let mut opened = Opened::new(alloc);
-    let mut last = line;
+    let mut last = subject.line;
     let mut lines = 0;
     let mut left = MOST_TOKENS;
     for token in tokens {
         if token.line > last && left > 0 && lines < MOST_LINES && out.len() < MOST_BYTES {
             left -= 1;
-            let around = Around::behind(text, tokens, &opened);
+            let around = Around::behind(subject.bytes, tokens, &opened);
             if let Some(says) = said_of(&around) {
                 let said = Said { around, says };
                 last = token.line;
@@ -90,14 +85,16 @@ fn uncut_in(text: &[u8]) -> Option<OfText<'_>> {
 }
 
 /// Adds why the texts of lines behind this one are not cut into tokens, each with its source and line in front.
-pub fn add_text(out: &mut String, file: Named<'_>, text: &[u8], line: u32) -> Result<(), Fault> {
+pub fn add_text(out: &mut String, subject: &Subject<'_>) -> Result<(), Fault> {
+    let file = subject.file;
+    let text = subject.bytes;
     let mut last: u32 = 1;
     let mut start = 0;
     let mut lines = 0;
     for place in 0..text.len() {
         if text[place] == b'\n' {
             let inside = text.get(start..place).unwrap_or(&[]);
-            if last > line && lines < MOST_LINES && out.len() < MOST_BYTES {
+            if last > subject.line && lines < MOST_LINES && out.len() < MOST_BYTES {
                 if let Some(reason) = uncut_in(inside) {
                     lines += 1;
                     write!(out, "{file}:{last}: {reason}\n")?;

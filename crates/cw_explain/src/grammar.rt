@@ -1,203 +1,63 @@
-//! The tokens that can stand somewhere, each with a word that spells it.
+//! The tokens that can stand somewhere, each by a word that spells it.
 
 use cw_model::token::Kind;
 
-/// A token that can stand somewhere.
-#[derive(Clone, Copy)]
-pub struct Choice {
-    /// A word that spells it.
-    pub word: &'static str,
-    /// What it is called.
-    pub shown: &'static str,
-}
-
 /// All of them: names, numbers, the words of the language, and its symbols, where `*` stands for the operators between
 /// two operands; a `-` stands where a `!` or one of them does.
-pub static ALL: &[Choice] = &[
-    Choice {
-        word: "x",
-        shown: "a name",
-    },
-    Choice {
-        word: "1",
-        shown: "a number",
-    },
-    Choice {
-        word: "int",
-        shown: "int",
-    },
-    Choice {
-        word: "void",
-        shown: "void",
-    },
-    Choice {
-        word: "const",
-        shown: "const",
-    },
-    Choice {
-        word: "if",
-        shown: "if",
-    },
-    Choice {
-        word: "else",
-        shown: "else",
-    },
-    Choice {
-        word: "while",
-        shown: "while",
-    },
-    Choice {
-        word: "return",
-        shown: "return",
-    },
-    Choice {
-        word: "print",
-        shown: "print",
-    },
-    Choice {
-        word: "len",
-        shown: "len",
-    },
-    Choice {
-        word: "cut",
-        shown: "cut",
-    },
-    Choice {
-        word: "at",
-        shown: "at",
-    },
-    Choice {
-        word: "as",
-        shown: "as",
-    },
-    Choice {
-        word: "region",
-        shown: "region",
-    },
-    Choice {
-        word: "reducer",
-        shown: "reducer",
-    },
-    Choice {
-        word: "sum",
-        shown: "sum",
-    },
-    Choice {
-        word: "max",
-        shown: "max",
-    },
-    Choice {
-        word: "grain",
-        shown: "grain",
-    },
-    Choice {
-        word: "over",
-        shown: "over",
-    },
-    Choice {
-        word: "cilk_spawn",
-        shown: "cilk_spawn",
-    },
-    Choice {
-        word: "cilk_sync",
-        shown: "cilk_sync",
-    },
-    Choice {
-        word: "cilk_scope",
-        shown: "cilk_scope",
-    },
-    Choice {
-        word: "cilk_for",
-        shown: "cilk_for",
-    },
-    Choice {
-        word: "(",
-        shown: "(",
-    },
-    Choice {
-        word: ")",
-        shown: ")",
-    },
-    Choice {
-        word: "{",
-        shown: "{",
-    },
-    Choice {
-        word: "}",
-        shown: "}",
-    },
-    Choice {
-        word: "[",
-        shown: "[",
-    },
-    Choice {
-        word: "]",
-        shown: "]",
-    },
-    Choice {
-        word: ",",
-        shown: ",",
-    },
-    Choice {
-        word: ";",
-        shown: ";",
-    },
-    Choice {
-        word: "=",
-        shown: "=",
-    },
-    Choice {
-        word: "+=",
-        shown: "+=",
-    },
-    Choice {
-        word: "++",
-        shown: "++",
-    },
-    Choice {
-        word: "*",
-        shown: "an operator",
-    },
-    Choice {
-        word: "!",
-        shown: "a sign (- or !)",
-    },
+pub static ALL: &[&str] = &[
+    "x",
+    "1",
+    "int",
+    "void",
+    "const",
+    "if",
+    "else",
+    "while",
+    "return",
+    "print",
+    "len",
+    "cut",
+    "at",
+    "as",
+    "region",
+    "reducer",
+    "sum",
+    "max",
+    "grain",
+    "over",
+    "cilk_spawn",
+    "cilk_sync",
+    "cilk_scope",
+    "cilk_for",
+    "(",
+    ")",
+    "{",
+    "}",
+    "[",
+    "]",
+    ",",
+    ";",
+    "=",
+    "+=",
+    "++",
+    "*",
+    "!",
 ];
 
-/// Whether a token is a word of the language.
-pub fn spelled(kind: Kind) -> bool {
-    match kind {
-        Kind::Int
-        | Kind::Void
-        | Kind::Const
-        | Kind::If
-        | Kind::Else
-        | Kind::While
-        | Kind::Return
-        | Kind::Print
-        | Kind::Len
-        | Kind::Cut
-        | Kind::At
-        | Kind::As
-        | Kind::Region
-        | Kind::Reducer
-        | Kind::Sum
-        | Kind::Max
-        | Kind::Grain
-        | Kind::Over
-        | Kind::Spawn
-        | Kind::Sync
-        | Kind::Scope
-        | Kind::For => true,
-        _ => false,
+/// What the tokens are called that a word of these spells.
+pub fn shown(word: &'static str) -> &'static str {
+    match word {
+        "x" => "a name",
+        "1" => "a number",
+        "*" => "an operator",
+        "!" => "a sign (- or !)",
+        _ => word,
     }
 }
 
-/// A text of a token of this kind, the same for all names and for all numbers.
-pub fn spelling(kind: Kind) -> &'static str {
-    match kind {
-        Kind::Name => "x",
-        Kind::Number(_) => "1",
+/// The word of the language that a token of this kind is, if it is one.
+pub fn keyword(kind: Kind) -> Option<&'static str> {
+    let word = match kind {
         Kind::Int => "int",
         Kind::Void => "void",
         Kind::Const => "const",
@@ -220,11 +80,21 @@ pub fn spelling(kind: Kind) -> &'static str {
         Kind::Sync => "cilk_sync",
         Kind::Scope => "cilk_scope",
         Kind::For => "cilk_for",
-        _ => symbol(kind),
+        _ => return None,
+    };
+    Some(word)
+}
+
+/// A text of a token of this kind, the same for all names and for all numbers.
+pub fn spelling(kind: Kind) -> &'static str {
+    match kind {
+        Kind::Name => "x",
+        Kind::Number(_) => "1",
+        _ => keyword(kind).unwrap_or(symbol(kind)),
     }
 }
 
-// The same of a symbol.
+// The text of a symbol.
 fn symbol(kind: Kind) -> &'static str {
     match kind {
         Kind::LeftParen => "(",

@@ -199,57 +199,6 @@ pub fn near_main<'a>(text: &'a [u8], tokens: &[Token]) -> Option<(Hint<'a>, u32)
     None
 }
 
-// Whether a statement of this kind has a block which is left at its end only.
-fn is_left_at_its_end(kind: Option<Kind>) -> bool {
-    matches!(
-        kind,
-        Some(Kind::Cut) | Some(Kind::Region) | Some(Kind::Scope) | Some(Kind::For)
-    )
-}
-
-/// Where tokens stand in functions, and in which blocks.
-#[derive(Drop)]
-struct Blocks {
-    /// Of each open block whether it is left at its end only.
-    open: Vec<bool>,
-    /// How many of them are.
-    closed: usize,
-    /// The first token of the statement, if there is one.
-    front: Option<Kind>,
-}
-
-impl Blocks {
-    fn new(alloc: Global) -> Blocks {
-        Blocks {
-            open: Vec::new(alloc),
-            closed: 0,
-            front: None,
-        }
-    }
-
-    fn add(&mut self, kind: Kind) -> Result<(), AllocError> {
-        match kind {
-            Kind::LeftBrace => {
-                let closed = is_left_at_its_end(self.front);
-                self.open.push(closed)?;
-                if closed {
-                    self.closed = self.closed.saturating_add(1);
-                }
-                self.front = None;
-            }
-            Kind::RightBrace => {
-                if matches!(self.open.pop(), Some(true)) {
-                    self.closed = self.closed.saturating_sub(1);
-                }
-                self.front = None;
-            }
-            Kind::Semicolon if !matches!(self.front, Some(Kind::For)) => self.front = None,
-            _ => self.front = self.front.or(Some(kind)),
-        }
-        Ok(())
-    }
-}
-
 /// The line of the first return of the function whose name stands outside of functions in this line that stands in a block which is
 /// left at its end only.
 pub fn closed_return(
@@ -257,17 +206,17 @@ pub fn closed_return(
     tokens: &[Token],
     line: u32,
 ) -> Result<Option<u32>, AllocError> {
-    let mut blocks = Blocks::new(alloc);
+    let mut opened = Opened::new(alloc);
     let mut is_its = false;
     for token in tokens {
-        if blocks.open.is_empty() && token.kind == Kind::Name {
-            is_its = is_head(blocks.front, *token, line, is_its);
+        if opened.braces() == 0 && token.kind == Kind::Name {
+            is_its = is_head(opened.front(), *token, line, is_its);
         }
-        if is_its && blocks.closed > 0 && token.kind == Kind::Return {
+        if is_its && token.kind == Kind::Return && opened.is_in_closed_block() {
             return Ok(Some(token.line));
         }
-        blocks.add(token.kind)?;
-        if token.kind == Kind::RightBrace && blocks.open.is_empty() {
+        opened.add(*token)?;
+        if token.kind == Kind::RightBrace && opened.braces() == 0 {
             is_its = false;
         }
     }

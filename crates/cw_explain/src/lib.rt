@@ -12,7 +12,6 @@ mod limits;
 mod near;
 mod others;
 mod owning;
-mod parts;
 mod phrase;
 mod refusals;
 mod shortened;

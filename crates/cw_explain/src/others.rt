@@ -2,6 +2,7 @@
 
 use crate::around::word_of;
 use crate::explaining::Refused;
+use crate::word::is_printable;
 use cw_model::limits::MOST_LIMIT;
 use cw_model::token::{Kind, Token};
 use cw_text::Fault;
@@ -34,7 +35,7 @@ impl fmt::Display for Named<'_> {
 
 // A byte, or `?` where it is not printable.
 fn printable(byte: u8) -> u8 {
-    if matches!(byte, 32..=126) { byte } else { b'?' }
+    if is_printable(byte) { byte } else { b'?' }
 }
 
 // Adds why a run has a fault that is told without a line; nothing of want of memory and of code that is refused.

@@ -3,6 +3,29 @@
 use crate::word::Word;
 use std::fmt;
 
+/// What stands in place of marks in a text.
+pub trait Marks {
+    /// Writes what a mark stands for.
+    fn write_mark<W: fmt::Write>(&self, f: &mut fmt::Formatter<W>, mark: u8) -> fmt::Result;
+
+    /// Writes a text, with what its marks stand for in their place, each behind an `@`.
+    fn write<W: fmt::Write>(&self, f: &mut fmt::Formatter<W>, says: &str) -> fmt::Result {
+        let mut is_mark = false;
+        for byte in says.as_bytes() {
+            if is_mark {
+                self.write_mark(f, *byte)?;
+                is_mark = false;
+            } else if *byte == b'@' {
+                is_mark = true;
+            } else {
+                let shown = char::from(*byte);
+                write!(f, "{shown}")?;
+            }
+        }
+        Ok(())
+    }
+}
+
 /// No name.
 pub const NO_NAME: Word<'static> = Word { text: b"" };
 
@@ -35,24 +58,13 @@ impl<'a> Phrase<'a> {
         Phrase::of(says, [name, NO_NAME], [number, 0, 0])
     }
 
-    // Writes a piece.
-    fn write<W: fmt::Write>(&self, f: &mut fmt::Formatter<W>, piece: &str) -> fmt::Result {
-        let mut is_mark = false;
-        for byte in piece.as_bytes() {
-            if is_mark {
-                self.write_mark(f, *byte)?;
-                is_mark = false;
-            } else if *byte == b'@' {
-                is_mark = true;
-            } else {
-                let shown = char::from(*byte);
-                write!(f, "{shown}")?;
-            }
-        }
-        Ok(())
+    /// One piece with a number.
+    pub fn numbered(says: &'static str, number: u64) -> Phrase<'a> {
+        Phrase::named(says, NO_NAME, number)
     }
+}
 
-    // Writes what a mark stands for.
+impl Marks for Phrase<'_> {
     fn write_mark<W: fmt::Write>(&self, f: &mut fmt::Formatter<W>, mark: u8) -> fmt::Result {
         let name = if mark == b'a' {
             self.names[0]

@@ -1,6 +1,6 @@
 //! What traps, by the number of the trap.
 
-use crate::phrase::{NO_NAME, Phrase};
+use crate::phrase::Phrase;
 use cw_model::limits::{MOST_DEPTH, MOST_ELEMENTS, MOST_TURNS};
 use cw_model::trap::Trap;
 
@@ -14,19 +14,13 @@ pub fn trapped(code: Trap) -> Phrase<'static> {
         Trap::OutOfBounds => Phrase::plain(
             "an index, the place of a cut or the range of a loop lies outside of its array",
         ),
-        Trap::BadLength => Phrase::named(
+        Trap::BadLength => Phrase::numbered(
             "the length of an array is below 0 or above @1",
-            NO_NAME,
             MOST_ELEMENTS,
         ),
-        Trap::TooManyTurns => Phrase::named(
-            "a cilk_for has more than @1 turns",
-            NO_NAME,
-            MOST_TURNS,
-        ),
-        Trap::TooDeep => Phrase::named(
+        Trap::TooManyTurns => { Phrase::numbered("a cilk_for has more than @1 turns", MOST_TURNS) }
+        Trap::TooDeep => Phrase::numbered(
             "more than @1 calls lie inside one another, that of main among them",
-            NO_NAME,
             MOST_DEPTH as u64,
         ),
     }

@@ -66,21 +66,6 @@ fn words_of(other: Other) -> Word<'static> {
     Word { text }
 }
 
-// A text with neither name nor number.
-fn plain<'a>(_reason: &'a IllTyped<'_>, says: &'static str) -> Phrase<'a> {
-    Phrase::plain(says)
-}
-
-// A text with numbers alone.
-fn numbered<'a>(
-    _reason: &'a IllTyped<'_>,
-    says: &'static str,
-    first: u64,
-    second: u64,
-) -> Phrase<'a> {
-    Phrase::of(says, [NO_NAME; 2], [first, second, 0])
-}
-
 // A text with a name alone.
 fn named<'a>(says: &'static str, name: &'a Name) -> Phrase<'a> {
     Phrase::named(says, Word::of(name), 0)
@@ -104,12 +89,9 @@ fn other_at<'a>(says: &'static str, name: &'a Name, other: Other, line: u32) -> 
 fn of_head<'a>(reason: &'a IllTyped<'_>) -> Phrase<'a> {
     match reason {
         IllTyped::NoMain => {
-            plain(
-                reason,
-                "there is no function main: a run begins with int main(..)",
-            )
+            Phrase::plain("there is no function main: a run begins with int main(..)")
         }
-        IllTyped::MainGivesNothing => plain(reason, "main is void: it is int, and returns a value"),
+        IllTyped::MainGivesNothing => Phrase::plain("main is void: it is int, and returns a value"),
         IllTyped::MainTakesArray(a) => {
             named("main takes the array @a: its parameters are integers", a)
         }
@@ -119,7 +101,7 @@ fn of_head<'a>(reason: &'a IllTyped<'_>) -> Phrase<'a> {
             *line,
         ),
         IllTyped::ParameterTwice(name) => named("two parameters are called @a", name),
-        _ => plain(reason, ""),
+        _ => Phrase::plain(""),
     }
 }
 
@@ -175,7 +157,7 @@ fn of_name<'a>(reason: &'a IllTyped<'_>) -> Phrase<'a> {
         ),
         IllTyped::NotReducer(name, how) => named(no_reducer(*how), name),
         IllTyped::ReducesOtherwise(name, how, line) => named_at(other_reducer(*how), name, *line),
-        _ => plain(reason, ""),
+        _ => Phrase::plain(""),
     }
 }
 
@@ -203,7 +185,7 @@ fn other_reducer(how: Reduction) -> &'static str {
 fn of_call<'a>(reason: &'a IllTyped<'_>) -> Phrase<'a> {
     match reason {
         IllTyped::NoFunction(name) => named("there is no function @a", name),
-        IllTyped::CallsMain => plain(reason, "no statement calls main"),
+        IllTyped::CallsMain => Phrase::plain("no statement calls main"),
         IllTyped::Count(name, given, wanted, line) => Phrase::of(
             "@a in line @1 has @2 parameters, and the arguments are @3",
             [Word::of(name), NO_NAME],
@@ -219,40 +201,36 @@ fn of_call<'a>(reason: &'a IllTyped<'_>) -> Phrase<'a> {
             name,
             *line,
         ),
-        _ => plain(reason, ""),
+        _ => Phrase::plain(""),
     }
 }
 
 // Of other statements.
 fn of_statement<'a>(reason: &'a IllTyped<'_>) -> Phrase<'a> {
     match reason {
-        IllTyped::ReturnInside => plain(
-            reason,
+        IllTyped::ReturnInside => Phrase::plain(
             "no return stands inside of cilk_scope, cut, region or cilk_for: assign to a name from outside, and return behind the block",
         ),
-        IllTyped::ReturnsNothing => plain(reason, "this function is int: its return has a value"),
-        IllTyped::ReturnsValue => plain(reason, "this function is void: its return has no value"),
-        IllTyped::NeverReached(line) => numbered(
-            reason,
+        IllTyped::ReturnsNothing => Phrase::plain("this function is int: its return has a value"),
+        IllTyped::ReturnsValue => Phrase::plain("this function is void: its return has no value"),
+        IllTyped::NeverReached(line) => Phrase::numbered(
             "what follows from line @1 on is never reached: this statement returns",
             u64::from(*line),
-            0,
         ),
         IllTyped::HeadNames(variable, other) => Phrase::of(
             "the head of a cilk_for has one name three times: here @a, and @b in place of it",
             [Word::of(variable), Word::of(other)],
             [0; 3],
         ),
-        IllTyped::Grain(grain) => numbered(
-            reason,
+        IllTyped::Grain(grain) => Phrase::of(
             "the grain is @1: it is a number from 1 to @2",
-            *grain,
-            MOST_GRAIN,
+            [NO_NAME; 2],
+            [*grain, MOST_GRAIN, 0],
         ),
         IllTyped::PartsAlike(name) => named(
             "both parts of the cut are called @a: their names differ",
             name,
         ),
-        _ => plain(reason, ""),
+        _ => Phrase::plain(""),
     }
 }

@@ -1,14 +1,15 @@
 //! The token that no source goes on with, and those that one does.
 
-ghost use Rattle.std.specs.Prelude.{◌≡◌, ◌≤◌, IfOk, length, true};
-ghost use Rattle.cw_explain.specs.Going.{AllCanFollow, GoesOn, followed};
+ghost use Rattle.std.specs.Prelude.{◌≡◌, ◌≤◌, All, IfOk, length, true};
+ghost use Rattle.cw_explain.specs.Going.{CanFollow, GoesOn, followed};
 ghost use Rattle.cw_model.specs.Text.{end_line};
 ghost use Rattle.cw_model.specs.Tokens.{IsTokenCut};
 ghost use Rattle.cw_model.specs.declared.limits.TheConstants.{MOST_SOURCE_BYTES};
 
 use crate::around::Around;
-use crate::grammar::{ALL, Choice, spelled};
-use crate::near::{is_near, nearest};
+use crate::grammar::{ALL, keyword, shown};
+use crate::near::nearest;
+use crate::phrase::Marks;
 use crate::shortened::Shortened;
 use crate::word::Word;
 use crate::words::{INSIDE, ITEMS, MIDDLES, OUTSIDE, Row, STARTS, WORDS};
@@ -41,8 +42,8 @@ enum Why<'a> {
 pub struct Unparsed<'a> {
     around: Around<'a>,
     why: Why<'a>,
-    /// What can stand in its place.
-    pub expected: Vec<Choice>,
+    /// What can stand in its place, each by a word that spells it.
+    expected: Vec<&'static str>,
 }
 
 // Whether a source that ends after this text is refused no sooner than at its end: so its tokens go on.
@@ -107,14 +108,14 @@ fn shortened(alloc: Global, tokens: &[Token]) -> Result<Shortened, Fault> {
 }
 
 // What can stand behind a text: with each of these a source goes on.
-fn choices(alloc: Global, text: &[u8]) -> Result<Vec<Choice>, Fault>
-    ensures { IfOk result (λ chosen. AllCanFollow text.now chosen.items) }
+fn choices(alloc: Global, text: &[u8]) -> Result<Vec<&'static str>, Fault>
+    ensures { IfOk result (λ words. All (λ word. CanFollow text.now word.now) words.items) }
 {
     let mut expected = Vec::new(alloc);
-    for choice in ALL {
-        let longer = with_word(alloc, text, choice.word)?;
+    for word in ALL {
+        let longer = with_word(alloc, text, word)?;
         if goes_on(alloc, longer.as_slice())? {
-            expected.push(*choice)?;
+            expected.push(*word)?;
         }
     }
     Ok(expected)
@@ -145,23 +146,14 @@ pub fn first_unparsed<'a>(
     }))
 }
 
-// Whether a token of this word can stand there.
-fn expects(expected: &[Choice], word: &str) -> bool {
-    for choice in expected {
-        if choice.word == word {
-            return true;
-        }
-    }
-    false
-}
-
 /// What is said of a block without braces.
 pub const BARE: &str = "the block of @^ has braces, also where it is one statement: { .. }";
 
-// The text of the first row that fits.
-fn row_of(around: &Around<'_>, rows: &[Row]) -> Option<&'static str> {
+/// The text of the first row that fits; one that says only how the statement begins counts where `by_front` is true.
+pub fn row_of(around: &Around<'_>, rows: &[Row], by_front: bool) -> Option<&'static str> {
     for (front, before, from, says) in rows {
-        if around.is_like(front, before, from) {
+        let counts = by_front || !before.is_empty() || !from.is_empty();
+        if counts && around.is_like(front, before, from) {
             return Some(*says);
         }
     }
@@ -169,7 +161,7 @@ fn row_of(around: &Around<'_>, rows: &[Row]) -> Option<&'static str> {
 }
 
 // Why the source cannot go on.
-fn why_of<'a>(around: &Around<'a>, expected: &[Choice]) -> Why<'a> {
+fn why_of<'a>(around: &Around<'a>, expected: &[&'static str]) -> Why<'a> {
     let Some(found) = around.found() else {
         return match around.open {
             Some(bracket) => Why::Open(bracket),
@@ -180,14 +172,14 @@ fn why_of<'a>(around: &Around<'a>, expected: &[Choice]) -> Why<'a> {
         return Why::Near(name, word);
     }
     let rows = if around.is_inside { WORDS } else { OUTSIDE };
-    if let Some(says) = row_of(around, rows) {
+    if let Some(says) = row_of(around, rows, true) {
         return Why::Says(says);
     }
     if let Some(why) = missing(around, found, expected) {
         return why;
     }
     let rows = if around.is_inside { INSIDE } else { ITEMS };
-    if let Some(says) = row_of(around, rows) {
+    if let Some(says) = row_of(around, rows, true) {
         return Why::Says(says);
     }
     match around.open {
@@ -207,20 +199,20 @@ fn is_behind(kind: Kind, bracket: Kind) -> bool {
 }
 
 // What is missing before the token: braces or a semicolon.
-fn missing<'a>(around: &Around<'a>, found: Token, expected: &[Choice]) -> Option<Why<'a>> {
+fn missing<'a>(around: &Around<'a>, found: Token, expected: &[&'static str]) -> Option<Why<'a>> {
     if !around.is_inside {
         return None;
     }
-    if expects(expected, "{") && !around.is_like(&[], &[], &["operator"]) {
+    if expected.contains(&"{") && !around.is_like(&[], &[], &["operator"]) {
         return Some(Why::Bare);
     }
     let last = around.before(1)?;
     let is_next = match found.kind {
         Kind::RightBrace => true,
         Kind::Name => last.line < found.line,
-        _ => spelled(found.kind) && last.kind != Kind::Return,
+        _ => keyword(found.kind).is_some() && last.kind != Kind::Return,
     };
-    if is_next && expects(expected, ";") {
+    if is_next && expected.contains(&";") {
         return Some(Why::Unended(last));
     }
     None
@@ -230,13 +222,11 @@ fn missing<'a>(around: &Around<'a>, found: Token, expected: &[Choice]) -> Option
 fn near_of<'a>(
     around: &Around<'a>,
     found: Token,
-    expected: &[Choice],
+    expected: &[&'static str],
 ) -> Option<(Word<'a>, &'static str)> {
     if let Some(name) = around.unknown(Some(found)) {
-        for choice in expected {
-            if is_near(name.text, choice.word.as_bytes()) {
-                return Some((name, choice.word));
-            }
+        if let Some(word) = nearest(name, expected) {
+            return Some((name, word));
         }
     }
     if let Some(name) = around.unknown(around.front()) {
@@ -270,7 +260,7 @@ impl fmt::Display for Unparsed<'_> {
         let word = self.around.word(found);
         write!(f, "{word} cannot stand here")?;
         if let Why::Plain = self.why {
-            if spelled(found.kind) && expects(self.expected.as_slice(), "x") {
+            if keyword(found.kind).is_some() && self.expected.contains(&"x") {
                 write!(f, ": {word} is a word of the language, and no name")?;
             }
         }
@@ -305,9 +295,12 @@ fn fmt_why<W: fmt::Write>(unparsed: &Unparsed<'_>, f: &mut fmt::Formatter<W>) ->
 }
 
 // What can stand there.
-fn fmt_expected<W: fmt::Write>(expected: &[Choice], f: &mut fmt::Formatter<W>) -> fmt::Result {
+fn fmt_expected<W: fmt::Write>(
+    expected: &[&'static str],
+    f: &mut fmt::Formatter<W>,
+) -> fmt::Result {
     for i in 0..expected.len() {
-        let shown = expected[i].shown;
+        let called = shown(expected[i]);
         let front = if i == 0 {
             "; here can stand "
         } else if i + 1 == expected.len() {
@@ -315,7 +308,7 @@ fn fmt_expected<W: fmt::Write>(expected: &[Choice], f: &mut fmt::Formatter<W>) -
         } else {
             ", "
         };
-        write!(f, "{front}{shown}")?;
+        write!(f, "{front}{called}")?;
     }
     Ok(())
 }

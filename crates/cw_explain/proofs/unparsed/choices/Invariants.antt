@@ -1,7 +1,7 @@
--- With each choice so far a source goes on.
+-- With each word so far a source goes on.
 use Rattle.std.specs.Prelude.{All}
 use Rattle.cw_explain.specs.Going.{CanFollow}
 use Rattle.cw_explain.proofs.unparsed.choices.Given as goal
 
-abbrev pub invariant-loop-choice : goal.invariant-loop-choice
-invariant-loop-choice l = All (λ choice. CanFollow l.text choice.word.now) l.expected.items
+abbrev pub invariant-loop-word : goal.invariant-loop-word
+invariant-loop-word l = All (λ word. CanFollow l.text word.now) l.expected.items
