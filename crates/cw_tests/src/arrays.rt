@@ -2,6 +2,7 @@
 //! exact: one instruction less is over.
 
 use crate::program::{Row, all_hold_by_all};
+use crate::tables::SUMMED;
 use std::test::Fail;
 
 const CUT_AT_3: &str = "int main() { int a[3]; cut a at 3 as l, r { } return 0; }";
@@ -181,9 +182,6 @@ fn traps_outside_an_array(rt: HostRuntime) -> Result<(), Fail> {
     all_hold_by_all(rt, "", OUTSIDE)
 }
 
-const TWO_ADDITIONS: &str = "reducer sum s; void add() { s += 9223372036854775807; } \
-int main() { cilk_spawn add(); cilk_spawn add(); cilk_sync; return 0; }";
-
 const TWO_REDUCERS: &str = "reducer sum up;
 void add(int v) { up += v; down += 0 - v; print(v); }
 int main() {
@@ -204,12 +202,12 @@ const SUMS: &[Row] = &[
     // each spawn 1, each addition 2 and the end of its function 1, the sync 1, return 2
     (
         "run f --limit 11",
-        TWO_ADDITIONS,
+        SUMMED,
         0,
         "sum s = 18446744073709551614\nreturn 0\n",
         "",
     ),
-    ("run f --limit 10", TWO_ADDITIONS, 4, "", "over limit\n"),
+    ("run f --limit 10", SUMMED, 4, "", "over limit\n"),
     (
         "run f",
         TWO_REDUCERS,

@@ -2,40 +2,17 @@
 //! one instruction less is over.
 
 use crate::program::{Row, all_hold, answers};
+use crate::tables::{DIVIDED, FIB, PRINTED, TAGGED};
 use std::alloc::{AllocError, Global};
 use std::process::Abort;
 use std::sync::Wait;
 use std::test::Fail;
 use std::thread::Threads;
 
-const FIB: &str = "int fib(int n) {
-  if (n < 2) { return n; }
-  int x = 0;
-  int y = 0;
-  x = cilk_spawn fib(n - 1);
-  y = fib(n - 2);
-  cilk_sync;
-  return x + y;
-}
-int main(int n) {
-  int r = 0;
-  r = fib(n);
-  return r;
-}
-";
-
-// a division in a spawned call, and a value printed beside it
-const DIVISION: &str = "int bad(int z) { int q = 0; q = 1 / z; return q; }
-int main(int z) { cilk_spawn bad(z); print(7); cilk_sync; return 0; }
-";
-
-// the same beside a loop without an end
+// a division in a spawned call, beside a loop without an end
 const DIVISION_BESIDE_A_LOOP: &str = "int bad(int z) { int q = 0; q = 1 / z; return q; }
 int main(int z) { cilk_spawn bad(z); while (1) { } cilk_sync; return 0; }
 ";
-
-const THREE_PRINTS: &str = "void p(int v) { print(v); } \
-int main() { cilk_spawn p(1); cilk_spawn p(2); print(3); cilk_sync; return 0; }";
 
 const EARLY_PRINT: &str = "int f(int v) { return v; } \
 int main() { int x = 0; x = cilk_spawn f(1); print(x); cilk_sync; return 0; }";
@@ -45,9 +22,6 @@ int main() { int x = 0; x = cilk_spawn f(1); cilk_sync; print(x); cilk_sync; ret
 
 const ENDLESS: &str = "int f(int n) { int r = 0; r = f(n + 1); return r; } \
 int main() { int r = 0; r = f(0); return r; }";
-
-const IN_A_REGION: &str =
-    "void p(int v) { print(v); } int main() { region r { cilk_spawn p(1); print(2); } return 0; }";
 
 const IN_A_SCOPE: &str = "int f(int v) { return v; } \
 int main() { int x = 0; cilk_scope { x = cilk_spawn f(5); } return x; }";
@@ -206,11 +180,11 @@ fn runs_control_flow(rt: HostRuntime) -> Result<(), Fail> {
 
 // Divisions, and what is printed before one traps.
 const DIVISIONS: &[Row] = &[
-    ("run f 1 --limit 15", DIVISION, 0, "7\nreturn 0\n", ""),
-    ("run f 1 --limit 14", DIVISION, 4, "", "over limit\n"),
-    ("run f 0", DIVISION, 3, "", "trap 2 line 1\n"),
-    ("run f 0 --limit 7", DIVISION, 3, "", "trap 2 line 1\n"),
-    ("run f 0 --limit 6", DIVISION, 4, "", "over limit\n"),
+    ("run f 1 --limit 15", DIVIDED, 0, "7\nreturn 0\n", ""),
+    ("run f 1 --limit 14", DIVIDED, 4, "", "over limit\n"),
+    ("run f 0", DIVIDED, 3, "", "trap 2 line 1\n"),
+    ("run f 0 --limit 7", DIVIDED, 3, "", "trap 2 line 1\n"),
+    ("run f 0 --limit 6", DIVIDED, 4, "", "over limit\n"),
     (
         "run f 0 --limit 1000000",
         DIVISION_BESIDE_A_LOOP,
@@ -271,18 +245,12 @@ fn runs_operators(rt: HostRuntime) -> Result<(), Fail> {
 
 // What spawned calls print, and where their values may be used.
 const BLOCKS: &[Row] = &[
-    (
-        "run f --limit 15",
-        THREE_PRINTS,
-        0,
-        "1\n2\n3\nreturn 0\n",
-        "",
-    ),
-    ("run f --limit 14", THREE_PRINTS, 4, "", "over limit\n"),
+    ("run f --limit 15", PRINTED, 0, "1\n2\n3\nreturn 0\n", ""),
+    ("run f --limit 14", PRINTED, 4, "", "over limit\n"),
     ("run f", EARLY_PRINT, 2, "", "refused 4 line 1\n"),
     ("run f --limit 12", LATE_PRINT, 0, "1\nreturn 0\n", ""),
-    ("run f --limit 11", IN_A_REGION, 0, "1\n2\nreturn 0\n", ""),
-    ("run f --limit 10", IN_A_REGION, 4, "", "over limit\n"),
+    ("run f --limit 11", TAGGED, 0, "1\n2\nreturn 0\n", ""),
+    ("run f --limit 10", TAGGED, 4, "", "over limit\n"),
     // declare 2, scope 1, spawn 2 and f 2, the scope's end 1, return 2
     ("run f --limit 10", IN_A_SCOPE, 0, "return 5\n", ""),
     ("run f --limit 9", IN_A_SCOPE, 4, "", "over limit\n"),

@@ -2,6 +2,7 @@
 //! leaf of `t` turns takes 14 and 11 for each turn beside its body, an inner node 21 + 5 q + 2 k.
 
 use crate::program::{Row, all_hold, all_hold_by_all, all_hold_with, answers};
+use crate::tables::{GREATEST, SCALE};
 use std::alloc::{AllocError, Global};
 use std::process::Abort;
 use std::sync::Wait;
@@ -74,9 +75,6 @@ int main() {
   return a[4] * 100 + a[3];
 }
 ";
-
-const GREATEST: &str = "reducer max m; \
-int main() { cilk_for (int i = 0; i < 4; i++) grain 2 { m max= i * (3 - i); } return 0; }";
 
 const GREATEST_OF_NONE: &str = "reducer max m; \
 int main() { cilk_for (int i = 5; i < 3; i++) grain 2 { m max= i * (3 - i); } return 0; }";
@@ -179,8 +177,6 @@ const TRAPS: &[Row] = &[
 fn parallel_loops_trap(rt: HostRuntime) -> Result<(), Fail> {
     all_hold_by_all(rt, "", TRAPS)
 }
-
-const SCALE: &str = "tag,work,span,parallelism,burdened_span,burdened_parallelism\n";
 
 const ADDED: &str = "reducer sum s; \
 int main() { cilk_for (int i = 0; i < 4; i++) grain 2 { s += i; } return 0; }";

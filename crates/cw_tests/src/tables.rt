@@ -3,7 +3,7 @@
 use crate::program::{Row, all_hold_by_all};
 use std::test::Fail;
 
-const SCALE: &str = "tag,work,span,parallelism,burdened_span,burdened_parallelism\n";
+pub const SCALE: &str = "tag,work,span,parallelism,burdened_span,burdened_parallelism\n";
 
 const SITES: &str = "site,kind,line,callee,calls,own_work,own_span,work,span\n";
 
@@ -30,13 +30,13 @@ int main(int z) { cilk_spawn bad(z); print(7); cilk_sync; return 0; }
 pub const PRINTED: &str = "void p(int v) { print(v); } \
 int main() { cilk_spawn p(1); cilk_spawn p(2); print(3); cilk_sync; return 0; }";
 
-const TAGGED: &str = "void p(int v) { print(v); } \
+pub const TAGGED: &str = "void p(int v) { print(v); } \
 int main() { region r { cilk_spawn p(1); print(2); } return 0; }";
 
-const SUMMED: &str = "reducer sum s; void add() { s += 9223372036854775807; } \
+pub const SUMMED: &str = "reducer sum s; void add() { s += 9223372036854775807; } \
 int main() { cilk_spawn add(); cilk_spawn add(); cilk_sync; return 0; }";
 
-const GREATEST: &str = "reducer max m; \
+pub const GREATEST: &str = "reducer max m; \
 int main() { cilk_for (int i = 0; i < 4; i++) grain 2 { m max= i * (3 - i); } return 0; }";
 
 const TIED: &str =
