@@ -92,10 +92,7 @@ fn add_reason(
         Fault::Size(place) => of_size(alloc, out, &refused.at(place.line)),
         Fault::Trap { code, line, .. } => of_trap(out, &refused.at(*line), *code),
         Fault::Arguments => of_arguments(alloc, out, refused),
-        _ => {
-            of_run(out, refused, fault)?;
-            Ok(())
-        }
+        _ => of_run(out, refused, fault),
     }
 }
 

@@ -142,16 +142,7 @@ fn hint_of<'a>(
     if let Some(meant) = scope.nearest(name) {
         return Ok(Some(Hint::Near(name, meant)));
     }
-    match nearest(name, CALLED) {
-        Some(word) => Ok(Some(Hint::Word(name, word))),
-        None => Ok(None),
-    }
-}
-
-// What is said of a name, if something, with its line.
-fn with_line(hint: Option<Hint<'_>>, line: u32) -> Option<(Hint<'_>, u32)> {
-    let hint = hint?;
-    Some((hint, line))
+    Ok(nearest(name, CALLED).map(|word| Hint::Word(name, word)))
 }
 
 /// What is said of the first name in a line that is declared nowhere, if it is near to one that is known there, with that line.
@@ -167,7 +158,7 @@ pub fn hint_in<'a>(
             left -= 1;
             if !is_declared(text, tokens, word_of(text, *token)) {
                 let hint = hint_of(alloc, text, tokens, *token)?;
-                return Ok(with_line(hint, line));
+                return Ok(hint.map(|hint| (hint, line)));
             }
         }
     }

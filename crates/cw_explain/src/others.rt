@@ -39,7 +39,7 @@ fn printable(byte: u8) -> u8 {
 }
 
 // Adds why a run has a fault that is told without a line; nothing of want of memory and of code that is refused.
-pub fn of_run(out: &mut String, refused: &Refused<'_>, fault: &Fault) -> Result<(), AllocError> {
+pub fn of_run(out: &mut String, refused: &Refused<'_>, fault: &Fault) -> Result<(), Fault> {
     let file = Named { path: refused.file };
     match fault {
         Fault::OverLimit => {

@@ -30,26 +30,6 @@ pub fn other_line(reason: &IllTyped<'_>) -> Option<u32> {
 pub fn phrase_of<'a>(reason: &'a IllTyped<'_>, inside: Option<u32>) -> Phrase<'a> {
     match reason {
         IllTyped::MayNotReturn(name) => may_not_return(name, inside),
-        IllTyped::Unknown(_)
-        | IllTyped::NotInteger(_, _, _)
-        | IllTyped::NotArray(_, _, _)
-        | IllTyped::OnlyRead(_, _)
-        | IllTyped::Known(_, _)
-        | IllTyped::Global(_, _, _)
-        | IllTyped::NotReducer(_, _)
-        | IllTyped::ReducesOtherwise(_, _, _) => of_name(reason),
-        IllTyped::NoFunction(_)
-        | IllTyped::CallsMain
-        | IllTyped::Count(_, _, _, _)
-        | IllTyped::ArgumentNotArray(_, _, _, _)
-        | IllTyped::GivesNothing(_, _) => of_call(reason),
-        IllTyped::ReturnInside
-        | IllTyped::ReturnsNothing
-        | IllTyped::ReturnsValue
-        | IllTyped::NeverReached(_)
-        | IllTyped::HeadNames(_, _)
-        | IllTyped::Grain(_)
-        | IllTyped::PartsAlike(_) => of_statement(reason),
         _ => of_head(reason),
     }
 }
@@ -85,7 +65,7 @@ fn other_at<'a>(says: &'static str, name: &'a Name, other: Other, line: u32) -> 
     )
 }
 
-// Of functions and reducers.
+// Of functions and reducers, else of what follows.
 fn of_head<'a>(reason: &'a IllTyped<'_>) -> Phrase<'a> {
     match reason {
         IllTyped::NoMain => {
@@ -101,7 +81,7 @@ fn of_head<'a>(reason: &'a IllTyped<'_>) -> Phrase<'a> {
             *line,
         ),
         IllTyped::ParameterTwice(name) => named("two parameters are called @a", name),
-        _ => Phrase::plain(""),
+        _ => of_name(reason),
     }
 }
 
@@ -120,7 +100,7 @@ fn may_not_return(name: &Name, inside: Option<u32>) -> Phrase<'_> {
     }
 }
 
-// Of names in statements.
+// Of names in statements, else of what follows.
 fn of_name<'a>(reason: &'a IllTyped<'_>) -> Phrase<'a> {
     match reason {
         IllTyped::Unknown(name) => named(
@@ -157,7 +137,7 @@ fn of_name<'a>(reason: &'a IllTyped<'_>) -> Phrase<'a> {
         ),
         IllTyped::NotReducer(name, how) => named(no_reducer(*how), name),
         IllTyped::ReducesOtherwise(name, how, line) => named_at(other_reducer(*how), name, *line),
-        _ => Phrase::plain(""),
+        _ => of_call(reason),
     }
 }
 
@@ -181,7 +161,7 @@ fn other_reducer(how: Reduction) -> &'static str {
     }
 }
 
-// Of calls.
+// Of calls, else of what follows.
 fn of_call<'a>(reason: &'a IllTyped<'_>) -> Phrase<'a> {
     match reason {
         IllTyped::NoFunction(name) => named("there is no function @a", name),
@@ -201,7 +181,7 @@ fn of_call<'a>(reason: &'a IllTyped<'_>) -> Phrase<'a> {
             name,
             *line,
         ),
-        _ => Phrase::plain(""),
+        _ => of_statement(reason),
     }
 }
 
