@@ -28,12 +28,16 @@ pub fn of_tokens(limit: TooNested) -> Phrase<'static> {
 /// A limit on the parts of a program that a line passes.
 pub fn of_parts<'a>(limit: &'a TooLarge<'_>) -> Phrase<'a> {
     match limit {
-        TooLarge::Functions => {
-            Phrase::numbered("there are more than @1 functions", MOST_FUNCTIONS as u64)
-        }
-        TooLarge::Reducers => {
-            Phrase::numbered("there are more than @1 reducers", MOST_REDUCERS as u64)
-        }
+        TooLarge::Functions => Phrase::named(
+            "there are more than @1 functions",
+            NO_NAME,
+            MOST_FUNCTIONS as u64,
+        ),
+        TooLarge::Reducers => Phrase::named(
+            "there are more than @1 reducers",
+            NO_NAME,
+            MOST_REDUCERS as u64,
+        ),
         TooLarge::Parameters(name, count) => Phrase::of(
             "@a has @1 parameters: at most @2",
             [Word::of(name), NO_NAME],
@@ -49,9 +53,11 @@ pub fn of_parts<'a>(limit: &'a TooLarge<'_>) -> Phrase<'a> {
             [Word { text: tag }, NO_NAME],
             [tag.len() as u64, MOST_TAG_BYTES as u64, 0],
         ),
-        TooLarge::Tags => {
-            Phrase::numbered("there are more than @1 different tags", MOST_TAGS as u64)
-        }
+        TooLarge::Tags => Phrase::named(
+            "there are more than @1 different tags",
+            NO_NAME,
+            MOST_TAGS as u64,
+        ),
     }
 }
 

@@ -46,6 +46,21 @@ fn words_of(other: Other) -> Word<'static> {
     Word { text }
 }
 
+// A text with neither name nor number.
+fn plain<'a>(_reason: &'a IllTyped<'_>, says: &'static str) -> Phrase<'a> {
+    Phrase::plain(says)
+}
+
+// A text with numbers alone.
+fn numbered<'a>(
+    _reason: &'a IllTyped<'_>,
+    says: &'static str,
+    first: u64,
+    second: u64,
+) -> Phrase<'a> {
+    Phrase::of(says, [NO_NAME; 2], [first, second, 0])
+}
+
 // A text with a name alone.
 fn named<'a>(says: &'static str, name: &'a Name) -> Phrase<'a> {
     Phrase::named(says, Word::of(name), 0)
@@ -69,9 +84,12 @@ fn other_at<'a>(says: &'static str, name: &'a Name, other: Other, line: u32) -> 
 fn of_head<'a>(reason: &'a IllTyped<'_>) -> Phrase<'a> {
     match reason {
         IllTyped::NoMain => {
-            Phrase::plain("there is no function main: a run begins with int main(..)")
+            plain(
+                reason,
+                "there is no function main: a run begins with int main(..)",
+            )
         }
-        IllTyped::MainGivesNothing => Phrase::plain("main is void: it is int, and returns a value"),
+        IllTyped::MainGivesNothing => plain(reason, "main is void: it is int, and returns a value"),
         IllTyped::MainTakesArray(a) => {
             named("main takes the array @a: its parameters are integers", a)
         }
@@ -165,7 +183,7 @@ fn other_reducer(how: Reduction) -> &'static str {
 fn of_call<'a>(reason: &'a IllTyped<'_>) -> Phrase<'a> {
     match reason {
         IllTyped::NoFunction(name) => named("there is no function @a", name),
-        IllTyped::CallsMain => Phrase::plain("no statement calls main"),
+        IllTyped::CallsMain => plain(reason, "no statement calls main"),
         IllTyped::Count(name, given, wanted, line) => Phrase::of(
             "@a in line @1 has @2 parameters, and the arguments are @3",
             [Word::of(name), NO_NAME],
@@ -188,29 +206,33 @@ fn of_call<'a>(reason: &'a IllTyped<'_>) -> Phrase<'a> {
 // Of other statements.
 fn of_statement<'a>(reason: &'a IllTyped<'_>) -> Phrase<'a> {
     match reason {
-        IllTyped::ReturnInside => Phrase::plain(
+        IllTyped::ReturnInside => plain(
+            reason,
             "no return stands inside of cilk_scope, cut, region or cilk_for: assign to a name from outside, and return behind the block",
         ),
-        IllTyped::ReturnsNothing => Phrase::plain("this function is int: its return has a value"),
-        IllTyped::ReturnsValue => Phrase::plain("this function is void: its return has no value"),
-        IllTyped::NeverReached(line) => Phrase::numbered(
+        IllTyped::ReturnsNothing => plain(reason, "this function is int: its return has a value"),
+        IllTyped::ReturnsValue => plain(reason, "this function is void: its return has no value"),
+        IllTyped::NeverReached(line) => numbered(
+            reason,
             "what follows from line @1 on is never reached: this statement returns",
             u64::from(*line),
+            0,
         ),
         IllTyped::HeadNames(variable, other) => Phrase::of(
             "the head of a cilk_for has one name three times: here @a, and @b in place of it",
             [Word::of(variable), Word::of(other)],
             [0; 3],
         ),
-        IllTyped::Grain(grain) => Phrase::of(
+        IllTyped::Grain(grain) => numbered(
+            reason,
             "the grain is @1: it is a number from 1 to @2",
-            [NO_NAME; 2],
-            [*grain, MOST_GRAIN, 0],
+            *grain,
+            MOST_GRAIN,
         ),
         IllTyped::PartsAlike(name) => named(
             "both parts of the cut are called @a: their names differ",
             name,
         ),
-        _ => Phrase::plain(""),
+        _ => plain(reason, ""),
     }
 }
