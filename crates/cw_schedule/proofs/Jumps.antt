@@ -5,7 +5,7 @@ use Rattle.std.proofs.lemmas.Option.{same_Some}
 use Rattle.cw_greedy.specs.Slots.{Slots, ready_slots, run_slots, EachLeft, RoomFor}
 use Rattle.cw_schedule.specs.Boards.{lesser, least_slot, least_first, HasRoom}
 use Rattle.cw_schedule.proofs.Slots.{first-none}
-use Rattle.cw_schedule.proofs.Halves.{room_less, room_rest}
+use Rattle.cw_schedule.proofs.Parts.{room_less, room_rest}
 
 -- the first ones have room for the least of them
 room_within : (p n : ℕ) (xs : Slots) → HasRoom n (least_first p xs) → RoomFor p n xs

@@ -5,7 +5,10 @@ pub mod State
 pub mod Weighing
 pub mod Jumps
 pub mod Slots
-pub mod Halves
+pub mod Parts
+pub mod Over
+pub mod Boards
+pub mod Groups
 pub mod Lines
 pub mod Told
 pub mod Within

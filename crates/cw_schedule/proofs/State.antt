@@ -15,14 +15,14 @@ use Rattle.cw_greedy.specs.Jumping.{Block, Last, Fork, size, Going, Ready, Befor
 use Rattle.cw_greedy.specs.Jumping as j
 use Rattle.cw_greedy.specs.Rounds.{IsAfter, RoundsKeep}
 use Rattle.cw_greedy.specs.Slots.{Slots, nones, slots, ready_slots, run_slots, EachLeft, RoomFor, ShowsBoard}
-use Rattle.cw_schedule.specs.Boards.{Advances, stays, runs}
+use Rattle.cw_schedule.specs.Boards.{left_at, Advances, stays, runs}
 use Rattle.cw_schedule.specs.declared.plan.Begins.{Begins}
 use Rattle.cw_schedule.specs.declared.plan.Begins.TheVariants as w
 use Rattle.cw_schedule.specs.declared.plan.Strand.{Strand}
 use Rattle.cw_schedule.specs.Planned.{strand, strands_of}
 use Rattle.cw_schedule.specs.Shown.{Shows, PlanAt, join_of, Releases}
 use Rattle.cw_schedule.specs.Shown as v
-use Rattle.cw_schedule.specs.State.{strand_at, left_at, flag_at, Reaches, Puts, waiting, Stands, Takes, Counts, Begun, IsWithin}
+use Rattle.cw_schedule.specs.State.{strand_at, flag_at, Reaches, Puts, waiting, Stands, Takes, Counts, Begun, IsWithin}
 use Rattle.cw_schedule.specs.State as s
 use Rattle.cw_schedule.proofs.Plans.{length-strands}
 use Rattle.cw_schedule.proofs.Releasing.{Outcome, over, on, by_less, by_same, some_size, shows_start, taken, plan_first}

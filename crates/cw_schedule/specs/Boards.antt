@@ -1,14 +1,19 @@
 -- What a board shows, and what its parts keep.
-use Rattle.std.specs.Prelude.{◌≡◌, ℕ, ◌+◌, ◌-◌, ◌^◌, ◌<◌, ◌≤◌, min, [], ◌∷◌, ◌++◌, length, Option, Some, None}
+use Rattle.std.specs.Prelude.{◌≡◌, ℕ, ◌-◌, ◌<◌, ◌≤◌, min, [], ◌∷◌, length, Option, Some, None, slice_index_or}
 use Rattle.cw_greedy.specs.Greedy.{if_done}
 use Rattle.cw_greedy.specs.Slots.{Slots, ready_slots, run_slots, EachLeft, RoomFor}
-use Rattle.cw_schedule.specs.declared.board.Node.{Node}
-use Rattle.cw_schedule.specs.declared.board.Node.TheVariants.{Block, Halves}
-use Rattle.cw_schedule.specs.declared.board.Told.{Told}
+use Rattle.cw_schedule.specs.declared.board.Board.{Board}
 
--- two parts of a board stay as long
-abbrev pub KeepLengths : (old new old_other new_other : Slots) → Type 0
-KeepLengths old new old_other new_other = (length new ≡ length old) × (length new_other ≡ length old_other)
+abbrev pub left_at : Slots → ℕ → Option ℕ
+left_at slots k = slice_index_or slots k None
+
+-- no strand is ready from there on
+abbrev pub NoneFrom : ℕ → Slots → Type 0
+NoneFrom from slots = (k : ℕ) → from ≤ k → left_at slots k ≡ None
+
+-- no strand is ready before
+abbrev pub NoneBefore : ℕ → Slots → Type 0
+NoneBefore place slots = (k : ℕ) → k < place → left_at slots k ≡ None
 
 -- each ready strand with so many instructions less
 abbrev pub lowered : (by : ℕ) → Slots → Slots
@@ -43,49 +48,47 @@ abbrev pub HasRoom : ℕ → Option ℕ → Type 0
 HasRoom by None = Unit {0}
 HasRoom by (Some k) = by ≤ k
 
--- nothing is owed by none, and no more than the least has left
-abbrev pub IsOwed : ℕ → Option ℕ → Type 0
-IsOwed by None = by ≡ 0
-IsOwed by (Some k) = by ≤ k
+-- at each place the one of two lists that has a strand there
+abbrev pub over : Slots → Slots → Slots
+over [] ys = ys
+over (x ∷ xs) [] = x ∷ xs
+over (None ∷ xs) (y ∷ ys) = y ∷ over xs ys
+over (Some k ∷ xs) (y ∷ ys) = Some k ∷ over xs ys
 
--- as much more is owed, where a strand is ready
-abbrev pub owed_more : Option ℕ → (owed by : ℕ) → ℕ
-owed_more None owed by = owed
-owed_more (Some k) owed by = owed + by
+-- what is left of those that run, by the time, and of those that wait
+abbrev pub shown : Board → Slots
+shown board = over (lowered board.time board.running) board.waiting
 
-abbrev pub owing : Told → (by : ℕ) → Told
-owing told by =
-    record { places = told.places; count = told.count; least = told.least; owed = owed_more told.least told.owed by }
+-- none ends before this time
+abbrev pub EndFrom : (time : ℕ) → Slots → Type 0
+EndFrom time running = (k end : ℕ) → left_at running k ≡ Some end → time ≤ end
 
--- how many of a few strands are ready, and the least that is left of one
-pub record Knows (count : ℕ) (least : Option ℕ) (slots : Slots) : Type 0 where
-  pub ready : count ≡ ready_slots slots
-  pub left : least ≡ least_slot slots
+-- those that run stand before the border, and the others do not
+pub record Keeps (board : Board) : Type 0 where
+  pub running : length board.running ≡ board.places
+  pub waiting : length board.waiting ≡ board.places
+  pub within : board.border ≤ board.places
+  pub count : board.count ≡ ready_slots board.running
+  pub before : NoneFrom board.border board.running
+  pub behind : NoneBefore board.border board.waiting
+  pub ends : EndFrom board.time board.running
 
-abbrev pub slots_of : Node → Slots
-slots_of (Block block) = block
-slots_of (Halves l r told) = lowered told.owed (l.value ++ r.value)
+-- some that ran wait, or some that waited run
+pub record Moves (board board' : Board) : Type 0 where
+  pub keeps : Keeps board'
+  pub same : shown board' ≡ shown board
 
--- what is told of two halves
-pub record Tells (l r : Slots) (told : Told) : Type 0 where
-  pub first : 1 ≤ length l
-  pub second : 1 ≤ length r
-  pub places : told.places ≡ length l
-  pub fits : length l + length r < 2 ^ 64
-  pub count : told.count ≡ ready_slots (l ++ r)
-  pub least : told.least ≡ least_slot (l ++ r)
-  pub owed : IsOwed told.owed told.least
+-- the first ready strands run, as many as there are processors
+pub record Full (processors : ℕ) (board : Board) : Type 0 where
+  pub few : board.count ≤ processors
+  pub all : board.count < processors → ready_slots board.waiting ≡ 0
 
-abbrev pub IsBoard : Node → Type 0
-IsBoard (Block block) = Unit {0}
-IsBoard (Halves l r told) = Tells l.value r.value told
+abbrev pub one_if_none : Option ℕ → ℕ
+one_if_none None = 1
+one_if_none (Some k) = 0
 
 -- steps until of a ready strand nothing is left
 pub data Advances (processors steps : ℕ) (slots slots' : Slots) : Type 0 where
   stays : steps ≡ 0 → slots' ≡ slots → Advances processors steps slots slots'
   runs : EachLeft slots → RoomFor processors steps slots → slots' ≡ run_slots processors steps slots
       → Advances processors steps slots slots'
-
--- what is left in two halves, of which as much is owed as is told
-abbrev pub left_in : Told → (first second : Slots) → Slots
-left_in told first second = lowered told.owed (first ++ second)

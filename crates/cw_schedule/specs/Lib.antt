@@ -1,5 +1,6 @@
 pub mod Planned
 pub mod Reading
+pub mod Rows
 pub mod Shown
 pub mod State
 pub mod Weighed

@@ -1,5 +1,5 @@
 -- A state of the schedule as the loop keeps it, and what its parts do.
-use Rattle.std.specs.Prelude.{ℕ, ◌+◌, ◌-◌, ◌*◌, ◌≡◌, ◌<◌, ◌≤◌, Bool, true, false, List, length, Option, Some, None}
+use Rattle.std.specs.Prelude.{ℕ, ◌+◌, ◌-◌, ◌*◌, ◌≡◌, ◌<◌, ◌≤◌, Bool, true, false, List, length, Some}
 use Rattle.std.specs.Prelude.{slice_index_or, slice_set}
 use Rattle.cw_model.specs.Trees.{Tree, work, span}
 use Rattle.cw_greedy.specs.Greedy.{greedy_length}
@@ -10,14 +10,12 @@ use Rattle.cw_greedy.specs.Slots.{Slots}
 use Rattle.cw_schedule.specs.declared.plan.Begins.{Begins}
 use Rattle.cw_schedule.specs.declared.plan.Begins.TheVariants as w
 use Rattle.cw_schedule.specs.declared.plan.Strand.{Strand}
+use Rattle.cw_schedule.specs.Boards.{left_at}
 use Rattle.cw_schedule.specs.Planned.{strand, strands_of}
 use Rattle.cw_schedule.specs.Shown.{Shows, join_of}
 
 abbrev pub strand_at : List Strand → ℕ → Strand
 strand_at strands k = slice_index_or strands k (strand 0 w.Start)
-
-abbrev pub left_at : Slots → ℕ → Option ℕ
-left_at slots k = slice_index_or slots k None
 
 abbrev pub flag_at : List Bool → ℕ → Bool
 flag_at flags k = slice_index_or flags k false

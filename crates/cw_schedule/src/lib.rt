@@ -1,11 +1,11 @@
 //! How long a greedy schedule of a run's strands takes: of a record of strands, and of the run of a program.
 #![tactic(auto)]
 
-mod block;
 mod board;
 mod line;
 mod plan;
 mod ready;
+mod rows;
 pub mod schedule;
 pub mod schedules;
 pub mod weights;

@@ -31,9 +31,11 @@ impl Model for Ready {
 
     ghost Value = { Slots };
 
-    ghost use Rattle.cw_schedule.specs.Lines.{kept_in};
+    ghost use Rattle.cw_schedule.specs.Lines.{kept_in, IsKept};
 
     ghost view = { λ r. kept_in r.kept };
+
+    ghost invariant = { λ r. IsKept r.kept };
 }
 
 impl Ready {

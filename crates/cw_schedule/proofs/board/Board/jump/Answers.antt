@@ -1,18 +1,21 @@
-use Rattle.std.proofs.Common.{ap, sym, ◌∙◌}
-use Rattle.cw_schedule.specs.Boards.{least_slot}
-use Rattle.cw_schedule.proofs.Jumps.{room_first_least, run_ends_one, some_first}
+use Rattle.std.proofs.Common.{sym, ◌∙◌}
+use Rattle.cw_schedule.proofs.Boards.{jump_some, jump_first, jump_shown, jumped, least_from}
 use Rattle.cw_schedule.proofs.board.Board.jump.Goals as goal
 
 pub unreachable-requires : goal.unreachable-requires
 unreachable-requires c =
-    some_first c.args.processors c.args.self.now c.requires.processors c.requires.ready (sym c.least_of.ensures ∙ c.in_default.is)
+    jump_some c.args.processors c.args.self.now c.requires.keeps c.requires.full c.requires.processors c.requires.ready (sym c.least.ensures ∙ c.in_default.is)
 
-pub run-requires : goal.run-requires
-run-requires c = room_first_least c.args.processors c.in-Some.steps c.args.self.now (sym c.least_of.ensures ∙ c.in-Some.is)
+pub overflow_sub-steps : goal.overflow_sub-steps
+overflow_sub-steps c = least_from c.args.self.now c.in-Some.end c.requires.keeps (sym c.least.ensures ∙ c.in-Some.is)
 
-pub returns-clause-room : goal.returns-clause-room
-returns-clause-room c = room_first_least c.args.processors c.in-Some.steps c.args.self.now (sym c.least_of.ensures ∙ c.in-Some.is)
+pub returns-clause-keeps : goal.returns-clause-keeps
+returns-clause-keeps c = jumped c.in-Some.end c.args.self.now c.requires.keeps (sym c.least.ensures ∙ c.in-Some.is)
 
-pub returns-clause-done : goal.returns-clause-done
-returns-clause-done c =
-    ap least_slot c.run.ensures ∙ run_ends_one c.args.processors c.in-Some.steps c.args.self.now (sym c.least_of.ensures ∙ c.in-Some.is)
+pub returns-clause-first : goal.returns-clause-first
+returns-clause-first c = jump_first c.args.processors c.in-Some.end c.args.self.now c.requires.keeps c.requires.full (sym c.least.ensures ∙ c.in-Some.is)
+
+pub returns-clause-run : goal.returns-clause-run
+returns-clause-run c =
+    jump_shown c.args.processors c.in-Some.end c.args.self.now c.requires.keeps c.requires.full
+    (least_from c.args.self.now c.in-Some.end c.requires.keeps (sym c.least.ensures ∙ c.in-Some.is))

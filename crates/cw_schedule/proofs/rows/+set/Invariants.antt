@@ -1,0 +1,9 @@
+use Rattle.std.proofs.Common.{◌-◌, ◌*◌, length}
+use Rattle.cw_schedule.proofs.rows.+set.Given as goal
+
+-- rows, then a row and those above
+abbrev pub decreases-Rows::set : goal.decreases-Rows::set
+decreases-Rows::set l = 2 * length l.self.now
+
+abbrev pub decreases-set_in_rows : goal.decreases-set_in_rows
+decreases-set_in_rows l = 2 * length l.row.now - 1
