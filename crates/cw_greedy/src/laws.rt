@@ -2,7 +2,7 @@
 
 ghost use Rattle.std.specs.Prelude.{ℕ, ◌≤◌, ◌≡◌};
 ghost use Rattle.cw_model.specs.Trees.{Tree};
-ghost use Rattle.cw_greedy.specs.Bounds.{GreedyIsBounded};
+ghost use Rattle.cw_greedy.specs.Bounds.{GreedyIsBounded, NobodyWaits};
 ghost use Rattle.cw_greedy.specs.Blocks.{RecordsCount, RecordsJoin, TreesByJumps};
 ghost use Rattle.cw_greedy.specs.Counts.{StrandsAreCounted};
 ghost use Rattle.cw_greedy.specs.Edges.{IsLeaf, StepsByEdges};
@@ -17,6 +17,11 @@ ghost use Rattle.cw_greedy.specs.Rounds.{RoundsKeep};
 /// A greedy schedule is no shorter than the work for each processor and than the span, and no longer than both.
 pub fn greedy_is_bounded()
     ensures { (p : ℕ) (t : Tree) → 1 ≤ p → GreedyIsBounded p t }
+{}
+
+/// On more processors than a run has spawns no ready strand waits, and the schedule is as long as the span.
+pub fn nobody_waits()
+    ensures { NobodyWaits }
 {}
 
 /// As long as each strand that runs has an instruction left, steps may be taken at once.

@@ -6,7 +6,8 @@ use Rattle.cw_greedy.specs.declared.code.Code.TheVariants.{Instructions, Spawned
 use Rattle.cw_greedy.specs.Jumping.{Block, Last, Fork}
 use Rattle.cw_greedy.specs.Blocks.{add_before, put_before, block_of, Stands, InSeries, AsChild, AsRest, codes_of}
 use Rattle.cw_greedy.specs.Records.{instructions_before, merged, IsRecordOf}
-use Rattle.cw_schedule.specs.Reading.{Frame, InChild, InRest, add_at_end, fork_at_end, joined, after_join, read, instructions}
+use Rattle.cw_greedy.specs.Counts.{spawns_in}
+use Rattle.cw_schedule.specs.Reading.{Frame, InChild, InRest, add_at_end, fork_at_end, joined, after_join, read, instructions, spawned}
 
 -- a tree at the end of a block
 abbrev at_end : Block → Tree → Block
@@ -207,3 +208,52 @@ record_is_read t codes h =
 
 pub record_has_work : (t : Tree) (codes : List Code) → IsRecordOf t (Some codes) → instructions codes ≡ work t
 record_has_work t codes h = sym (sum_merged codes) ∙ ap instructions h ∙ sum_merged (codes_of AsChild t) ∙ sum_of AsChild t
+
+-- and the children are those of the tree
+spawned_before : (n : ℕ) (codes : List Code) → spawned (instructions_before n codes) ≡ spawned codes
+spawned_before zero codes = refl
+spawned_before (suc n) [] = refl
+spawned_before (suc n) (Instructions m ∷ codes) = refl
+spawned_before (suc n) (Spawned first ∷ codes) = refl
+spawned_before (suc n) (Ended ∷ codes) = refl
+spawned_before (suc n) (Joined ∷ codes) = refl
+spawned_before (suc n) (Called ∷ codes) = refl
+
+spawned_merged : (codes : List Code) → spawned (merged codes) ≡ spawned codes
+spawned_merged [] = refl
+spawned_merged (Instructions n ∷ codes) = spawned_before n (merged codes) ∙ spawned_merged codes
+spawned_merged (Spawned first ∷ codes) = ap (λ m. 1 + m) (spawned_merged codes)
+spawned_merged (Ended ∷ codes) = spawned_merged codes
+spawned_merged (Joined ∷ codes) = spawned_merged codes
+spawned_merged (Called ∷ codes) = spawned_merged codes
+
+spawned-append : (a b : List Code) → spawned (a ++ b) ≡ spawned a + spawned b
+spawned-append [] b = omega arith
+spawned-append (Instructions n ∷ a) b = spawned-append a b
+spawned-append (Spawned first ∷ a) b = omega (arith, spawned-append a b)
+spawned-append (Ended ∷ a) b = spawned-append a b
+spawned-append (Joined ∷ a) b = spawned-append a b
+spawned-append (Called ∷ a) b = spawned-append a b
+
+spawned_fork : (child rest : List Code) → spawned (child ++ Ended ∷ (rest ++ Joined ∷ [])) ≡ spawned child + spawned rest
+spawned_fork child rest = omega (arith, spawned-append child (Ended ∷ (rest ++ Joined ∷ [])), spawned-append rest (Joined ∷ []))
+
+spawned_call : (codes : List Code) → spawned (codes ++ Called ∷ []) ≡ spawned codes
+spawned_call codes = omega (arith, spawned-append codes (Called ∷ []))
+
+spawned_of : (at : Stands) (t : Tree) → spawned (codes_of at t) ≡ spawns_in t
+spawned_of at (Leaf k) = refl
+spawned_of InSeries (Seq t u) = omega (arith, spawned-append (codes_of InSeries t) (codes_of InSeries u), spawned_of InSeries t, spawned_of InSeries u)
+spawned_of AsChild (Seq t u) = omega (arith, spawned-append (codes_of InSeries t) (codes_of InSeries u), spawned_of InSeries t, spawned_of InSeries u)
+spawned_of AsRest (Seq t u) = omega (arith, spawned-append (codes_of InSeries t) (codes_of AsRest u), spawned_of InSeries t, spawned_of AsRest u)
+spawned_of InSeries (Par t u) = omega (arith, spawned_fork (codes_of AsChild t) (codes_of AsRest u), spawned_of AsChild t, spawned_of AsRest u)
+spawned_of AsChild (Par t u) = omega (arith, spawned_fork (codes_of AsChild t) (codes_of AsRest u), spawned_of AsChild t, spawned_of AsRest u)
+spawned_of AsRest (Par t u) = omega (arith, spawned-append (codes_of AsChild t) (Ended ∷ codes_of AsRest u), spawned_of AsChild t, spawned_of AsRest u)
+spawned_of AsChild (Marked mark t) = spawned_of InSeries t
+spawned_of InSeries (Marked (Execution tag) t) = spawned_of InSeries t
+spawned_of InSeries (Marked (Invocation site) t) = spawned_call (codes_of InSeries t) ∙ spawned_of InSeries t
+spawned_of AsRest (Marked (Execution tag) t) = spawned_of InSeries t
+spawned_of AsRest (Marked (Invocation site) t) = spawned_call (codes_of InSeries t) ∙ spawned_of InSeries t
+
+pub record_has_spawns : (t : Tree) (codes : List Code) → IsRecordOf t (Some codes) → spawned codes ≡ spawns_in t
+record_has_spawns t codes h = sym (spawned_merged codes) ∙ ap spawned h ∙ spawned_merged (codes_of AsChild t) ∙ spawned_of AsChild t

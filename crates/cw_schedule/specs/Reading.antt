@@ -50,3 +50,12 @@ instructions (Spawned first ∷ codes) = instructions codes
 instructions (Ended ∷ codes) = instructions codes
 instructions (Joined ∷ codes) = instructions codes
 instructions (Called ∷ codes) = instructions codes
+
+-- the children that are spawned by some codes
+abbrev pub spawned : List Code → ℕ
+spawned [] = 0
+spawned (Instructions n ∷ codes) = spawned codes
+spawned (Spawned first ∷ codes) = 1 + spawned codes
+spawned (Ended ∷ codes) = spawned codes
+spawned (Joined ∷ codes) = spawned codes
+spawned (Called ∷ codes) = spawned codes

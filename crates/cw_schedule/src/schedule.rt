@@ -15,8 +15,8 @@ ghost use Rattle.cw_schedule.specs.State.{flag_at, strand_at, Begun, IsWithin, P
 
 use crate::plan::{Begins, Strand, plan};
 use crate::ready::Ready;
-use crate::weights::weigh;
-use cw_greedy::laws::{greedy_is_bounded, lists_show_boards, rounds_keep_the_length};
+use crate::weights::{count_spawns, weigh};
+use cw_greedy::laws::{greedy_is_bounded, lists_show_boards, nobody_waits, rounds_keep_the_length};
 use cw_greedy::strands::Strands;
 use std::alloc::{AllocError, Global};
 
@@ -111,8 +111,8 @@ fn count_all(strands: &[Strand], flags: &mut [bool], board: &mut Ready, processo
 /// every strand tree with this record, so it is no shorter than the work for each processor and than the span, and no
 /// longer than both together (Blumofe and Leiserson 1999).
 ///
-/// Takes time in proportion to the strands, times the logarithm of how many there are, whatever their instructions are; on
-/// one processor the length is the work, which is only added up.
+/// Takes time in proportion to the strands, times the logarithm of how many there are, whatever their instructions are. On
+/// one processor the length is the work, and on more than there are spawns it is the span: both are only added up.
 /// Fails for want of memory alone; the record is as it was.
 pub fn greedy(alloc: Global, kept: &Strands, processors: u64) -> Result<u64, AllocError>
     requires processors { 1 ≤ processors }
@@ -126,6 +126,11 @@ pub fn greedy(alloc: Global, kept: &Strands, processors: u64) -> Result<u64, All
     if processors == 1 {
         let weights = weigh(alloc, kept)?;
         return Ok(weights.work);
+    }
+    nobody_waits();
+    if processors > count_spawns(kept) {
+        let weights = weigh(alloc, kept)?;
+        return Ok(weights.span);
     }
     let strands = plan(alloc, kept.codes())?;
     let mut flags = vec![in alloc; false; strands.len()]?;

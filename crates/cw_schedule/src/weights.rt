@@ -5,10 +5,11 @@ ghost use Rattle.cw_model.specs.Trees.{Tree, work, span};
 ghost use Rattle.cw_model.specs.declared.limits.TheConstants.{MOST_LIMIT};
 ghost use Rattle.cw_greedy.specs.declared.code.Code.{Code};
 ghost use Rattle.cw_greedy.specs.Jumping.{Block, Last};
+ghost use Rattle.cw_greedy.specs.Counts.{spawns_in};
 ghost use Rattle.cw_greedy.specs.Records.{IsRecordOf};
 ghost use Rattle.cw_schedule.specs.declared.weights.Spawn.{Spawn};
 ghost use Rattle.cw_schedule.specs.Planned.{instructions_of};
-ghost use Rattle.cw_schedule.specs.Reading.{instructions, read, Frame};
+ghost use Rattle.cw_schedule.specs.Reading.{instructions, read, spawned, Frame};
 ghost use Rattle.cw_schedule.specs.Weighed.{counted, path_of, spawn, Weighs, WillJoin, WillWeigh};
 
 use cw_greedy::code::Code;
@@ -174,4 +175,34 @@ pub fn weigh(alloc: Global, kept: &Strands) -> Result<Weights, AllocError>
 {
     let weights = weighed(alloc, kept.codes())?;
     Ok(weights)
+}
+
+/// How many children are spawned: as many as every strand tree with this record has spawns.
+pub(crate) fn count_spawns(kept: &Strands) -> u64
+    requires { (t : Tree) × IsRecordOf t kept.now }
+    ensures { (t : Tree) → IsRecordOf t kept.now → result ≡ spawns_in t }
+{
+    let count = count_spawned(kept.codes());
+    count
+}
+
+// How many children are spawned by some codes.
+fn count_spawned(codes: &[Code]) -> u64
+    ensures { result ≡ spawned codes.now }
+{
+    let mut count = 0;
+    for code in codes {
+        count += spawned_by(*code);
+    }
+    count
+}
+
+fn spawned_by(code: Code) -> u64
+    ensures value { (codes : List Code) → spawned (code ∷ codes) ≡ result + spawned codes }
+    ensures small { result ≤ 1 }
+{
+    match code {
+        Code::Spawned(_) => 1,
+        _ => 0,
+    }
 }

@@ -1,8 +1,9 @@
-use Rattle.std.proofs.Common.{◌≡◌, ◌≤◌, false, length, arith, ap, ◌∙◌}
+use Rattle.std.proofs.Common.{◌≡◌, ◌≤◌, ◌+◌, false, length, arith, ap, sym, ◌∙◌}
 use Rattle.std.specs.Prelude.{replicate}
 use Rattle.cw_model.specs.Trees.{work}
 use Rattle.cw_model.specs.declared.limits.TheConstants.{MOST_LIMIT}
 use Rattle.cw_greedy.specs.Blocks.{block_of}
+use Rattle.cw_greedy.specs.Counts.{spawns_in}
 use Rattle.cw_greedy.specs.Slots.{nones}
 use Rattle.cw_schedule.specs.declared.plan.Begins.TheVariants.{Start}
 use Rattle.cw_schedule.specs.Planned.{strands_of}
@@ -74,3 +75,14 @@ returns-then-processors-eq1-clause-bounds c = λ t h.
     let bounded = c.greedy_is_bounded.ensures c.args.processors t c.requires.processors in
     let one : c.args.processors ≡ 1 = omega arith in
     within t c.args.processors c.in_ok-weights.weights.work bounded (on_one t c.args.processors c.in_ok-weights.weights.work one bounded (c.in_ok-weights.ensures.work t h))
+
+pub returns-then-processors-count_spawns-clause-length : goal.returns-then-processors-count_spawns-clause-length
+returns-then-processors-count_spawns-clause-length c = λ t h.
+    let many : 1 + spawns_in t ≤ c.args.processors = omega (arith, c.if-processors-count_spawns.true, c.count_spawns.ensures t h) in
+    c.in_ok-weights-2.ensures.span t h ∙ sym (c.nobody_waits.ensures c.args.processors t many)
+
+pub returns-then-processors-count_spawns-clause-bounds : goal.returns-then-processors-count_spawns-clause-bounds
+returns-then-processors-count_spawns-clause-bounds c = λ t h.
+    let many : 1 + spawns_in t ≤ c.args.processors = omega (arith, c.if-processors-count_spawns.true, c.count_spawns.ensures t h) in
+    within t c.args.processors c.in_ok-weights-2.weights.span (c.greedy_is_bounded.ensures c.args.processors t c.requires.processors)
+    (c.in_ok-weights-2.ensures.span t h ∙ sym (c.nobody_waits.ensures c.args.processors t many))
