@@ -66,8 +66,6 @@ not_among : (name : Name) (front : List Name) (tag : Name) (rest : List Name)
 not_among name [] tag rest h = (or_parts (bytes_eq name tag) _ h).0
 not_among name (x ∷ front) tag rest h = not_among name front tag rest (or_parts (bytes_eq name x) _ h).1
 
-]
-
 -- a row under a tag that differs from those before it goes last
 pub next_tag : {X : Type 0} (entries : List (Vec ℕ × X)) (key : Vec ℕ) (row : X) (tag : Name) (rest : List Name)
     → key.items ≡ tag → are_apart (texts entries ++ tag ∷ rest) ≡ true

@@ -68,7 +68,7 @@ one_less : (given count : ℕ) (o : Open) (os : List Open) (old new : Meter) →
 one_less given count o os old new leaves small h =
     let m = h.many in
     let n = h.few in
-    let e = leaves.parts in
+    let e = leaves.parts (omega (arith, m)) in
     record { many = omega (arith, e, m); few = omega (arith, n) }
 
 pub ends_values : (old new : Meter) (count : ℕ) → keeps_values old.detail ≡ true → LeavesOne old new → Ends old new count

@@ -1,5 +1,5 @@
 -- What the parts of a call on a meter do.
-use Rattle.std.specs.Prelude.{◌≡◌, ℕ, ◌+◌, ◌-◌, ◌^◌, ◌≤◌, ◌<◌, false, List, [], ◌∷◌, ◌++◌, length, reverse, Some, slice_get}
+use Rattle.std.specs.Prelude.{◌≡◌, ℕ, ◌+◌, ◌^◌, ◌≤◌, ◌<◌, false, List, [], ◌∷◌, ◌++◌, length, reverse, Some, slice_get}
 use Rattle.cw_model.specs.declared.burden.Burden.{Burden}
 use Rattle.cw_model.specs.declared.limits.TheConstants.{MOST_LIMIT, MOST_BURDEN}
 use Rattle.cw_model.specs.Trees.{Event, Join}
@@ -34,7 +34,7 @@ pub record IsOpened (old new : Meter) : Type 0 where
 
 pub record LeavesOne (old new : Meter) : Type 0 where
   pub detail : new.detail ≡ old.detail
-  pub parts : new.open_parts ≡ old.open_parts - 1
+  pub parts : 0 < old.open_parts → new.open_parts + 1 ≡ old.open_parts
 
 -- the block that runs joins
 abbrev pub JoinsBlock : (old new : Meter) → (count : ℕ) → Type 0

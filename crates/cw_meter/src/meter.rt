@@ -102,9 +102,9 @@ impl Meter {
         self.parts.len() == 0
     }
 
-    // Whether the values alone are kept.
+    /// Whether the values alone are kept.
     #[inline(always)]
-    fn keeps_values(&self) -> bool
+    pub fn keeps_values(&self) -> bool
         ensures { result ≡ details.keeps_values self.now.detail }
     {
         match self.detail {
@@ -126,7 +126,7 @@ impl Meter {
     fn leave_part(&mut self)
         ensures { LeavesOne self.old self.new }
     {
-        self.open_parts = self.open_parts.saturating_sub(1);
+        self.open_parts = self.open_parts.wrapping_sub(1);
     }
 
     /// Takes in, after `count` instructions, what the meter of the rest of the block that runs has counted in `cost`

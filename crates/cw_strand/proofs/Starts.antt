@@ -53,7 +53,7 @@ grounded v is p j m job light h reads = at p.extent refl
         job = job;
         light = light;
         base = h.base;
-        round = subst (λ y. StandsRound (extent_of y) h.base) (sym e) h.is_base.begins;
+        round = subst (λ y. StandsRound (extent_of y) h.base) (sym e) (h.is_base.begins, h.is_base.blocks);
         params = h.is_base.good.seat.func.array_params;
         joins = λ e'. (h.is_base, refl);
       };

@@ -112,7 +112,7 @@ shows_joined v ok m m' totals b s frame t taken h told =
 -- what stands round a run has shown nothing
 base_quiet : (x : Extent) (b : State) → StandsRound x b → b.trace ≡ quiet
 base_quiet WholeCall b e = ap (λ (z : State). z.trace) e
-base_quiet ToJoin b e = e
+base_quiet ToJoin b e = e.0
 
 pub lines_shown : (v : Verified) (ok : Ok v) (m : Machine) (x : Extent) (b s : State) → StandsRound x b → Shows v ok m (under b s) → m.lines.items ≡ s.trace.lines
 lines_shown v ok m x b s round h = h.holds.shown ∙ lines_under b s.around s.trace ∙ ap (λ (u : Trace). u.lines ++ s.trace.lines) (base_quiet x b round)
