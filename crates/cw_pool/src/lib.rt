@@ -3,7 +3,8 @@
 
 pub mod crew;
 pub mod gate;
-pub(crate) mod outcome;
+pub(crate) mod offers;
+mod outcome;
 pub(crate) mod post;
 pub mod run;
 pub(crate) mod sign;

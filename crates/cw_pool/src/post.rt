@@ -78,6 +78,19 @@ fn take_in(strand: &mut Strand, rest: Job)
     }
 }
 
+// How many instructions an effect tells of.
+fn cost_of(effect: &Effect) -> u64 {
+    match effect {
+        Effect::Ended { value: _, shown } => shown.cost,
+        Effect::Joined {
+            frame: _,
+            replaced: _,
+            shown,
+        } => shown.cost,
+        _ => 0,
+    }
+}
+
 impl Post {
     /// Begins a job. The error gives the job back as it was: where the run is given up, or for want of memory.
     pub(crate) fn start(alloc: Global, tally: &Tally, job: Job) -> Result<Post, Job>
@@ -123,7 +136,7 @@ impl Post {
 
     // The newest job out was stolen: its effect is given, if it has come. An effect is wide, so this stands by itself.
     #[inline(never)]
-    fn collect(&mut self, yard: &Yard, seat: &mut Seat, ticket: Ticket) -> bool
+    fn collect(&mut self, yard: &Yard, seat: &mut Seat, tally: &mut Tally, ticket: Ticket) -> bool
         requires seat { IsSeatOf yard.now seat.old }
         requires ticket { IsTicketOf yard.now ticket }
         requires lacks { Lacks yard.now self.old (ticket_job ticket) }
@@ -135,6 +148,7 @@ impl Post {
     {
         match yard.collect(seat, ticket) {
             Collected::Done(effect) => {
+                tally.offers.judge(cost_of(&effect));
                 self.strand.give(effect);
                 true
             }
@@ -146,7 +160,7 @@ impl Post {
     }
 
     // The newest job out is taken back, or its effect given, if it has come.
-    fn join(&mut self, yard: &Yard, seat: &mut Seat) -> bool
+    fn join(&mut self, yard: &Yard, seat: &mut Seat, tally: &mut Tally) -> bool
         requires seat { IsSeatOf yard.now seat.old }
         requires works { Works yard.now self.old }
         requires out { IsAtSync self.old.strand × (outs self.old.strand ≢ []) }
@@ -161,10 +175,11 @@ impl Post {
             }
             Some(Kept::Out(ticket)) => match yard.retake(seat, ticket) {
                 Retaken::Mine(rest) => {
+                    tally.offers.judge(0);
                     take_in(&mut self.strand, rest);
                     true
                 }
-                Retaken::Later(ticket) => self.collect(yard, seat, ticket),
+                Retaken::Later(ticket) => self.collect(yard, seat, tally, ticket),
             },
             None => unreachable!(),
         }
@@ -196,14 +211,15 @@ impl Post {
     }
 
     // How a strand that has done so many instructions goes on, and by how many at most: it hands the rests of its blocks out
-    // as long as its worker's deque is short, since whoever can take work finds some there.
+    // as long as its worker's deque is short, since whoever can take work finds some there, and not all of them come back
+    // for nothing.
     #[inline(always)]
-    fn way(&self, yard: &Yard, seat: &mut Seat, done: u64) -> (Spawns, u64)
+    fn way(&self, yard: &Yard, seat: &mut Seat, tally: &mut Tally, done: u64) -> (Spawns, u64)
         requires { IsSeatOf yard.now seat.old }
         ensures { IsSeatOf yard.now seat.new }
     {
         let is_at_first = done < FIRST && self.kept.len() < FEW;
-        if is_at_first || yard.waiting(seat) < ENOUGH {
+        if is_at_first || (yard.waiting(seat) < ENOUGH && !tally.offers.are_enough()) {
             (Spawns::HandedOut, QUANTUM)
         } else {
             (Spawns::InPlace, STINT.min(done.saturating_add(FIRST_STINT)))
@@ -225,7 +241,7 @@ impl Post {
         ensures turn { TurnsTo yard.now self.new result }
     {
         let before = self.strand.done();
-        let (spawns, most) = self.way(yard, seat, before);
+        let (spawns, most) = self.way(yard, seat, tally, before);
         match self.strand.next_event(most, spawns) {
             Event::Spawned(rest) => {
                 self.count(tally, before);
@@ -236,7 +252,7 @@ impl Post {
                 self.count(tally, before);
                 gate.turn(tally.me, Moment::AtJoin);
                 self.warn(tally);
-                if self.join(yard, seat) {
+                if self.join(yard, seat, tally) {
                     Turn::Went
                 } else {
                     Turn::Waits

@@ -1,6 +1,6 @@
 //! A run with many workers.
 
-ghost use Rattle.std.specs.Prelude.{◌≡◌, ◌≤◌, ◌+◌, length, vec_capacity, MatchResult};
+ghost use Rattle.std.specs.Prelude.{◌≡◌, ◌≤◌, ◌+◌, false, length, vec_capacity, MatchResult};
 ghost use Rattle.std.specs.Arc.{arc_value};
 ghost use Rattle.cw_code.specs.Code.{code_view};
 ghost use Rattle.cw_meter.specs.Details.{IsLight};
@@ -16,10 +16,12 @@ use crate::sign::{Sign, Tally};
 use crate::work::work;
 use cw_jobs::effect::Effect;
 use cw_jobs::job::Job;
-use cw_machine::alone::Ended;
-use cw_machine::values::Values;
+use cw_machine::alone::{Ended, run_alone};
+use cw_machine::values::{Values, values_alone};
 use cw_meter::Detail;
 use cw_model::burden::Burden;
+use cw_model::syntax::CallKind;
+use cw_runnable::op::Op;
 use cw_runnable::verified::Verified;
 use cw_text::Fault;
 use cw_yard::seat::{Seat, Yard};
@@ -145,6 +147,25 @@ pub(crate) fn drive<
     Ok(effect)
 }
 
+// Whether a call may be spawned: else there is nothing that another worker could take.
+fn spawns(ops: &[Op]) -> bool {
+    for o in ops {
+        match o {
+            Op::Call(_, CallKind::Spawned, _) => return true,
+            Op::Recur(_, CallKind::Spawned, _) => return true,
+            _ => {}
+        }
+    }
+    false
+}
+
+// Whether code is for a crew of so many bodies to run, or to be refused with; else one worker does it as well.
+fn is_for_crew(code: &Verified, bodies: usize) -> bool
+    ensures { result ≡ false → bodies ≤ MOST_BODIES }
+{
+    bodies > MOST_BODIES || spawns(code.ops.as_slice())
+}
+
 // What a run of code by a crew came to, of which so much is kept: the effect of its root, and whether it was given up.
 fn outcome_of<
     G: Gate + Drop + Send + Sync + 'static,
@@ -191,6 +212,8 @@ fn outcome_of<
 /// at a join, or after 262,144 instructions, and where the answer is not known by then the caller's thread runs the code
 /// alone, of which the gate is told nothing.
 ///
+/// Code in which no call is spawned the caller's thread runs alone from the first: no body begins then.
+///
 /// The error is `Arguments` exactly where the crew has more than 63 bodies, before anything is made, or as `run_alone`
 /// has it; otherwise that of `run_alone`: `Memory` where memory runs out, in any worker.
 pub fn run<
@@ -209,6 +232,10 @@ pub fn run<
 ) -> Result<Ended, Fault>
     ensures { RunsByCrew (length crew.items) (code_view code.value.code) args.now n burden result }
 {
+    if !is_for_crew(&code, crew.len()) {
+        let ended = run_alone(alloc, code, args, n, burden)?;
+        return Ok(ended);
+    }
     let detail = Detail::Measures(burden);
     let outcome = outcome_of(rt, alloc, code, args, n, burden, detail, crew, gate)?;
     let ended = ended_by(alloc, outcome, args, n, burden)?;
@@ -233,6 +260,10 @@ pub fn values<
 ) -> Result<Values, Fault>
     ensures { GivesByCrew (length crew.items) (code_view code.value.code) args.now n burden result }
 {
+    if !is_for_crew(&code, crew.len()) {
+        let values = values_alone(alloc, code, args, n, burden)?;
+        return Ok(values);
+    }
     let detail = Detail::Values;
     let outcome = outcome_of(rt, alloc, code, args, n, burden, detail, crew, gate)?;
     let values = values_by(alloc, outcome, args, n, burden)?;

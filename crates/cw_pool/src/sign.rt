@@ -5,6 +5,7 @@
 //! that they have counted is told to anybody. Then the run is given up: the workers stop, and one of them runs the code
 //! alone. Whoever raises the sign, and whenever, owes nothing: that answer is right at any moment.
 
+use crate::offers::Offers;
 use crossbeam_utils::CachePadded;
 use std::alloc::{AllocError, Global};
 use std::sync::Arc;
@@ -65,12 +66,14 @@ impl Sign {
     }
 }
 
-/// A worker's side of the sign.
+/// A worker's side of the sign, and what its offers brought.
 #[derive(Drop)]
 pub struct Tally {
     sign: Arc<Sign>,
     /// The worker's number.
     pub(crate) me: usize,
+    /// What came of the jobs that it offered.
+    pub(crate) offers: Offers,
     untold: u64,
 }
 
@@ -80,6 +83,7 @@ impl Tally {
         Tally {
             sign,
             me,
+            offers: Offers::new(),
             untold: 0,
         }
     }
