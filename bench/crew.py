@@ -20,6 +20,10 @@
                                            four runs with one worker each take at once, which share nothing: what the machine
                                            can give. Too little is told where one worker by four is below what is wanted and
                                            its share of what the machine gives is, too
+    crew.py PROGRAM two [ROUNDS]           what two workers take in mode `run` of what one takes, by the clock and of a processor,
+                                           by medians of so many interleaved rounds (15), on each program of bench/programs/ and
+                                           examples/ that can take some 0.1 s: by the clock no more, and of a
+                                           processor at most 1.15 of it on fib and the chain
     crew.py PROGRAM shares [ROUNDS]        100,000 spawns of a product with two `const` factors (programs/shares.cilk) beside
                                            matrices of 1,000,000 elements and beside matrices of 4: its value, then seconds by
                                            1, 2 and 4 workers, the median of so many interleaved rounds (9) less that of the
@@ -94,6 +98,16 @@ GRIND = ["valgrind", "-q", "--leak-check=full", "--show-leak-kinds=all", "--erro
 
 # programs whose speed is asked, with their arguments, and what one worker's time by four workers' is to be at least; of the
 # last one, a loop of spawns without a sync, it is told alone
+# programs with a size by which they take some 0.1 s, in examples/ and beside this script (those left out are over at once), and
+# what two workers may take of a processor of what one takes
+TWO = [(f"examples/{name}", words.split(), most) for name, words, most in (
+    ("collatz", "50000", 2), ("dot", "1600000", 2), ("fib", "31", 1.15), ("fib_cutoff", "31", 2), ("histogram", "3000000", 2),
+    ("longest", "40000", 2), ("matrix", "200", 2), ("mergesort", "100000", 2), ("mergesort_parallel", "80000", 2), ("prefix", "800000", 2),
+    ("primes", "250000", 2), ("primes_each", "200000", 2), ("primes_loop", "200000", 2), ("quarters", "128", 2), ("queens", "10", 2),
+    ("roots", "400000", 2), ("roots_mended", "400000", 2), ("stencil", "200000 10", 2),
+)] + [(f"bench/programs/{name}", words.split(), most) for name, words, most in (
+    ("chain", "4000", 1.15), ("factors", "160", 2), ("loop", "10000", 2), ("matrix", "160", 2), ("shares", "2 200000", 2), ("sieve", "2000000", 2),
+)]
 SPEED = [("mergesort_parallel", ["400000"], 3.3), ("matrix_large", ["160"], 3.3), ("factors", ["160"], 3.3), ("fib_cutoff", ["32"], 3.3), ("fib", ["29"], 3.0), ("loop", ["10000"], 0)]
 MATRIX = """// rows of a product, each by itself
 void row(int a[], int b[], int c[], int n) { int j = 0; int k = 0; int t = 0; while (j < n) { t = 0; k = 0; while (k < n) { t = t + a[k] * b[k * n + j]; k = k + 1; } c[j] = t; j = j + 1; } }
@@ -226,6 +240,14 @@ def seconds(commands):
     return time.perf_counter() - began
 
 
+def taken(command):
+    """Seconds by the clock and of a processor that a command takes."""
+    began = time.perf_counter()
+    running = subprocess.Popen(command, stdout=subprocess.DEVNULL)
+    used = os.wait4(running.pid, 0)[2]
+    return time.perf_counter() - began, used.ru_utime + used.ru_stime
+
+
 def speed(program, rounds="9"):
     crews = (1, 2, 4, 64)
     short = 0
@@ -248,6 +270,22 @@ def speed(program, rounds="9"):
             ratios = "  ".join(f"1 by {workers}: {mid[1] / mid[workers]:.2f}" for workers in crews[1:])
             print(f"    {ratios}  (1 by 4 wanted: {wanted}; four runs apart gain {machine:.2f}, of which four workers have {gains / machine:.2f})", flush=True)
     return short
+
+
+def two(program, rounds="15"):
+    slow = 0
+    for name, arguments, most in TWO:
+        command = [program, "run", str(HERE.parent / f"{name}.cilk"), *arguments, "--limit", "100000000000", "--workers"]
+        took = {workers: [] for workers in ("1", "2")}
+        for _ in range(int(rounds)):
+            for workers, found in took.items():
+                found.append(taken([*command, workers]))
+        one, crew = ([statistics.median(it) for it in zip(*found)] for found in took.values())
+        clock, processor = (b / a for a, b in zip(one, crew))
+        bad = ["clock"] * (clock > 1.01) + ["processor"] * (processor > most)
+        slow += bool(bad)
+        print(f"{name} {' '.join(arguments)}: one {one[0]:.3f} s, {one[1]:.3f} s of a processor; two take {clock:.2f} by the clock, {processor:.2f} of a processor", *(["BAD", *bad] if bad else []), flush=True)
+    return slow
 
 
 def measured(words):
@@ -360,7 +398,7 @@ def pieces(program):
 
 
 if __name__ == "__main__":
-    parts = {"same": same, "limits": limits, "deep": deep, "refusals": refusals, "given_up": given_up, "speed": speed, "shares": shares, "pieces": pieces}
+    parts = {"same": same, "limits": limits, "deep": deep, "refusals": refusals, "given_up": given_up, "speed": speed, "two": two, "shares": shares, "pieces": pieces}
     if len(sys.argv) < 3 or sys.argv[2] not in parts:
         sys.exit(__doc__)
     bad = parts[sys.argv[2]](str(pathlib.Path(sys.argv[1]).resolve()), *sys.argv[3:])
