@@ -23,7 +23,6 @@ use Rattle.cw_reduce.specs.Words.{Word, plus, word_of}
 use Rattle.cw_reduce.specs.Held.{Held, Summed, Raised, held, held_joined}
 use Rattle.cw_reduce.specs.Greatest.{greater}
 use Rattle.cw_reduce.specs.Shown.{totals_joined}
-use Rattle.cw_reduce.specs.Shown as views
 use Rattle.cw_reduce.specs.SumsOfIntegers.{SumsHoldIntegers}
 use Rattle.cw_reduce.specs.ShownLaws.{same_shown}
 use Rattle.cw_strand_laws.specs.Jobs.{Standing, Effect, Ended, Joined, TrapIn, OverLimit}
