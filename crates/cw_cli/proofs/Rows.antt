@@ -15,7 +15,8 @@ use Rattle.cw_model.specs.Answers.{Ended}
 use Rattle.cw_model.specs.Rows.{site_row}
 use Rattle.cw_model.specs.Sites.{CallSite, call_sites, root_site, are_numbered, heads_of, sites_of}
 use Rattle.cw_model.specs.Freed.{FunctionRow, worth_telling}
-use Rattle.cw_model.specs.Report.{csv_line, scale_header, scale_line, scale_text, sites_header, sites_text, site_kind_text, site_line, region_line, tags_of, gain_header, gain_line, gain_text, free_line, whole_row}
+use Rattle.cw_model.specs.Report.{csv_line, scale_header, scale_line, scale_text, sites_header, sites_text, site_kind_text, site_line}
+use Rattle.cw_model.specs.Report.{region_line, tags_of, gain_header, gain_line, gain_text, free_line, whole_row}
 use Rattle.cw_sites.specs.declared.table.SiteRow.{SiteRow}
 use Rattle.cw_sites.specs.Tables as sites
 use Rattle.cw_sites.specs.lemmas.Tables.{AreRowsFrom}
@@ -60,7 +61,8 @@ scale_is program code burden e t tags keys whole rows =
 -- ---- sites
 
 counts_are : (t : Tree) (number : ℕ) (row : SiteRow) → sites.IsRow row (site_row number t)
-    → counts_of row ≡ decimal (site_row number t).calls ∷ decimal (site_row number t).own_work ∷ decimal (site_row number t).own_span ∷ decimal (site_row number t).work ∷ decimal (site_row number t).span ∷ []
+    → counts_of row ≡ decimal (site_row number t).calls ∷ decimal (site_row number t).own_work ∷ decimal (site_row number t).own_span
+    ∷ decimal (site_row number t).work ∷ decimal (site_row number t).span ∷ []
 counts_are t number row is =
     ap (λ x. decimal x ∷ decimal row.own_work ∷ decimal row.own_span ∷ decimal row.work ∷ decimal row.span ∷ []) is.calls
     ∙ ap (λ x. decimal (site_row number t).calls ∷ decimal x ∷ decimal row.own_span ∷ decimal row.work ∷ decimal row.span ∷ []) is.own_work
@@ -71,7 +73,8 @@ counts_are t number row is =
 row_is : (t : Tree) (s : CallSite) (row : SiteRow) → sites.IsRow row (site_row s.number t) → row_line s row ≡ site_line t s
 row_is t s row is = ap (λ counts. csv_line (decimal s.number ∷ site_kind_text s.kind ∷ decimal s.line ∷ s.callee ∷ counts)) (counts_are t s.number row is)
 
-rows_are : (n : ℕ) (all : List CallSite) (rows : List SiteRow) (t : Tree) → length rows ≡ length all → are_numbered n all ≡ true → AreRowsFrom (suc n) t rows → row_lines all rows ≡ flat_map (site_line t) all
+rows_are : (n : ℕ) (all : List CallSite) (rows : List SiteRow) (t : Tree) → length rows ≡ length all → are_numbered n all ≡ true
+    → AreRowsFrom (suc n) t rows → row_lines all rows ≡ flat_map (site_line t) all
 rows_are n [] rows t count numbered h = refl
 rows_are n (s ∷ all) [] t count numbered h = absurd (omega (arith, count))
 rows_are n (s ∷ all) (row ∷ rows) t count numbered h =

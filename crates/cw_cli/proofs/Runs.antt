@@ -412,17 +412,20 @@ module _ (bytes : List ℕ) (args : List ℤ) (words : list_all fits args ≡ tr
     unreported : (f : Fault) → failed f → WritesAll (seen old) (seen new) (told (Err f)) → (told (Err f) ≡ [] → new ≡ old) → analyses.IsUnreported seen old new bytes args options f
     unreported f h took idle = unreported_as f (tells.unrun f h) took idle
 
-    finished_itself : (ended : Result V Fault) → RanAs ended → WritesAll (seen old) (seen new) (told ended) → (told ended ≡ [] → new ≡ old) → analyses.IsRun seen old new bytes args options (result_of ended)
+    finished_itself : (ended : Result V Fault) → RanAs ended → WritesAll (seen old) (seen new) (told ended) → (told ended ≡ [] → new ≡ old)
+        → analyses.IsRun seen old new bytes args options (result_of ended)
     finished_itself (Ok e) r took idle = reported e r took
     finished_itself (Err f) h took idle = unreported f h took idle
 
     -- a run that ended with a value, and its text was written
-    pub finished : (ended : Result V Fault) (e : V) → ended ≡ Ok e → RanAs ended → WritesAll (seen old) (seen new) (told ended) → (told ended ≡ [] → new ≡ old) → analyses.IsReported seen old new bytes args options
+    pub finished : (ended : Result V Fault) (e : V) → ended ≡ Ok e → RanAs ended → WritesAll (seen old) (seen new) (told ended)
+        → (told ended ≡ [] → new ≡ old) → analyses.IsReported seen old new bytes args options
     finished ended e same h took idle =
         subst (λ r. analyses.IsRun seen old new bytes args options (result_of r)) same (finished_itself ended h took idle)
 
     -- one that has none
-    pub stopped : (ended : Result V Fault) (f : Fault) → ended ≡ Err f → RanAs ended → WritesAll (seen old) (seen new) (told ended) → (told ended ≡ [] → new ≡ old) → analyses.IsUnreported seen old new bytes args options f
+    pub stopped : (ended : Result V Fault) (f : Fault) → ended ≡ Err f → RanAs ended → WritesAll (seen old) (seen new) (told ended)
+        → (told ended ≡ [] → new ≡ old) → analyses.IsUnreported seen old new bytes args options f
     stopped ended f same h took idle =
         subst (λ r. analyses.IsRun seen old new bytes args options (result_of r)) same (finished_itself ended h took idle)
 
@@ -454,7 +457,8 @@ module _ (bytes : List ℕ) (args : List ℤ) (words : list_all fits args ≡ tr
     cut_short (Err f) h part idle = cut_short_as f (tells.unrun f h) part idle
 
     -- a text that was not written
-    pub unwritten : (ended : Result V Fault) → RanAs ended → (told ended ≡ [] → new ≡ old) → (f : Fault) → AnswersLess seen old new (told ended) f → analyses.IsUnreported seen old new bytes args options f
+    pub unwritten : (ended : Result V Fault) → RanAs ended → (told ended ≡ [] → new ≡ old) → (f : Fault) → AnswersLess seen old new (told ended) f
+        → analyses.IsUnreported seen old new bytes args options f
     unwritten ended r idle fault.Memory h = h
     unwritten ended r idle fault.Write h = cut_short ended r h idle
     unwritten ended r idle _ h = absurd h
@@ -470,7 +474,8 @@ module _ {W : Type 0} (seen : W → Seen) (old new : W) (bytes : List ℕ) (args
   check_text_is program is = ap (λ m. analyses.text_in m program options.burden (analyses.answer_to program args options)) (sym is)
 
   -- bytes that compile, and the text of a check
-  pub checked : (code : Code) → IsCompiled bytes code → options.mode ≡ mode.Check → (r : Result (Unit {0}) Fault) → Writes (seen old) (seen new) check_text r → analyses.IsAnalysed seen old new bytes args options r
+  pub checked : (code : Code) → IsCompiled bytes code → options.mode ≡ mode.Check → (r : Result (Unit {0}) Fault)
+      → Writes (seen old) (seen new) check_text r → analyses.IsAnalysed seen old new bytes args options r
   checked code compiled is (Ok done) h = in_mode mode.Check is (Ok done) (record {
     program = compiled.program;
     compiles = compiled.compiles;
@@ -520,7 +525,8 @@ check_refusal seen old bytes args options (fault.Size p) h = record { refused = 
 check_refusal seen old bytes args options fault.Memory h = refl
 check_refusal seen old bytes args options _ h = absurd h
 
-refused_in : {W : Type 0} (seen : W → Seen) (old : W) (bytes : List ℕ) (args : List ℤ) (options : Options) (m : Mode) (f : Fault) → IsRefused bytes f → analyses.IsAnalysedIn seen old old bytes args options m (Err f)
+refused_in : {W : Type 0} (seen : W → Seen) (old : W) (bytes : List ℕ) (args : List ℤ) (options : Options) (m : Mode) (f : Fault) → IsRefused bytes f
+    → analyses.IsAnalysedIn seen old old bytes args options m (Err f)
 refused_in seen old bytes args options mode.Check f h = check_refusal seen old bytes args options f h
 refused_in seen old bytes args options mode.Run f h = run_refusal seen old bytes args options f h
 refused_in seen old bytes args options mode.Scale f h = run_refusal seen old bytes args options f h
@@ -529,7 +535,8 @@ refused_in seen old bytes args options (mode.Gain top) f h = run_refusal seen ol
 refused_in seen old bytes args options (mode.Greedy processors) f h = run_refusal seen old bytes args options f h
 
 -- bytes that are refused, in any mode
-pub refusal : {W : Type 0} (seen : W → Seen) (old : W) (bytes : List ℕ) (args : List ℤ) (options : Options) (f : Fault) → IsRefused bytes f → (r : Result (Unit {0}) Fault) → IsErrAnd r (λ x. x ≡ f) → analyses.IsAnalysed seen old old bytes args options r
+pub refusal : {W : Type 0} (seen : W → Seen) (old : W) (bytes : List ℕ) (args : List ℤ) (options : Options) (f : Fault) → IsRefused bytes f
+    → (r : Result (Unit {0}) Fault) → IsErrAnd r (λ x. x ≡ f) → analyses.IsAnalysed seen old old bytes args options r
 refusal seen old bytes args options f h (Ok done) e = absurd e
 refusal seen old bytes args options f h (Err g) e = refused_in seen old bytes args options options.mode g (subst (IsRefused bytes) (sym e) h)
 

@@ -1,5 +1,6 @@
 -- A source of which one byte too many is read at most, and lines on standard error.
-use Rattle.std.proofs.Common.{◌≡◌, ℕ, ℤ, option_map, IfSome, ◌<◌, ◌≤◌, ◌⊎◌, inl, inr, List, [], ◌++◌, ◌+◌, length, take, Option, Some, None, Result, Ok, Err, refl, sym, subst, arith, Bool, true, false}
+use Rattle.std.proofs.Common.{◌≡◌, ℕ, ℤ, option_map, IfSome, ◌<◌, ◌≤◌, ◌⊎◌, inl, inr, List, [], ◌++◌, ◌+◌, length, take}
+use Rattle.std.proofs.Common.{Option, Some, None, Result, Ok, Err, refl, sym, subst, arith, Bool, true, false}
 use Rattle.std.proofs.lemmas.List.{append-nil, take_all, length-take-le}
 use Rattle.std.specs.Prelude.{nat_le, is_err, OnOk}
 use Rattle.std.proofs.lemmas.Bool.Decides.{nat_tests}
@@ -131,7 +132,8 @@ module _ {W : Type 0} (seen : W → Seen) (old new : W) (args : List ℤ) (optio
       by_length (inr long) = long_whole bytes long seen old new args options options.mode r h
 
   -- so is what an analysis by a crew answers
-  whole_by : (bytes : List ℕ) (bodies : ℕ) (r : Result (Unit {0}) Fault) → IsAnalysedBy seen old new (take most_read bytes) args options bodies r → IsAnalysedBy seen old new bytes args options bodies r
+  whole_by : (bytes : List ℕ) (bodies : ℕ) (r : Result (Unit {0}) Fault) → IsAnalysedBy seen old new (take most_read bytes) args options bodies r
+      → IsAnalysedBy seen old new bytes args options bodies r
   whole_by bytes bodies r h = record { fits = λ few. whole bytes r (h.fits few); refused = h.refused; untouched = h.untouched }
 
 -- the count of failed reads grew
@@ -159,7 +161,8 @@ module _ {W E : Type 0} (seen : W → Seen) (seen' : E → Seen) (old new : W) (
     -- what the bytes that were read come to is the answer on the source
     pub answered : limit ≡ most_read → inner ≡ source → before ≡ [] → slice ≡ read → args ≡ asked.args.items →
         IfSome (option_map (take limit) (remaining inner)) (λ xs. read ≡ before ++ xs) →
-        (r : Result (Unit {0}) Fault) (status : ℕ) → status ≡ tools.status_of r → IsAnalysedBy seen old new slice args asked.options bodies r → tools.IsTold seen' old' new' asked.explain (tools.line_of r) →
+        (r : Result (Unit {0}) Fault) (status : ℕ) → status ≡ tools.status_of r → IsAnalysedBy seen old new slice args asked.options bodies r
+        → tools.IsTold seen' old' new' asked.explain (tools.line_of r) →
         tools.OnItsBytes (remaining source) (λ bytes. tools.IsToolAnswer seen old new seen' old' new' asked bodies reads_before reads_after bytes status)
     answered l i b s a h r status st analysis told =
         let h1 = subst (λ d. IfSome (option_map (take limit) (remaining d)) (λ xs. read ≡ before ++ xs)) i h in
@@ -170,6 +173,7 @@ module _ {W E : Type 0} (seen : W → Seen) (seen' : E → Seen) (old new : W) (
         of_read (remaining source) read h3 (λ bytes. tools.IsToolAnswer seen old new seen' old' new' asked bodies reads_before reads_after bytes status)
         (subst (λ n. tools.IsToolAnswer seen old new seen' old' new' asked bodies reads_before reads_after read n) (sym st) (tools.analysed r of_asked told))
         (λ bytes e.
-        let of_bytes : IsAnalysedBy seen old new (take most_read bytes) asked.args.items asked.options bodies r = subst (λ bs. IsAnalysedBy seen old new bs asked.args.items asked.options bodies r) e of_asked in
+        let of_bytes : IsAnalysedBy seen old new (take most_read bytes) asked.args.items asked.options bodies r =
+        subst (λ bs. IsAnalysedBy seen old new bs asked.args.items asked.options bodies r) e of_asked in
         subst (λ n. tools.IsToolAnswer seen old new seen' old' new' asked bodies reads_before reads_after bytes n) (sym st)
         (tools.analysed r (whole_by seen old new asked.args.items asked.options bytes bodies r of_bytes) told))

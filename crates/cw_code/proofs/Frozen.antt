@@ -18,8 +18,11 @@ use Rattle.cw_code.specs.declared.code.Instr.{Instr}
 use Rattle.cw_code.specs.declared.code.Loan.{Loan}
 use Rattle.cw_code.specs.declared.code.Instr.TheVariants as instr
 use Rattle.cw_code.specs.Code.{Code}
-use Rattle.cw_code.specs.Run.{Slots, Results, Waiting, Around, Caller, Block, Whole, State, Transition, On, Ends, Stops, Stuck, on_slot, is_full, settled, put_in, slot_taken, Entering, begun, call_of, moved_out, parts_of, given, given_back, awaited, result_of, going_on, returns_to, back, resumes, closed, resumes_uncut, cut_ends, cut_arrays, synced, passed_by, lent_by, act, step}
-use Rattle.cw_code.specs.Fits.{Row, Outer, Shape, frozen_rows, is_full_in, full_in_all, none_frozen, slots_cut, slots_uncut, changes, changes_back, is_thawed, with_gone, slots_lent, with_lent, closed_shape, uncut_shape, leaves, nexts, CoversEach, Table, FlowsInto, FlowsIntoEach, Fits}
+use Rattle.cw_code.specs.Run.{Slots, Results, Waiting, Around, Caller, Block, Whole, State, Transition, On, Ends, Stops, Stuck, on_slot, is_full, settled}
+use Rattle.cw_code.specs.Run.{put_in, slot_taken, Entering, begun, call_of, moved_out, parts_of, given, given_back, awaited, result_of, going_on, returns_to}
+use Rattle.cw_code.specs.Run.{back, resumes, closed, resumes_uncut, cut_ends, cut_arrays, synced, passed_by, lent_by, act, step}
+use Rattle.cw_code.specs.Fits.{Row, Outer, Shape, frozen_rows, is_full_in, full_in_all, none_frozen, slots_cut, slots_uncut, changes, changes_back, is_thawed, with_gone}
+use Rattle.cw_code.specs.Fits.{slots_lent, with_lent, closed_shape, uncut_shape, leaves, nexts, CoversEach, Table, FlowsInto, FlowsIntoEach, Fits}
 use Rattle.cw_code.specs.Good.{IsNotAmong, slots_in, arrays_round, all_of, CutsAgree, Seat, AllResume, GoodState, Facts}
 use Rattle.cw_code.specs.Staying.{outermost}
 use Rattle.cw_code.specs.Frozen.{is_join, all_frozen, IsFrozenIn, IsFrozenAt, outermost_arrays, AreBlocks, JoinsInside, changed_by, FrozenStay, FrozenSpared}
@@ -114,7 +117,8 @@ module _ (code : Code) (fits : Fits code) where
       let e = (seats_lie code fits).one place other.index other.func seat other.is_func inside in
       shapes seat.index other.index seat.func other.func e seat.is_func other.is_func seat.shape other.shape seat.at other.at
     where
-      shapes : (i k : ℕ) (f g : Func) → i ≡ k → (fi : slice_get code.funcs i ≡ Some f) (gk : slice_get code.funcs k ≡ Some g) (x y : Shape) → (fits.each i f fi).table place ≡ Some x → (fits.each k g gk).table place ≡ Some y → x ≡ y
+      shapes : (i k : ℕ) (f g : Func) → i ≡ k → (fi : slice_get code.funcs i ≡ Some f) (gk : slice_get code.funcs k ≡ Some g) (x y : Shape)
+          → (fits.each i f fi).table place ≡ Some x → (fits.each k g gk).table place ≡ Some y → x ≡ y
       shapes i k f g e fi gk x y tx ty =
           let table = λ (i : ℕ) (f : Func) (p : slice_get code.funcs i ≡ Some f). (fits.each i f p).table place in
           let same : f ≡ g = same_Some f g (sym fi ∙ ap (slice_get code.funcs) e ∙ gk) in
@@ -172,7 +176,8 @@ module _ (code : Code) (fits : Fits code) where
           (λ blocks t. (t.0, settled_beside results w.arrays a (subst (λ ks. IsNotAmong a ks) (sym same) (apart (ap is_full t.1))) ∙ t.1))
           h
 
-      result_stays : (kind : CallKind) (target : Option ℕ) (v : Option ℤ) (results : Results (List ℤ)) (t : Trace) → slots_in results ≡ map slot_taken w.taken → Stays (result_of kind target v results (going_on w around t))
+      result_stays : (kind : CallKind) (target : Option ℕ) (v : Option ℤ) (results : Results (List ℤ)) (t : Trace)
+          → slots_in results ≡ map slot_taken w.taken → Stays (result_of kind target v results (going_on w around t))
       result_stays Plain target v results t same = given_stays target v _ (come_back results same)
       result_stays Spawned target v results t same = awaited_stays target v _ h
 
@@ -183,7 +188,8 @@ module _ (code : Code) (fits : Fits code) where
           cases None e = tt
           cases (Some results) e = result_stays w.kind w.target v results _ (back_slots w.taken arrays results e)
 
-    back_stays : (callee : Func) (place : ℕ) (ys : Slots (List ℤ)) (around : List Around) (v : Option ℤ) (arrays : Slots (List ℤ)) (t : Trace) → AllResume code fits callee around → Still place ys around → Stays (back around v arrays t)
+    back_stays : (callee : Func) (place : ℕ) (ys : Slots (List ℤ)) (around : List Around) (v : Option ℤ) (arrays : Slots (List ℤ)) (t : Trace)
+        → AllResume code fits callee around → Still place ys around → Stays (back around v arrays t)
     back_stays callee place ys [] v arrays t r h = tt
     back_stays callee place ys (Caller w ∷ around) v arrays t r h = returns_stay w around h (r.0.apart a) v arrays t
     back_stays callee place ys (Block o ∷ around) v arrays t r h = tt
@@ -224,7 +230,8 @@ module _ (code : Code) (fits : Fits code) where
         on p out l f = goes s.around p out s.arrays l (λ blocks t. f t) (λ blocks t has. has) here
 
         -- an array slot beside it was written
-        written_on : (b : ℕ) (ys : List ℤ) (out : Shape) → FlowsInto table (s.place + 1) out → (Frozen shape → Frozen out) → (Frozen shape → IsNotAmong a (b ∷ [])) → Still (s.place + 1) (slice_set s.arrays b (Some ys)) s.around
+        written_on : (b : ℕ) (ys : List ℤ) (out : Shape) → FlowsInto table (s.place + 1) out → (Frozen shape → Frozen out)
+            → (Frozen shape → IsNotAmong a (b ∷ [])) → Still (s.place + 1) (slice_set s.arrays b (Some ys)) s.around
         written_on b ys out l f apart =
             goes s.around (s.place + 1) out (slice_set s.arrays b (Some ys)) l (λ blocks t. f t)
             (λ blocks t has. set_other s.arrays b a (Some ys) (apart t).0 ∙ has) here
@@ -253,7 +260,8 @@ module _ (code : Code) (fits : Fits code) where
           outside : depth < length (frozen_rows outer) → Frozen shape → IsFrozenIn depth (frozen_rows outer) a
           outside lt t = further_out depth shape.frozen (frozen_rows outer) a lt (round t)
 
-        closed_stays : (outer : List Outer) → shape.outer ≡ outer → (around : List Around) → (AreBlocks around → depth < length (frozen_rows outer)) → CutsAgree outer around → FlowsInto table (s.place + 1) (closed_shape shape outer)
+        closed_stays : (outer : List Outer) → shape.outer ≡ outer → (around : List Around) → (AreBlocks around → depth < length (frozen_rows outer))
+            → CutsAgree outer around → FlowsInto table (s.place + 1) (closed_shape shape outer)
             → Still s.place s.arrays around → Stays (closed (put_in s) around)
         closed_stays outer is [] inside c l h = tt
         closed_stays outer is (Caller w ∷ around) inside c l h = tt
@@ -264,7 +272,8 @@ module _ (code : Code) (fits : Fits code) where
             (λ blocks t. outside (o ∷ outer) is (inside blocks) t)
             (λ blocks t has. joined_has has) h) tt
 
-        uncut_stays : (outer : List Outer) → shape.outer ≡ outer → (around : List Around) → (AreBlocks around → depth < length (frozen_rows outer)) → CutsAgree outer around → none_frozen (frozen_rows outer) (changes_back outer) ≡ true → FlowsInto table (s.place + 1) (uncut_shape shape outer)
+        uncut_stays : (outer : List Outer) → shape.outer ≡ outer → (around : List Around) → (AreBlocks around → depth < length (frozen_rows outer))
+            → CutsAgree outer around → none_frozen (frozen_rows outer) (changes_back outer) ≡ true → FlowsInto table (s.place + 1) (uncut_shape shape outer)
             → Still s.place s.arrays around → Stays (cut_ends (put_in s) around)
         uncut_stays outer is [] inside c th l h = tt
         uncut_stays outer is (Caller w ∷ around) inside c th l h = tt

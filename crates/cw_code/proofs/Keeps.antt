@@ -32,18 +32,21 @@ module _ {A : Type 0} where
 
 module _ {A : Type 0} (width : ℕ) where
   -- what the rows have as full is full
-  pub finds : (row : Row) (rows : List Row) (slots : Slots A) (waits : List ℕ) (others : List (List ℕ)) → Holds width row rows slots waits others → (a : ℕ) → full_in_all (row ∷ rows) a ≡ true → is_full (slice_get slots a) ≡ true
+  pub finds : (row : Row) (rows : List Row) (slots : Slots A) (waits : List ℕ) (others : List (List ℕ)) → Holds width row rows slots waits others
+      → (a : ℕ) → full_in_all (row ∷ rows) a ≡ true → is_full (slice_get slots a) ≡ true
   finds row rows slots waits others g a h =
       let own = first_true (is_full_in (slice_get row a)) (full_in_all rows a) h in
       g.awaited a (omega (arith, row_there row a own, g.row_holds.as_wide, g.as_wide))
       (not_in_both a waits (all_of others) (g.row_holds.apart a own) (none_waits width rows others a g.rows_hold (second_true (is_full_in (slice_get row a)) (full_in_all rows a) h)))
 
   -- other rows
-  pub with_rows : (row row' : Row) (rows rows' : List Row) (slots : Slots A) (waits : List ℕ) (others : List (List ℕ)) → RowHolds width row' waits → RowsHold width rows' others → Holds width row rows slots waits others → Holds width row' rows' slots waits others
+  pub with_rows : (row row' : Row) (rows rows' : List Row) (slots : Slots A) (waits : List ℕ) (others : List (List ℕ)) → RowHolds width row' waits
+      → RowsHold width rows' others → Holds width row rows slots waits others → Holds width row' rows' slots waits others
   with_rows row row' rows rows' slots waits others h k g = record { as_wide = g.as_wide; row_holds = h; rows_hold = k; awaited = g.awaited; apart = g.apart; once = g.once }
 
   -- a full slot is written
-  pub with_slot : (row : Row) (rows : List Row) (slots : Slots A) (waits : List ℕ) (others : List (List ℕ)) (a : ℕ) (v : A) → is_full (slice_get slots a) ≡ true → Holds width row rows slots waits others → Holds width row rows (slice_set slots a (Some v)) waits others
+  pub with_slot : (row : Row) (rows : List Row) (slots : Slots A) (waits : List ℕ) (others : List (List ℕ)) (a : ℕ) (v : A)
+      → is_full (slice_get slots a) ≡ true → Holds width row rows slots waits others → Holds width row rows (slice_set slots a (Some v)) waits others
   with_slot row rows slots waits others a v h g = record {
     as_wide = omega (arith, g.as_wide, length-set slots a (Some v));
     row_holds = g.row_holds;
@@ -76,7 +79,8 @@ module _ {A : Type 0} (width : ℕ) where
       with_taken (with_gone passed row) rows (moved_out passed slots) (passed ++ waits) others a (still_full passed slots a h.0 h.1) (with_all_taken passed row rows slots waits others h.2 g)
 
   -- a sync block begins
-  pub with_block : (row : Row) (rows : List Row) (slots : Slots A) (waits : List ℕ) (others : List (List ℕ)) (count : ℕ) → count ≡ width → Holds width row rows slots waits others → Holds width (none_empty count) (row ∷ rows) slots [] (waits ∷ others)
+  pub with_block : (row : Row) (rows : List Row) (slots : Slots A) (waits : List ℕ) (others : List (List ℕ)) (count : ℕ) → count ≡ width
+      → Holds width row rows slots waits others → Holds width (none_empty count) (row ∷ rows) slots [] (waits ∷ others)
   with_block row rows slots waits others count e g = record {
     as_wide = g.as_wide;
     row_holds = empty_row width count e;
@@ -87,7 +91,8 @@ module _ {A : Type 0} (width : ℕ) where
   }
 
   -- a block ends
-  pub with_outer : (row row' : Row) (rows : List Row) (slots : Slots A) (waits : List ℕ) (others : List (List ℕ)) → Holds width row (row' ∷ rows) slots [] (waits ∷ others) → Holds width row' rows slots waits others
+  pub with_outer : (row row' : Row) (rows : List Row) (slots : Slots A) (waits : List ℕ) (others : List (List ℕ))
+      → Holds width row (row' ∷ rows) slots [] (waits ∷ others) → Holds width row' rows slots waits others
   with_outer row row' rows slots waits others g = record {
     as_wide = g.as_wide;
     row_holds = g.rows_hold.0;
@@ -98,7 +103,8 @@ module _ {A : Type 0} (width : ℕ) where
   }
 
   -- some results have gone back
-  pub with_settled : (row : Row) (rows : List Row) (slots : Slots A) (newest : Results A) (waits : List ℕ) (others : List (List ℕ)) → Holds width row rows slots (slots_in newest ++ waits) others → Holds width row rows (settled newest slots) waits others
+  pub with_settled : (row : Row) (rows : List Row) (slots : Slots A) (newest : Results A) (waits : List ℕ) (others : List (List ℕ))
+      → Holds width row rows slots (slots_in newest ++ waits) others → Holds width row rows (settled newest slots) waits others
   with_settled row rows slots newest waits others g =
       let same = append_assoc (slots_in newest) waits (all_of others) in
       record {
@@ -111,13 +117,15 @@ module _ {A : Type 0} (width : ℕ) where
       }
 
   -- a join: all results have gone back
-  pub with_joined : (row : Row) (rows : List Row) (slots : Slots A) (results : Results A) (others : List (List ℕ)) (count : ℕ) → count ≡ width → Holds width row rows slots (slots_in results) others → Holds width (none_empty count) rows (settled results slots) [] others
+  pub with_joined : (row : Row) (rows : List Row) (slots : Slots A) (results : Results A) (others : List (List ℕ)) (count : ℕ) → count ≡ width
+      → Holds width row rows slots (slots_in results) others → Holds width (none_empty count) rows (settled results slots) [] others
   with_joined row rows slots results others count e g =
       let h = with_settled row rows slots results [] others (subst (λ ws. Holds width row rows slots ws others) (sym (append-nil (slots_in results))) g) in
       with_rows row (none_empty count) rows rows (settled results slots) [] others (empty_row width count e) h.rows_hold h
 
   -- the one slot that a cut had is full again
-  pub with_filled : (row : Row) (rows : List Row) (slots : Slots A) (a : ℕ) (v : A) (waits : List ℕ) (others : List (List ℕ)) → Holds width row rows slots (a ∷ waits) others → Holds width (slice_set row a false) rows (slice_set slots a (Some v)) waits others
+  pub with_filled : (row : Row) (rows : List Row) (slots : Slots A) (a : ℕ) (v : A) (waits : List ℕ) (others : List (List ℕ))
+      → Holds width row rows slots (a ∷ waits) others → Holds width (slice_set row a false) rows (slice_set slots a (Some v)) waits others
   with_filled row rows slots a v waits others g =
       let h = with_settled row rows slots ((a, v) ∷ []) waits others g in
       with_rows row (slice_set row a false) rows rows (slice_set slots a (Some v)) waits others (filled_row width row a waits (not_in_first a waits (all_of others) g.once.0) h.row_holds) h.rows_hold h

@@ -5,7 +5,8 @@ use Rattle.std.proofs.lemmas.Bool.{false≢true}
 use Rattle.cw_facts.specs.Tests.{taken}
 use Rattle.cw_code.specs.declared.code.Func.{Func}
 use Rattle.cw_code.specs.declared.code.Loan.{Loan}
-use Rattle.cw_code.specs.Run.{Slots, Results, Readers, Taken, State, is_full, put_in, slot_taken, moved_out, and_array, arrays_in, reader, loaned, lent_in, parts_of, restored, and_result, given_back, given}
+use Rattle.cw_code.specs.Run.{Slots, Results, Readers, Taken, State, is_full, put_in, slot_taken, moved_out, and_array}
+use Rattle.cw_code.specs.Run.{arrays_in, reader, loaned, lent_in, parts_of, restored, and_result, given_back, given}
 use Rattle.cw_code.specs.Fits.{Shape, empty_rows, gone_rows, cleared, CoversEach, LieFrom}
 use Rattle.cw_code.specs.Good.{slots_in, ints_round, arrays_round, Holds, Good, FitSettles}
 use Rattle.cw_code.proofs.Slots.{covered_row, covered_empty, covered_gone, covered_cuts, slots_in_both}
@@ -35,7 +36,8 @@ there_arrays (a ∷ passed) arrays h =
     let r = there_arrays passed arrays h.2 in
     cases r.0 r.1 r.2 (slice_get (moved_out passed arrays) a) refl (still_full passed arrays a h.0 h.1)
   where
-    cases : (given : List (List ℤ)) → arrays_in passed arrays ≡ Some given → length given ≡ length passed → (o : Option (Option (List ℤ))) → slice_get (moved_out passed arrays) a ≡ o → is_full o ≡ true
+    cases : (given : List (List ℤ)) → arrays_in passed arrays ≡ Some given → length given ≡ length passed → (o : Option (Option (List ℤ)))
+        → slice_get (moved_out passed arrays) a ≡ o → is_full o ≡ true
         → (more : List (List ℤ)) × (arrays_in (a ∷ passed) arrays ≡ Some more) × (length more ≡ suc (length passed))
     cases given e n None f k = cc
     cases given e n (Some None) f k = cc
@@ -54,7 +56,8 @@ AllLoaned [] arrays readers = Unit {0}
 AllLoaned (loan ∷ loans) arrays readers = (is_full (loaned loan arrays readers) ≡ true) × AllLoaned loans arrays readers
 
 -- such loans can be made
-pub there_lent : (loans : List Loan) (arrays : Slots (List ℤ)) (readers : Readers) → AllLoaned loans arrays readers → (lent : Readers) × (lent_in loans arrays readers ≡ Some lent) × (length lent ≡ length loans)
+pub there_lent : (loans : List Loan) (arrays : Slots (List ℤ)) (readers : Readers) → AllLoaned loans arrays readers
+    → (lent : Readers) × (lent_in loans arrays readers ≡ Some lent) × (length lent ≡ length loans)
 there_lent [] arrays readers h = ([], refl, refl)
 there_lent (loan ∷ loans) arrays readers h =
     let r = there_lent loans arrays readers h.1 in
@@ -75,7 +78,9 @@ part_slots from (a ∷ passed) (xs ∷ given) e = ap (λ ks. a ∷ ks) (part_slo
 
 -- a good call of another state with the same slots
 module _ (f : Func) where
-  pub covered : (there out : Shape) (s : State) → there.operands ≡ out.operands → CoversEach (record { empty = there.empty; gone = there.gone; frozen = there.frozen; cut = None } ∷ there.outer) (record { empty = out.empty; gone = out.gone; frozen = out.frozen; cut = None } ∷ out.outer) → Good f out s → Good f there s
+  pub covered : (there out : Shape) (s : State) → there.operands ≡ out.operands
+      → CoversEach (record { empty = there.empty; gone = there.gone; frozen = there.frozen; cut = None } ∷ there.outer)
+      (record { empty = out.empty; gone = out.gone; frozen = out.frozen; cut = None } ∷ out.outer) → Good f out s → Good f there s
   covered there out s e c g = record {
     as_many = e ∙ g.as_many;
     ints = with_rows f.slots out.empty there.empty (empty_rows out.outer) (empty_rows there.outer) s.slots (slots_in s.results) (ints_round s.around)

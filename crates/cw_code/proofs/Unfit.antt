@@ -22,7 +22,8 @@ crowded_unfit fits =
     let h = fits.each 0 (nameless 0 5) refl in
     let first = h.is_table.starts in
     let next = (h.is_table.goes 0 first.there (Push (pos 7)) first.found refl).0 in
-    let none = eq_of 0 next.there.operands (first_true (nat_eq 0 next.there.operands) (has_target next.there None) (first_true (nat_eq 0 next.there.operands && has_target next.there None) true (h.is_table.ready 1 next.there (Call Spawned call_it) next.found refl))) in
+    let none = eq_of 0 next.there.operands (first_true (nat_eq 0 next.there.operands) (has_target next.there None)
+    (first_true (nat_eq 0 next.there.operands && has_target next.there None) true (h.is_table.ready 1 next.there (Call Spawned call_it) next.found refl))) in
     omega (arith, none, next.as_many, first.as_many)
 
 pub littered_unfit : Fits littered → ⊥

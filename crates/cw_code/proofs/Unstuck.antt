@@ -1,5 +1,6 @@
 -- Code that fits never gets stuck.
-use Rattle.std.proofs.Common.{◌≡◌, ◌≢◌, ℕ, zero, suc, ◌+◌, ◌-◌, ◌<◌, ◌≤◌, ℤ, pos, ◌+ℤ◌, Bool, true, false, not, ◌&&◌, nat_lt, if◌then◌else◌, Option, Some, None, List, [], ◌∷◌, ◌++◌, length, refl, sym, ap, ◌∙◌, subst, arith, length-append}
+use Rattle.std.proofs.Common.{◌≡◌, ◌≢◌, ℕ, zero, suc, ◌+◌, ◌-◌, ◌<◌, ◌≤◌, ℤ, pos, ◌+ℤ◌, Bool, true, false, not, ◌&&◌, nat_lt, if◌then◌else◌}
+use Rattle.std.proofs.Common.{Option, Some, None, List, [], ◌∷◌, ◌++◌, length, refl, sym, ap, ◌∙◌, subst, arith, length-append}
 use Rattle.std.specs.Prelude.{take, drop, map, replicate, slice_get, slice_set, is_none, option_map, nat_eq, nat_le}
 use Rattle.std.proofs.lemmas.List.{length-drop, length-reverse, length-take, length-map, length-replicate}
 use Rattle.cw_facts.specs.Tests.{taken, both_true, first_true, second_true, at_most, equal, le_of, lt_of, eq_of}
@@ -26,15 +27,24 @@ use Rattle.cw_code.specs.declared.code.Loan.TheVariants.{Array, Reader}
 use Rattle.cw_code.specs.declared.code.Instr.{Instr}
 use Rattle.cw_code.specs.declared.code.Instr.TheVariants as instr
 use Rattle.cw_code.specs.Code.{Code, reducer_names}
-use Rattle.cw_code.specs.Run.{Slots, Results, Readers, reader, loaned, lent_in, has_readers, lent_by, Whole, Waiting, Around, Caller, Block, State, Transition, On, Ends, Stops, Stuck, RunOutcome, ticked, synced, inside, on_top, on_two, on_slot, is_full, operated, set_array, apply_unary, adds, settled, put_in, slots_of, arrays_of, may_take, slot_taken, moved_out, Entering, arguments_of, has_room, may_keep, may_begin, waiting_at, begun, begins, call_of, on_arrays, enter, recur, parts_of, looped, on_range, start, given, going_on, returns_to, back, opened_at, opened, opened_region, cut_arrays, may_cut, cuts, resumes, closed, resumes_uncut, cut_ends, passed_by, jumped, act, step, go_on, steps, first_state, first_transition, reducers_of, code_serial}
-use Rattle.cw_code.specs.Fits.{params_of, array_params_of, readers_of, gives_value, NeverStuck, is_site, names_target, names_callee, is_none_of, names_arrays, names_passed, names_loan, names_loans, names_lent, names_inner, names_well, Row, Outer, Shape, empty_rows, gone_rows, full_in_all, is_full_in, has_slot, has_array, has_arrays, has_loan, has_loans, has_target, has_arguments, none_open, can_close, has_parts, can_uncut, is_no_part, are_no_parts, is_ready, with_target, with_gone, with_passed, with_lent, none_empty, cleared, first_shape, closed_shape, with_uncut, uncut_shape, opened_shape, outer_of, cut_outer, popped, leaves, nexts, Table, FlowsInto, FlowsIntoEach, Fits}
-use Rattle.cw_code.specs.Good.{IsNotAmong, slots_in, slot_cut, ints_round, arrays_round, all_of, Holds, CutsAgree, Seat, Good, IsGiven, Resumed, Resumes, AllResume, GoodState, GoodTransition, Facts, FitBegins, FitFacts, FitSteps, NeverStuckFrom}
+use Rattle.cw_code.specs.Run.{Slots, Results, Readers, reader, loaned, lent_in, has_readers, lent_by, Whole, Waiting, Around, Caller, Block, State, Transition, On, Ends, Stops, Stuck}
+use Rattle.cw_code.specs.Run.{RunOutcome, ticked, synced, inside, on_top, on_two, on_slot, is_full, operated, set_array, apply_unary, adds, settled, put_in, slots_of, arrays_of}
+use Rattle.cw_code.specs.Run.{may_take, slot_taken, moved_out, Entering, arguments_of, has_room, may_keep, may_begin, waiting_at, begun, begins, call_of, on_arrays, enter, recur}
+use Rattle.cw_code.specs.Run.{parts_of, looped, on_range, start, given, going_on, returns_to, back, opened_at, opened, opened_region, cut_arrays, may_cut, cuts, resumes, closed}
+use Rattle.cw_code.specs.Run.{resumes_uncut, cut_ends, passed_by, jumped, act, step, go_on, steps, first_state, first_transition, reducers_of, code_serial}
+use Rattle.cw_code.specs.Fits.{params_of, array_params_of, readers_of, gives_value, NeverStuck, is_site, names_target, names_callee, is_none_of, names_arrays, names_passed, names_loan, names_loans}
+use Rattle.cw_code.specs.Fits.{names_lent, names_inner, names_well, Row, Outer, Shape, empty_rows, gone_rows, full_in_all, is_full_in, has_slot, has_array, has_arrays, has_loan, has_loans, has_target}
+use Rattle.cw_code.specs.Fits.{has_arguments, none_open, can_close, has_parts, can_uncut, is_no_part, are_no_parts, is_ready, with_target, with_gone, with_passed, with_lent, none_empty, cleared}
+use Rattle.cw_code.specs.Fits.{first_shape, closed_shape, with_uncut, uncut_shape, opened_shape, outer_of, cut_outer, popped, leaves, nexts, Table, FlowsInto, FlowsIntoEach, Fits}
+use Rattle.cw_code.specs.Good.{IsNotAmong, slots_in, slot_cut, ints_round, arrays_round, all_of, Holds, CutsAgree, Seat, Good, IsGiven, Resumed}
+use Rattle.cw_code.specs.Good.{Resumes, AllResume, GoodState, GoodTransition, Facts, FitBegins, FitFacts, FitSteps, NeverStuckFrom}
 use Rattle.cw_code.proofs.Slots.{set_full, full_there, slots_in_both}
 use Rattle.cw_code.proofs.Keeps.{none_of, AllThere, still_full, finds, with_rows, with_slot, with_taken, with_all_taken, with_block, with_outer, with_settled, with_filled, begins_full}
 use Rattle.cw_code.proofs.Taken.{lie_within, gives_back, there_arrays, reader_full, AllLoaned, there_lent, part_slots, covered, joined}
 
 module _ (code : Code) (fits : Fits code) where
-  goes_back : (callee : Func) (around : List Around) (v : Option ℤ) (arrays : Slots (List ℤ)) (t : Trace) → IsGiven callee.gives_int v → CutsAgree [] around → callee.arrays ≡ length arrays → ((a : ℕ) → a < length arrays → is_full (slice_get arrays a) ≡ true)
+  goes_back : (callee : Func) (around : List Around) (v : Option ℤ) (arrays : Slots (List ℤ)) (t : Trace) → IsGiven callee.gives_int v
+      → CutsAgree [] around → callee.arrays ≡ length arrays → ((a : ℕ) → a < length arrays → is_full (slice_get arrays a) ≡ true)
       → AllResume code fits callee around → GoodTransition code fits (back around v arrays t)
   goes_back callee [] v arrays t i c n all h = tt
   goes_back callee (Caller w ∷ around) v arrays t i c n all h =
@@ -54,21 +64,50 @@ module _ (code : Code) (fits : Fits code) where
   takes : (place : ℕ) (seat : Seat code fits place) (out : Shape) (s : State) (next : ℕ) (l : FlowsInto (table_at place seat) next out) → Good seat.func out s → Good seat.func l.there s
   takes place seat out s next l g = covered seat.func l.there out s l.as_many (l.covers, l.covers_gone, l.covers_frozen, refl, l.covers_outer) g
 
-  arrives : (place : ℕ) (seat : Seat code fits place) (out : Shape) (s : State) (l : FlowsInto (table_at place seat) s.place out) → Good seat.func out s → AllResume code fits seat.func s.around → GoodState code fits s
+  arrives : (place : ℕ) (seat : Seat code fits place) (out : Shape) (s : State) (l : FlowsInto (table_at place seat) s.place out)
+      → Good seat.func out s → AllResume code fits seat.func s.around → GoodState code fits s
   arrives place seat out s l g others = record { seat = next_seat place seat s.place out l; call = takes place seat out s s.place l g; others = others }
 
   -- a function begins
-  starts_well : (k : ℕ) (f : Func) → slice_get code.funcs k ≡ Some f → (arguments : List ℤ) (given : List (List ℤ)) (lent : Readers) (depth : ℕ) (around : List Around) (t : Trace) → length arguments ≡ f.params → length given ≡ f.array_params → length lent ≡ f.readers
+  starts_well : (k : ℕ) (f : Func) → slice_get code.funcs k ≡ Some f
+      → (arguments : List ℤ) (given : List (List ℤ)) (lent : Readers) (depth : ℕ) (around : List Around) (t : Trace) → length arguments ≡ f.params
+      → length given ≡ f.array_params → length lent ≡ f.readers
       → ints_round around ≡ [] → arrays_round around ≡ [] → CutsAgree [] around → AllResume code fits f around
-      → GoodState code fits (record { place = f.start; operands = []; slots = slots_of f arguments; arrays = arrays_of f given; readers = lent; results = []; arrived = []; depth = depth; around = around; trace = t })
+      → GoodState code fits (record {
+        place = f.start;
+        operands = [];
+        slots = slots_of f arguments;
+        arrays = arrays_of f given;
+        readers = lent;
+        results = [];
+        arrived = [];
+        depth = depth;
+        around = around;
+        trace = t;
+      })
   starts_well k f is arguments given lent depth around t n n' n'' e e' c others =
       let h = fits.each k f is in
       let l = h.is_table.starts in
       let room = h.room in
       let room' = h.array_room in
-      let s : State = record { place = f.start; operands = []; slots = slots_of f arguments; arrays = arrays_of f given; readers = lent; results = []; arrived = []; depth = depth; around = around; trace = t } in
-      let ints = begins_full f.slots (arguments ++ replicate (f.slots - f.params) (pos 0)) (length-append arguments (replicate (f.slots - f.params) (pos 0)) ∙ omega (arith, n, room, length-replicate (f.slots - f.params) (pos 0))) in
-      let arrays = begins_full f.arrays (given ++ replicate (f.arrays - f.array_params) []) (length-append given (replicate (f.arrays - f.array_params) []) ∙ (let m : length {A = List ℤ} (replicate (f.arrays - f.array_params) []) ≡ f.arrays - f.array_params = length-replicate (f.arrays - f.array_params) [] in omega (arith, n', room', m))) in
+      let s : State = record {
+        place = f.start;
+        operands = [];
+        slots = slots_of f arguments;
+        arrays = arrays_of f given;
+        readers = lent;
+        results = [];
+        arrived = [];
+        depth = depth;
+        around = around;
+        trace = t;
+      } in
+      let ints = begins_full f.slots (arguments ++ replicate (f.slots - f.params) (pos 0))
+      (length-append arguments (replicate (f.slots - f.params) (pos 0)) ∙ omega (arith, n, room, length-replicate (f.slots - f.params) (pos 0))) in
+      let arrays = begins_full f.arrays (given ++ replicate (f.arrays - f.array_params) [])
+      (length-append given (replicate (f.arrays - f.array_params) [])
+      ∙ (let m : length {A = List ℤ} (replicate (f.arrays - f.array_params) [])
+      ≡ f.arrays - f.array_params = length-replicate (f.arrays - f.array_params) [] in omega (arith, n', room', m))) in
       record {
         seat = record { index = k; func = f; is_func = is; shape = l.there; at = l.found };
         call = covered f l.there (first_shape f) s l.as_many (l.covers, l.covers_gone, l.covers_frozen, refl, l.covers_outer) (record {
@@ -104,8 +143,11 @@ module _ (code : Code) (fits : Fits code) where
     all_there : (width : ℕ) (passed : List ℕ) → names_arrays width passed ≡ true → has_arrays shape passed ≡ true → AllThere passed s.arrays
     all_there width [] n h = tt
     all_there width (a ∷ passed) n h =
-        let rest = second_true (nat_lt a width) (is_none_of a passed && names_arrays width passed) n in
-        (none_of a passed (first_true (is_none_of a passed) (names_arrays width passed) rest), full_array a (first_true (has_array shape a) (has_arrays shape passed) h), all_there width passed (second_true (is_none_of a passed) (names_arrays width passed) rest) (second_true (has_array shape a) (has_arrays shape passed) h))
+        let rest = second_true (nat_lt a width) (is_none_of a passed && names_arrays width passed) n in (
+          none_of a passed (first_true (is_none_of a passed) (names_arrays width passed) rest),
+          full_array a (first_true (has_array shape a) (has_arrays shape passed) h),
+          all_there width passed (second_true (is_none_of a passed) (names_arrays width passed) rest) (second_true (has_array shape a) (has_arrays shape passed) h),
+        )
 
     -- what a call that begins must find, and what its caller leaves
     record Enters (e : Entering) : Type 0 where
@@ -130,16 +172,24 @@ module _ (code : Code) (fits : Fits code) where
 
     module _ (e : Entering) (h : Enters e) where
       -- the arrays of the caller once the call has begun, and after what it gives back
-      arrays_gone : Holds seat.func.arrays (with_gone (map slot_taken e.taken) shape.gone) (gone_rows shape.outer) (moved_out (map slot_taken e.taken) s.arrays) (map slot_taken e.taken ++ slots_in s.arrived) (arrays_round s.around)
+      arrays_gone : Holds seat.func.arrays (with_gone (map slot_taken e.taken) shape.gone) (gone_rows shape.outer)
+          (moved_out (map slot_taken e.taken) s.arrays) (map slot_taken e.taken ++ slots_in s.arrived) (arrays_round s.around)
       arrays_gone = with_all_taken seat.func.arrays (map slot_taken e.taken) shape.gone (gone_rows shape.outer) s.arrays (slots_in s.arrived) (arrays_round s.around) h.there g.arrays
 
-      arrays_back : (results : Results (List ℤ)) → slots_in results ≡ map slot_taken e.taken → Holds seat.func.arrays shape.gone (gone_rows shape.outer) (settled results (moved_out (map slot_taken e.taken) s.arrays)) (slots_in s.arrived) (arrays_round s.around)
+      arrays_back : (results : Results (List ℤ)) → slots_in results ≡ map slot_taken e.taken
+          → Holds seat.func.arrays shape.gone (gone_rows shape.outer) (settled results (moved_out (map slot_taken e.taken) s.arrays))
+          (slots_in s.arrived) (arrays_round s.around)
       arrays_back results same =
-          let k = with_settled seat.func.arrays (with_gone (map slot_taken e.taken) shape.gone) (gone_rows shape.outer) (moved_out (map slot_taken e.taken) s.arrays) results (slots_in s.arrived) (arrays_round s.around)
-          (subst (λ ws. Holds seat.func.arrays (with_gone (map slot_taken e.taken) shape.gone) (gone_rows shape.outer) (moved_out (map slot_taken e.taken) s.arrays) (ws ++ slots_in s.arrived) (arrays_round s.around)) (sym same) arrays_gone) in
-          with_rows seat.func.arrays (with_gone (map slot_taken e.taken) shape.gone) shape.gone (gone_rows shape.outer) (gone_rows shape.outer) (settled results (moved_out (map slot_taken e.taken) s.arrays)) (slots_in s.arrived) (arrays_round s.around) g.arrays.row_holds g.arrays.rows_hold k
+          let k = with_settled seat.func.arrays (with_gone (map slot_taken e.taken) shape.gone) (gone_rows shape.outer)
+          (moved_out (map slot_taken e.taken) s.arrays) results (slots_in s.arrived) (arrays_round s.around)
+          (subst (λ ws. Holds seat.func.arrays (with_gone (map slot_taken e.taken) shape.gone) (gone_rows shape.outer)
+          (moved_out (map slot_taken e.taken) s.arrays) (ws ++ slots_in s.arrived) (arrays_round s.around)) (sym same) arrays_gone) in
+          with_rows seat.func.arrays (with_gone (map slot_taken e.taken) shape.gone) shape.gone (gone_rows shape.outer) (gone_rows shape.outer)
+          (settled results (moved_out (map slot_taken e.taken) s.arrays)) (slots_in s.arrived) (arrays_round s.around) g.arrays.row_holds g.arrays.rows_hold k
 
-      arrays_wait : (results : Results (List ℤ)) → slots_in results ≡ map slot_taken e.taken → Holds seat.func.arrays (with_gone (map slot_taken e.taken) shape.gone) (gone_rows shape.outer) (moved_out (map slot_taken e.taken) s.arrays) (slots_in (results ++ s.arrived)) (arrays_round s.around)
+      arrays_wait : (results : Results (List ℤ)) → slots_in results ≡ map slot_taken e.taken
+          → Holds seat.func.arrays (with_gone (map slot_taken e.taken) shape.gone) (gone_rows shape.outer)
+          (moved_out (map slot_taken e.taken) s.arrays) (slots_in (results ++ s.arrived)) (arrays_round s.around)
       arrays_wait results same =
           subst (λ ws. Holds seat.func.arrays (with_gone (map slot_taken e.taken) shape.gone) (gone_rows shape.outer) (moved_out (map slot_taken e.taken) s.arrays) ws (arrays_round s.around))
           (ap (λ ws. ws ++ slots_in s.arrived) (sym same) ∙ sym (slots_in_both results s.arrived)) arrays_gone
@@ -162,8 +212,10 @@ module _ (code : Code) (fits : Fits code) where
       spawned_count : has_arguments Spawned e.func.params shape.operands ≡ true → shape.operands - e.func.params ≡ 0
       spawned_count k = let n = eq_of e.func.params shape.operands k in omega (arith, n)
 
-      waits : (kind : CallKind) (target : Option ℕ) → has_arguments kind e.func.params shape.operands ≡ true → has_target shape target ≡ true → ((a : ℕ) → target ≡ Some a → e.func.gives_int ≡ true) → (l : FlowsInto table (s.place + 1) (left_by kind target))
-          → (v : Option ℤ) → IsGiven e.func.gives_int v → (results : Results (List ℤ)) → slots_in results ≡ map slot_taken e.taken → (t : Trace) → Resumed seat.func l.there (called_by kind target) v results s.around t
+      waits : (kind : CallKind) (target : Option ℕ) → has_arguments kind e.func.params shape.operands ≡ true → has_target shape target ≡ true
+          → ((a : ℕ) → target ≡ Some a → e.func.gives_int ≡ true) → (l : FlowsInto table (s.place + 1) (left_by kind target))
+          → (v : Option ℤ) → IsGiven e.func.gives_int v → (results : Results (List ℤ)) → slots_in results ≡ map slot_taken e.taken → (t : Trace)
+          → Resumed seat.func l.there (called_by kind target) v results s.around t
       waits Plain None k there gives l v i results same t = record {
         slots = s.slots;
         arrays = settled results (moved_out (map slot_taken e.taken) s.arrays);
@@ -179,8 +231,10 @@ module _ (code : Code) (fits : Fits code) where
         arrays = settled results (moved_out (map slot_taken e.taken) s.arrays);
         results = s.results;
         arrived = s.arrived;
-        went = taken (is_full (slice_get s.slots a)) (On (record (going_on (called_by Plain (Some a)) s.around t) { slots = slice_set s.slots a (Some v); arrays = settled results (moved_out (map slot_taken e.taken) s.arrays) })) Stuck (full_slot a there);
-        good = takes s.place seat (left_by Plain (Some a)) (record (going_on (called_by Plain (Some a)) s.around t) { slots = slice_set s.slots a (Some v); arrays = settled results (moved_out (map slot_taken e.taken) s.arrays) }) (s.place + 1) l
+        went = taken (is_full (slice_get s.slots a)) (On (record (going_on (called_by Plain (Some a)) s.around t)
+            { slots = slice_set s.slots a (Some v); arrays = settled results (moved_out (map slot_taken e.taken) s.arrays) })) Stuck (full_slot a there);
+        good = takes s.place seat (left_by Plain (Some a)) (record (going_on (called_by Plain (Some a)) s.around t)
+            { slots = slice_set s.slots a (Some v); arrays = settled results (moved_out (map slot_taken e.taken) s.arrays) }) (s.place + 1) l
             (record {
               as_many = plain_count;
               ints = with_slot seat.func.slots shape.empty (empty_rows shape.outer) s.slots (slots_in s.results) (ints_round s.around) a v (full_slot a there) g.ints;
@@ -205,7 +259,8 @@ module _ (code : Code) (fits : Fits code) where
         results = (a, v) ∷ s.results;
         arrived = results ++ s.arrived;
         went = refl;
-        good = takes s.place seat (left_by Spawned (Some a)) (record (going_on (called_by Spawned (Some a)) s.around t) { results = (a, v) ∷ s.results; arrived = results ++ s.arrived }) (s.place + 1) l
+        good = takes s.place seat (left_by Spawned (Some a)) (record (going_on (called_by Spawned (Some a)) s.around t)
+            { results = (a, v) ∷ s.results; arrived = results ++ s.arrived }) (s.place + 1) l
             (record {
               as_many = spawned_count k;
               ints = with_taken seat.func.slots shape.empty (empty_rows shape.outer) s.slots (slots_in s.results) (ints_round s.around) a (full_slot a there) g.ints;
@@ -235,8 +290,11 @@ module _ (code : Code) (fits : Fits code) where
           let enough = h.enough in
           let many = h.many in
           let room' = f.array_room in
-          let some = both_true (nat_eq (length e.given) e.func.array_params) (nat_le e.func.array_params e.func.arrays) (equal (length e.given) e.func.array_params h.given) (at_most e.func.array_params e.func.arrays room') in
-          let room = both_true (nat_le e.func.params (length s.operands)) (nat_le e.func.params e.func.slots && (nat_eq (length e.given) e.func.array_params && nat_le e.func.array_params e.func.arrays)) (at_most e.func.params (length s.operands) enough)
+          let some = both_true (nat_eq (length e.given) e.func.array_params) (nat_le e.func.array_params e.func.arrays)
+          (equal (length e.given) e.func.array_params h.given) (at_most e.func.array_params e.func.arrays room') in
+          let room = both_true (nat_le e.func.params (length s.operands))
+          (nat_le e.func.params e.func.slots && (nat_eq (length e.given) e.func.array_params && nat_le e.func.array_params e.func.arrays))
+          (at_most e.func.params (length s.operands) enough)
           (both_true (nat_le e.func.params e.func.slots) (nat_eq (length e.given) e.func.array_params && nat_le e.func.array_params e.func.arrays) (at_most e.func.params e.func.slots f.room) some) in
           let keeps = both_true (may_take e.kind e.target s.slots) (may_keep e.kind (drop e.func.params s.operands)) (may_take_it e.kind e.target h.target) (may_keep_it e.kind h.keeps) in
           let may = both_true (has_room e.func s.operands e.given) (has_readers e.func e.lent && (may_take e.kind e.target s.slots && may_keep e.kind (drop e.func.params s.operands))) room
@@ -244,11 +302,13 @@ module _ (code : Code) (fits : Fits code) where
           let resumes : Resumes code fits e.func (waiting_at s e) s.around = record {
             seat = next_seat s.place seat (s.place + 1) (left_by e.kind e.target) h.leads;
             enough = omega (arith, many, room');
-            apart = λ a k. not_in_first a (map slot_taken e.taken) (slots_in s.arrived) (not_in_first a (map slot_taken e.taken ++ slots_in s.arrived) (all_of (arrays_round s.around)) (arrays_gone.apart a k));
+            apart = λ a k. not_in_first a (map slot_taken e.taken) (slots_in s.arrived)
+                (not_in_first a (map slot_taken e.taken ++ slots_in s.arrived) (all_of (arrays_round s.around)) (arrays_gone.apart a k));
             on = waits e.kind e.target h.keeps h.target h.gives h.leads;
           } in
           subst (GoodTransition code fits) (sym (taken (may_begin s e) (On (begun s e)) Stuck may))
-          (starts_well h.index e.func h.is e.arguments e.given e.lent e.depth (Caller (waiting_at s e) ∷ s.around) (inside (ticked s.trace)) h.arguments h.given h.lent refl refl tt (resumes, good.others))
+          (starts_well h.index e.func h.is e.arguments e.given e.lent e.depth (Caller (waiting_at s e) ∷ s.around)
+          (inside (ticked s.trace)) h.arguments h.given h.lent refl refl tt (resumes, good.others))
 
     -- the function that a call names, and the slots of the arrays that it takes
     record Named (function : ℕ) (passed : List ℕ) : Type 0 where
@@ -296,10 +356,26 @@ module _ (code : Code) (fits : Fits code) where
     enough_so Spawned params k = let n = g.as_many in omega (arith, n, eq_of params shape.operands k)
 
     -- a call with the arrays in these slots, whole
-    whole_enters : (kind : CallKind) (site target : Option ℕ) (depth : ℕ) (function : ℕ) (passed : List ℕ) (n : Named function passed) (given : List (List ℤ)) (lent : Readers) (frozen : Row) → length given ≡ length passed → length lent ≡ n.func.readers → AllThere passed s.arrays
+    whole_enters : (kind : CallKind) (site target : Option ℕ) (depth : ℕ) (function : ℕ) (passed : List ℕ) (n : Named function passed)
+        (given : List (List ℤ)) (lent : Readers) (frozen : Row) → length given ≡ length passed → length lent ≡ n.func.readers → AllThere passed s.arrays
         → has_arguments kind n.func.params shape.operands ≡ true → has_target shape target ≡ true → ((a : ℕ) → target ≡ Some a → n.func.gives_int ≡ true)
-        → FlowsInto table (s.place + 1) (record shape { operands = shape.operands - n.func.params; empty = with_target kind target shape.empty; gone = with_passed kind passed shape.gone; frozen = frozen })
-        → Enters (record { kind = kind; site = site; target = target; depth = depth; func = n.func; arguments = arguments_of n.func s.operands; given = given; taken = map (λ a. Whole a) passed; lent = lent })
+        → FlowsInto table (s.place + 1) (record shape {
+          operands = shape.operands - n.func.params;
+          empty = with_target kind target shape.empty;
+          gone = with_passed kind passed shape.gone;
+          frozen = frozen;
+        })
+        → Enters (record {
+          kind = kind;
+          site = site;
+          target = target;
+          depth = depth;
+          func = n.func;
+          arguments = arguments_of n.func s.operands;
+          given = given;
+          taken = map (λ a. Whole a) passed;
+          lent = lent;
+        })
     whole_enters kind site target depth function passed n given lent frozen e e' there keeps has gives l = record {
       index = function;
       is = n.is;
@@ -313,7 +389,12 @@ module _ (code : Code) (fits : Fits code) where
       gives = gives;
       keeps = keeps;
       frozen = frozen;
-      leads = subst (λ p. FlowsInto table (s.place + 1) (record shape { operands = shape.operands - n.func.params; empty = with_target kind target shape.empty; gone = with_passed kind p shape.gone; frozen = frozen })) (sym (whole_slots passed)) l;
+      leads = subst (λ p. FlowsInto table (s.place + 1) (record shape {
+        operands = shape.operands - n.func.params;
+        empty = with_target kind target shape.empty;
+        gone = with_passed kind p shape.gone;
+        frozen = frozen;
+      })) (sym (whole_slots passed)) l;
     }
 
     -- the same, by the name of its function
@@ -321,8 +402,15 @@ module _ (code : Code) (fits : Fits code) where
     params_are function passed n = ap params_of n.is
 
     enters_well : (kind : CallKind) (c : Callee) → (names_callee code seat.func kind c && names_lent code seat.func c.function (passed_by code c.passed) (lent_by code c.lent)) ≡ true
-        → ((has_arguments kind (params_of (slice_get code.funcs c.function)) shape.operands && (has_target shape c.target && has_arrays shape (passed_by code c.passed))) && has_loans shape (lent_by code c.lent)) ≡ true
-        → FlowsInto table (s.place + 1) (record shape { operands = shape.operands - params_of (slice_get code.funcs c.function); empty = with_target kind c.target shape.empty; gone = with_passed kind (passed_by code c.passed) shape.gone; frozen = with_lent kind (lent_by code c.lent) shape.frozen })
+        → ((has_arguments kind (params_of (slice_get code.funcs c.function)) shape.operands
+        && (has_target shape c.target && has_arrays shape (passed_by code c.passed))) && has_loans shape (lent_by code c.lent)) ≡ true
+        → FlowsInto table (s.place + 1) (record shape {
+          operands = shape.operands - params_of (slice_get code.funcs c.function);
+          empty = with_target kind c.target shape.empty;
+          gone = with_passed kind (passed_by code c.passed) shape.gone;
+          frozen =
+              with_lent kind (lent_by code c.lent) shape.frozen;
+        })
         → GoodTransition code fits (enter s kind c (passed_by code c.passed) (lent_by code c.lent) (slice_get code.funcs c.function))
     enters_well kind c names found l =
         let passed = passed_by code c.passed in
@@ -332,19 +420,35 @@ module _ (code : Code) (fits : Fits code) where
         let named_lent = second_true (names_callee code seat.func kind c) (names_lent code seat.func c.function passed loans) names in
         let r = first_true (has_arguments kind params shape.operands && (has_target shape c.target && has_arrays shape passed)) (has_loans shape loans) found in
         let f = named c.function passed (first_true (names_passed code seat.func c.function passed) _ n) in
-        let target = second_true (is_site kind c (slice_get code.sites (c.site - 1))) (names_target code seat.func c c.target) (second_true (nat_lt 0 c.site) (is_site kind c (slice_get code.sites (c.site - 1)) && names_target code seat.func c c.target) (second_true (names_passed code seat.func c.function passed) _ n)) in
-        let keeps = subst (λ k. has_arguments kind k shape.operands ≡ true) (params_are c.function passed f) (first_true (has_arguments kind params shape.operands) (has_target shape c.target && has_arrays shape passed) r) in
+        let target = second_true (is_site kind c (slice_get code.sites (c.site - 1))) (names_target code seat.func c c.target)
+        (second_true (nat_lt 0 c.site) (is_site kind c (slice_get code.sites (c.site - 1)) && names_target code seat.func c c.target)
+        (second_true (names_passed code seat.func c.function passed) _ n)) in
+        let keeps = subst (λ k. has_arguments kind k shape.operands ≡ true) (params_are c.function passed f)
+        (first_true (has_arguments kind params shape.operands) (has_target shape c.target && has_arrays shape passed) r) in
         let rest = second_true (has_arguments kind params shape.operands) (has_target shape c.target && has_arrays shape passed) r in
         let there = all_there seat.func.arrays passed f.slots (second_true (has_target shape c.target) (has_arrays shape passed) rest) in
         let given = there_arrays passed s.arrays there in
-        let loaned_all = all_loaned passed loans (second_true (nat_eq (length loans) (readers_of (slice_get code.funcs c.function))) (names_loans seat.func passed loans) named_lent) (second_true (has_arguments kind params shape.operands && (has_target shape c.target && has_arrays shape passed)) (has_loans shape loans) found) in
+        let loaned_all = all_loaned passed loans (second_true (nat_eq (length loans) (readers_of (slice_get code.funcs c.function)))
+        (names_loans seat.func passed loans) named_lent) (second_true (has_arguments kind params shape.operands
+        && (has_target shape c.target && has_arrays shape passed)) (has_loans shape loans) found) in
         let lent = there_lent loans (moved_out passed s.arrays) s.readers loaned_all in
         let frozen = with_lent kind loans shape.frozen in
-        let lead = subst (λ k. FlowsInto table (s.place + 1) (record shape { operands = shape.operands - k; empty = with_target kind c.target shape.empty; gone = with_passed kind passed shape.gone; frozen = frozen })) (params_are c.function passed f) l in
-        let enters = whole_enters kind (Some c.site) c.target (s.depth + 1) c.function passed f given.0 lent.0 frozen given.2 (lent.2 ∙ lent_many c.function passed loans f named_lent) there keeps (first_true (has_target shape c.target) (has_arrays shape passed) rest) (λ a e. gives f.func f.is a (subst (λ o. names_target code seat.func c o ≡ true) e target)) lead in
+        let lead = subst (λ k. FlowsInto table (s.place + 1) (record shape {
+          operands = shape.operands - k;
+          empty = with_target kind c.target shape.empty;
+          gone = with_passed kind passed shape.gone;
+          frozen = frozen;
+        })) (params_are c.function passed f) l in
+        let enters = whole_enters kind (Some c.site) c.target (s.depth + 1) c.function passed f given.0 lent.0 frozen given.2
+        (lent.2 ∙ lent_many c.function passed loans f named_lent) there keeps
+        (first_true (has_target shape c.target) (has_arrays shape passed) rest)
+        (λ a e. gives f.func f.is a (subst (λ o. names_target code seat.func c o ≡ true) e target)) lead in
         subst (λ o. GoodTransition code fits (enter s kind c passed loans o)) (sym f.is)
-        (subst (λ o. GoodTransition code fits (if nat_lt MOST_DEPTH (s.depth + 1) then Stops trap.TooDeep c.line s.trace.lines else on_arrays o (λ xs. on_arrays (lent_in loans (moved_out passed s.arrays) s.readers) (λ ys. begins s (call_of s kind c passed f.func xs ys))))) (sym given.1)
-        (subst (λ o. GoodTransition code fits (if nat_lt MOST_DEPTH (s.depth + 1) then Stops trap.TooDeep c.line s.trace.lines else on_arrays o (λ ys. begins s (call_of s kind c passed f.func given.0 ys)))) (sym lent.1)
+        (subst (λ o. GoodTransition code fits (if nat_lt MOST_DEPTH (s.depth + 1) then Stops trap.TooDeep c.line s.trace.lines
+        else on_arrays o (λ xs. on_arrays (lent_in loans (moved_out passed s.arrays) s.readers)
+        (λ ys. begins s (call_of s kind c passed f.func xs ys))))) (sym given.1)
+        (subst (λ o. GoodTransition code fits (if nat_lt MOST_DEPTH (s.depth + 1) then Stops trap.TooDeep c.line s.trace.lines
+        else on_arrays o (λ ys. begins s (call_of s kind c passed f.func given.0 ys)))) (sym lent.1)
         (either (nat_lt MOST_DEPTH (s.depth + 1)) _ (begins_well _ enters))))
       where
         gives : (f : Func) → slice_get code.funcs c.function ≡ Some f → (a : ℕ) → names_target code seat.func c (Some a) ≡ true → f.gives_int ≡ true
@@ -354,8 +458,13 @@ module _ (code : Code) (fits : Fits code) where
         either true w h = tt
         either false w h = h
 
-    recurs_well : (kind : CallKind) (c : Inner) → names_inner code seat.func c ≡ true → (has_arguments kind (params_of (slice_get code.funcs c.function)) shape.operands && has_arrays shape (passed_by code c.passed)) ≡ true
-        → FlowsInto table (s.place + 1) (record shape { operands = shape.operands - params_of (slice_get code.funcs c.function); empty = with_target kind None shape.empty; gone = with_passed kind (passed_by code c.passed) shape.gone })
+    recurs_well : (kind : CallKind) (c : Inner) → names_inner code seat.func c ≡ true
+        → (has_arguments kind (params_of (slice_get code.funcs c.function)) shape.operands && has_arrays shape (passed_by code c.passed)) ≡ true
+        → FlowsInto table (s.place + 1) (record shape {
+          operands = shape.operands - params_of (slice_get code.funcs c.function);
+          empty = with_target kind None shape.empty;
+          gone = with_passed kind (passed_by code c.passed) shape.gone;
+        })
         → GoodTransition code fits (recur s kind (passed_by code c.passed) (slice_get code.funcs c.function))
     recurs_well kind c names r l =
         let passed = passed_by code c.passed in
@@ -365,11 +474,24 @@ module _ (code : Code) (fits : Fits code) where
         let keeps = subst (λ k. has_arguments kind k shape.operands ≡ true) (params_are c.function passed f) (first_true (has_arguments kind params shape.operands) (has_arrays shape passed) r) in
         let there = all_there seat.func.arrays passed f.slots (second_true (has_arguments kind params shape.operands) (has_arrays shape passed) r) in
         let given = there_arrays passed s.arrays there in
-        let lead = subst (λ k. FlowsInto table (s.place + 1) (record shape { operands = shape.operands - k; empty = with_target kind None shape.empty; gone = with_passed kind passed shape.gone })) (params_are c.function passed f) l in
+        let lead = subst (λ k. FlowsInto table (s.place + 1) (record shape
+        { operands = shape.operands - k; empty = with_target kind None shape.empty; gone = with_passed kind passed shape.gone }))
+        (params_are c.function passed f) l in
         let none_lent = lent_many c.function passed [] f (second_true (names_passed code seat.func c.function passed) (names_lent code seat.func c.function passed []) names) in
         let enters = whole_enters kind None None s.depth c.function passed f given.0 [] shape.frozen given.2 none_lent there keeps refl (λ a e. absurd (none a e)) lead in
         subst (λ o. GoodTransition code fits (recur s kind passed o)) (sym f.is)
-        (subst (λ o. GoodTransition code fits (on_arrays o (λ xs. begins s (record { kind = kind; site = None; target = None; depth = s.depth; func = f.func; arguments = arguments_of f.func s.operands; given = xs; taken = map (λ a. Whole a) passed; lent = [] })))) (sym given.1)
+        (subst (λ o. GoodTransition code fits (on_arrays o (λ xs. begins s
+        (record {
+          kind = kind;
+          site = None;
+          target = None;
+          depth = s.depth;
+          func = f.func;
+          arguments = arguments_of f.func s.operands;
+          given = xs;
+          taken = map (λ a. Whole a) passed;
+          lent = [];
+        })))) (sym given.1)
         (begins_well _ enters))
       where
         none : (a : ℕ) → None ≡ Some a → ⊥
@@ -392,14 +514,19 @@ module _ (code : Code) (fits : Fits code) where
         let given = there_arrays passed s.arrays there in
         let lead = subst (λ k. FlowsInto table (s.place + 1) (record shape { operands = shape.operands - k })) same l in
         subst (λ o. GoodTransition code fits (start s line passed o)) (sym f.is)
-        (subst (λ o. GoodTransition code fits (on_arrays o (λ xs. on_range (arguments_of f.func s.operands) (λ low high captured. looped s line passed f.func xs low captured (loop_turns low high xs))))) (sym given.1)
-        (ranges f.func f.is f.many none_lent keeps given.0 given.2 there lead (arguments_of f.func s.operands) (arguments_count f.func (enough_so Plain f.func.params keeps)) (omega (arith, two, same))))
+        (subst (λ o. GoodTransition code fits (on_arrays o (λ xs. on_range (arguments_of f.func s.operands)
+        (λ low high captured. looped s line passed f.func xs low captured (loop_turns low high xs))))) (sym given.1)
+        (ranges f.func f.is f.many none_lent keeps given.0 given.2 there lead (arguments_of f.func s.operands)
+        (arguments_count f.func (enough_so Plain f.func.params keeps)) (omega (arith, two, same))))
       where
         none : (a : ℕ) → None ≡ Some a → ⊥
         none a e = cc
 
-        loops : (f : Func) → slice_get code.funcs c.function ≡ Some f → length (passed_by code c.passed) ≡ f.array_params → 0 ≡ f.readers → nat_le f.params shape.operands ≡ true → (given : List (List ℤ)) → length given ≡ length (passed_by code c.passed) → AllThere (passed_by code c.passed) s.arrays
-            → FlowsInto table (s.place + 1) (record shape { operands = shape.operands - f.params }) → (low : ℤ) (captured : List ℤ) → length captured + 2 ≡ f.params → (turns : Result) → GoodTransition code fits (looped s line (passed_by code c.passed) f given low captured turns)
+        loops : (f : Func) → slice_get code.funcs c.function ≡ Some f → length (passed_by code c.passed) ≡ f.array_params → 0 ≡ f.readers
+            → nat_le f.params shape.operands ≡ true → (given : List (List ℤ)) → length given ≡ length (passed_by code c.passed)
+            → AllThere (passed_by code c.passed) s.arrays
+            → FlowsInto table (s.place + 1) (record shape { operands = shape.operands - f.params }) → (low : ℤ) (captured : List ℤ)
+            → length captured + 2 ≡ f.params → (turns : Result) → GoodTransition code fits (looped s line (passed_by code c.passed) f given low captured turns)
         loops f is many none_lent keeps given e there lead low captured count (Fails trap) = tt
         loops f is many none_lent keeps given e there lead low captured count (Value m) =
             let same = part_slots (natural low) (passed_by code c.passed) given e in
@@ -431,17 +558,22 @@ module _ (code : Code) (fits : Fits code) where
               leads = lead;
             })
 
-        ranges : (f : Func) → slice_get code.funcs c.function ≡ Some f → length (passed_by code c.passed) ≡ f.array_params → 0 ≡ f.readers → nat_le f.params shape.operands ≡ true → (given : List (List ℤ)) → length given ≡ length (passed_by code c.passed) → AllThere (passed_by code c.passed) s.arrays
+        ranges : (f : Func) → slice_get code.funcs c.function ≡ Some f → length (passed_by code c.passed) ≡ f.array_params → 0 ≡ f.readers
+            → nat_le f.params shape.operands ≡ true → (given : List (List ℤ)) → length given ≡ length (passed_by code c.passed)
+            → AllThere (passed_by code c.passed) s.arrays
             → FlowsInto table (s.place + 1) (record shape { operands = shape.operands - f.params }) → (arguments : List ℤ) → length arguments ≡ f.params → 2 ≤ f.params
             → GoodTransition code fits (on_range arguments (λ low high captured. looped s line (passed_by code c.passed) f given low captured (loop_turns low high given)))
         ranges f is many none_lent keeps given e there lead [] n two = absurd (omega (arith, n, two))
         ranges f is many none_lent keeps given e there lead (low ∷ []) n two = absurd (omega (arith, n, two))
-        ranges f is many none_lent keeps given e there lead (low ∷ high ∷ captured) n two = loops f is many none_lent keeps given e there lead low captured (omega (arith, n)) (loop_turns low high given)
+        ranges f is many none_lent keeps given e there lead (low ∷ high ∷ captured) n two =
+            loops f is many none_lent keeps given e there lead low captured (omega (arith, n)) (loop_turns low high given)
 
     -- the same call goes on, with so many operands
-    more : (n : ℕ) (to : State) → to ≡ record s { place = to.place; operands = to.operands; trace = to.trace } → n ≡ length to.operands → FlowsInto table to.place (record shape { operands = n }) → GoodState code fits to
+    more : (n : ℕ) (to : State) → to ≡ record s { place = to.place; operands = to.operands; trace = to.trace } → n ≡ length to.operands
+        → FlowsInto table to.place (record shape { operands = n }) → GoodState code fits to
     more n to same e l = subst (GoodState code fits) (sym same)
-        (arrives s.place seat (record shape { operands = n }) (record s { place = to.place; operands = to.operands; trace = to.trace }) l (record { as_many = e; ints = g.ints; arrays = g.arrays; readers = g.readers; cuts = g.cuts }) good.others)
+        (arrives s.place seat (record shape { operands = n }) (record s { place = to.place; operands = to.operands; trace = to.trace }) l
+        (record { as_many = e; ints = g.ints; arrays = g.arrays; readers = g.readers; cuts = g.cuts }) good.others)
 
     -- a full array slot is written
     more_array : (n a : ℕ) (xs : List ℤ) (rest : List ℤ) → is_full (slice_get s.arrays a) ≡ true → n ≡ length rest → FlowsInto table (s.place + 1) (record shape { operands = n })
@@ -461,22 +593,26 @@ module _ (code : Code) (fits : Fits code) where
     slot_well (Some None) go h k = cc
     slot_well (Some (Some x)) go h k = k x
 
-    operates_well : (line : ℕ) (rest : List ℤ) (r : Result) (n : ℕ) → FlowsInto table (s.place + 1) (record shape { operands = n }) → n ≡ length rest + 1 → GoodTransition code fits (operated s line rest r)
+    operates_well : (line : ℕ) (rest : List ℤ) (r : Result) (n : ℕ) → FlowsInto table (s.place + 1) (record shape { operands = n })
+        → n ≡ length rest + 1 → GoodTransition code fits (operated s line rest r)
     operates_well line rest (Value v) n l e = more n _ refl (omega (arith, e)) l
     operates_well line rest (Fails trap) n l e = tt
 
-    sets_well : (a line : ℕ) (rest : List ℤ) (make : ℤ → List ℤ) (r : Result) (n : ℕ) → is_full (slice_get s.arrays a) ≡ true → FlowsInto table (s.place + 1) (record shape { operands = n }) → n ≡ length rest → GoodTransition code fits (set_array s a line rest make r)
+    sets_well : (a line : ℕ) (rest : List ℤ) (make : ℤ → List ℤ) (r : Result) (n : ℕ) → is_full (slice_get s.arrays a) ≡ true
+        → FlowsInto table (s.place + 1) (record shape { operands = n }) → n ≡ length rest → GoodTransition code fits (set_array s a line rest make r)
     sets_well a line rest make (Value v) n there l e = more_array n a (make v) rest there e l
     sets_well a line rest make (Fails trap) n there l e = tt
 
-    top_well : (go : ℤ → List ℤ → Transition) → nat_le 1 shape.operands ≡ true → ((v : ℤ) (rest : List ℤ) → shape.operands ≡ length rest + 1 → GoodTransition code fits (go v rest)) → GoodTransition code fits (on_top s go)
+    top_well : (go : ℤ → List ℤ → Transition) → nat_le 1 shape.operands ≡ true
+        → ((v : ℤ) (rest : List ℤ) → shape.operands ≡ length rest + 1 → GoodTransition code fits (go v rest)) → GoodTransition code fits (on_top s go)
     top_well go enough k = cases s.operands g.as_many
       where
         cases : (ops : List ℤ) → shape.operands ≡ length ops → GoodTransition code fits (on_top (record s { operands = ops }) go)
         cases [] e = absurd (omega (arith, e, le_of 1 shape.operands enough))
         cases (v ∷ rest) e = k v rest (omega (arith, e))
 
-    two_well : (go : ℤ → ℤ → List ℤ → Transition) → nat_le 2 shape.operands ≡ true → ((v w : ℤ) (rest : List ℤ) → shape.operands ≡ length rest + 2 → GoodTransition code fits (go v w rest)) → GoodTransition code fits (on_two s go)
+    two_well : (go : ℤ → ℤ → List ℤ → Transition) → nat_le 2 shape.operands ≡ true
+        → ((v w : ℤ) (rest : List ℤ) → shape.operands ≡ length rest + 2 → GoodTransition code fits (go v w rest)) → GoodTransition code fits (on_two s go)
     two_well go enough k = cases s.operands g.as_many
       where
         cases : (ops : List ℤ) → shape.operands ≡ length ops → GoodTransition code fits (on_two (record s { operands = ops }) go)
@@ -484,7 +620,8 @@ module _ (code : Code) (fits : Fits code) where
         cases (w ∷ []) e = absurd (omega (arith, e, le_of 2 shape.operands enough))
         cases (w ∷ v ∷ rest) e = k v w rest (omega (arith, e))
 
-    adds_well : (o : Option Name) (v : ℤ) (rest : List ℤ) → (name : Name) × (o ≡ Some name) → shape.operands ≡ length rest + 1 → FlowsInto table (s.place + 1) (popped shape) → GoodTransition code fits (adds s o v rest)
+    adds_well : (o : Option Name) (v : ℤ) (rest : List ℤ) → (name : Name) × (o ≡ Some name) → shape.operands ≡ length rest + 1
+        → FlowsInto table (s.place + 1) (popped shape) → GoodTransition code fits (adds s o v rest)
     adds_well None v rest h e l = absurd (none h.0 h.1)
       where
         none : (name : Name) → None ≡ Some name → ⊥
@@ -493,7 +630,8 @@ module _ (code : Code) (fits : Fits code) where
 
     opens_well : (tag : Option Name) → FlowsInto table (s.place + 1) (opened_shape shape (outer_of shape)) → GoodTransition code fits (opened s tag None)
     opens_well tag l =
-        arrives s.place seat (opened_shape shape (outer_of shape)) (record s { place = s.place + 1; results = []; arrived = []; around = Block (opened_at s tag None) ∷ s.around; trace = inside (ticked s.trace) }) l
+        arrives s.place seat (opened_shape shape (outer_of shape)) (record s
+        { place = s.place + 1; results = []; arrived = []; around = Block (opened_at s tag None) ∷ s.around; trace = inside (ticked s.trace) }) l
         (record {
           as_many = g.as_many;
           ints = with_block seat.func.slots shape.empty (empty_rows shape.outer) s.slots (slots_in s.results) (ints_round s.around) (length shape.empty) g.ints.row_holds.as_wide g.ints;
@@ -528,7 +666,8 @@ module _ (code : Code) (fits : Fits code) where
           as_many = k.as_many;
           ints = with_outer seat.func.slots (none_empty (length shape.empty)) o.empty (empty_rows outer) (settled s.results s.slots) (slots_in b.results) (ints_round around) k.ints;
           arrays = subst (λ c. Holds seat.func.arrays o.gone (gone_rows outer) (settled s.arrived s.arrays) (slot_cut c ++ slots_in b.arrived) (arrays_round around)) resumes_uncut
-              (with_outer seat.func.arrays (none_empty (length shape.gone)) o.gone (gone_rows outer) (settled s.arrived s.arrays) (slot_cut b.cut ++ slots_in b.arrived) (arrays_round around) k.arrays);
+              (with_outer seat.func.arrays (none_empty (length shape.gone)) o.gone (gone_rows outer) (settled s.arrived s.arrays)
+              (slot_cut b.cut ++ slots_in b.arrived) (arrays_round around) k.arrays);
           readers = k.readers;
           cuts = k.cuts.1;
         }) others)
@@ -541,7 +680,8 @@ module _ (code : Code) (fits : Fits code) where
     abbrev cut_slots : Halves → List ℕ
     cut_slots h = h.array ∷ h.left ∷ h.right ∷ []
 
-    cuts_well : (h : Halves) (line : ℕ) (xs rest : List ℤ) (r : Result) → AllThere (cut_slots h) s.arrays → shape.operands ≡ length rest + 1 → FlowsInto table (s.place + 1) (opened_shape (popped shape) (cut_outer shape h)) → GoodTransition code fits (cuts s h line xs rest r)
+    cuts_well : (h : Halves) (line : ℕ) (xs rest : List ℤ) (r : Result) → AllThere (cut_slots h) s.arrays → shape.operands ≡ length rest + 1
+        → FlowsInto table (s.place + 1) (opened_shape (popped shape) (cut_outer shape h)) → GoodTransition code fits (cuts s h line xs rest r)
     cuts_well h line xs rest (Fails trap) there e l = tt
     cuts_well h line xs rest (Value v) there e l =
         let gone = slice_set s.arrays h.array None in
@@ -561,10 +701,12 @@ module _ (code : Code) (fits : Fits code) where
         let round = arrays_round s.around in
         let waits = h.array ∷ slots_in s.arrived in
         let taken_out = with_taken seat.func.arrays shape.gone rows s.arrays (slots_in s.arrived) round h.array there.1 g.arrays in
-        let both = with_slot seat.func.arrays row rows (slice_set gone h.left (Some left)) waits round h.right right right_there2 (with_slot seat.func.arrays row rows gone waits round h.left left left_there taken_out) in
+        let both = with_slot seat.func.arrays row rows (slice_set gone h.left (Some left)) waits round h.right right right_there2
+        (with_slot seat.func.arrays row rows gone waits round h.left left left_there taken_out) in
         let s' : State = record s { operands = rest; arrays = cut_arrays h xs (natural v) s.arrays } in
         subst (GoodTransition code fits) (sym (taken (may_cut h s.arrays) (opened s' None (Some h)) Stuck may))
-        (arrives s.place seat (opened_shape (popped shape) (cut_outer shape h)) (record s' { place = s.place + 1; results = []; arrived = []; around = Block (opened_at s' None (Some h)) ∷ s.around; trace = inside (ticked s.trace) }) l
+        (arrives s.place seat (opened_shape (popped shape) (cut_outer shape h))
+        (record s' { place = s.place + 1; results = []; arrived = []; around = Block (opened_at s' None (Some h)) ∷ s.around; trace = inside (ticked s.trace) }) l
         (record {
           as_many = omega (arith, e);
           ints = with_block seat.func.slots shape.empty (empty_rows shape.outer) s.slots (slots_in s.results) (ints_round s.around) (length shape.empty) g.ints.row_holds.as_wide g.ints;
@@ -590,7 +732,8 @@ module _ (code : Code) (fits : Fits code) where
             k.arrays.awaited a (omega (arith, row_there o.gone a own, k.arrays.rows_hold.0.as_wide, k.arrays.as_wide))
             (none_waits seat.func.arrays (gone_rows (o ∷ outer)) (arrays_round (Block b ∷ around)) a k.arrays.rows_hold all)
 
-        ends : (c : Halves) → (full_in_all (gone_rows (o ∷ outer)) c.left && full_in_all (gone_rows (o ∷ outer)) c.right) ≡ true → b.cut ≡ Some c → FlowsInto table (s.place + 1) (record shape { empty = o.empty; gone = slice_set o.gone c.array false; frozen = o.frozen; outer = outer })
+        ends : (c : Halves) → (full_in_all (gone_rows (o ∷ outer)) c.left && full_in_all (gone_rows (o ∷ outer)) c.right) ≡ true → b.cut ≡ Some c
+            → FlowsInto table (s.place + 1) (record shape { empty = o.empty; gone = slice_set o.gone c.array false; frozen = o.frozen; outer = outer })
             → GoodTransition code fits (resumes_uncut (put_in s) b around (Some c))
         ends c there is lead =
             let all = gone_rows (o ∷ outer) in
@@ -603,12 +746,16 @@ module _ (code : Code) (fits : Fits code) where
             let round = arrays_round (Block b ∷ around) in
             let one = with_slot seat.func.arrays row rows (settled s.arrived s.arrays) [] round c.left [] left_there k.arrays in
             let two = with_slot seat.func.arrays row rows (slice_set (settled s.arrived s.arrays) c.left (Some [])) [] round c.right [] (still_right c.left c.right right_there) one in
-            let outside = subst (λ x. Holds seat.func.arrays o.gone (gone_rows outer) (slice_set (slice_set (settled s.arrived s.arrays) c.left (Some [])) c.right (Some [])) (slot_cut x ++ slots_in b.arrived) (arrays_round around)) is
-            (with_outer seat.func.arrays row o.gone (gone_rows outer) (slice_set (slice_set (settled s.arrived s.arrays) c.left (Some [])) c.right (Some [])) (slot_cut b.cut ++ slots_in b.arrived) (arrays_round around) two) in
+            let outside = subst (λ x. Holds seat.func.arrays o.gone (gone_rows outer)
+            (slice_set (slice_set (settled s.arrived s.arrays) c.left (Some [])) c.right (Some [])) (slot_cut x ++ slots_in b.arrived) (arrays_round around)) is
+            (with_outer seat.func.arrays row o.gone (gone_rows outer) (slice_set (slice_set (settled s.arrived s.arrays) c.left (Some [])) c.right
+            (Some [])) (slot_cut b.cut ++ slots_in b.arrived) (arrays_round around) two) in
             arrives s.place seat (record shape { empty = o.empty; gone = slice_set o.gone c.array false; frozen = o.frozen; outer = outer }) _ lead (record {
               as_many = k.as_many;
               ints = with_outer seat.func.slots (none_empty (length shape.empty)) o.empty (empty_rows outer) (settled s.results s.slots) (slots_in b.results) (ints_round around) k.ints;
-              arrays = with_filled seat.func.arrays o.gone (gone_rows outer) (slice_set (slice_set (settled s.arrived s.arrays) c.left (Some [])) c.right (Some [])) c.array (left ++ right) (slots_in b.arrived) (arrays_round around) outside;
+              arrays = with_filled seat.func.arrays o.gone (gone_rows outer)
+                  (slice_set (slice_set (settled s.arrived s.arrays) c.left (Some [])) c.right (Some [])) c.array (left ++ right) (slots_in b.arrived)
+                  (arrays_round around) outside;
               readers = k.readers;
               cuts = k.cuts.1;
             }) others))
@@ -616,7 +763,9 @@ module _ (code : Code) (fits : Fits code) where
             still_right : (a c' : ℕ) → is_full (slice_get (settled s.arrived s.arrays) c') ≡ true → is_full (slice_get (slice_set (settled s.arrived s.arrays) a (Some [])) c') ≡ true
             still_right a c' h' = set_full (settled s.arrived s.arrays) a c' [] (full_there (settled s.arrived s.arrays) c' h') (λ n. h')
 
-        by_cut : (c : Option Halves) → has_parts (gone_rows (o ∷ outer)) c ≡ true → c ≡ b.cut → FlowsInto table (s.place + 1) (record shape { empty = o.empty; gone = with_uncut c o.gone; frozen = o.frozen; outer = outer }) → GoodTransition code fits (resumes_uncut (put_in s) b around b.cut)
+        by_cut : (c : Option Halves) → has_parts (gone_rows (o ∷ outer)) c ≡ true → c ≡ b.cut
+            → FlowsInto table (s.place + 1) (record shape { empty = o.empty; gone = with_uncut c o.gone; frozen = o.frozen; outer = outer })
+            → GoodTransition code fits (resumes_uncut (put_in s) b around b.cut)
         by_cut None p is lead = cc
         by_cut (Some c) p is lead = subst (λ x. GoodTransition code fits (resumes_uncut (put_in s) b around x)) is (ends c p (sym is) lead)
 
@@ -634,12 +783,14 @@ module _ (code : Code) (fits : Fits code) where
         none (Caller w ∷ around) k a = tt
         none (Block b ∷ around) k a = absurd k
 
-    acts_well : (i : Instr) → names_well code seat.func s.place i ≡ true → is_ready code shape i ≡ true → FlowsIntoEach table (leaves code shape i) (nexts s.place i) → GoodTransition code fits (act code s (Some i))
+    acts_well : (i : Instr) → names_well code seat.func s.place i ≡ true → is_ready code shape i ≡ true
+        → FlowsIntoEach table (leaves code shape i) (nexts s.place i) → GoodTransition code fits (act code s (Some i))
     acts_well (instr.Push v) n r l = more (shape.operands + 1) _ refl (omega (arith, g.as_many)) l.0
     acts_well (instr.Load a) n r l = slot_well (slice_get s.slots a) _ (full_slot a r) (λ v. more (shape.operands + 1) _ refl (omega (arith, g.as_many)) l.0)
     acts_well (instr.Store a) n r l = top_well _ (second_true (has_slot shape a) (nat_le 1 shape.operands) r) (λ v rest e.
         let there = full_slot a (first_true (has_slot shape a) (nat_le 1 shape.operands) r) in
-        subst (GoodTransition code fits) (sym (taken (is_full (slice_get s.slots a)) (On (record s { place = s.place + 1; operands = rest; slots = slice_set s.slots a (Some v); trace = ticked s.trace })) Stuck there))
+        subst (GoodTransition code fits) (sym (taken (is_full (slice_get s.slots a))
+        (On (record s { place = s.place + 1; operands = rest; slots = slice_set s.slots a (Some v); trace = ticked s.trace })) Stuck there))
         (arrives s.place seat (popped shape) (record s { place = s.place + 1; operands = rest; slots = slice_set s.slots a (Some v); trace = ticked s.trace }) l.0
         (record {
           as_many = omega (arith, e);
@@ -664,14 +815,16 @@ module _ (code : Code) (fits : Fits code) where
     acts_well (instr.NewArray a line) n found l =
         let r = first_true (has_array shape a && nat_le 1 shape.operands) (is_no_part a shape.outer) found in
         let there = full_array a (first_true (has_array shape a) (nat_le 1 shape.operands) r) in
-        slot_well (slice_get s.arrays a) _ there (λ old. top_well _ (second_true (has_array shape a) (nat_le 1 shape.operands) r) (λ v rest e. sets_well a line rest _ (new_length v) (shape.operands - 1) there l.0 (omega (arith, e))))
+        slot_well (slice_get s.arrays a) _ there (λ old. top_well _ (second_true (has_array shape a) (nat_le 1 shape.operands) r)
+        (λ v rest e. sets_well a line rest _ (new_length v) (shape.operands - 1) there l.0 (omega (arith, e))))
     acts_well (instr.Length a) n r l = slot_well (slice_get s.arrays a) _ (full_array a r) (λ xs. more (shape.operands + 1) _ refl (omega (arith, g.as_many)) l.0)
     acts_well (instr.Element a line) n r l =
         slot_well (slice_get s.arrays a) _ (full_array a (first_true (has_array shape a) (nat_le 1 shape.operands) r)) (λ xs.
         top_well _ (second_true (has_array shape a) (nat_le 1 shape.operands) r) (λ v rest e. operates_well line rest (in_bounds (element xs v)) shape.operands l.0 e))
     acts_well (instr.SetElement a line) n r l =
         let there = full_array a (first_true (has_array shape a) (nat_le 2 shape.operands) r) in
-        slot_well (slice_get s.arrays a) _ there (λ xs. two_well _ (second_true (has_array shape a) (nat_le 2 shape.operands) r) (λ i v rest e. sets_well a line rest _ (written xs i v) (shape.operands - 2) there l.0 (omega (arith, e))))
+        slot_well (slice_get s.arrays a) _ there (λ xs. two_well _ (second_true (has_array shape a) (nat_le 2 shape.operands) r)
+        (λ i v rest e. sets_well a line rest _ (written xs i v) (shape.operands - 2) there l.0 (omega (arith, e))))
     acts_well (instr.ReadLength a) n r l = slot_well (reader s.readers a) _ (reader_there a n) (λ xs. more (shape.operands + 1) _ refl (omega (arith, g.as_many)) l.0)
     acts_well (instr.ReadElement a line) n r l =
         slot_well (reader s.readers a) _ (reader_there a n) (λ xs. top_well _ r (λ v rest e. operates_well line rest (in_bounds (element xs v)) shape.operands l.0 e))
@@ -679,14 +832,23 @@ module _ (code : Code) (fits : Fits code) where
         let r = first_true (has_arrays shape (cut_slots h) && nat_le 1 shape.operands) (are_no_parts h shape.outer) found in
         let named = first_true (names_arrays seat.func.arrays (cut_slots h)) (nat_le seat.func.array_params h.left && nat_le seat.func.array_params h.right) n in
         let there = all_there seat.func.arrays (cut_slots h) named (first_true (has_arrays shape (cut_slots h)) (nat_le 1 shape.operands) r) in
-        slot_well (slice_get s.arrays h.array) _ there.1 (λ xs. top_well _ (second_true (has_arrays shape (cut_slots h)) (nat_le 1 shape.operands) r) (λ v rest e. cuts_well h line xs rest (cut_place xs v) there e l.0))
+        slot_well (slice_get s.arrays h.array) _ there.1 (λ xs. top_well _ (second_true (has_arrays shape (cut_slots h)) (nat_le 1 shape.operands) r)
+        (λ v rest e. cuts_well h line xs rest (cut_place xs v) there e l.0))
     acts_well instr.EndCut n r l = uncuts_well shape.outer s.around (second_true (nat_eq 0 shape.operands) (can_uncut shape.outer) r) joined_here good.others l.0
-    acts_well instr.Sync n r l = arrives s.place seat after_join (record (put_in s) { place = s.place + 1; trace = synced s.trace }) l.0 (record { as_many = joined_here.as_many; ints = joined_here.ints; arrays = joined_here.arrays; readers = joined_here.readers; cuts = joined_here.cuts }) good.others
+    acts_well instr.Sync n r l = arrives s.place seat after_join (record (put_in s) { place = s.place + 1; trace = synced s.trace }) l.0
+        (record {
+          as_many = joined_here.as_many;
+          ints = joined_here.ints;
+          arrays = joined_here.arrays;
+          readers = joined_here.readers;
+          cuts = joined_here.cuts;
+        }) good.others
     acts_well (instr.Open Scope) n r l = opens_well None l.0
     acts_well (instr.Open (Region k)) n r l = region_well (slice_get code.tags k) (there_at code.tags k (lt_of k (length code.tags) n)) l.0
     acts_well instr.Close n r l = closes_well shape.outer s.around (second_true (nat_eq 0 shape.operands) (can_close shape.outer) r) joined_here good.others l.0
     acts_well instr.Print n r l = top_well _ r (λ v rest e. more (shape.operands - 1) _ refl (omega (arith, e)) l.0)
-    acts_well (instr.Reduce k) n r l = top_well _ r (λ v rest e. adds_well (slice_get (reducer_names code.reducers) k) v rest (there_at (reducer_names code.reducers) k (subst (λ n. k < n) (sym (length-map code.reducers (λ r. r.name))) (lt_of k (length code.reducers) n))) e l.0)
+    acts_well (instr.Reduce k) n r l = top_well _ r (λ v rest e. adds_well (slice_get (reducer_names code.reducers) k) v rest
+        (there_at (reducer_names code.reducers) k (subst (λ n. k < n) (sym (length-map code.reducers (λ r. r.name))) (lt_of k (length code.reducers) n))) e l.0)
     acts_well instr.ReturnValue n r l = top_well _ (first_true (nat_le 1 shape.operands) (none_open shape.outer) r) (λ v rest e.
         ends_well (Some v) (subst (λ b. IsGiven b (Some v)) (sym n) tt) (second_true (nat_le 1 shape.operands) (none_open shape.outer) r))
     acts_well instr.Return n r l = ends_well None (nothing seat.func.gives_int n) r
@@ -706,7 +868,16 @@ module _ (code : Code) (fits : Fits code) where
         cases (Some i) e =
             let h = fits.each seat.index seat.func seat.is_func in
             let w = h.is_table.within s.place shape seat.at in
-            record { instr = i; is = e; named = h.names s.place i w.0 w.1 e; ready = h.is_table.ready s.place shape i seat.at e; thawed = h.is_table.thawed s.place shape i seat.at e; leads = h.is_table.goes s.place shape i seat.at e; full = full_slot; full_array = full_array }
+            record {
+              instr = i;
+              is = e;
+              named = h.names s.place i w.0 w.1 e;
+              ready = h.is_table.ready s.place shape i seat.at e;
+              thawed = h.is_table.thawed s.place shape i seat.at e;
+              leads = h.is_table.goes s.place shape i seat.at e;
+              full = full_slot;
+              full_array = full_array;
+            }
 
     pub steps_well : GoodTransition code fits (step code s)
     steps_well = subst (λ o. GoodTransition code fits (act code s o)) (sym facts.is) (acts_well facts.instr facts.named facts.ready facts.leads)
@@ -729,7 +900,8 @@ module _ (code : Code) (fits : Fits code) where
   answered None h = h
   answered (Some o) h = refl
 
-  found_main : (o : Option Func) → slice_get code.funcs code.main ≡ o → (args : List ℤ) → length args ≡ params_of o → (n : ℕ) → is_none (option_map (λ r. answer_of (reducers_of code) r) (go_on (first_transition o args) n (λ s. steps code n s))) ≡ false
+  found_main : (o : Option Func) → slice_get code.funcs code.main ≡ o → (args : List ℤ) → length args ≡ params_of o → (n : ℕ)
+      → is_none (option_map (λ r. answer_of (reducers_of code) r) (go_on (first_transition o args) n (λ s. steps code n s))) ≡ false
   found_main None e args m n = absurd (none (sym (ap gives_value e) ∙ fits.main))
     where
       none : false ≡ true → ⊥

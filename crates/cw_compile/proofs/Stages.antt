@@ -96,7 +96,9 @@ failed f = Err f
 
 -- ---- the laws of the crates below
 
-module _ (one_cut : HasOneCut) (no_cut : FaultsExcludeCuts) (one_kind : FaultsExcludeOneAnother) (one_lexical : LexicalFaultHasOneLine) (one_name : NameFaultHasOneLine) (one_tree : (text : List ℕ) (ts : List Token) → HasOneTree text ts) (no_tree : (text : List ℕ) (ts : List Token) → FaultsAreOne text ts) (bytes : List ℕ) where
+module _ (one_cut : HasOneCut) (no_cut : FaultsExcludeCuts) (one_kind : FaultsExcludeOneAnother) (one_lexical : LexicalFaultHasOneLine)
+    (one_name : NameFaultHasOneLine) (one_tree : (text : List ℕ) (ts : List Token) → HasOneTree text ts) (no_tree : (text : List ℕ) (ts : List Token)
+    → FaultsAreOne text ts) (bytes : List ℕ) where
   after_tree_one : (p : Program) → IsOne (AfterTree p)
   after_tree_one p =
       keeps_one (limit_faults p) _ _ (keeps_one (type_faults p) _ _ (keeps_one (ownership_faults p) _ _ (keeps_one (loop_faults p) _ _ (keeps_one (program_faults p) _ _ (λ r s h k. h ∙ sym k)))))

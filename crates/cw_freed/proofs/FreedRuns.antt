@@ -44,7 +44,8 @@ module _ (frees : ℕ → Bool) where
   behind_join site (Work k ∷ es) = behind_join site es
   behind_join site (Series t ∷ es) = behind_join site es
   behind_join site (e.Fork t ∷ es) = behind_join site es
-  behind_join site (Join ∷ es) = ap (λ (x : Tree). Seq x (parts_of (freed_events frees site es)).1) (before_join site es) ∙ ap (λ (x : Tree). Seq (freed frees site (parts_of es).0) x) (behind_join site es)
+  behind_join site (Join ∷ es) = ap (λ (x : Tree). Seq x (parts_of (freed_events frees site es)).1) (before_join site es)
+      ∙ ap (λ (x : Tree). Seq (freed frees site (parts_of es).0) x) (behind_join site es)
 
   pub freed_tree : (site : ℕ) (es : List Event) → tree_of (freed_events frees site es) ≡ freed frees site (tree_of es)
   freed_tree site es = ap (λ (x : Tree). Seq x (parts_of (freed_events frees site es)).1) (before_join site es) ∙ ap (λ (x : Tree). Seq (freed frees site (parts_of es).0) x) (behind_join site es)
@@ -64,7 +65,9 @@ module _ (frees : ℕ → Bool) where
   freed_part site false None t = refl
   freed_part site false (Some m) t = refl
 
-  pub freed_closed : (o : Open) (site : ℕ) (es : List Event) → closed (record { spawned = o.spawned; mark = o.mark; outer = freed_events frees site o.outer }) (freed_events frees (inside o.mark site) es) ≡ freed_events frees site (closed o es)
+  pub freed_closed : (o : Open) (site : ℕ) (es : List Event) → closed
+      (record { spawned = o.spawned; mark = o.mark; outer = freed_events frees site o.outer }) (freed_events frees (inside o.mark site) es)
+      ≡ freed_events frees site (closed o es)
   freed_closed o site es =
       ap (λ (x : Tree). freed_events frees site o.outer ++ part_of o.spawned (marked o.mark x) ∷ []) (freed_tree (inside o.mark site) es)
       ∙ ap (λ (x : Event). freed_events frees site o.outer ++ x ∷ []) (freed_part site o.spawned o.mark (tree_of es))

@@ -20,7 +20,8 @@ fits_more : (burden : Burden) (os : List Open) (es : List Event) → FitsRun bur
 fits_more burden os es fits = let P : List Event → Type 0 = λ x. FitsRun burden os x in subst P (sym (append-nil es)) fits
 
 -- all is noted
-pub told : (old mid : BurdenedPath) (counted : ℕ) → NotesLate old mid counted → (burden : Burden) (os : List Open) (es : List Event) → work_in os es ≡ counted → FitsRun burden os es → TellsLate burden os es old → TellsWeight burden os es mid
+pub told : (old mid : BurdenedPath) (counted : ℕ) → NotesLate old mid counted → (burden : Burden) (os : List Open) (es : List Event)
+    → work_in os es ≡ counted → FitsRun burden os es → TellsLate burden os es old → TellsWeight burden os es mid
 told old mid counted notes burden os es work fits late =
     let P : List Event → Type 0 = λ x. TellsWeight burden os x mid in
     subst P (append-nil es) (notes burden os es [] (none_since (work_in os es) counted es work) (fits_more burden os es fits) late)
@@ -50,17 +51,20 @@ joins_late old mid new counted notes joins burden os es work fits spawned late =
     (subst P (append-nil es) (joins burden os es [] (none_since mid.noted counted es (noted_is burden os es mid counted work h)) (fits_more burden os es fits) spawned h))
 
 -- both paths
-pub both_start : (burden : Burden) (plain burdened : BurdenedPath) → ((b : Burden) → TellsWeight b [] [] plain) → ((b : Burden) → TellsWeight b [] [] burdened) → StartsBoth burden (record { burden = burden; plain = plain; burdened = burdened })
+pub both_start : (burden : Burden) (plain burdened : BurdenedPath) → ((b : Burden) → TellsWeight b [] [] plain)
+    → ((b : Burden) → TellsWeight b [] [] burdened) → StartsBoth burden (record { burden = burden; plain = plain; burdened = burdened })
 both_start burden plain burdened f g = record { burden_is = refl; plain = told_late no_burden [] [] plain (f no_burden); burdened = told_late burden [] [] burdened (g burden) }
 
-pub both_spawn : (old : Paths) (plain burdened : BurdenedPath) (counted : ℕ) (first : Bool) → SpawnsLate old.plain plain counted first → SpawnsLate old.burdened burdened counted first → SpawnsBoth old (record { burden = old.burden; plain = plain; burdened = burdened }) counted first
+pub both_spawn : (old : Paths) (plain burdened : BurdenedPath) (counted : ℕ) (first : Bool) → SpawnsLate old.plain plain counted first
+    → SpawnsLate old.burdened burdened counted first → SpawnsBoth old (record { burden = old.burden; plain = plain; burdened = burdened }) counted first
 both_spawn old plain burdened counted first f g burden mark os es work fits split h = record {
   burden_is = h.burden_is;
   plain = f no_burden mark os es work fits.plain split h.plain;
   burdened = g burden mark os es work fits.burdened split h.burdened;
 }
 
-pub both_end : (old : Paths) (plain burdened : BurdenedPath) (counted : ℕ) → EndsLate old.plain plain counted no_burden → EndsLate old.burdened burdened counted old.burden → EndsBoth old (record { burden = old.burden; plain = plain; burdened = burdened }) counted
+pub both_end : (old : Paths) (plain burdened : BurdenedPath) (counted : ℕ) → EndsLate old.plain plain counted no_burden
+    → EndsLate old.burdened burdened counted old.burden → EndsBoth old (record { burden = old.burden; plain = plain; burdened = burdened }) counted
 both_end old plain burdened counted f g burden o os es work fits spawned joined h =
     let P : Burden → Type 0 = λ x. EndsLate old.burdened burdened counted x in record {
       burden_is = h.burden_is;
@@ -68,14 +72,16 @@ both_end old plain burdened counted f g burden o os es work fits spawned joined 
       burdened = subst P h.burden_is g o os es work fits.burdened spawned joined h.burdened;
     }
 
-pub both_join : (old : Paths) (plain burdened : BurdenedPath) (counted : ℕ) → JoinsLate old.plain plain counted → JoinsLate old.burdened burdened counted → JoinsBoth old (record { burden = old.burden; plain = plain; burdened = burdened }) counted
+pub both_join : (old : Paths) (plain burdened : BurdenedPath) (counted : ℕ) → JoinsLate old.plain plain counted
+    → JoinsLate old.burdened burdened counted → JoinsBoth old (record { burden = old.burden; plain = plain; burdened = burdened }) counted
 both_join old plain burdened counted f g burden os es work fits spawned h = record {
   burden_is = h.burden_is;
   plain = f no_burden os es work fits.plain spawned h.plain;
   burdened = g burden os es work fits.burdened spawned h.burdened;
 }
 
-pub both_read : (old : Paths) (plain burdened : BurdenedPath) (counted a b : ℕ) → NotesLate old.plain plain counted → NotesLate old.burdened burdened counted → ReadsWeight plain a → ReadsWeight burdened b → ReadsBoth old counted (a, b)
+pub both_read : (old : Paths) (plain burdened : BurdenedPath) (counted a b : ℕ) → NotesLate old.plain plain counted
+    → NotesLate old.burdened burdened counted → ReadsWeight plain a → ReadsWeight burdened b → ReadsBoth old counted (a, b)
 both_read old plain burdened counted a b f g read readb burden es work fits joined h = (
   read no_burden es joined (told old.plain plain counted f no_burden [] es work fits.plain h.plain),
   readb burden es joined (told old.burdened burdened counted g burden [] es work fits.burdened h.burdened),

@@ -23,7 +23,8 @@ fits burden count os es small light w =
     let more : burden.charge + 1 ≤ MOST_BURDEN + 1 = omega arith in
     let b = mul-le count (burden.charge + 1) MOST_LIMIT (MOST_BURDEN + 1) small more in omega arith
 
-pub both_fit : (burden : Burden) (count counted : ℕ) (os : List Open) (es : List Event) (p : Paths) → count ≤ MOST_LIMIT → burden.charge ≤ MOST_BURDEN → TellsRun burden count counted os es p → FitBoth burden os es
+pub both_fit : (burden : Burden) (count counted : ℕ) (os : List Open) (es : List Event) (p : Paths) → count ≤ MOST_LIMIT
+    → burden.charge ≤ MOST_BURDEN → TellsRun burden count counted os es p → FitBoth burden os es
 both_fit burden count counted os es p small light h = record {
   plain = fits no_burden count os es small (omega arith) h.plain_within;
   burdened = fits burden count os es small light h.burdened_within;
@@ -35,11 +36,13 @@ within_ticked burden count j os es le w =
     let a = burdened_append burden os es (Work j ∷ []) in
     let c = one_more_time count (burden.charge + 1) in omega arith
 
-late_ticked : (burden : Burden) (j : ℕ) (os : List Open) (es : List Event) (p : BurdenedPath) → LatePathsWait → FitsRun burden os (es ++ Work j ∷ []) → TellsLate burden os es p → TellsLate burden os (es ++ Work j ∷ []) p
+late_ticked : (burden : Burden) (j : ℕ) (os : List Open) (es : List Event) (p : BurdenedPath) → LatePathsWait → FitsRun burden os (es ++ Work j ∷ [])
+    → TellsLate burden os es p → TellsLate burden os (es ++ Work j ∷ []) p
 late_ticked burden j os es p waits fit h =
     waits burden os es (Work j ∷ []) p (work_in os es + j) (record { goes_on = omega arith; instructions = (omega arith, omega arith) }) fit h
 
-pub run_ticked : (burden : Burden) (count counted j : ℕ) (os : List Open) (es : List Event) (p : Paths) → j ≤ 1 → LatePathsWait → count < MOST_LIMIT → burden.charge ≤ MOST_BURDEN → TellsRun burden count counted os es p → TellsRun burden (count + 1) (counted + j) os (es ++ Work j ∷ []) p
+pub run_ticked : (burden : Burden) (count counted j : ℕ) (os : List Open) (es : List Event) (p : Paths) → j ≤ 1 → LatePathsWait → count < MOST_LIMIT
+    → burden.charge ≤ MOST_BURDEN → TellsRun burden count counted os es p → TellsRun burden (count + 1) (counted + j) os (es ++ Work j ∷ []) p
 run_ticked burden count counted j os es p le waits small light h =
     let plain = within_ticked no_burden count j os es le h.plain_within in
     let burdened = within_ticked burden count j os es le h.burdened_within in record {
@@ -54,7 +57,8 @@ run_ticked burden count counted j os es p le waits small light h =
     }
 
 -- a part in series begins, and ends
-pub run_begun : (burden : Burden) (count counted : ℕ) (mark : Option Mark) (os : List Open) (es : List Event) (p : Paths) → TellsRun burden count counted os es p → TellsRun burden count counted (in_series mark es os) [] p
+pub run_begun : (burden : Burden) (count counted : ℕ) (mark : Option Mark) (os : List Open) (es : List Event) (p : Paths)
+    → TellsRun burden count counted os es p → TellsRun burden count counted (in_series mark es os) [] p
 run_begun burden count counted mark os es p h = record {
   work = sum_begun work work_adds (record { spawned = false; mark = mark; outer = es }) os ∙ h.work;
   plain_within = let a = h.plain_within in omega arith;
@@ -70,7 +74,8 @@ run_begun burden count counted mark os es p h = record {
 within_left : (burden : Burden) (count : ℕ) (o : Open) (os : List Open) (es : List Event) → IsWithin burden count (o ∷ os) es → IsWithin burden count os (closed o es)
 within_left burden count o os es w = let a = left_burdened_work burden o os es in omega arith
 
-pub run_ended : (burden : Burden) (count counted : ℕ) (o : Open) (os : List Open) (es : List Event) (p : Paths) → o.spawned ≡ false → has_spawned es ≡ false → TellsRun burden count counted (o ∷ os) es p → TellsRun burden count counted os (closed o es) p
+pub run_ended : (burden : Burden) (count counted : ℕ) (o : Open) (os : List Open) (es : List Event) (p : Paths) → o.spawned ≡ false
+    → has_spawned es ≡ false → TellsRun burden count counted (o ∷ os) es p → TellsRun burden count counted os (closed o es) p
 run_ended burden count counted o os es p spawned joined h = record {
   work = left_work o os es ∙ h.work;
   plain_within = within_left no_burden count o os es h.plain_within;
@@ -83,12 +88,16 @@ run_ended burden count counted o os es p spawned joined h = record {
 }
 
 -- a spawned part begins by an instruction, and ends
-within_forked : (burden : Burden) (count j : ℕ) (mark : Option Mark) (os : List Open) (es : List Event) → j ≤ 1 → IsWithin burden count os es → IsWithin burden (count + 1) (in_fork mark (es ++ Work j ∷ []) os) []
+within_forked : (burden : Burden) (count j : ℕ) (mark : Option Mark) (os : List Open) (es : List Event) → j ≤ 1 → IsWithin burden count os es
+    → IsWithin burden (count + 1) (in_fork mark (es ++ Work j ∷ []) os) []
 within_forked burden count j mark os es le w =
     let a = burdened_append burden os es (Work j ∷ []) in
     let c = one_more_time count (burden.charge + 1) in omega arith
 
-pub run_forked : (burden : Burden) (count counted j : ℕ) (first : Bool) (mark : Option Mark) (os : List Open) (es : List Event) (old new : Paths) → j ≤ 1 → LatePathsWait → count < MOST_LIMIT → burden.charge ≤ MOST_BURDEN → SpawnsBoth old new (counted + j) first → has_spawned (es ++ Work j ∷ []) ≡ not first → TellsRun burden count counted os es old → TellsRun burden (count + 1) (counted + j) (in_fork mark (es ++ Work j ∷ []) os) [] new
+pub run_forked : (burden : Burden) (count counted j : ℕ) (first : Bool) (mark : Option Mark) (os : List Open) (es : List Event) (old new : Paths)
+    → j ≤ 1 → LatePathsWait → count < MOST_LIMIT → burden.charge ≤ MOST_BURDEN → SpawnsBoth old new (counted + j) first
+    → has_spawned (es ++ Work j ∷ []) ≡ not first → TellsRun burden count counted os es old
+    → TellsRun burden (count + 1) (counted + j) (in_fork mark (es ++ Work j ∷ []) os) [] new
 run_forked burden count counted j first mark os es old new le waits small light spawns split h =
     let fs = es ++ Work j ∷ [] in
     let t = run_ticked burden count counted j os es old le waits small light h in record {
@@ -98,7 +107,9 @@ run_forked burden count counted j first mark os es old new le waits small light 
       tells = spawns burden mark os fs t.work (both_fit burden (count + 1) (counted + j) os fs old (omega arith) light t) split t.tells;
     }
 
-pub run_child_ended : (burden : Burden) (count counted : ℕ) (o : Open) (os : List Open) (es : List Event) (old new : Paths) → count ≤ MOST_LIMIT → burden.charge ≤ MOST_BURDEN → EndsBoth old new counted → o.spawned ≡ true → has_spawned es ≡ false → TellsRun burden count counted (o ∷ os) es old → TellsRun burden count counted os (closed o es) new
+pub run_child_ended : (burden : Burden) (count counted : ℕ) (o : Open) (os : List Open) (es : List Event) (old new : Paths) → count ≤ MOST_LIMIT
+    → burden.charge ≤ MOST_BURDEN → EndsBoth old new counted → o.spawned ≡ true → has_spawned es ≡ false
+    → TellsRun burden count counted (o ∷ os) es old → TellsRun burden count counted os (closed o es) new
 run_child_ended burden count counted o os es old new small light ends spawned joined h = record {
   work = left_work o os es ∙ h.work;
   plain_within = within_left no_burden count o os es h.plain_within;
@@ -110,7 +121,9 @@ run_child_ended burden count counted o os es old new small light ends spawned jo
 within_joined : (burden : Burden) (count : ℕ) (os : List Open) (es : List Event) → IsWithin burden count os es → IsWithin burden count os (es ++ Join ∷ [])
 within_joined burden count os es w = let a = burdened_append burden os es (Join ∷ []) in omega arith
 
-pub run_joined : (burden : Burden) (count counted : ℕ) (os : List Open) (es : List Event) (old new : Paths) → count ≤ MOST_LIMIT → burden.charge ≤ MOST_BURDEN → JoinsBoth old new counted → has_spawned es ≡ true → TellsRun burden count counted os es old → TellsRun burden count counted os (es ++ Join ∷ []) new
+pub run_joined : (burden : Burden) (count counted : ℕ) (os : List Open) (es : List Event) (old new : Paths) → count ≤ MOST_LIMIT
+    → burden.charge ≤ MOST_BURDEN → JoinsBoth old new counted → has_spawned es ≡ true → TellsRun burden count counted os es old
+    → TellsRun burden count counted os (es ++ Join ∷ []) new
 run_joined burden count counted os es old new small light joins spawned h = record {
   work = let a = h.work in let b = work_more os es Join in omega arith;
   plain_within = within_joined no_burden count os es h.plain_within;
@@ -118,11 +131,14 @@ run_joined burden count counted os es old new small light joins spawned h = reco
   tells = joins burden os es h.work (both_fit burden count counted os es old small light h) spawned h.tells;
 }
 
-late_joined : (burden : Burden) (os : List Open) (es : List Event) (p : BurdenedPath) → LatePathsWait → FitsRun burden os (es ++ Join ∷ []) → has_spawned es ≡ false → TellsLate burden os es p → TellsLate burden os (es ++ Join ∷ []) p
+late_joined : (burden : Burden) (os : List Open) (es : List Event) (p : BurdenedPath) → LatePathsWait → FitsRun burden os (es ++ Join ∷ [])
+    → has_spawned es ≡ false → TellsLate burden os es p → TellsLate burden os (es ++ Join ∷ []) p
 late_joined burden os es p waits fit none h =
     waits burden os es (Join ∷ []) p (work_in os es) (record { goes_on = omega arith; instructions = (none, omega arith) }) fit h
 
-pub run_unjoined : (burden : Burden) (count counted : ℕ) (os : List Open) (es : List Event) (p : Paths) → count ≤ MOST_LIMIT → burden.charge ≤ MOST_BURDEN → LatePathsWait → has_spawned es ≡ false → TellsRun burden count counted os es p → TellsRun burden count counted os (es ++ Join ∷ []) p
+pub run_unjoined : (burden : Burden) (count counted : ℕ) (os : List Open) (es : List Event) (p : Paths) → count ≤ MOST_LIMIT
+    → burden.charge ≤ MOST_BURDEN → LatePathsWait → has_spawned es ≡ false → TellsRun burden count counted os es p
+    → TellsRun burden count counted os (es ++ Join ∷ []) p
 run_unjoined burden count counted os es p small light waits none h =
     let plain = within_joined no_burden count os es h.plain_within in
     let burdened = within_joined burden count os es h.burdened_within in record {
@@ -143,7 +159,8 @@ joined_weight burden es =
     let b = top-after_all burden 0 es in
     let c = ap (λ (x : BlockWeight). top_of x) (after_all-append burden (Straight 0) es (Join ∷ [])) in omega (arith, a, b, c)
 
-after_part : (burden : Burden) (L : BlockWeight) (spawned : Bool) (mark : Option Mark) (t u : Tree) → burdened_span burden t ≡ burdened_span burden u → after burden L (part_of spawned (marked mark t)) ≡ after burden L (part_of spawned (marked mark u))
+after_part : (burden : Burden) (L : BlockWeight) (spawned : Bool) (mark : Option Mark) (t u : Tree) → burdened_span burden t ≡ burdened_span burden u
+    → after burden L (part_of spawned (marked mark t)) ≡ after burden L (part_of spawned (marked mark u))
 after_part burden L true mark t u e = ap (λ (k : ℕ). child_ended burden k L) (span_marked burden mark t ∙ e ∙ sym (span_marked burden mark u))
 after_part burden L false mark t u e = ap (λ (k : ℕ). gone_on k L) (span_marked burden mark t ∙ e ∙ sym (span_marked burden mark u))
 
@@ -163,7 +180,8 @@ late_at_end burden o os es p h =
     let t = subst (λ (n : ℕ). TellsWeight burden os (closed o (es ++ Join ∷ [])) (noted_at n p)) w h.tells in record {
       late = omega (arith, w, l);
       tells = record {
-        shows = by_block burden os (closed o es) (block_weight burden os (closed o (es ++ Join ∷ []))) (strand_weight (noted_at (work_in os (closed o es)) p)) (ended_block burden o os es) (record { now_is = t.shows.now_is; blocks_are = t.shows.blocks_are });
+        shows = by_block burden os (closed o es) (block_weight burden os (closed o (es ++ Join ∷ [])))
+            (strand_weight (noted_at (work_in os (closed o es)) p)) (ended_block burden o os es) (record { now_is = t.shows.now_is; blocks_are = t.shows.blocks_are });
         noted_is = refl;
       };
     }
@@ -174,7 +192,8 @@ within_at_end burden count o os es w =
     let b = left_burdened_work burden o os (es ++ Join ∷ []) in
     let c = burdened_append burden (o ∷ os) es (Join ∷ []) in omega (arith, a, b, c, w)
 
-pub run_joined_at_end : (burden : Burden) (count counted : ℕ) (o : Open) (os : List Open) (es : List Event) (p : Paths) → TellsRun burden count counted os (closed o (es ++ Join ∷ [])) p → TellsRun burden count counted os (closed o es) p
+pub run_joined_at_end : (burden : Burden) (count counted : ℕ) (o : Open) (os : List Open) (es : List Event) (p : Paths)
+    → TellsRun burden count counted os (closed o (es ++ Join ∷ [])) p → TellsRun burden count counted os (closed o es) p
 run_joined_at_end burden count counted o os es p h = record {
   work = sym (ended_work o os es) ∙ h.work;
   plain_within = within_at_end no_burden count o os es h.plain_within;

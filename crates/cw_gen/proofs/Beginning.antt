@@ -19,7 +19,8 @@ use Rattle.cw_tree.specs.Resolved.{Lists, Locals, slot_of}
 use Rattle.cw_code.specs.declared.code.Func.{Func}
 use Rattle.cw_code.specs.declared.code.Instr.TheVariants as instr
 use Rattle.cw_code.specs.Code.{Code}
-use Rattle.cw_code.specs.Run.{Readers, Around, State, Transition, On, RunOutcome, ticked, on_slot, onto, begins, on_arrays, arguments_of, parts_of, looped, on_range, start, passed_by, act, go_on, steps}
+use Rattle.cw_code.specs.Run.{Readers, Around, State, Transition, On, RunOutcome, ticked, on_slot, onto, begins, on_arrays}
+use Rattle.cw_code.specs.Run.{arguments_of, parts_of, looped, on_range, start, passed_by, act, go_on, steps}
 use Rattle.cw_code.specs.lemmas.Runs.{joined_quiet}
 use Rattle.cw_gen.specs.Emit.{whole_list, emitted_loads, whole_of}
 use Rattle.cw_gen.specs.Marks.{Marks}
@@ -41,7 +42,8 @@ use Rattle.cw_gen.proofs.Slices.{slices_are, hands_of_loop}
 
 module _ (code : Code) (marks : Marks) (depth : ℕ) where
   -- integers that are taken along, one instruction for each
-  pub loads_run : (around : List Around) (locals : Locals) (taken' : Taken) (captured : List Name) (pc : ℕ) (ops : List ℤ) (store : Store) (outer : Outside) (frame : Frame) (t : Trace) (left : ℕ) (next : Unit {0} → ℕ → Trace → RunOutcome) →
+  pub loads_run : (around : List Around) (locals : Locals) (taken' : Taken) (captured : List Name) (pc : ℕ) (ops : List ℤ) (store : Store)
+      (outer : Outside) (frame : Frame) (t : Trace) (left : ℕ) (next : Unit {0} → ℕ → Trace → RunOutcome) →
       HasAt code.instrs pc (emitted_loads (map (λ x. slot_of x locals.ints) captured)) → AllUsable locals.ints taken' captured → Agrees locals taken' frame store outer →
       ((l : ℕ) (u : Trace) → l ≤ left → steps code l (here marks depth around (pc + length captured) (reverse_aux (map (int_of frame) captured) ops) store u) ≡ next tt l u) →
       steps code left (here marks depth around pc ops store t) ≡ resume t (pay (length captured) left) next
@@ -71,18 +73,25 @@ module _ (code : Code) (fs : List Function) (lists : Lists) (marks : Marks) (dep
 
   -- what follows when the number of turns is known
   abbrev turns_known : Function → (captured over : List Name) → (line : ℕ) → Frame → (low turns : ℤ) → ℕ → Outcome Completion
-  turns_known f captured over line frame low n l = then_do (joined_up (λ q. Series q) (calls SameDepth f (loop_given f captured over frame low n) line l)) (λ r. going (slices_back over (natural low) r.1 frame))
+  turns_known f captured over line frame low n l = then_do (joined_up (λ q. Series q)
+      (calls SameDepth f (loop_given f captured over frame low n) line l)) (λ r. going (slices_back over (natural low) r.1 frame))
 
   -- the instruction of a loop's first call
-  start_runs : (around : List Around) (locals : Locals) (taken' : Taken) (level first line pc : ℕ) (size : Room) (name : Name) (captured over : List Name) (fn : Func) (low high : ℤ) (store : Store) (outer : Outside) (frame : Frame) (u : Trace) (left : ℕ) (next : Completion → ℕ → Trace → RunOutcome) →
-      nat_lt MOST_DEPTH depth ≡ false → slice_get code.instrs pc ≡ Some (instr.Start (whole_of first (slot_of name lists.functions)) line) → slice_get code.funcs (slot_of name lists.functions) ≡ Some fn → passed_by code (whole_list first (slot_of name lists.functions)) ≡ numbers_at marks (slots_for locals.arrays over) →
+  start_runs : (around : List Around) (locals : Locals) (taken' : Taken) (level first line pc : ℕ) (size : Room) (name : Name)
+      (captured over : List Name) (fn : Func) (low high : ℤ) (store : Store) (outer : Outside) (frame : Frame) (u : Trace) (left : ℕ)
+      (next : Completion → ℕ → Trace → RunOutcome) →
+      nat_lt MOST_DEPTH depth ≡ false → slice_get code.instrs pc ≡ Some (instr.Start (whole_of first (slot_of name lists.functions)) line)
+      → slice_get code.funcs (slot_of name lists.functions) ≡ Some fn
+      → passed_by code (whole_list first (slot_of name lists.functions)) ≡ numbers_at marks (slots_for locals.arrays over) →
       level ≡ suc (length outer) → Compiled code fs lists (function_named name fs) fn → TakesRange (function_named name fs) captured over →
       AllWritable marks locals.arrays taken' over → differ over ≡ true → Agrees locals taken' frame store outer → Fills marks store size → left ≤ bound →
       Onwards code marks depth around locals taken' (pc + 1) outer size left next →
       steps code left (at around pc (reverse (low ∷ high ∷ map (int_of frame) captured)) store u)
-      ≡ resume u (then_do (pay_for (and_then (Gives (pos 0) 0) (λ v. loop_turns low high (map (array_of frame) over))) line left) (λ n. turns_known (function_named name fs) captured over line frame low n)) next
+      ≡ resume u (then_do (pay_for (and_then (Gives (pos 0) 0) (λ v. loop_turns low high (map (array_of frame) over))) line left)
+      (λ n. turns_known (function_named name fs) captured over line frame low n)) next
   unfolding hands_of_loop
-  start_runs around locals taken' level first line pc size name captured over fn low high store outer frame u left next shallow has found passed_is at_level compiled takes us apart agrees m within on =
+  start_runs around locals taken' level first line pc size name captured over fn low high store outer frame u left next shallow has found passed_is
+      at_level compiled takes us apart agrees m within on =
       let f = function_named name fs in
       let vs = low ∷ high ∷ map (int_of frame) captured in
       let s = at around pc (reverse vs) store u in
@@ -99,37 +108,51 @@ module _ (code : Code) (fs : List Function) (lists : Lists) (marks : Marks) (dep
       let n : fn.params ≡ length vs = compiled.params ∙ takes.ints ∙ ap (λ k. suc (suc k)) (sym (length-map captured (int_of frame))) in
       let many : length (reverse vs) ≡ fn.params = length-reverse vs ∙ sym n in
       let next' : ℤ → ℕ → Trace → RunOutcome = λ v l u'. resume u' (turns_known f captured over line frame low v l) next in
-      let go : ℤ → Transition = λ v. On (entered code fs lists marks depth around pc store Plain None None depth passed outs callee fn (low ∷ (low +ℤ v) ∷ map (int_of frame) captured) (map (λ a. take (natural v) (drop (natural low) (array_of frame a))) over) u) in
+      let go : ℤ → Transition = λ v. On (entered code fs lists marks depth around pc store Plain None None depth passed outs callee fn
+      (low ∷ (low +ℤ v) ∷ map (int_of frame) captured) (map (λ a. take (natural v) (drop (natural low) (array_of frame a))) over) u) in
       let looped_so : act code s (Some i) ≡ looped s line numbers fn arrays low (map (int_of frame) captured) r =
       ap (start s line (passed_by code c.passed)) found
       ∙ ap (λ p. start s line p (Some fn)) passed_is
-      ∙ ap (λ o. on_arrays o (λ given. on_range (arguments_of fn (reverse vs)) (λ lo hi along. looped s line numbers fn given lo along (loop_turns lo hi given)))) (in_owned marks passed store.arrays own ∙ arrays_found locals.arrays taken' frame.arrays store.arrays (store.arrived ∷ array_waits outer) over agrees.arrays (all_usable marks locals.arrays taken' over us) apart)
+      ∙ ap (λ o. on_arrays o (λ given. on_range (arguments_of fn (reverse vs))
+      (λ lo hi along. looped s line numbers fn given lo along (loop_turns lo hi given))))
+      (in_owned marks passed store.arrays own ∙ arrays_found locals.arrays taken' frame.arrays store.arrays
+      (store.arrived ∷ array_waits outer) over agrees.arrays (all_usable marks locals.arrays taken' over us) apart)
       ∙ ap (λ ws. on_range ws (λ lo hi along. looped s line numbers fn arrays lo along (loop_turns lo hi arrays))) (arguments_are fn vs n) in
       does code s line r i left next' go has
       (λ v is.
       let hands = hands_of_loop code fs lists marks locals taken' frame f fn captured over low v compiled takes us apart in
       looped_so
       ∙ ap (looped s line numbers fn arrays low (map (int_of frame) captured)) is
-      ∙ ap (λ ts. begins s (record (entering code fs lists marks depth Plain None None depth fn (low ∷ (low +ℤ v) ∷ map (int_of frame) captured) (map (λ xs. take (natural v) (drop (natural low) xs)) arrays) outs none) { taken = ts })) (parts_told marks (natural low) passed arrays)
-      ∙ ap (λ xss. begins s (entering code fs lists marks depth Plain None None depth fn (low ∷ (low +ℤ v) ∷ map (int_of frame) captured) xss outs none)) (slices_are (natural low) (natural v) frame over)
-      ∙ ap (λ ms. begins s (entering code fs lists marks depth Plain None None depth fn (low ∷ (low +ℤ v) ∷ map (int_of frame) captured) (owned ms hands.arrays) outs (lent ms hands.arrays))) (sym takes.unread)
+      ∙ ap (λ ts. begins s (record (entering code fs lists marks depth Plain None None depth fn (low ∷ (low +ℤ v) ∷ map (int_of frame) captured)
+      (map (λ xs. take (natural v) (drop (natural low) xs)) arrays) outs none) { taken = ts })) (parts_told marks (natural low) passed arrays)
+      ∙ ap (λ xss. begins s (entering code fs lists marks depth Plain None None depth fn
+      (low ∷ (low +ℤ v) ∷ map (int_of frame) captured) xss outs none)) (slices_are (natural low) (natural v) frame over)
+      ∙ ap (λ ms. begins s (entering code fs lists marks depth Plain None None depth fn (low ∷ (low +ℤ v) ∷ map (int_of frame) captured)
+      (owned ms hands.arrays) outs (lent ms hands.arrays))) (sym takes.unread)
       ∙ begins_so code fs lists marks depth around pc (reverse vs) store Plain None None depth f fn hands.ints hands.arrays outs passed u compiled many hands.as_arrays hands.moved own refl)
       (λ trap' is. looped_so ∙ ap (looped s line numbers fn arrays low (map (int_of frame) captured)) is)
       (λ v l below.
       let hands = hands_of_loop code fs lists marks locals taken' frame f fn captured over low v compiled takes us apart in
-      inside_runs code fs lists marks depth bound calls run_calls around locals taken' level Plain SameDepth None None line pc size f fn frame hands store outer [] u l next shallow at_level compiled tt agrees m (omega arith) (λ g st l' u' ag ln le. on g st l' u' ag ln (omega arith))
-      ∙ sym (resume_one (λ q. Series q) (ticked u) (calls SameDepth f (loop_given f captured over frame low v) line l) (λ ret l' u'. resume u' (going (slices_back over (natural low) ret.1 frame) l') next))
+      inside_runs code fs lists marks depth bound calls run_calls around locals taken' level Plain SameDepth None None line pc size f fn frame hands
+      store outer [] u l next shallow at_level compiled tt agrees m (omega arith) (λ g st l' u' ag ln le. on g st l' u' ag ln (omega arith))
+      ∙ sym (resume_one (λ q. Series q) (ticked u) (calls SameDepth f (loop_given f captured over frame low v) line l)
+      (λ ret l' u'. resume u' (going (slices_back over (natural low) ret.1 frame) l') next))
       ∙ sym (resume_then (ticked u) (joined_up (λ q. Series q) (calls SameDepth f (loop_given f captured over frame low v) line l)) (λ ret. going (slices_back over (natural low) ret.1 frame)) next))
       ∙ sym (resume_then u (pay_for (done_at 1 r) line left) (λ v. turns_known f captured over line frame low v) next)
 
   -- the first call of a loop's function
-  pub begin_runs : (around : List Around) (locals : Locals) (taken' : Taken) (level first line pc : ℕ) (size : Room) (name : Name) (from to : Expr) (captured over : List Name) (fn : Func) (store : Store) (outer : Outside) (frame : Frame) (t : Trace) (left : ℕ) (next : Completion → ℕ → Trace → RunOutcome) →
-      nat_lt MOST_DEPTH depth ≡ false → HasAt code.instrs pc (stmt_code first marks lists locals line (Begin name from to captured over)) → slice_get code.funcs (slot_of name lists.functions) ≡ Some fn → passed_by code (whole_list first (slot_of name lists.functions)) ≡ numbers_at marks (slots_for locals.arrays over) →
+  pub begin_runs : (around : List Around) (locals : Locals) (taken' : Taken) (level first line pc : ℕ) (size : Room) (name : Name) (from to : Expr)
+      (captured over : List Name) (fn : Func) (store : Store) (outer : Outside) (frame : Frame) (t : Trace) (left : ℕ) (next : Completion → ℕ → Trace → RunOutcome) →
+      nat_lt MOST_DEPTH depth ≡ false → HasAt code.instrs pc (stmt_code first marks lists locals line (Begin name from to captured over))
+      → slice_get code.funcs (slot_of name lists.functions) ≡ Some fn
+      → passed_by code (whole_list first (slot_of name lists.functions)) ≡ numbers_at marks (slots_for locals.arrays over) →
       level ≡ suc (length outer) → Compiled code fs lists (function_named name fs) fn → TakesRange (function_named name fs) captured over →
-      ExprFine locals taken' from → ExprFine locals taken' to → AllUsable locals.ints taken' captured → AllWritable marks locals.arrays taken' over → differ over ≡ true → Agrees locals taken' frame store outer → Fills marks store size → left ≤ bound →
+      ExprFine locals taken' from → ExprFine locals taken' to → AllUsable locals.ints taken' captured → AllWritable marks locals.arrays taken' over
+      → differ over ≡ true → Agrees locals taken' frame store outer → Fills marks store size → left ≤ bound →
       Onwards code marks depth around locals taken' (pc + length (stmt_code first marks lists locals line (Begin name from to captured over))) outer size left next →
       steps code left (at around pc [] store t) ≡ resume t (meaning.run (Begin name from to captured over) line fs calls frame left) next
-  begin_runs around locals taken' level first line pc size name from to captured over fn store outer frame t left next shallow has found passed_is at_level compiled takes from_fine to_fine captured_us us apart agrees m within on =
+  begin_runs around locals taken' level first line pc size name from to captured over fn store outer frame t left next shallow has found passed_is
+      at_level compiled takes from_fine to_fine captured_us us apart agrees m within on =
       let f = function_named name fs in
       let cf = expr_code marks locals line from in
       let ct = expr_code marks locals line to in
@@ -141,8 +164,10 @@ module _ (code : Code) (fs : List Function) (lists : Lists) (marks : Marks) (dep
       let at_start = (has_back code.instrs (pc + length cf + length ct) cl (i ∷ []) at_loads).0 in
       let n_loads : length cl ≡ length captured = length-map slots (λ u. instr.Load u) ∙ length-map captured (λ x. slot_of x locals.ints) in
       let there : slice_get code.instrs (pc + length cf + length ct + length captured) ≡ Some i = ap (λ n. slice_get code.instrs (pc + length cf + length ct + n)) (sym n_loads) ∙ at_start in
-      let place : pc + length cf + length ct + length captured + 1 ≡ pc + length (cf ++ (ct ++ (cl ++ i ∷ []))) = omega (arith, n_loads, length-append cf (ct ++ (cl ++ i ∷ [])), length-append ct (cl ++ i ∷ []), length-append cl (i ∷ [])) in
-      let turned : (lo hi : ℤ) → ℕ → Outcome Completion = λ lo hi l. then_do (pay_for (and_then (Gives (pos 0) 0) (λ v. loop_turns lo hi (map (array_of frame) over))) line l) (λ n. turns_known f captured over line frame lo n) in
+      let place : pc + length cf + length ct + length captured + 1 ≡ pc + length (cf ++ (ct ++ (cl ++ i ∷ []))) =
+      omega (arith, n_loads, length-append cf (ct ++ (cl ++ i ∷ [])), length-append ct (cl ++ i ∷ []), length-append cl (i ∷ [])) in
+      let turned : (lo hi : ℤ) → ℕ → Outcome Completion = λ lo hi l. then_do
+      (pay_for (and_then (Gives (pos 0) 0) (λ v. loop_turns lo hi (map (array_of frame) over))) line l) (λ n. turns_known f captured over line frame lo n) in
       let loaded : (lo hi : ℤ) → ℕ → Outcome Completion = λ lo hi l. then_do (pay (length captured) l) (λ _. turned lo hi) in
       expr_runs code marks depth around locals taken' from line pc [] store outer frame t left (λ lo l u. resume u (then_do (pay_for (evaluate to frame) line l) (λ hi. loaded lo hi)) next)
       (has_front code.instrs pc cf (ct ++ (cl ++ i ∷ [])) has) from_fine agrees
@@ -153,7 +178,8 @@ module _ (code : Code) (fs : List Function) (lists : Lists) (marks : Marks) (dep
       loads_run code marks depth around locals taken' captured (pc + length cf + length ct) (hi ∷ lo ∷ []) store outer frame u2 l2 (λ _ l3 u3. resume u3 (turned lo hi l3) next)
       (has_front code.instrs (pc + length cf + length ct) cl (i ∷ []) at_loads) captured_us agrees
       (λ l3 u3 le3.
-      start_runs around locals taken' level first line (pc + length cf + length ct + length captured) size name captured over fn lo hi store outer frame u3 l3 next shallow there found passed_is at_level compiled takes us apart agrees m (omega arith)
+      start_runs around locals taken' level first line (pc + length cf + length ct + length captured) size name captured over fn lo hi store outer
+      frame u3 l3 next shallow there found passed_is at_level compiled takes us apart agrees m (omega arith)
       (λ g st l' u' ag ln le'. ap (λ q. steps code l' (at around q [] st u')) place ∙ on g st l' u' ag ln (omega arith)))
       ∙ sym (resume_then u2 (pay (length captured) l2) (λ _. turned lo hi) next))
       ∙ sym (resume_then u (pay_for (evaluate to frame) line l) (λ hi. loaded lo hi) next))

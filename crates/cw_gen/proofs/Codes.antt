@@ -53,12 +53,20 @@ pub record Bound (ps : List Param) (vs : List ℤ) (xss : List (List ℤ)) (befo
 
 -- no parameter
 pub bound_none : (g : Frame) → Bound [] [] [] g g
-bound_none g = record { ints = sym (append-nil (names_in g.ints)); values = sym (append-nil (values_in g.ints)); arrays = sym (append-nil (names_in g.arrays)); elements = sym (append-nil (values_in g.arrays)); whole = refl }
+bound_none g = record {
+  ints = sym (append-nil (names_in g.ints));
+  values = sym (append-nil (values_in g.ints));
+  arrays = sym (append-nil (names_in g.arrays));
+  elements = sym (append-nil (values_in g.arrays));
+  whole = refl;
+}
 
 -- one integer, and then the rest
-pub bound_int : (p : Param) (ps : List Param) (v : ℤ) (vs : List ℤ) (xss : List (List ℤ)) (g after : Frame) → (wants_array p) ≡ false → Bound ps vs xss (new_int p.name v g) after → Bound (p ∷ ps) (v ∷ vs) xss g after
+pub bound_int : (p : Param) (ps : List Param) (v : ℤ) (vs : List ℤ) (xss : List (List ℤ)) (g after : Frame) → (wants_array p) ≡ false
+    → Bound ps vs xss (new_int p.name v g) after → Bound (p ∷ ps) (v ∷ vs) xss g after
 bound_int p ps v vs xss g after is b = record {
-  ints = b.ints ∙ ap (λ l. l ++ (locals_of ps).ints) (names_more g.ints p.name v) ∙ append_assoc (names_in g.ints) (p.name ∷ []) (locals_of ps).ints ∙ ap (λ l. names_in g.ints ++ l) (sym (kept (not (wants_array p)) (ap not is)));
+  ints = b.ints ∙ ap (λ l. l ++ (locals_of ps).ints) (names_more g.ints p.name v) ∙ append_assoc (names_in g.ints) (p.name ∷ []) (locals_of ps).ints
+      ∙ ap (λ l. names_in g.ints ++ l) (sym (kept (not (wants_array p)) (ap not is)));
   values = b.values ∙ ap (λ l. l ++ vs) (values_more g.ints p.name v) ∙ append_assoc (values_in g.ints) (v ∷ []) vs;
   arrays = b.arrays ∙ ap (λ l. names_in g.arrays ++ l) (sym (left_out (wants_array p) is));
   elements = b.elements;
@@ -74,11 +82,13 @@ bound_int p ps v vs xss g after is b = record {
     left_out false e = refl
 
 -- one array, and then the rest
-pub bound_array : (p : Param) (ps : List Param) (xs : List ℤ) (vs : List ℤ) (xss : List (List ℤ)) (g after : Frame) → (wants_array p) ≡ true → Bound ps vs xss (new_array p.name xs g) after → Bound (p ∷ ps) vs (xs ∷ xss) g after
+pub bound_array : (p : Param) (ps : List Param) (xs : List ℤ) (vs : List ℤ) (xss : List (List ℤ)) (g after : Frame) → (wants_array p) ≡ true
+    → Bound ps vs xss (new_array p.name xs g) after → Bound (p ∷ ps) vs (xs ∷ xss) g after
 bound_array p ps xs vs xss g after is b = record {
   ints = b.ints ∙ ap (λ l. names_in g.ints ++ l) (sym (left_out (not (wants_array p)) (ap not is)));
   values = b.values;
-  arrays = b.arrays ∙ ap (λ l. l ++ (locals_of ps).arrays) (names_more g.arrays p.name xs) ∙ append_assoc (names_in g.arrays) (p.name ∷ []) (locals_of ps).arrays ∙ ap (λ l. names_in g.arrays ++ l) (sym (kept (wants_array p) is));
+  arrays = b.arrays ∙ ap (λ l. l ++ (locals_of ps).arrays) (names_more g.arrays p.name xs)
+      ∙ append_assoc (names_in g.arrays) (p.name ∷ []) (locals_of ps).arrays ∙ ap (λ l. names_in g.arrays ++ l) (sym (kept (wants_array p) is));
   elements = b.elements ∙ ap (λ l. l ++ xss) (values_more g.arrays p.name xs) ∙ append_assoc (values_in g.arrays) (xs ∷ []) xss;
   whole = b.whole;
 }
@@ -98,7 +108,8 @@ bound_main [] (v ∷ vs) g ints n = absurd (omega (arith, n))
 bound_main (p ∷ ps) [] g ints n = absurd (omega (arith, n))
 bound_main (p ∷ ps) (v ∷ vs) g ints n =
     let rest = list_all (λ q. not (wants_array q)) ps in
-    bound_int p ps v vs [] g (main_frame ps vs (new_int p.name v g)) (not_true (wants_array p) (first_true (not (wants_array p)) rest ints)) (bound_main ps vs (new_int p.name v g) (second_true (not (wants_array p)) rest ints) (omega (arith, n)))
+    bound_int p ps v vs [] g (main_frame ps vs (new_int p.name v g)) (not_true (wants_array p) (first_true (not (wants_array p)) rest ints))
+    (bound_main ps vs (new_int p.name v g) (second_true (not (wants_array p)) rest ints) (omega (arith, n)))
 
 -- main takes no array, and an integer for each parameter
 pub main_locals : (ps : List Param) → list_all (λ p. not (wants_array p)) ps ≡ true → (length (locals_of ps).ints ≡ length ps) × (length (locals_of ps).arrays ≡ 0)
@@ -109,7 +120,8 @@ main_locals (p ∷ ps) ints =
     test (wants_array p) (first_true (not (wants_array p)) rest ints) more.0 more.1
   where
     test : (b : Bool) → not b ≡ true → length (locals_of ps).ints ≡ length ps → length (locals_of ps).arrays ≡ 0 →
-        (length (map (λ (q : Param). q.name) (cond (not b) (p ∷ filter (λ q. not (wants_array q)) ps) (filter (λ q. not (wants_array q)) ps))) ≡ suc (length ps)) × (length (map (λ (q : Param). q.name) (cond b (p ∷ filter (λ q. (wants_array q)) ps) (filter (λ q. (wants_array q)) ps))) ≡ 0)
+        (length (map (λ (q : Param). q.name) (cond (not b) (p ∷ filter (λ q. not (wants_array q)) ps) (filter (λ q. not (wants_array q)) ps)))
+        ≡ suc (length ps)) × (length (map (λ (q : Param). q.name) (cond b (p ∷ filter (λ q. (wants_array q)) ps) (filter (λ q. (wants_array q)) ps))) ≡ 0)
     test true h a b = cc
     test false h a b = (ap suc a, b)
 
@@ -189,7 +201,9 @@ MayGive WithInt v = is_none v ≡ false
 MayGive Alone v = is_none v ≡ true
 
 -- what a call that ends gives back
-pub gives_back : (marks : Marks) (room : Room) (locals : Locals) (taken' : Taken) (frame : Frame) (store : Store) (outer : Outside) → outer ≡ [] → Begins room.given locals.arrays → Agrees locals taken' frame store outer → AllOwn marks store.arrived → GivesBack marks room.given frame (settled (told_at marks store.arrived) (owned marks store.arrays))
+pub gives_back : (marks : Marks) (room : Room) (locals : Locals) (taken' : Taken) (frame : Frame) (store : Store) (outer : Outside) → outer ≡ []
+    → Begins room.given locals.arrays → Agrees locals taken' frame store outer → AllOwn marks store.arrived
+    → GivesBack marks room.given frame (settled (told_at marks store.arrived) (owned marks store.arrays))
 gives_back marks room locals taken' frame store outer e begins a own = record {
   more = begins.more;
   named = a.arrays.named ∙ begins.is;

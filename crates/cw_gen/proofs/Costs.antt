@@ -27,12 +27,15 @@ later : (r : Result) (v : ℤ) (c c' line left : ℕ) → pay_for (done_at (c + 
 later (Value w) v c c' line left =
     ap (λ z. if z then Over else Done w (left - (c + c')) (shows (works (c + c')))) (two_tests left c c') ∙ cases (nat_lt left c) (nat_lt (left - c) c') ∙ sym (outer (nat_lt left c))
   where
-    cases : (x y : Bool) → (if (if x then true else y) then Over else Done w (left - (c + c')) (shows (works (c + c')))) ≡ (if x then Over else after (shows (works c)) (if y then Over else Done w (left - c - c') (shows (works c'))))
+    cases : (x y : Bool) → (if (if x then true else y) then Over else Done w (left - (c + c')) (shows (works (c + c'))))
+        ≡ (if x then Over else after (shows (works c)) (if y then Over else Done w (left - c - c') (shows (works c'))))
     cases true y = refl
     cases false true = refl
     cases false false = let e : left - (c + c') ≡ left - c - c' = omega arith in ap (λ k. Done w k (shows (works (c + c')))) e ∙ ap (λ es. Done w (left - c - c') (shows es)) (works_more c c')
 
-    outer : (x : Bool) → then_do (if x then Over else Done v (left - c) (shows (works c))) (λ _ l. if nat_lt l c' then Over else Done w (l - c') (shows (works c'))) ≡ (if x then Over else after (shows (works c)) (if nat_lt (left - c) c' then Over else Done w (left - c - c') (shows (works c'))))
+    outer : (x : Bool) → then_do (if x then Over else Done v (left - c) (shows (works c)))
+        (λ _ l. if nat_lt l c' then Over else Done w (l - c') (shows (works c')))
+        ≡ (if x then Over else after (shows (works c)) (if nat_lt (left - c) c' then Over else Done w (left - c - c') (shows (works c'))))
     outer true = refl
     outer false = refl
 later (Fails trap) v c c' line left =
@@ -43,7 +46,9 @@ later (Fails trap) v c c' line left =
     cases false true = refl
     cases false false = refl
 
-    outer : (x : Bool) → then_do (if x then Over else Done v (left - c) (shows (works c))) (λ _ l. if nat_lt l c' then over_int else Trapped trap line []) ≡ (if x then Over else after (shows (works c)) (if nat_lt (left - c) c' then Over else Trapped trap line []))
+    outer : (x : Bool) → then_do (if x then Over else Done v (left - c) (shows (works c)))
+        (λ _ l. if nat_lt l c' then over_int else Trapped trap line []) ≡ (if x then Over
+        else after (shows (works c)) (if nat_lt (left - c) c' then Over else Trapped trap line []))
     outer true = refl
     outer false = refl
 
@@ -60,7 +65,8 @@ pub value_and_then : (x : Evaluated) (op : ℤ → Result) (line left : ℕ) →
 value_and_then (Traps trap c) op line left = sym (trap_ends trap c line left _)
 value_and_then (Gives v c) op line left = later (op v) v c 1 line left ∙ same (nat_lt left c)
   where
-    same : (x : Bool) → then_do (if x then Over else Done v (left - c) (shows (works c))) (λ _ l. pay_for (done_at 1 (op v)) line l) ≡ then_do (if x then Over else Done v (left - c) (shows (works c))) (λ a l. pay_for (done_at 1 (op a)) line l)
+    same : (x : Bool) → then_do (if x then Over else Done v (left - c) (shows (works c))) (λ _ l. pay_for (done_at 1 (op v)) line l)
+        ≡ then_do (if x then Over else Done v (left - c) (shows (works c))) (λ a l. pay_for (done_at 1 (op a)) line l)
     same true = refl
     same false = refl
 
@@ -71,17 +77,22 @@ value_also (Traps trap c) y op line left = sym (trap_ends trap c line left _)
 value_also (Gives v c) (Traps trap c') op line left =
     later (Fails trap) v c c' line left ∙ two_ways v c trap c' op line left
   where
-    two_ways : (v : ℤ) (c : ℕ) (trap : Trap) (c' : ℕ) (op : ℤ → ℤ → Result) (line left : ℕ) → then_do (pay_for (Gives v c) line left) (λ _ l. pay_for (Traps trap c') line l) ≡ then_do (pay_for (Gives v c) line left) (λ a l. then_do (pay_for (Traps trap c') line l) (λ b l'. pay_for (done_at 1 (op a b)) line l'))
+    two_ways : (v : ℤ) (c : ℕ) (trap : Trap) (c' : ℕ) (op : ℤ → ℤ → Result) (line left : ℕ)
+        → then_do (pay_for (Gives v c) line left) (λ _ l. pay_for (Traps trap c') line l)
+        ≡ then_do (pay_for (Gives v c) line left) (λ a l. then_do (pay_for (Traps trap c') line l) (λ b l'. pay_for (done_at 1 (op a b)) line l'))
     two_ways v c trap c' op line left = then_same (pay_for (Gives v c) line left) _ _ (λ a l. sym (trap_ends trap c' line l (λ b l'. pay_for (done_at 1 (op a b)) line l')))
 value_also (Gives v c) (Gives w c') op line left =
     let e : c + c' + 1 ≡ c + (c' + 1) = omega arith in
     ap (λ k. pay_for (done_at k (op v w)) line left) e ∙ later (op v w) v c (c' + 1) line left ∙ inner (nat_lt left c)
   where
-    last : (x : Bool) → then_do (if x then Over else Done w (left - c - c') (shows (works c'))) (λ _ l'. pay_for (done_at 1 (op v w)) line l') ≡ then_do (if x then Over else Done w (left - c - c') (shows (works c'))) (λ b l'. pay_for (done_at 1 (op v b)) line l')
+    last : (x : Bool) → then_do (if x then Over else Done w (left - c - c') (shows (works c'))) (λ _ l'. pay_for (done_at 1 (op v w)) line l')
+        ≡ then_do (if x then Over else Done w (left - c - c') (shows (works c'))) (λ b l'. pay_for (done_at 1 (op v b)) line l')
     last true = refl
     last false = refl
 
-    inner : (x : Bool) → then_do (if x then Over else Done v (left - c) (shows (works c))) (λ _ l. pay_for (done_at (c' + 1) (op v w)) line l) ≡ then_do (if x then Over else Done v (left - c) (shows (works c))) (λ a l. then_do (pay_for (Gives w c') line l) (λ b l'. pay_for (done_at 1 (op a b)) line l'))
+    inner : (x : Bool) → then_do (if x then Over else Done v (left - c) (shows (works c))) (λ _ l. pay_for (done_at (c' + 1) (op v w)) line l)
+        ≡ then_do (if x then Over else Done v (left - c) (shows (works c)))
+        (λ a l. then_do (pay_for (Gives w c') line l) (λ b l'. pay_for (done_at 1 (op a b)) line l'))
     inner true = refl
     inner false = ap (after (shows (works c))) (later (op v w) w c' 1 line (left - c) ∙ last (nat_lt (left - c) c'))
 
@@ -106,11 +117,14 @@ pub pay_more : (c c' left : ℕ) → pay (c + c') left ≡ then_do (pay c left) 
 pay_more c c' left =
     ap (λ z. if z then Over else done (left - (c + c')) (shows (works (c + c')))) (two_tests left c c') ∙ cases (nat_lt left c) (nat_lt (left - c) c') ∙ sym (outer (nat_lt left c))
   where
-    cases : (x y : Bool) → (if (if x then true else y) then Over else done (left - (c + c')) (shows (works (c + c')))) ≡ (if x then Over else after (shows (works c)) (if y then Over else done (left - c - c') (shows (works c'))))
+    cases : (x y : Bool) → (if (if x then true else y) then Over else done (left - (c + c')) (shows (works (c + c'))))
+        ≡ (if x then Over else after (shows (works c)) (if y then Over else done (left - c - c') (shows (works c'))))
     cases true y = refl
     cases false true = refl
     cases false false = let e : left - (c + c') ≡ left - c - c' = omega arith in ap (λ k. done k (shows (works (c + c')))) e ∙ ap (λ es. done (left - c - c') (shows es)) (works_more c c')
 
-    outer : (x : Bool) → then_do (if x then Over else done (left - c) (shows (works c))) (λ _ l. if nat_lt l c' then Over else done (l - c') (shows (works c'))) ≡ (if x then Over else after (shows (works c)) (if nat_lt (left - c) c' then Over else done (left - c - c') (shows (works c'))))
+    outer : (x : Bool) → then_do (if x then Over else done (left - c) (shows (works c)))
+        (λ _ l. if nat_lt l c' then Over else done (l - c') (shows (works c')))
+        ≡ (if x then Over else after (shows (works c)) (if nat_lt (left - c) c' then Over else done (left - c - c') (shows (works c'))))
     outer true = refl
     outer false = refl

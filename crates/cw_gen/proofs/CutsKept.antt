@@ -5,10 +5,12 @@ use Rattle.std.proofs.lemmas.List.{append-nil}
 use Rattle.std.proofs.lemmas.Slice.Eq.{bytes_eq-Decides}
 use Rattle.cw_facts.specs.Tests.{first_false}
 use Rattle.cw_model.specs.declared.syntax.CallKind.TheVariants.{Plain, Spawned}
-use Rattle.cw_model.specs.Syntax.{Name, Stmt, Declare, DeclareArray, Assign, AssignElement, Reduce, Call, Start, Begin, Sync, If, IfElse, While, Scope, Cut, Region, Print, Return, Block, End, Then, Function}
+use Rattle.cw_model.specs.Syntax.{Name, Stmt, Declare, DeclareArray, Assign, AssignElement, Reduce, Call, Start, Begin, Sync, If}
+use Rattle.cw_model.specs.Syntax.{IfElse, While, Scope, Cut, Region, Print, Return, Block, End, Then, Function}
 use Rattle.cw_model.specs.Names.{same_name, is_among}
 use Rattle.cw_model.specs.Typing.{Nowhere, surely_returns, block_returns}
-use Rattle.cw_model.specs.Ownership.{SpawnIn, ReaderIn, CutOf, Taken, is_taken, is_held, is_spawn_in, is_cut_of, freed, taken_by, without, own_names, where_it_goes_on, target_names, given, lent, Closing, Joins, Leaves, at_end}
+use Rattle.cw_model.specs.Ownership.{SpawnIn, ReaderIn, CutOf, Taken, is_taken, is_held, is_spawn_in, is_cut_of, freed, taken_by, without}
+use Rattle.cw_model.specs.Ownership.{own_names, where_it_goes_on, target_names, given, lent, Closing, Joins, Leaves, at_end}
 use Rattle.cw_tree.specs.Resolved.{Lists, Locals, with_array, locals_after}
 use Rattle.cw_gen.specs.Emit.{Tables}
 use Rattle.cw_gen.proofs.Held.{held_after, held_after_all}
@@ -18,7 +20,8 @@ use Rattle.cw_gen.specs.Marks.{Marks}
 use Rattle.cw_gen.proofs.Rows.{Opened, CutsOpen, cuts_kept}
 
 -- a cut is none of the names of a block that ends free
-in_left : (q : Name) (own : List Name) (closing : Closing) (depth : ℕ) (after_it : Taken) → ((x : Name) → is_among x own ≡ true → is_held (at_end closing depth after_it) x ≡ false) → In (q, CutOf) after_it → In (q, CutOf) (without own after_it)
+in_left : (q : Name) (own : List Name) (closing : Closing) (depth : ℕ) (after_it : Taken)
+    → ((x : Name) → is_among x own ≡ true → is_held (at_end closing depth after_it) x ≡ false) → In (q, CutOf) after_it → In (q, CutOf) (without own after_it)
 in_left q own closing depth after_it free h = in_kept (λ t. not (is_among t.0 own)) (q, CutOf) after_it h (ap not (apart (is_among q own) refl))
   where
     at_the_end : (c : Closing) → In (q, CutOf) (at_end c depth after_it)
@@ -46,7 +49,8 @@ module _ (fs : List Function) (lists : Lists) (tables : Tables) (size : Room) wh
     block_goes level locals taken (Then line s (Then line' s' b)) fine = block_goes level (locals_after locals s) (held_after fs level s taken) (Then line' s' b) fine.1
 
   mutual
-    stmt_keeps : (level : ℕ) (locals : Locals) (taken : Taken) (s : Stmt) (q : Name) → StmtFine fs lists tables size.marks size Nowhere level locals taken s → In (q, CutOf) taken → In (q, CutOf) (held_after fs level s taken)
+    stmt_keeps : (level : ℕ) (locals : Locals) (taken : Taken) (s : Stmt) (q : Name)
+        → StmtFine fs lists tables size.marks size Nowhere level locals taken s → In (q, CutOf) taken → In (q, CutOf) (held_after fs level s taken)
     stmt_keeps level locals taken (Declare x e) q fine h = h
     stmt_keeps level locals taken (DeclareArray x e) q fine h = h
     stmt_keeps level locals taken (Assign x e) q fine h = h
@@ -55,7 +59,8 @@ module _ (fs : List Function) (lists : Lists) (tables : Tables) (size : Room) wh
     stmt_keeps level locals taken (Print e) q fine h = h
     stmt_keeps level locals taken (Call Plain site target f es) q fine h = h
     stmt_keeps level locals taken (Call Spawned site target f es) q fine h =
-        in_right (q, CutOf) (map (λ x. (x, ReaderIn level)) (lent fs f es)) (taken_by level (target_names target ++ given fs f es) taken) (in_right (q, CutOf) (map (λ x. (x, SpawnIn level)) (target_names target ++ given fs f es)) taken h)
+        in_right (q, CutOf) (map (λ x. (x, ReaderIn level)) (lent fs f es)) (taken_by level (target_names target ++ given fs f es) taken)
+        (in_right (q, CutOf) (map (λ x. (x, SpawnIn level)) (target_names target ++ given fs f es)) taken h)
     stmt_keeps level locals taken (Start Plain f es) q fine h = h
     stmt_keeps level locals taken (Start Spawned f es) q fine h = in_right (q, CutOf) (map (λ x. (x, SpawnIn level)) (given fs f es)) taken h
     stmt_keeps level locals taken (Begin f from to captured over) q fine h = h
@@ -64,12 +69,15 @@ module _ (fs : List Function) (lists : Lists) (tables : Tables) (size : Room) wh
     stmt_keeps level locals taken (IfElse e b c) q fine h =
         let left = without (own_names b) (held_after_all fs level b taken) in
         in_before (q, CutOf) (where_it_goes_on (block_returns b) left) (where_it_goes_on (block_returns c) (without (own_names c) (held_after_all fs level c taken)))
-        (subst (λ r. In (q, CutOf) (where_it_goes_on r left)) (sym (block_goes level locals taken b fine.1.0)) (in_left q (own_names b) Leaves level (held_after_all fs level b taken) fine.1.1 (block_keeps level locals taken b q fine.1.0 h)))
+        (subst (λ r. In (q, CutOf) (where_it_goes_on r left)) (sym (block_goes level locals taken b fine.1.0))
+        (in_left q (own_names b) Leaves level (held_after_all fs level b taken) fine.1.1 (block_keeps level locals taken b q fine.1.0 h)))
     stmt_keeps level locals taken (While e b) q fine h = in_before (q, CutOf) taken (where_it_goes_on (block_returns b) (without (own_names b) (held_after_all fs level b taken))) h
     stmt_keeps level locals taken (Scope b) q fine h =
-        in_freed q (level + 1) (without (own_names b) (held_after_all fs (level + 1) b taken)) (in_left q (own_names b) Joins (level + 1) (held_after_all fs (level + 1) b taken) fine.1 (block_keeps (level + 1) locals taken b q fine.0 h))
+        in_freed q (level + 1) (without (own_names b) (held_after_all fs (level + 1) b taken))
+        (in_left q (own_names b) Joins (level + 1) (held_after_all fs (level + 1) b taken) fine.1 (block_keeps (level + 1) locals taken b q fine.0 h))
     stmt_keeps level locals taken (Region tag b) q fine h =
-        in_freed q (level + 1) (without (own_names b) (held_after_all fs (level + 1) b taken)) (in_left q (own_names b) Joins (level + 1) (held_after_all fs (level + 1) b taken) fine.2 (block_keeps (level + 1) locals taken b q fine.1 h))
+        in_freed q (level + 1) (without (own_names b) (held_after_all fs (level + 1) b taken))
+        (in_left q (own_names b) Joins (level + 1) (held_after_all fs (level + 1) b taken) fine.2 (block_keeps (level + 1) locals taken b q fine.1 h))
     stmt_keeps level locals taken (Cut a e l r b) q fine h =
         let inner = (a, CutOf) ∷ taken in
         let own = l ∷ r ∷ own_names b in
@@ -84,7 +92,8 @@ module _ (fs : List Function) (lists : Lists) (tables : Tables) (size : Room) wh
     stmt_keeps level locals taken (Return e) q fine h = absurd fine.0
     stmt_keeps level locals taken _ q fine h = absurd fine
 
-    block_keeps : (level : ℕ) (locals : Locals) (taken : Taken) (b : Block) (q : Name) → BlockFine fs lists tables size.marks size Nowhere level locals taken b → In (q, CutOf) taken → In (q, CutOf) (held_after_all fs level b taken)
+    block_keeps : (level : ℕ) (locals : Locals) (taken : Taken) (b : Block) (q : Name)
+        → BlockFine fs lists tables size.marks size Nowhere level locals taken b → In (q, CutOf) taken → In (q, CutOf) (held_after_all fs level b taken)
     block_keeps level locals taken End q fine h = h
     block_keeps level locals taken (Then line s b) q fine h = block_keeps level (locals_after locals s) (held_after fs level s taken) b q fine.1 (stmt_keeps level locals taken s q fine.0 h)
 
@@ -94,7 +103,9 @@ module _ (fs : List Function) (lists : Lists) (tables : Tables) (size : Room) wh
   arrays_next locals _ = ([], sym (append-nil locals.arrays))
 
   -- after a statement
-  pub cuts_next : (opened : Opened) (level : ℕ) (locals : Locals) (taken : Taken) (s : Stmt) → StmtFine fs lists tables size.marks size Nowhere level locals taken s → CutsOpen size.marks opened locals taken → CutsOpen size.marks opened (locals_after locals s) (held_after fs level s taken)
+  pub cuts_next : (opened : Opened) (level : ℕ) (locals : Locals) (taken : Taken) (s : Stmt)
+      → StmtFine fs lists tables size.marks size Nowhere level locals taken s → CutsOpen size.marks opened locals taken
+      → CutsOpen size.marks opened (locals_after locals s) (held_after fs level s taken)
   cuts_next opened level locals taken s fine h =
       let n = arrays_next locals s in
       cuts_kept size.marks opened locals (locals_after locals s) n.0 taken (held_after fs level s taken) n.1 (λ q k. stmt_keeps level locals taken s q fine k) h

@@ -25,14 +25,16 @@ behind : (old body : List Instr) (i : Instr) → length ((old ++ i ∷ []) ++ bo
 behind old body i = omega (arith, length-append (old ++ i ∷ []) body, length-append old (i ∷ []))
 
 -- code that is passed over
-pub over_filled : (old body all : List Instr) (i : Instr) (n : ℕ) → all ≡ (old ++ i ∷ []) ++ body → n ≡ distance (length all - length old - 1) → slice_set all (length old) (instr.SkipIfZero n) ≡ old ++ emitted_over body
+pub over_filled : (old body all : List Instr) (i : Instr) (n : ℕ) → all ≡ (old ++ i ∷ []) ++ body → n ≡ distance (length all - length old - 1)
+    → slice_set all (length old) (instr.SkipIfZero n) ≡ old ++ emitted_over body
 over_filled old body all i n is at =
     ap (λ k. slice_set all (length old) (instr.SkipIfZero k)) (at ∙ ap (λ l. distance (length l - length old - 1)) is ∙ ap distance (behind old body i))
     ∙ ap (λ l. slice_set l (length old) (instr.SkipIfZero (distance (length body)))) is
     ∙ filled old body i (instr.SkipIfZero (distance (length body)))
 
 -- two branches
-pub branches_filled : (old one other first all : List Instr) (does : Bool) (i : Instr) (k n m : ℕ) → first ≡ ((old ++ i ∷ []) ++ one) ++ instr.Skip k ∷ [] → n ≡ distance (length first - length old - 1) →
+pub branches_filled : (old one other first all : List Instr) (does : Bool) (i : Instr) (k n m : ℕ)
+    → first ≡ ((old ++ i ∷ []) ++ one) ++ instr.Skip k ∷ [] → n ≡ distance (length first - length old - 1) →
     all ≡ slice_set first (length old) (instr.SkipIfZero n) ++ other → m ≡ past does (length all - length ((old ++ i ∷ []) ++ one) - 1) →
     slice_set all (length ((old ++ i ∷ []) ++ one)) (instr.Skip m) ≡ old ++ emitted_branches does one other
 branches_filled old one other first all does i k n m is at whole at' =
@@ -41,10 +43,12 @@ branches_filled old one other first all does i k n m is at whole at' =
     let place = length ((old ++ i ∷ []) ++ one) in
     let front = old ++ test ∷ one in
     let n_front : place ≡ length front = omega (arith, length-append (old ++ i ∷ []) one, length-append old (i ∷ []), length-append old (test ∷ one)) in
-    let lands : slice_set first (length old) (instr.SkipIfZero n) ≡ old ++ emitted_over (one ++ jump ∷ []) = over_filled old (one ++ jump ∷ []) first i n (is ∙ append_assoc (old ++ i ∷ []) one (jump ∷ [])) at in
+    let lands : slice_set first (length old) (instr.SkipIfZero n) ≡ old ++ emitted_over (one ++ jump ∷ []) =
+    over_filled old (one ++ jump ∷ []) first i n (is ∙ append_assoc (old ++ i ∷ []) one (jump ∷ [])) at in
     let all_is : all ≡ (front ++ jump ∷ []) ++ other = whole ∙ ap (λ l. l ++ other) (lands ∙ sym (append_assoc old (test ∷ one) (jump ∷ []))) in
     let left : length all - place - 1 ≡ length other = omega (arith, ap length all_is, length-append (front ++ jump ∷ []) other, length-append front (jump ∷ []), n_front) in
-    let same_length : length (one ++ jump ∷ []) ≡ length (one ++ instr.Skip (past does (length other)) ∷ []) = omega (arith, length-append one (jump ∷ []), length-append one (instr.Skip (past does (length other)) ∷ [])) in
+    let same_length : length (one ++ jump ∷ []) ≡ length (one ++ instr.Skip (past does (length other)) ∷ []) =
+    omega (arith, length-append one (jump ∷ []), length-append one (instr.Skip (past does (length other)) ∷ [])) in
     ap (λ q. slice_set all place (instr.Skip q)) (at' ∙ ap (past does) left)
     ∙ ap (λ l. slice_set l place (instr.Skip (past does (length other)))) all_is
     ∙ ap (λ p. slice_set ((front ++ jump ∷ []) ++ other) p (instr.Skip (past does (length other)))) n_front
@@ -54,7 +58,8 @@ branches_filled old one other first all does i k n m is at whole at' =
     ∙ ap (λ l. old ++ instr.SkipIfZero (distance (length (one ++ instr.Skip (past does (length other)) ∷ []))) ∷ l) (sym (append_assoc one (instr.Skip (past does (length other)) ∷ []) other))
 
 -- a turn
-pub turn_filled : (old body mid all : List Instr) (start : ℕ) (i : Instr) (n m : ℕ) → start ≤ length old → mid ≡ (old ++ i ∷ []) ++ body → n ≡ distance (length mid - start) → all ≡ mid ++ instr.GoBack n ∷ [] → m ≡ distance (length all - length old - 1) →
+pub turn_filled : (old body mid all : List Instr) (start : ℕ) (i : Instr) (n m : ℕ) → start ≤ length old → mid ≡ (old ++ i ∷ []) ++ body
+    → n ≡ distance (length mid - start) → all ≡ mid ++ instr.GoBack n ∷ [] → m ≡ distance (length all - length old - 1) →
     slice_set all (length old) (instr.SkipIfZero m) ≡ old ++ emitted_turn (length old - start) body
 turn_filled old body mid all start i n m le is at whole at' =
     let back : length mid - start ≡ length old - start + 1 + length body = omega (arith, le, ap length is, length-append (old ++ i ∷ []) body, length-append old (i ∷ [])) in
@@ -62,14 +67,17 @@ turn_filled old body mid all start i n m le is at whole at' =
     over_filled old (body ++ jump ∷ []) all i m (whole ∙ ap (λ k. mid ++ instr.GoBack k ∷ []) (at ∙ ap distance back) ∙ ap (λ l. l ++ jump ∷ []) is ∙ append_assoc (old ++ i ∷ []) body (jump ∷ [])) at'
 
 -- the code of both branches, from what each step of the emission leaves
-pub if_else_emitted : (start test_code h0 h1 b1 first landed all new one other : List Instr) (test end : ℕ) (does found : Bool) → h0 ≡ start ++ test_code → h1 ≡ h0 ++ instr.Skip 0 ∷ [] → test ≡ length h0 → b1 ≡ h1 ++ one → found ≡ does →
-    first ≡ b1 ++ instr.Skip 0 ∷ [] → end ≡ length b1 → landed ≡ slice_set first test (instr.SkipIfZero (distance (length first - test - 1))) → all ≡ landed ++ other → new ≡ slice_set all end (instr.Skip (past found (length all - end - 1))) →
+pub if_else_emitted : (start test_code h0 h1 b1 first landed all new one other : List Instr) (test end : ℕ) (does found : Bool)
+    → h0 ≡ start ++ test_code → h1 ≡ h0 ++ instr.Skip 0 ∷ [] → test ≡ length h0 → b1 ≡ h1 ++ one → found ≡ does →
+    first ≡ b1 ++ instr.Skip 0 ∷ [] → end ≡ length b1 → landed ≡ slice_set first test (instr.SkipIfZero (distance (length first - test - 1)))
+    → all ≡ landed ++ other → new ≡ slice_set all end (instr.Skip (past found (length all - end - 1))) →
     new ≡ start ++ (test_code ++ emitted_branches does one other)
 if_else_emitted start test_code h0 h1 b1 first landed all new one other test end does found eh0 eh1 etest eb1 er efirst eend elanded eall enew =
     let i = instr.Skip 0 in
     let b1_is : b1 ≡ (h0 ++ i ∷ []) ++ one = eb1 ∙ ap (λ l. l ++ one) eh1 in
     let first_is : first ≡ ((h0 ++ i ∷ []) ++ one) ++ i ∷ [] = efirst ∙ ap (λ l. l ++ i ∷ []) b1_is in
-    let all_is : all ≡ slice_set first (length h0) (instr.SkipIfZero (distance (length first - length h0 - 1))) ++ other = eall ∙ ap (λ l. l ++ other) (elanded ∙ ap (λ p. slice_set first p (instr.SkipIfZero (distance (length first - p - 1)))) etest) in
+    let all_is : all ≡ slice_set first (length h0) (instr.SkipIfZero (distance (length first - length h0 - 1))) ++ other = eall
+    ∙ ap (λ l. l ++ other) (elanded ∙ ap (λ p. slice_set first p (instr.SkipIfZero (distance (length first - p - 1)))) etest) in
     let place = length ((h0 ++ i ∷ []) ++ one) in
     enew
     ∙ ap (λ p. slice_set all p (instr.Skip (past found (length all - p - 1)))) (eend ∙ ap length b1_is)
@@ -79,7 +87,8 @@ if_else_emitted start test_code h0 h1 b1 first landed all new one other test end
     ∙ append_assoc start test_code (emitted_branches does one other)
 
 -- the code of a loop
-pub while_emitted : (start test_code h0 new body : List Instr) (from : ℕ) → from ≡ length start → h0 ≡ start ++ test_code → new ≡ h0 ++ emitted_turn (length h0 - from) body → new ≡ start ++ (test_code ++ emitted_turn (length test_code) body)
+pub while_emitted : (start test_code h0 new body : List Instr) (from : ℕ) → from ≡ length start → h0 ≡ start ++ test_code
+    → new ≡ h0 ++ emitted_turn (length h0 - from) body → new ≡ start ++ (test_code ++ emitted_turn (length test_code) body)
 while_emitted start test_code h0 new body from efrom eh0 enew =
     let n : length h0 - from ≡ length test_code = omega (arith, ap length eh0, length-append start test_code, efrom) in
     enew

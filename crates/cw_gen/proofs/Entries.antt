@@ -24,7 +24,8 @@ abbrev pub arrays_of : Room → ℕ
 arrays_of room = room.arrays
 
 -- the entry has the room of the text, where there is a slot for each parameter
-pub as_counted : (lists : Lists) (g : Function) (first start : ℕ) → length (locals_of g.params).arrays ≤ (room_of lists g).arrays → room_of lists g ≡ room_of_func g (emitted_func first start (slotted_function lists g))
+pub as_counted : (lists : Lists) (g : Function) (first start : ℕ) → length (locals_of g.params).arrays ≤ (room_of lists g).arrays
+    → room_of lists g ≡ room_of_func g (emitted_func first start (slotted_function lists g))
 as_counted lists g first start array_room =
     let names = locals_of g.params in
     let kinds = map (λ (p : Param). p.kind) g.params in

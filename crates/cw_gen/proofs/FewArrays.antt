@@ -4,13 +4,15 @@ use Rattle.std.specs.Prelude.{flat_map}
 use Rattle.std.proofs.lemmas.List.{length_push}
 use Rattle.cw_model.specs.declared.limits.TheConstants.{MOST_DECLARED}
 use Rattle.cw_model.specs.declared.syntax.Operator.TheVariants.{AtMost, Plus, Divide}
-use Rattle.cw_model.specs.Syntax.{wants_array, Name, Param, Number, Variable, Binary, Stmt, Declare, DeclareArray, Assign, AssignElement, Reduce, Call, Start, Begin, Sync, If, IfElse, While, For, Scope, Cut, Region, Print, Return, Block, End, Then, Function, Program}
+use Rattle.cw_model.specs.Syntax.{wants_array, Name, Param, Number, Variable, Binary, Stmt, Declare, DeclareArray, Assign, AssignElement, Reduce, Call, Start}
+use Rattle.cw_model.specs.Syntax.{Begin, Sync, If, IfElse, While, For, Scope, Cut, Region, Print, Return, Block, End, Then, Function, Program}
 use Rattle.cw_model.specs.Captured.{captured}
 use Rattle.cw_model.specs.Sizes.{function_limits}
 use Rattle.cw_model.specs.lemmas.Kept.{left_none, right_none}
 use Rattle.cw_tree.specs.Resolved.{Lists, Locals, slot_of, with_array, locals_after, locals_of}
 use Rattle.cw_tree.specs.lemmas.Few.{heads_small, small_head}
-use Rattle.cw_loops.specs.Lowered.{low, middle, range, left_part, right_part, leaf_block, node_block, both_halves, left_arguments, right_arguments, in_cuts, loop_name, loop_function, loop_count, loop_count_in, lower_block, lower_functions, made_by, made_in, made_of, lowered}
+use Rattle.cw_loops.specs.Lowered.{low, middle, range, left_part, right_part, leaf_block, node_block, both_halves, left_arguments, right_arguments, in_cuts}
+use Rattle.cw_loops.specs.Lowered.{loop_name, loop_function, loop_count, loop_count_in, lower_block, lower_functions, made_by, made_in, made_of, lowered}
 use Rattle.cw_loops.specs.SlotLaws.{IsWithinLimits}
 use Rattle.cw_loops.specs.Slotted.{slotted_stmt, slotted_block}
 use Rattle.cw_code.specs.declared.code.Instr.TheVariants as instr
@@ -24,12 +26,17 @@ use Rattle.cw_gen.proofs.Texts.{expr_code, stmt_code, block_code, function_code}
 module _ (first : ℕ) (marks : Marks) (lists : Lists) where
   -- a statement declares no more arrays than it has instructions
   few_after : (locals : Locals) (line : ℕ) (s : Stmt) → length (locals_after locals s).arrays ≤ length locals.arrays + length (stmt_code first marks lists locals line s)
-  few_after locals line (DeclareArray a e) = omega (arith, length-append locals.arrays (a ∷ []), length_push (expr_code marks locals line e) (instr.NewArray (array_at marks (length locals.arrays)) line))
+  few_after locals line (DeclareArray a e) = omega (
+    arith,
+    length-append locals.arrays (a ∷ []),
+    length_push (expr_code marks locals line e) (instr.NewArray (array_at marks (length locals.arrays)) line),
+  )
   few_after locals line _ = omega arith
 
   mutual
     -- no slot that it needs is beyond these
-    few_here : (n most : ℕ) (locals : Locals) (line : ℕ) (s : Stmt) → n ≤ most → length locals.arrays + length (stmt_code first marks lists locals line s) ≤ most → arrays_in n (slotted_stmt lists locals s) ≤ most
+    few_here : (n most : ℕ) (locals : Locals) (line : ℕ) (s : Stmt) → n ≤ most
+        → length locals.arrays + length (stmt_code first marks lists locals line s) ≤ most → arrays_in n (slotted_stmt lists locals s) ≤ most
     few_here n most locals line (DeclareArray a e) h k = omega (arith, h, k, length_push (expr_code marks locals line e) (instr.NewArray (array_at marks (length locals.arrays)) line))
     few_here n most locals line (If e b) h k =
         let ce = expr_code marks locals line e in
@@ -61,7 +68,8 @@ module _ (first : ℕ) (marks : Marks) (lists : Lists) where
     few_here n most locals line _ h k = h
 
     -- nor one that a block needs
-    pub few_in : (n most : ℕ) (locals : Locals) (b : Block) → n ≤ most → length locals.arrays + length (block_code first marks lists locals b) ≤ most → arrays_in_block n (slotted_block lists locals b) ≤ most
+    pub few_in : (n most : ℕ) (locals : Locals) (b : Block) → n ≤ most → length locals.arrays + length (block_code first marks lists locals b) ≤ most
+        → arrays_in_block n (slotted_block lists locals b) ≤ most
     few_in n most locals End h k = h
     few_in n most locals (Then line s b) h k =
         let after = locals_after locals s in
@@ -77,7 +85,8 @@ module _ (first : ℕ) (marks : Marks) (lists : Lists) where
       omega (arith, length-append cb (instr.EndCut ∷ []), length-append (cb ++ instr.EndCut ∷ []) [], cuts_long inner line rest inside)
 
   -- so the code of its function is no shorter
-  loop_long : (locals : Locals) (name : Name) (line : ℕ) (x : Name) (grain : ℕ) (ints over : List Name) (body : Block) → length over ≤ length (block_code first marks lists locals (loop_function name line x grain ints over body).body)
+  loop_long : (locals : Locals) (name : Name) (line : ℕ) (x : Name) (grain : ℕ) (ints over : List Name) (body : Block)
+      → length over ≤ length (block_code first marks lists locals (loop_function name line x grain ints over body).body)
   loop_long locals name line x grain ints over body =
       let leaf = leaf_block line x body in
       let node = node_block line name ints over in
@@ -90,7 +99,14 @@ module _ (first : ℕ) (marks : Marks) (lists : Lists) where
       let declared = Declare middle (Binary Plus (Variable low) (Binary Divide range (Number (pos 2)))) in
       let cd = stmt_code first marks lists locals line declared in
       let after = locals_after locals declared in
-      omega (arith, length-append (ce ++ (over_leaf ++ cn)) [], length-append ce (over_leaf ++ cn), length-append over_leaf cn, length-append cd (block_code first marks lists after (in_cuts line over inside)), cuts_long after line over inside)
+      omega (
+        arith,
+        length-append (ce ++ (over_leaf ++ cn)) [],
+        length-append ce (over_leaf ++ cn),
+        length-append over_leaf cn,
+        length-append cd (block_code first marks lists after (in_cuts line over inside)),
+        cuts_long after line over inside,
+      )
 
 -- the arrays among the parameters of a function are few, or no more than the instructions of its code
 abbrev pub FewGiven : (first : ℕ) → Lists → List Function → Type 0

@@ -3,7 +3,8 @@ use Rattle.std.proofs.Common.{◌≡◌, ℕ, ◌+◌, ◌≤◌, List, [], ◌�
 use Rattle.std.specs.Prelude.{map, flat_map}
 use Rattle.std.proofs.lemmas.List.{length-map, length-drop}
 use Rattle.cw_model.specs.declared.limits.TheConstants.{MOST_FUNCTIONS, MOST_LOOPS}
-use Rattle.cw_model.specs.Syntax.{Stmt, Declare, DeclareArray, Assign, AssignElement, Reduce, Call, Start, Begin, Sync, If, IfElse, While, For, Scope, Cut, Region, Print, Return, Block, End, Then, Function, Program}
+use Rattle.cw_model.specs.Syntax.{Stmt, Declare, DeclareArray, Assign, AssignElement, Reduce, Call, Start, Begin, Sync, If, IfElse}
+use Rattle.cw_model.specs.Syntax.{While, For, Scope, Cut, Region, Print, Return, Block, End, Then, Function, Program}
 use Rattle.cw_model.specs.Captured.{captured}
 use Rattle.cw_model.specs.Sizes.{lines_beyond, loops_in, loops_in_block}
 use Rattle.cw_model.specs.lemmas.Kept.{left_none}
@@ -49,7 +50,8 @@ mutual
 made_count_of : (k : ℕ) (fs : List Function) → length (made_of k fs) ≡ length (flat_map (λ f. loops_in_block f.body) fs)
 made_count_of k [] = refl
 made_count_of k (f ∷ fs) =
-    both_long (made_in k f.body) (made_of (k + loop_count_in f.body) fs) (loops_in_block f.body) (flat_map (λ g. loops_in_block g.body) fs) (made_count_in k f.body) (made_count_of (k + loop_count_in f.body) fs)
+    both_long (made_in k f.body) (made_of (k + loop_count_in f.body) fs) (loops_in_block f.body) (flat_map (λ g. loops_in_block g.body) fs)
+    (made_count_in k f.body) (made_count_of (k + loop_count_in f.body) fs)
 
 pub few_functions : (program : Program) → IsWithinLimits program → length (lowered program).functions ≤ 8192
 few_functions program within =

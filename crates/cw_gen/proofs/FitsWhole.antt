@@ -1,5 +1,6 @@
 -- The code of each function fits, and the functions lie one after another.
-use Rattle.std.proofs.Common.{◌≡◌, ℕ, zero, suc, ◌+◌, ◌-◌, ◌^◌, ◌<◌, ◌≤◌, List, [], ◌∷◌, ◌++◌, length, Bool, true, false, not, if◌then◌else◌, Option, Some, None, refl, sym, ap, ◌∙◌, subst, arith, append_assoc, length-append, true≢false}
+use Rattle.std.proofs.Common.{◌≡◌, ℕ, zero, suc, ◌+◌, ◌-◌, ◌^◌, ◌<◌, ◌≤◌, List, [], ◌∷◌, ◌++◌, length, Bool, true, false, not, if◌then◌else◌}
+use Rattle.std.proofs.Common.{Option, Some, None, refl, sym, ap, ◌∙◌, subst, arith, append_assoc, length-append, true≢false}
 use Rattle.std.specs.Prelude.{slice_get, map, replicate}
 use Rattle.std.proofs.Math.Seq.{get_or-append_seam}
 use Rattle.std.proofs.lemmas.List.{append-nil, length-replicate}
@@ -55,7 +56,8 @@ within_shapes zero ss place shape h = (omega arith, there (slice_get ss place) r
 within_shapes (suc start) ss zero shape h = cc
 within_shapes (suc start) ss (suc place) shape h = let more = within_shapes start ss place shape h in (omega (arith, more.0), omega (arith, more.1))
 
-module _ (code : Code) (fs : List Function) (lists : Lists) (small : length code.instrs ≤ MOST_INSTRUCTIONS) (functions : texts.Table code fs lists) (reducers_are : reducer_names code.reducers ≡ lists.reducers) (tags_are : code.tags ≡ lists.tags) (least : TurnsClose fs) where
+module _ (code : Code) (fs : List Function) (lists : Lists) (small : length code.instrs ≤ MOST_INSTRUCTIONS) (functions : texts.Table code fs lists)
+    (reducers_are : reducer_names code.reducers ≡ lists.reducers) (tags_are : code.tags ≡ lists.tags) (least : TurnsClose fs) where
   abbrev first : ℕ
   first = first_list code.sites
 
@@ -67,7 +69,8 @@ module _ (code : Code) (fs : List Function) (lists : Lists) (small : length code
   function_shapes size g =
       block_shapes fs size [] (locals_of g.params) [] g.body ++ (if g.gives_int then [] else reached (block_returns g.body) (end_shape fs size [] (locals_of g.params) [] g.body) ∷ [])
 
-  module _ (g : Function) (start : ℕ) (fine : FunctionFine fs lists tables g) (stands_code : HasAt code.instrs start (function_code first lists g)) (few : length (locals_of g.params).arrays ≤ MOST_DECLARED + length (function_code first lists g)) where
+  module _ (g : Function) (start : ℕ) (fine : FunctionFine fs lists tables g) (stands_code : HasAt code.instrs start (function_code first lists g))
+      (few : length (locals_of g.params).arrays ≤ MOST_DECLARED + length (function_code first lists g)) where
     abbrev f : Func
     f = emitted_func first start (slotted_function lists g)
 
@@ -177,7 +180,8 @@ module _ (code : Code) (fs : List Function) (lists : Lists) (small : length code
     all_fit : AllFit setting start shapes (function_code first lists g)
     all_fit =
         both_fit setting start body_shapes (end_shapes g.gives_int) body (emitted_end g.gives_int)
-        (block_fits setting (if g.gives_int then WithInt else Alone) 1 [] locals [] g.body start refl room tt (returning g.gives_int refl) fine_body short (stands_front tab start body_shapes (end_shapes g.gives_int) stands) closes)
+        (block_fits setting (if g.gives_int then WithInt else Alone) 1 [] locals [] g.body start refl room tt
+        (returning g.gives_int refl) fine_body short (stands_front tab start body_shapes (end_shapes g.gives_int) stands) closes)
         (ends g.gives_int refl (block_returns g.body))
 
     -- a row of arrays is as long as the entry says
@@ -191,13 +195,19 @@ module _ (code : Code) (fs : List Function) (lists : Lists) (small : length code
     starts =
         takes_less (table_of tab) start (first_shape f) (shape_at size [] locals [] 0)
         (block_enters setting (if g.gives_int then WithInt else Alone) 1 [] locals [] g.body start refl room tt fine_body (stands_front tab start body_shapes (end_shapes g.gives_int) stands) closes)
-        refl (covers_none (row size.ints 1 locals.ints []) size.ints (length-row size.ints 1 locals.ints []), covers_none (array_row size 1 locals.arrays []) f.arrays as_long, covers_none (array_row size 1 locals.arrays []) f.arrays as_long, tt)
+        refl (
+          covers_none (row size.ints 1 locals.ints []) size.ints (length-row size.ints 1 locals.ints []),
+          covers_none (array_row size 1 locals.arrays []) f.arrays as_long,
+          covers_none (array_row size 1 locals.arrays []) f.arrays as_long,
+          tt,
+        )
 
     abbrev FitsHere : ℕ → Option Shape → Instr → Type 0
     FitsHere place o i = FitsAt setting place o i
 
     -- what one place finds
-    at_place : (ss : Shapes) (is : List Instr) (place m : ℕ) (i : Instr) → AllFit setting place ss is → StandsAt tab place ss → HasAt code.instrs place is → m < length is → slice_get code.instrs (place + m) ≡ Some i → FitsHere (place + m) (flat (slice_get tab (place + m))) i
+    at_place : (ss : Shapes) (is : List Instr) (place m : ℕ) (i : Instr) → AllFit setting place ss is → StandsAt tab place ss
+        → HasAt code.instrs place is → m < length is → slice_get code.instrs (place + m) ≡ Some i → FitsHere (place + m) (flat (slice_get tab (place + m))) i
     at_place [] [] place m i fit stand has below e = absurd (omega (arith, below))
     at_place [] (i' ∷ is) place m i fit stand has below e = absurd fit
     at_place (s ∷ ss) [] place m i fit stand has below e = absurd fit
@@ -213,7 +223,8 @@ module _ (code : Code) (fs : List Function) (lists : Lists) (small : length code
     fits_at : (place : ℕ) (i : Instr) → start ≤ place → place < f.end → slice_get code.instrs place ≡ Some i → FitsHere place (flat (slice_get tab place)) i
     fits_at place i le below e =
         let p : start + (place - start) ≡ place = omega (arith, le) in
-        subst (λ q. FitsHere q (flat (slice_get tab q)) i) p (at_place shapes (function_code first lists g) start (place - start) i all_fit stands stands_code (omega (arith, below, le)) (ap (slice_get code.instrs) p ∙ e))
+        subst (λ q. FitsHere q (flat (slice_get tab q)) i) p (at_place shapes (function_code first lists g) start
+        (place - start) i all_fit stands stands_code (omega (arith, below, le)) (ap (slice_get code.instrs) p ∙ e))
 
     named : (o : Option Shape) (place : ℕ) (i : Instr) → FitsHere place o i → names_well code f place i ≡ true
     named None place i h = h
@@ -254,7 +265,8 @@ module _ (code : Code) (fs : List Function) (lists : Lists) (small : length code
     pub lie : LieFrom start (emitted_funcs first start (map (slotted_function lists) gs)) (start + length (emitted_instrs first (map (slotted_function lists) gs)))
     pub each : (k : ℕ) (f : Func) → slice_get (emitted_funcs first start (map (slotted_function lists) gs)) k ≡ Some f → FitsFunc code f
 
-  row_fits : (pre : List Instr) (gs : List Function) → code.instrs ≡ pre ++ emitted_instrs first (map (slotted_function lists) gs) → FunctionsFine fs lists tables gs → FewGiven first lists gs → RowFits (length pre) gs
+  row_fits : (pre : List Instr) (gs : List Function) → code.instrs ≡ pre ++ emitted_instrs first (map (slotted_function lists) gs)
+      → FunctionsFine fs lists tables gs → FewGiven first lists gs → RowFits (length pre) gs
   row_fits pre [] e fine few = record { lie = omega arith; each = λ k f e'. cc }
   row_fits pre (g ∷ gs) e fine few =
       let here = function_code first lists g in
@@ -265,17 +277,26 @@ module _ (code : Code) (fs : List Function) (lists : Lists) (small : length code
       let more' : RowFits (length pre + length here) gs = subst (λ m. RowFits m gs) at more in
       let whole : length pre + length here + length there ≡ length pre + length (here ++ there) = omega (arith, length-append here there) in
       record {
-        lie = (refl, not_empty g (length pre) fine.0 stands_here few.0, subst (λ m. LieFrom (length pre + length here) (emitted_funcs first (length pre + length here) (map (slotted_function lists) gs)) m) whole more'.lie);
+        lie = (
+          refl,
+          not_empty g (length pre) fine.0 stands_here few.0,
+          subst (λ m. LieFrom (length pre + length here) (emitted_funcs first (length pre + length here) (map (slotted_function lists) gs)) m) whole more'.lie,
+        );
         each = λ k f e'. pick k f e' (function_fits g (length pre) fine.0 stands_here few.0) more'.each;
       }
     where
-      pick : (k : ℕ) (f : Func) → slice_get (emitted_func first (length pre) (slotted_function lists g) ∷ emitted_funcs first (length pre + length (function_code first lists g)) (map (slotted_function lists) gs)) k ≡ Some f → FitsFunc code (emitted_func first (length pre) (slotted_function lists g)) →
-          ((k' : ℕ) (f' : Func) → slice_get (emitted_funcs first (length pre + length (function_code first lists g)) (map (slotted_function lists) gs)) k' ≡ Some f' → FitsFunc code f') → FitsFunc code f
+      pick : (k : ℕ) (f : Func) → slice_get (emitted_func first (length pre) (slotted_function lists g)
+          ∷ emitted_funcs first (length pre + length (function_code first lists g)) (map (slotted_function lists) gs)) k ≡ Some f
+          → FitsFunc code (emitted_func first (length pre) (slotted_function lists g)) →
+          ((k' : ℕ) (f' : Func) → slice_get (emitted_funcs first (length pre + length (function_code first lists g))
+          (map (slotted_function lists) gs)) k' ≡ Some f' → FitsFunc code f') → FitsFunc code f
       pick zero f e' here rest = let same : emitted_func first (length pre) (slotted_function lists g) ≡ f = cc e' in subst (λ q. FitsFunc code q) same here
       pick (suc k) f e' here rest = rest k f e'
 
 -- where functions are compiled, the code of a lowered program fits
-pub generated_fits : (program : Program) → is_function main_name program.functions ≡ true → IsWithinLimits program → length (code_of program).instrs ≤ MOST_INSTRUCTIONS → TurnsClose (lowered program).functions → texts.Table (code_of program) (lowered program).functions (lowered_lists program) →
+pub generated_fits : (program : Program) → is_function main_name program.functions ≡ true → IsWithinLimits program
+    → length (code_of program).instrs ≤ MOST_INSTRUCTIONS → TurnsClose (lowered program).functions
+    → texts.Table (code_of program) (lowered program).functions (lowered_lists program) →
     ProgramFine (lowered program) (lowered_lists program) (tables_in (code_of program)) → are_apart (code_of program).tags ≡ true → Fits (code_of program)
 generated_fits program is_main limits small least functions fine apart =
     let code = code_of program in
@@ -283,7 +304,8 @@ generated_fits program is_main limits small least functions fine apart =
     let entry = functions.entry main_name fine.main in
     let at : slice_get code.funcs code.main ≡ Some entry.0 = ap (slice_get code.funcs) (main_slot program is_main) ∙ entry.1 in
     let none_before : 0 + length code.instrs ≡ length code.instrs = omega arith in
-    let all = row_fits code (lowered program).functions (lowered_lists program) small functions (names_kept program.reducers) refl least [] (lowered program).functions refl fine.functions (few_given (first_list code.sites) (lowered_lists program) program limits) in
+    let all = row_fits code (lowered program).functions (lowered_lists program) small functions (names_kept program.reducers) refl least []
+    (lowered program).functions refl fine.functions (few_given (first_list code.sites) (lowered_lists program) program limits) in
     record {
       main = ap gives_value at ∙ entry.2.gives ∙ fine.gives;
       of_integers = omega (arith, ap array_params_of at, entry.2.readers, (main_locals main.params fine.ints).1);

@@ -52,7 +52,8 @@ module _ (setting : Setting) where
     reader_is_there s r = below (array_at setting.marks s) setting.f.readers (omega (arith, read_below setting.marks s r, setting.many_read))
 
     -- an element of an array, in a slot or behind a reader
-    element_fits : (x : Name) (line place n : ℕ) → IsUsable locals.arrays taken x → FlowsInto (table setting) (place + 1) (here (n + 1)) → FitsAt setting place (Some (here (n + 1))) (element_at (place_of setting.marks (slot_of x locals.arrays)) line)
+    element_fits : (x : Name) (line place n : ℕ) → IsUsable locals.arrays taken x → FlowsInto (table setting) (place + 1) (here (n + 1))
+        → FitsAt setting place (Some (here (n + 1))) (element_at (place_of setting.marks (slot_of x locals.arrays)) line)
     element_fits x line place n u leads = test (is_read setting.marks s) refl
       where
         s : ℕ
@@ -65,13 +66,15 @@ module _ (setting : Setting) where
         test false own =
             subst (λ l. FitsAt setting place (Some (here (n + 1))) (element_at l line)) (sym (place_own setting.marks s own)) (
               array_is_there x u own,
-              both_true (has_array (here (n + 1)) (array_at setting.marks s)) (nat_le 1 (n + 1)) (array_is_full (size setting) opened locals taken x (n + 1) room.1 u own cuts) (at_most 1 (n + 1) (omega arith)),
+              both_true (has_array (here (n + 1)) (array_at setting.marks s)) (nat_le 1 (n + 1))
+                  (array_is_full (size setting) opened locals taken x (n + 1) room.1 u own cuts) (at_most 1 (n + 1) (omega arith)),
               (leads, tt),
               refl,
             )
 
     -- and its length
-    length_fits : (x : Name) (place n : ℕ) → IsUsable locals.arrays taken x → FlowsInto (table setting) (place + 1) (here (n + 1)) → FitsAt setting place (Some (here n)) (length_at (place_of setting.marks (slot_of x locals.arrays)))
+    length_fits : (x : Name) (place n : ℕ) → IsUsable locals.arrays taken x → FlowsInto (table setting) (place + 1) (here (n + 1))
+        → FitsAt setting place (Some (here n)) (length_at (place_of setting.marks (slot_of x locals.arrays)))
     length_fits x place n u leads = test (is_read setting.marks s) refl
       where
         s : ℕ
@@ -88,14 +91,20 @@ module _ (setting : Setting) where
     expr_enters (Number v) place n more fine h = exact setting.tab place (here n) h.0
     expr_enters (Variable x) place n more fine h = exact setting.tab place (here n) h.0
     expr_enters (Length x) place n more fine h = exact setting.tab place (here n) h.0
-    expr_enters (Element x e) place n more fine h = expr_enters e place n (Some (here (n + 1)) ∷ more) fine.1 (subst (λ ss. StandsAt setting.tab place ss) (append_assoc (expr_shapes here n e) (Some (here (n + 1)) ∷ []) more) h)
-    expr_enters (Negative e) place n more fine h = expr_enters e place n (Some (here (n + 1)) ∷ more) fine (subst (λ ss. StandsAt setting.tab place ss) (append_assoc (expr_shapes here n e) (Some (here (n + 1)) ∷ []) more) h)
-    expr_enters (Not e) place n more fine h = expr_enters e place n (Some (here (n + 1)) ∷ more) fine (subst (λ ss. StandsAt setting.tab place ss) (append_assoc (expr_shapes here n e) (Some (here (n + 1)) ∷ []) more) h)
+    expr_enters (Element x e) place n more fine h = expr_enters e place n (Some (here (n + 1)) ∷ more) fine.1
+        (subst (λ ss. StandsAt setting.tab place ss) (append_assoc (expr_shapes here n e) (Some (here (n + 1)) ∷ []) more) h)
+    expr_enters (Negative e) place n more fine h = expr_enters e place n (Some (here (n + 1)) ∷ more) fine
+        (subst (λ ss. StandsAt setting.tab place ss) (append_assoc (expr_shapes here n e) (Some (here (n + 1)) ∷ []) more) h)
+    expr_enters (Not e) place n more fine h = expr_enters e place n (Some (here (n + 1)) ∷ more) fine
+        (subst (λ ss. StandsAt setting.tab place ss) (append_assoc (expr_shapes here n e) (Some (here (n + 1)) ∷ []) more) h)
     expr_enters (Binary operator d e) place n more fine h =
-        expr_enters d place n ((expr_shapes here (n + 1) e ++ Some (here (n + 1 + 1)) ∷ []) ++ more) fine.0 (subst (λ ss. StandsAt setting.tab place ss) (append_assoc (expr_shapes here n d) (expr_shapes here (n + 1) e ++ Some (here (n + 1 + 1)) ∷ []) more) h)
+        expr_enters d place n ((expr_shapes here (n + 1) e ++ Some (here (n + 1 + 1)) ∷ []) ++ more) fine.0
+        (subst (λ ss. StandsAt setting.tab place ss) (append_assoc (expr_shapes here n d) (expr_shapes here (n + 1) e ++ Some (here (n + 1 + 1)) ∷ []) more) h)
 
     -- an expression leaves one operand more
-    pub expr_fits : (e : Expr) (line place n : ℕ) → ExprFine locals taken e → StandsAt setting.tab place (expr_shapes here n e) → FlowsInto (table setting) (place + length (expr_code setting.marks locals line e)) (here (n + 1)) → AllFit setting place (expr_shapes here n e) (expr_code setting.marks locals line e)
+    pub expr_fits : (e : Expr) (line place n : ℕ) → ExprFine locals taken e → StandsAt setting.tab place (expr_shapes here n e)
+        → FlowsInto (table setting) (place + length (expr_code setting.marks locals line e)) (here (n + 1))
+        → AllFit setting place (expr_shapes here n e) (expr_code setting.marks locals line e)
     expr_fits (Number v) line place n fine stands leads = ((refl, refl, (leads, tt), refl), tt)
     expr_fits (Variable x) line place n fine stands leads = ((slot_is_there x fine, slot_is_full (size setting) opened locals taken x n room.0 fine, (leads, tt), refl), tt)
     expr_fits (Element x e) line place n fine stands leads =
@@ -104,7 +113,9 @@ module _ (setting : Setting) where
         let ss = expr_shapes here n e in
         let top = stands_back setting.tab place (length ce) ss (Some (here (n + 1)) ∷ []) (expr_as_many here n setting.marks locals line e) stands in
         let at : place + length (ce ++ i ∷ []) ≡ place + length ce + 1 = omega (arith, length-append ce (i ∷ [])) in
-        both_fit setting place ss (Some (here (n + 1)) ∷ []) ce (i ∷ []) (expr_fits e line place n fine.1 (stands_front setting.tab place ss (Some (here (n + 1)) ∷ []) stands) (exact setting.tab (place + length ce) (here (n + 1)) top.0))
+        both_fit setting place ss (Some (here (n + 1)) ∷ []) ce (i ∷ [])
+        (expr_fits e line place n fine.1 (stands_front setting.tab place ss (Some (here (n + 1)) ∷ []) stands)
+        (exact setting.tab (place + length ce) (here (n + 1)) top.0))
         (element_fits x line (place + length ce) n fine.0 (subst (λ p. FlowsInto (table setting) p (here (n + 1))) at leads), tt)
     expr_fits (Length x) line place n fine stands leads = (length_fits x place n fine leads, tt)
     expr_fits (Negative e) line place n fine stands leads =
@@ -113,7 +124,9 @@ module _ (setting : Setting) where
         let ss = expr_shapes here n e in
         let top = stands_back setting.tab place (length ce) ss (Some (here (n + 1)) ∷ []) (expr_as_many here n setting.marks locals line e) stands in
         let at : place + length (ce ++ i ∷ []) ≡ place + length ce + 1 = omega (arith, length-append ce (i ∷ [])) in
-        both_fit setting place ss (Some (here (n + 1)) ∷ []) ce (i ∷ []) (expr_fits e line place n fine (stands_front setting.tab place ss (Some (here (n + 1)) ∷ []) stands) (exact setting.tab (place + length ce) (here (n + 1)) top.0))
+        both_fit setting place ss (Some (here (n + 1)) ∷ []) ce (i ∷ [])
+        (expr_fits e line place n fine (stands_front setting.tab place ss (Some (here (n + 1)) ∷ []) stands)
+        (exact setting.tab (place + length ce) (here (n + 1)) top.0))
         ((refl, at_most 1 (n + 1) (omega arith), (subst (λ p. FlowsInto (table setting) p (here (n + 1))) at leads, tt), refl), tt)
     expr_fits (Not e) line place n fine stands leads =
         let ce = expr_code setting.marks locals line e in
@@ -121,7 +134,9 @@ module _ (setting : Setting) where
         let ss = expr_shapes here n e in
         let top = stands_back setting.tab place (length ce) ss (Some (here (n + 1)) ∷ []) (expr_as_many here n setting.marks locals line e) stands in
         let at : place + length (ce ++ i ∷ []) ≡ place + length ce + 1 = omega (arith, length-append ce (i ∷ [])) in
-        both_fit setting place ss (Some (here (n + 1)) ∷ []) ce (i ∷ []) (expr_fits e line place n fine (stands_front setting.tab place ss (Some (here (n + 1)) ∷ []) stands) (exact setting.tab (place + length ce) (here (n + 1)) top.0))
+        both_fit setting place ss (Some (here (n + 1)) ∷ []) ce (i ∷ [])
+        (expr_fits e line place n fine (stands_front setting.tab place ss (Some (here (n + 1)) ∷ []) stands)
+        (exact setting.tab (place + length ce) (here (n + 1)) top.0))
         ((refl, at_most 1 (n + 1) (omega arith), (subst (λ p. FlowsInto (table setting) p (here (n + 1))) at leads, tt), refl), tt)
     expr_fits (Binary operator d e) line place n fine stands leads =
         let cd = expr_code setting.marks locals line d in
@@ -134,36 +149,67 @@ module _ (setting : Setting) where
         let top = stands_back setting.tab (place + length cd) (length ce) se last (expr_as_many here (n + 1) setting.marks locals line e) second in
         let at : place + length (cd ++ (ce ++ i ∷ [])) ≡ place + length cd + length ce + 1 = omega (arith, length-append cd (ce ++ i ∷ []), length-append ce (i ∷ [])) in
         let less : n + 1 ≡ n + 1 + 1 - 1 = omega arith in
-        both_fit setting place sd (se ++ last) cd (ce ++ i ∷ []) (expr_fits d line place n fine.0 (stands_front setting.tab place sd (se ++ last) stands) (expr_enters e (place + length cd) (n + 1) last fine.1 second))
-        (both_fit setting (place + length cd) se last ce (i ∷ []) (expr_fits e line (place + length cd) (n + 1) fine.1 (stands_front setting.tab (place + length cd) se last second) (exact setting.tab (place + length cd + length ce) (here (n + 1 + 1)) top.0))
-        ((refl, at_most 2 (n + 1 + 1) (omega arith), (subst (λ m. FlowsInto (table setting) (place + length cd + length ce + 1) (here m)) less (subst (λ p. FlowsInto (table setting) p (here (n + 1))) at leads), tt), refl), tt))
+        both_fit setting place sd (se ++ last) cd (ce ++ i ∷ []) (expr_fits d line place n fine.0
+        (stands_front setting.tab place sd (se ++ last) stands) (expr_enters e (place + length cd) (n + 1) last fine.1 second))
+        (both_fit setting (place + length cd) se last ce (i ∷ []) (expr_fits e line (place + length cd) (n + 1) fine.1
+        (stands_front setting.tab (place + length cd) se last second) (exact setting.tab (place + length cd + length ce) (here (n + 1 + 1)) top.0)) (
+          (
+            refl,
+            at_most 2 (n + 1 + 1) (omega arith),
+            (
+              subst (λ m. FlowsInto (table setting) (place + length cd + length ce + 1) (here m)) less
+                  (subst (λ p. FlowsInto (table setting) p (here (n + 1))) at leads),
+              tt,
+            ),
+            refl,
+          ),
+          tt,
+        ))
 
     -- an expression and an instruction on its value
-    pub valued_fits : (e : Expr) (line place : ℕ) (i : Instr) → ExprFine locals taken e → StandsAt setting.tab place (expr_shapes here 0 e ++ Some (here 1) ∷ []) → FitsAt setting (place + length (expr_code setting.marks locals line e)) (Some (here 1)) i → AllFit setting place (expr_shapes here 0 e ++ Some (here 1) ∷ []) (expr_code setting.marks locals line e ++ i ∷ [])
+    pub valued_fits : (e : Expr) (line place : ℕ) (i : Instr) → ExprFine locals taken e
+        → StandsAt setting.tab place (expr_shapes here 0 e ++ Some (here 1) ∷ [])
+        → FitsAt setting (place + length (expr_code setting.marks locals line e)) (Some (here 1)) i
+        → AllFit setting place (expr_shapes here 0 e ++ Some (here 1) ∷ []) (expr_code setting.marks locals line e ++ i ∷ [])
     valued_fits e line place i fine stands last =
         let ce = expr_code setting.marks locals line e in
         let ss = expr_shapes here 0 e in
         let top = stands_back setting.tab place (length ce) ss (Some (here 1) ∷ []) (expr_as_many here 0 setting.marks locals line e) stands in
-        both_fit setting place ss (Some (here 1) ∷ []) ce (i ∷ []) (expr_fits e line place 0 fine (stands_front setting.tab place ss (Some (here 1) ∷ []) stands) (exact setting.tab (place + length ce) (here 1) top.0)) (last, tt)
+        both_fit setting place ss (Some (here 1) ∷ []) ce (i ∷ []) (expr_fits e line place 0 fine
+        (stands_front setting.tab place ss (Some (here 1) ∷ []) stands) (exact setting.tab (place + length ce) (here 1) top.0)) (last, tt)
 
     -- the first place of an expression before an instruction on its value
-    pub valued_enters : (e : Expr) (place : ℕ) (more : Shapes) → ExprFine locals taken e → StandsAt setting.tab place ((expr_shapes here 0 e ++ Some (here 1) ∷ []) ++ more) → FlowsInto (table setting) place (here 0)
-    valued_enters e place more fine h = expr_enters e place 0 (Some (here 1) ∷ [] ++ more) fine (subst (λ ss. StandsAt setting.tab place ss) (append_assoc (expr_shapes here 0 e) (Some (here 1) ∷ []) more) h)
+    pub valued_enters : (e : Expr) (place : ℕ) (more : Shapes) → ExprFine locals taken e
+        → StandsAt setting.tab place ((expr_shapes here 0 e ++ Some (here 1) ∷ []) ++ more) → FlowsInto (table setting) place (here 0)
+    valued_enters e place more fine h = expr_enters e place 0 (Some (here 1) ∷ [] ++ more) fine
+        (subst (λ ss. StandsAt setting.tab place ss) (append_assoc (expr_shapes here 0 e) (Some (here 1) ∷ []) more) h)
 
     -- the first place of arguments, or the place behind where they are none, takes what comes to it
-    pub args_enters : (ps : List Param) (es : List Expr) (line place n : ℕ) (more : Shapes) → ArgsFine setting.marks locals taken ps es → StandsAt setting.tab place (args_shapes here n ps es ++ more) → FlowsInto (table setting) (place + length (args_code setting.marks locals line ps es)) (here (args_after n ps es)) → FlowsInto (table setting) place (here n)
+    pub args_enters : (ps : List Param) (es : List Expr) (line place n : ℕ) (more : Shapes) → ArgsFine setting.marks locals taken ps es
+        → StandsAt setting.tab place (args_shapes here n ps es ++ more) → FlowsInto (table setting)
+        (place + length (args_code setting.marks locals line ps es)) (here (args_after n ps es)) → FlowsInto (table setting) place (here n)
     args_enters [] [] line place n more fine stands leads = let e : place + 0 ≡ place = omega arith in subst (λ p. FlowsInto (table setting) p (here n)) e leads
     args_enters [] (e ∷ es) line place n more fine stands leads = absurd fine
     args_enters (p ∷ ps) [] line place n more fine stands leads = absurd fine
-    args_enters (p ∷ ps) (e ∷ es) line place n more fine stands leads = one (λ h k. args_enters ps es line place n more fine.1 h k) (wants_array p) (arg_kept p.kind setting.marks locals taken e fine.0) stands leads
+    args_enters (p ∷ ps) (e ∷ es) line place n more fine stands leads =
+        one (λ h k. args_enters ps es line place n more fine.1 h k) (wants_array p) (arg_kept p.kind setting.marks locals taken e fine.0) stands leads
       where
-        one : (StandsAt setting.tab place (args_shapes here n ps es ++ more) → FlowsInto (table setting) (place + length (args_code setting.marks locals line ps es)) (here (args_after n ps es)) → FlowsInto (table setting) place (here n)) → (b : Bool) → ArgKept b locals taken e →
-            StandsAt setting.tab place ((arg_shapes b here n e ++ args_shapes here (after_arg b n) ps es) ++ more) → FlowsInto (table setting) (place + length (args_code setting.marks locals line (p ∷ ps) (e ∷ es))) (here (args_after (after_arg b n) ps es)) → FlowsInto (table setting) place (here n)
-        one rest true fine' h k = rest h (subst (λ q. FlowsInto (table setting) (place + q) (here (args_after n ps es))) (ap (λ is. length (is ++ args_code setting.marks locals line ps es)) (array_code setting.marks locals line (p ∷ ps) e fine')) k)
-        one rest false fine' h k = expr_enters e place n (args_shapes here (n + 1) ps es ++ more) fine'.0 (subst (λ ss. StandsAt setting.tab place ss) (append_assoc (expr_shapes here n e) (args_shapes here (n + 1) ps es) more) h)
+        one : (StandsAt setting.tab place (args_shapes here n ps es ++ more)
+            → FlowsInto (table setting) (place + length (args_code setting.marks locals line ps es)) (here (args_after n ps es))
+            → FlowsInto (table setting) place (here n)) → (b : Bool) → ArgKept b locals taken e →
+            StandsAt setting.tab place ((arg_shapes b here n e ++ args_shapes here (after_arg b n) ps es) ++ more)
+            → FlowsInto (table setting) (place + length (args_code setting.marks locals line (p ∷ ps) (e ∷ es)))
+            (here (args_after (after_arg b n) ps es)) → FlowsInto (table setting) place (here n)
+        one rest true fine' h k = rest h (subst (λ q. FlowsInto (table setting) (place + q) (here (args_after n ps es)))
+            (ap (λ is. length (is ++ args_code setting.marks locals line ps es)) (array_code setting.marks locals line (p ∷ ps) e fine')) k)
+        one rest false fine' h k = expr_enters e place n (args_shapes here (n + 1) ps es ++ more) fine'.0
+            (subst (λ ss. StandsAt setting.tab place ss) (append_assoc (expr_shapes here n e) (args_shapes here (n + 1) ps es) more) h)
 
     -- arguments leave an operand for each integer
-    pub args_fit : (ps : List Param) (es : List Expr) (line place n : ℕ) → ArgsFine setting.marks locals taken ps es → StandsAt setting.tab place (args_shapes here n ps es) → FlowsInto (table setting) (place + length (args_code setting.marks locals line ps es)) (here (args_after n ps es)) → AllFit setting place (args_shapes here n ps es) (args_code setting.marks locals line ps es)
+    pub args_fit : (ps : List Param) (es : List Expr) (line place n : ℕ) → ArgsFine setting.marks locals taken ps es
+        → StandsAt setting.tab place (args_shapes here n ps es) → FlowsInto (table setting)
+        (place + length (args_code setting.marks locals line ps es)) (here (args_after n ps es))
+        → AllFit setting place (args_shapes here n ps es) (args_code setting.marks locals line ps es)
     args_fit [] [] line place n fine stands leads = tt
     args_fit [] (e ∷ es) line place n fine stands leads = absurd fine
     args_fit (p ∷ ps) [] line place n fine stands leads = absurd fine
@@ -172,12 +218,15 @@ module _ (setting : Setting) where
         ces : List Instr
         ces = args_code setting.marks locals line ps es
 
-        one : ((q m : ℕ) → StandsAt setting.tab q (args_shapes here m ps es) → FlowsInto (table setting) (q + length ces) (here (args_after m ps es)) → AllFit setting q (args_shapes here m ps es) ces) → (b : Bool) → ArgKept b locals taken e →
-            StandsAt setting.tab place (arg_shapes b here n e ++ args_shapes here (after_arg b n) ps es) → FlowsInto (table setting) (place + length (args_code setting.marks locals line (p ∷ ps) (e ∷ es))) (here (args_after (after_arg b n) ps es)) →
+        one : ((q m : ℕ) → StandsAt setting.tab q (args_shapes here m ps es) → FlowsInto (table setting) (q + length ces) (here (args_after m ps es))
+            → AllFit setting q (args_shapes here m ps es) ces) → (b : Bool) → ArgKept b locals taken e →
+            StandsAt setting.tab place (arg_shapes b here n e ++ args_shapes here (after_arg b n) ps es)
+            → FlowsInto (table setting) (place + length (args_code setting.marks locals line (p ∷ ps) (e ∷ es))) (here (args_after (after_arg b n) ps es)) →
             AllFit setting place (arg_shapes b here n e ++ args_shapes here (after_arg b n) ps es) (args_code setting.marks locals line (p ∷ ps) (e ∷ es))
         one rest true fine' h k =
             let none = array_code setting.marks locals line (p ∷ ps) e fine' in
-            subst (λ is. AllFit setting place (args_shapes here n ps es) (is ++ ces)) (sym none) (rest place n h (subst (λ q. FlowsInto (table setting) (place + q) (here (args_after n ps es))) (ap (λ is. length (is ++ ces)) none) k))
+            subst (λ is. AllFit setting place (args_shapes here n ps es) (is ++ ces)) (sym none)
+            (rest place n h (subst (λ q. FlowsInto (table setting) (place + q) (here (args_after n ps es))) (ap (λ is. length (is ++ ces)) none) k))
         one rest false fine' h k =
             let ce = expr_code setting.marks locals line e in
             let one_code = emitted_arg setting.marks line (slotted_argument locals (p ∷ ps) e) in
@@ -186,14 +235,20 @@ module _ (setting : Setting) where
             let more = args_shapes here (n + 1) ps es in
             let second = stands_back setting.tab place (length ce) ss more (expr_as_many here n setting.marks locals line e) h in
             let at : place + length (one_code ++ ces) ≡ place + length ce + length ces = omega (arith, length-append one_code ces, ap length same) in
-            let leads' : FlowsInto (table setting) (place + length ce + length ces) (here (args_after (n + 1) ps es)) = subst (λ q. FlowsInto (table setting) q (here (args_after (n + 1) ps es))) at k in
+            let leads' : FlowsInto (table setting) (place + length ce + length ces) (here (args_after (n + 1) ps es)) =
+            subst (λ q. FlowsInto (table setting) q (here (args_after (n + 1) ps es))) at k in
             subst (λ is. AllFit setting place (ss ++ more) (is ++ ces)) (sym same)
-            (both_fit setting place ss more ce ces (expr_fits e line place n fine'.0 (stands_front setting.tab place ss more h) (args_enters ps es line (place + length ce) (n + 1) [] fine.1 (subst (λ ss'. StandsAt setting.tab (place + length ce) ss') (sym (append-nil more)) second) leads'))
+            (both_fit setting place ss more ce ces (expr_fits e line place n fine'.0 (stands_front setting.tab place ss more h)
+            (args_enters ps es line (place + length ce) (n + 1) [] fine.1
+            (subst (λ ss'. StandsAt setting.tab (place + length ce) ss') (sym (append-nil more)) second) leads'))
             (rest (place + length ce) (n + 1) second leads'))
 
     -- arguments and an instruction that takes them
-    pub given_fits : (ps : List Param) (es : List Expr) (line place : ℕ) (i : Instr) (next : Shape) → ArgsFine setting.marks locals taken ps es → StandsAt setting.tab place (args_shapes here 0 ps es ++ Some (here (args_after 0 ps es)) ∷ []) →
-        (FlowsInto (table setting) (place + length (args_code setting.marks locals line ps es) + 1) next → FitsAt setting (place + length (args_code setting.marks locals line ps es)) (Some (here (args_after 0 ps es))) i) → FlowsInto (table setting) (place + length (args_code setting.marks locals line ps es ++ i ∷ [])) next →
+    pub given_fits : (ps : List Param) (es : List Expr) (line place : ℕ) (i : Instr) (next : Shape) → ArgsFine setting.marks locals taken ps es
+        → StandsAt setting.tab place (args_shapes here 0 ps es ++ Some (here (args_after 0 ps es)) ∷ []) →
+        (FlowsInto (table setting) (place + length (args_code setting.marks locals line ps es) + 1) next
+        → FitsAt setting (place + length (args_code setting.marks locals line ps es)) (Some (here (args_after 0 ps es))) i)
+        → FlowsInto (table setting) (place + length (args_code setting.marks locals line ps es ++ i ∷ [])) next →
         AllFit setting place (args_shapes here 0 ps es ++ Some (here (args_after 0 ps es)) ∷ []) (args_code setting.marks locals line ps es ++ i ∷ [])
     given_fits ps es line place i next fine stands last leads =
         let ces = args_code setting.marks locals line ps es in
@@ -201,5 +256,6 @@ module _ (setting : Setting) where
         let shape = here (args_after 0 ps es) in
         let top = stands_back setting.tab place (length ces) ss (Some shape ∷ []) (args_as_many here 0 setting.marks locals taken line ps es fine) stands in
         let behind : place + length (ces ++ i ∷ []) ≡ place + length ces + 1 = omega (arith, length-append ces (i ∷ [])) in
-        both_fit setting place ss (Some shape ∷ []) ces (i ∷ []) (args_fit ps es line place 0 fine (stands_front setting.tab place ss (Some shape ∷ []) stands) (exact setting.tab (place + length ces) shape top.0))
+        both_fit setting place ss (Some shape ∷ []) ces (i ∷ []) (args_fit ps es line place 0 fine
+        (stands_front setting.tab place ss (Some shape ∷ []) stands) (exact setting.tab (place + length ces) shape top.0))
         (last (subst (λ p. FlowsInto (table setting) p next) behind leads), tt)

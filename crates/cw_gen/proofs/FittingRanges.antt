@@ -43,22 +43,33 @@ module _ (setting : Setting) (opened : Opened) (locals : Locals) (taken : Taken)
   loads_code xs = emitted_loads (map (λ x. slot_of x locals.ints) xs)
 
   -- the first place of the loads takes what comes to it
-  loads_enter : (xs : List Name) (place n : ℕ) (more : Shapes) → StandsAt setting.tab place (loads_shapes here n xs ++ more) → FlowsInto (table setting) (place + length (loads_code xs)) (here (loads_after n xs)) → FlowsInto (table setting) place (here n)
+  loads_enter : (xs : List Name) (place n : ℕ) (more : Shapes) → StandsAt setting.tab place (loads_shapes here n xs ++ more)
+      → FlowsInto (table setting) (place + length (loads_code xs)) (here (loads_after n xs)) → FlowsInto (table setting) place (here n)
   loads_enter [] place n more stands leads = let e : place + 0 ≡ place = omega arith in subst (λ p. FlowsInto (table setting) p (here n)) e leads
   loads_enter (x ∷ xs) place n more stands leads = exact setting.tab place (here n) stands.0
 
   -- the loads fit
-  loads_fit : (xs : List Name) (place n : ℕ) → AllUsable locals.ints taken xs → StandsAt setting.tab place (loads_shapes here n xs) → FlowsInto (table setting) (place + length (loads_code xs)) (here (loads_after n xs)) → AllFit setting place (loads_shapes here n xs) (loads_code xs)
+  loads_fit : (xs : List Name) (place n : ℕ) → AllUsable locals.ints taken xs → StandsAt setting.tab place (loads_shapes here n xs)
+      → FlowsInto (table setting) (place + length (loads_code xs)) (here (loads_after n xs)) → AllFit setting place (loads_shapes here n xs) (loads_code xs)
   loads_fit [] place n us stands leads = tt
   loads_fit (x ∷ xs) place n us stands leads =
       let e : place + length (loads_code (x ∷ xs)) ≡ place + 1 + length (loads_code xs) = omega arith in
       let leads' : FlowsInto (table setting) (place + 1 + length (loads_code xs)) (here (loads_after (n + 1) xs)) = subst (λ p. FlowsInto (table setting) p (here (loads_after (n + 1) xs))) e leads in
       let more = stands.1 in
-      let next = loads_enter xs (place + 1) (n + 1) [] (subst (λ ss. StandsAt setting.tab (place + 1) ss) (sym (append-nil (loads_shapes here (n + 1) xs))) more) leads' in
-      ((slot_is_there setting opened locals taken room cuts x us.0, slot_is_full (size setting) opened locals taken x n room.0 us.0, (next, tt), refl), loads_fit xs (place + 1) (n + 1) us.1 more leads')
+      let next = loads_enter xs (place + 1) (n + 1) [] (subst (λ ss. StandsAt setting.tab (place + 1) ss) (sym (append-nil (loads_shapes here (n + 1) xs))) more) leads' in (
+        (
+          slot_is_there setting opened locals taken room cuts x us.0,
+          slot_is_full (size setting) opened locals taken x n room.0 us.0,
+          (next, tt),
+          refl,
+        ),
+        loads_fit xs (place + 1) (n + 1) us.1 more leads',
+      )
 
   -- the instruction of a first call
-  begin_fits : (name : Name) (from to : Expr) (captured over : List Name) (line place : ℕ) → StmtFine setting.fs setting.lists (tables setting) setting.marks (size setting) Nowhere (depth_in opened) locals taken (Begin name from to captured over) → FlowsInto (table setting) (place + 1) (here 0) →
+  begin_fits : (name : Name) (from to : Expr) (captured over : List Name) (line place : ℕ)
+      → StmtFine setting.fs setting.lists (tables setting) setting.marks (size setting) Nowhere (depth_in opened) locals taken
+      (Begin name from to captured over) → FlowsInto (table setting) (place + 1) (here 0) →
       FitsAt setting place (Some (here (loads_after 2 captured))) (instr.Start (whole_of (first setting) (slot_of name setting.lists.functions)) line)
   begin_fits name from to captured over line place fine leads =
       let g = function_named name setting.fs in
@@ -78,14 +89,18 @@ module _ (setting : Setting) (opened : Opened) (locals : Locals) (taken : Taken)
       let none_left : 0 ≡ many - callee_params = omega (arith, params) in
       let rows = array_row (size setting) (depth_in opened) locals.arrays (frozen_of taken) ∷ frozen_rows (outers (size setting) opened locals taken) in
       let shape = here many in (
-        both_true (names_passed setting.code setting.f c.function slots && names_lent setting.code setting.f c.function slots []) (nat_le 2 callee_params) inner (at_most 2 callee_params (omega (arith, params, count))),
-        both_true (nat_le callee_params many) (has_arrays shape slots) (at_most callee_params many (omega (arith, params))) (ap (has_arrays shape) passed ∙ slots_full setting opened locals taken room cuts over many us),
+        both_true (names_passed setting.code setting.f c.function slots && names_lent setting.code setting.f c.function slots [])
+            (nat_le 2 callee_params) inner (at_most 2 callee_params (omega (arith, params, count))),
+        both_true (nat_le callee_params many) (has_arrays shape slots) (at_most callee_params many (omega (arith, params)))
+            (ap (has_arrays shape) passed ∙ slots_full setting opened locals taken room cuts over many us),
         (takes_less (table setting) (place + 1) (leaves setting.code shape (instr.Start c line)) (here 0) leads none_left (over_itself (here 0)), tt),
         ap (none_frozen rows) passed ∙ slots_thawed setting opened locals taken room cuts over us,
       )
 
   -- a first call with what it is given
-  pub range_fits : (name : Name) (from to : Expr) (captured over : List Name) (line place : ℕ) → StmtFine setting.fs setting.lists (tables setting) setting.marks (size setting) Nowhere (depth_in opened) locals taken (Begin name from to captured over) → StandsAt setting.tab place (range_shapes here from to captured) →
+  pub range_fits : (name : Name) (from to : Expr) (captured over : List Name) (line place : ℕ)
+      → StmtFine setting.fs setting.lists (tables setting) setting.marks (size setting) Nowhere (depth_in opened) locals taken
+      (Begin name from to captured over) → StandsAt setting.tab place (range_shapes here from to captured) →
       FlowsInto (table setting) (place + length (stmt_code (first setting) setting.marks setting.lists locals line (Begin name from to captured over))) (here 0) →
       AllFit setting place (range_shapes here from to captured) (stmt_code (first setting) setting.marks setting.lists locals line (Begin name from to captured over))
   range_fits name from to captured over line place fine stands leads =
@@ -108,7 +123,8 @@ module _ (setting : Setting) (opened : Opened) (locals : Locals) (taken : Taken)
       let behind : place + length (cf ++ (ct ++ (cl ++ i ∷ []))) ≡ pi + 1 = omega (arith, length-append cf (ct ++ (cl ++ i ∷ [])), length-append ct (cl ++ i ∷ []), length-append cl (i ∷ [])) in
       let leads' : FlowsInto (table setting) (pi + 1) (here 0) = subst (λ p. FlowsInto (table setting) p (here 0)) behind leads in
       both_fit setting place sf (st ++ (sl ++ last)) cf (ct ++ (cl ++ i ∷ []))
-      (expr_fits setting opened locals taken room cuts from line place 0 fine.2 (stands_front setting.tab place sf (st ++ (sl ++ last)) stands) (expr_enters setting opened locals taken room cuts to pt 1 (sl ++ last) fine.3 second))
+      (expr_fits setting opened locals taken room cuts from line place 0 fine.2 (stands_front setting.tab place sf (st ++ (sl ++ last)) stands)
+      (expr_enters setting opened locals taken room cuts to pt 1 (sl ++ last) fine.3 second))
       (both_fit setting pt st (sl ++ last) ct (cl ++ i ∷ [])
       (expr_fits setting opened locals taken room cuts to line pt 1 fine.3 (stands_front setting.tab pt st (sl ++ last) second) (loads_enter captured pl 2 last third ends))
       (both_fit setting pl sl last cl (i ∷ []) (loads_fit captured pl 2 fine.4 (stands_front setting.tab pl sl last third) ends) (begin_fits name from to captured over line pi fine leads', tt)))

@@ -8,7 +8,8 @@ use Rattle.cw_model.specs.Syntax.{is_written_kind, is_const_kind, Name, Expr, Va
 use Rattle.cw_model.specs.Names.{is_among}
 use Rattle.cw_model.specs.Meaning.{function_named}
 use Rattle.cw_model.specs.Typing.{Known, is_int, is_array, is_argument, are_arguments, is_target}
-use Rattle.cw_model.specs.Ownership.{Holder, SpawnIn, ReaderIn, CutOf, Taken, is_reader, is_taken, is_held, is_spawn_in, is_cut_of, freed, taken_by, frozen_by, cut_ended, without, own_names, where_it_goes_on, target_names, arrays_given, arrays_lent, given, lent, names_in, Closing, Joins, Leaves, at_end, known_after}
+use Rattle.cw_model.specs.Ownership.{Holder, SpawnIn, ReaderIn, CutOf, Taken, is_reader, is_taken, is_held, is_spawn_in, is_cut_of, freed, taken_by, frozen_by, cut_ended, without}
+use Rattle.cw_model.specs.Ownership.{own_names, where_it_goes_on, target_names, arrays_given, arrays_lent, given, lent, names_in, Closing, Joins, Leaves, at_end, known_after}
 use Rattle.cw_model.specs.declared.syntax.NameKind.{NameKind}
 use Rattle.cw_model.specs.declared.syntax.NameKind.TheVariants.{Integer, Array, Const}
 use Rattle.cw_model.specs.lemmas.Fits.{writable_array}
@@ -43,10 +44,12 @@ abbrev pub AllCarried : (shift depth : ℕ) → (names : List Name) → (held ta
 AllCarried shift depth names held taken = (t : Name × Holder) → In t held → Carried shift depth names taken t
 
 -- where more is taken
-pub carried_in : (shift depth : ℕ) (names : List Name) (taken after : Taken) (t : Name × Holder) → Carried shift depth names taken t → (In (t.0, deeper shift t.1) taken → In (t.0, deeper shift t.1) after) → Carried shift depth names after t
+pub carried_in : (shift depth : ℕ) (names : List Name) (taken after : Taken) (t : Name × Holder) → Carried shift depth names taken t
+    → (In (t.0, deeper shift t.1) taken → In (t.0, deeper shift t.1) after) → Carried shift depth names after t
 carried_in shift depth names taken after t c f = record { there = f c.there; plain = c.plain; named = c.named; inside = c.inside }
 
-renamed : (shift depth : ℕ) (names others : List Name) (taken : Taken) (t : Name × Holder) → (is_among t.0 names ≡ true → is_among t.0 others ≡ true) → Carried shift depth names taken t → Carried shift depth others taken t
+renamed : (shift depth : ℕ) (names others : List Name) (taken : Taken) (t : Name × Holder) → (is_among t.0 names ≡ true → is_among t.0 others ≡ true)
+    → Carried shift depth names taken t → Carried shift depth others taken t
 renamed shift depth names others taken t f c = record { there = c.there; plain = c.plain; named = f c.named; inside = c.inside }
 
 -- no deeper than a depth, nor than the next
@@ -101,13 +104,17 @@ reader_moved shift (ReaderIn d) = refl
 reader_moved shift CutOf = refl
 
 -- a join on both sides
-pub freed_carried : (shift depth source : ℕ) (names : List Name) (held taken : Taken) → source ≡ depth + shift → AllCarried shift depth names held taken → AllCarried shift depth names (freed depth held) (freed source taken)
+pub freed_carried : (shift depth source : ℕ) (names : List Name) (held taken : Taken) → source ≡ depth + shift
+    → AllCarried shift depth names held taken → AllCarried shift depth names (freed depth held) (freed source taken)
 freed_carried shift depth source names held taken e all t h =
     let one = in_filter (λ u. not (is_spawn_in depth u.1)) t held h in
-    carried_in shift depth names taken (freed source taken) t (all t one.0) (λ i. in_kept (λ u. not (is_spawn_in source u.1)) (t.0, deeper shift t.1) taken i (ap not (spawn_moved shift depth source t.1 e (not_true (is_spawn_in depth t.1) one.1))))
+    carried_in shift depth names taken (freed source taken) t (all t one.0)
+    (λ i. in_kept (λ u. not (is_spawn_in source u.1)) (t.0, deeper shift t.1) taken i
+    (ap not (spawn_moved shift depth source t.1 e (not_true (is_spawn_in depth t.1) one.1))))
 
 -- the end of a block's names on both sides
-pub without_carried : (shift depth : ℕ) (own names : List Name) (held taken : Taken) → AllCarried shift depth (own ++ names) held taken → AllCarried shift depth names (without own held) (without own taken)
+pub without_carried : (shift depth : ℕ) (own names : List Name) (held taken : Taken) → AllCarried shift depth (own ++ names) held taken
+    → AllCarried shift depth names (without own held) (without own taken)
 without_carried shift depth own names held taken all t h =
     let one = in_filter (λ u. not (is_among u.0 own)) t held h in
     renamed shift depth (own ++ names) names (without own taken) t (among_split t.0 own names (not_true (is_among t.0 own) one.1))
@@ -128,24 +135,28 @@ goes_carried shift depth true own names held taken all t h = absurd h
 goes_carried shift depth false own names held taken all t h = without_carried shift depth own names held taken all t h
 
 -- of what is taken in two parts
-pub both_carried : (shift depth : ℕ) (names : List Name) (held held' taken taken' : Taken) → AllCarried shift depth names held taken → AllCarried shift depth names held' taken' → AllCarried shift depth names (held ++ held') (taken ++ taken')
+pub both_carried : (shift depth : ℕ) (names : List Name) (held held' taken taken' : Taken) → AllCarried shift depth names held taken
+    → AllCarried shift depth names held' taken' → AllCarried shift depth names (held ++ held') (taken ++ taken')
 both_carried shift depth names held held' taken taken' all all' t h =
     either_way (in_append t held held' h) (λ i. carried_in shift depth names taken (taken ++ taken') t (all t i) (in_left (t.0, deeper shift t.1) taken taken'))
     (λ i. carried_in shift depth names taken' (taken ++ taken') t (all' t i) (in_right (t.0, deeper shift t.1) taken taken'))
 
 -- one more cut on both sides
-pub cut_carried : (shift depth : ℕ) (names : List Name) (a : Name) (held taken : Taken) → is_plain a ≡ true → is_among a names ≡ true → AllCarried shift depth names held taken → AllCarried shift depth names ((a, CutOf) ∷ held) ((a, CutOf) ∷ taken)
+pub cut_carried : (shift depth : ℕ) (names : List Name) (a : Name) (held taken : Taken) → is_plain a ≡ true → is_among a names ≡ true
+    → AllCarried shift depth names held taken → AllCarried shift depth names ((a, CutOf) ∷ held) ((a, CutOf) ∷ taken)
 cut_carried shift depth names a held taken plain named all t (inl e) = subst (Carried shift depth names ((a, CutOf) ∷ taken)) e (record { there = inl refl; plain = plain; named = named; inside = tt })
 cut_carried shift depth names a held taken plain named all t (inr h) = carried_in shift depth names taken ((a, CutOf) ∷ taken) t (all t h) (λ i. inr i)
 
 -- the end of a cut on both sides
-pub ended_carried : (shift depth : ℕ) (names : List Name) (a : Name) (held taken : Taken) → AllCarried shift depth names held taken → AllCarried shift depth names (cut_ended a held) (cut_ended a taken)
+pub ended_carried : (shift depth : ℕ) (names : List Name) (a : Name) (held taken : Taken) → AllCarried shift depth names held taken
+    → AllCarried shift depth names (cut_ended a held) (cut_ended a taken)
 ended_carried shift depth names a held taken all t h =
     let one = in_filter (λ u. not (is_cut_of a u)) t held h in
     carried_in shift depth names taken (cut_ended a taken) t (all t one.0) (λ i. in_kept (λ u. not (is_cut_of a u)) (t.0, deeper shift t.1) taken i (ap not (cut_moved shift a t.0 t.1) ∙ one.1))
 
 -- names with one holder on both sides
-added_carried : (shift depth : ℕ) (k : Holder) (names xs : List Name) (held taken : Taken) → Inside depth k → ((x : Name) → is_among x xs ≡ true → (is_plain x ≡ true) × (is_among x names ≡ true)) → AllCarried shift depth names held taken →
+added_carried : (shift depth : ℕ) (k : Holder) (names xs : List Name) (held taken : Taken) → Inside depth k
+    → ((x : Name) → is_among x xs ≡ true → (is_plain x ≡ true) × (is_among x names ≡ true)) → AllCarried shift depth names held taken →
     AllCarried shift depth names (map (λ x. (x, k)) xs ++ held) (map (λ x. (x, deeper shift k)) xs ++ taken)
 added_carried shift depth k names xs held taken inside fine all =
     both_carried shift depth names (map (λ x. (x, k)) xs) held (map (λ x. (x, deeper shift k)) xs) taken by all
@@ -165,13 +176,15 @@ here_inside : (depth : ℕ) → depth ≤ depth
 here_inside depth = omega arith
 
 -- a spawn on both sides
-pub spawned_carried : (shift depth source : ℕ) (names xs : List Name) (held taken : Taken) → source ≡ depth + shift → ((x : Name) → is_among x xs ≡ true → (is_plain x ≡ true) × (is_among x names ≡ true)) → AllCarried shift depth names held taken →
+pub spawned_carried : (shift depth source : ℕ) (names xs : List Name) (held taken : Taken) → source ≡ depth + shift
+    → ((x : Name) → is_among x xs ≡ true → (is_plain x ≡ true) × (is_among x names ≡ true)) → AllCarried shift depth names held taken →
     AllCarried shift depth names (taken_by depth xs held) (taken_by source xs taken)
 spawned_carried shift depth source names xs held taken e fine all =
     subst (λ d. AllCarried shift depth names (taken_by depth xs held) (taken_by d xs taken)) (sym e) (added_carried shift depth (SpawnIn depth) names xs held taken (here_inside depth) fine all)
 
 -- and what it only reads
-pub frozen_carried : (shift depth source : ℕ) (names xs : List Name) (held taken : Taken) → source ≡ depth + shift → ((x : Name) → is_among x xs ≡ true → (is_plain x ≡ true) × (is_among x names ≡ true)) → AllCarried shift depth names held taken →
+pub frozen_carried : (shift depth source : ℕ) (names xs : List Name) (held taken : Taken) → source ≡ depth + shift
+    → ((x : Name) → is_among x xs ≡ true → (is_plain x ≡ true) × (is_among x names ≡ true)) → AllCarried shift depth names held taken →
     AllCarried shift depth names (frozen_by depth xs held) (frozen_by source xs taken)
 frozen_carried shift depth source names xs held taken e fine all =
     subst (λ d. AllCarried shift depth names (frozen_by depth xs held) (frozen_by d xs taken)) (sym e) (added_carried shift depth (ReaderIn depth) names xs held taken (here_inside depth) fine all)
@@ -194,12 +207,14 @@ pub named_carried : (shift depth : ℕ) (names : List Name) (held taken : Taken)
 named_carried shift depth names held taken all x other = not_held x held (λ k h. true≢false (sym (all (x, k) h).named ∙ other))
 
 -- the end of a block on both sides
-pub end_carried : (shift depth source : ℕ) (names : List Name) (closing : Closing) (held taken : Taken) → source ≡ depth + shift → AllCarried shift depth names held taken → AllCarried shift depth names (at_end closing depth held) (at_end closing source taken)
+pub end_carried : (shift depth source : ℕ) (names : List Name) (closing : Closing) (held taken : Taken) → source ≡ depth + shift
+    → AllCarried shift depth names held taken → AllCarried shift depth names (at_end closing depth held) (at_end closing source taken)
 end_carried shift depth source names Joins held taken e all = freed_carried shift depth source names held taken e all
 end_carried shift depth source names Leaves held taken e all = all
 
 -- where the owners have more names
-pub more_carried : (shift depth : ℕ) (names others : List Name) (held taken : Taken) → ((x : Name) → is_among x names ≡ true → is_among x others ≡ true) → AllCarried shift depth names held taken → AllCarried shift depth others held taken
+pub more_carried : (shift depth : ℕ) (names others : List Name) (held taken : Taken)
+    → ((x : Name) → is_among x names ≡ true → is_among x others ≡ true) → AllCarried shift depth names held taken → AllCarried shift depth others held taken
 more_carried shift depth names others held taken f all t h = renamed shift depth names others taken t (f t.0) (all t h)
 
 -- what a call gives, or lends, is plain and known
@@ -225,14 +240,16 @@ of_either x xs ys o one more = go (side x xs ys o) one more
     go (in_first p) f g = f p
     go (in_second p) f g = g p
 
-array_plain : (such : NameKind → Bool) → (such Integer ≡ false) → (known : Known) (k : NameKind) (e : Expr) → is_argument known k e ≡ true → is_source_expr e ≡ true → (x : Name) → is_among x (if such k then names_in e else []) ≡ true → (is_plain x ≡ true) × (is_array known x ≡ true)
+array_plain : (such : NameKind → Bool) → (such Integer ≡ false) → (known : Known) (k : NameKind) (e : Expr) → is_argument known k e ≡ true
+    → is_source_expr e ≡ true → (x : Name) → is_among x (if such k then names_in e else []) ≡ true → (is_plain x ≡ true) × (is_array known x ≡ true)
 array_plain such not_int known Integer e h s x o = absurd (true≢false (sym o ∙ ap (λ b. is_among x (if b then names_in e else [])) not_int))
 array_plain such not_int known Array (Variable a) h s x o = one_plain known a (writable_array known a h) s x (only such Array (a ∷ []) x o)
 array_plain such not_int known Const (Variable a) h s x o = one_plain known a h s x (only such Const (a ∷ []) x o)
 array_plain such not_int known Array _ h s x o = absurd cc
 array_plain such not_int known Const _ h s x o = absurd cc
 
-arrays_plain : (known : Known) (ps : List Param) (es : List Expr) → are_arguments known ps es ≡ true → list_all is_source_expr es ≡ true → (x : Name) → is_among x (arrays_given ps es) ≡ true → (is_plain x ≡ true) × (is_array known x ≡ true)
+arrays_plain : (known : Known) (ps : List Param) (es : List Expr) → are_arguments known ps es ≡ true → list_all is_source_expr es ≡ true → (x : Name)
+    → is_among x (arrays_given ps es) ≡ true → (is_plain x ≡ true) × (is_array known x ≡ true)
 arrays_plain known [] es h s x o = absurd cc
 arrays_plain known (p ∷ ps) [] h s x o = absurd cc
 arrays_plain known (p ∷ ps) (e ∷ es) h s x o =
@@ -240,7 +257,8 @@ arrays_plain known (p ∷ ps) (e ∷ es) h s x o =
     let q = and_parts (is_source_expr e) (list_all is_source_expr es) s in
     of_either x (if is_written_kind p.kind then names_in e else []) (arrays_given ps es) o (array_plain is_written_kind refl known p.kind e f.0 q.0 x) (arrays_plain known ps es f.1 q.1 x)
 
-lent_plain : (known : Known) (ps : List Param) (es : List Expr) → are_arguments known ps es ≡ true → list_all is_source_expr es ≡ true → (x : Name) → is_among x (arrays_lent ps es) ≡ true → (is_plain x ≡ true) × (is_array known x ≡ true)
+lent_plain : (known : Known) (ps : List Param) (es : List Expr) → are_arguments known ps es ≡ true → list_all is_source_expr es ≡ true → (x : Name)
+    → is_among x (arrays_lent ps es) ≡ true → (is_plain x ≡ true) × (is_array known x ≡ true)
 lent_plain known [] es h s x o = absurd cc
 lent_plain known (p ∷ ps) [] h s x o = absurd cc
 lent_plain known (p ∷ ps) (e ∷ es) h s x o =
@@ -248,7 +266,8 @@ lent_plain known (p ∷ ps) (e ∷ es) h s x o =
     let q = and_parts (is_source_expr e) (list_all is_source_expr es) s in
     of_either x (if is_const_kind p.kind then names_in e else []) (arrays_lent ps es) o (array_plain is_const_kind refl known p.kind e f.0 q.0 x) (lent_plain known ps es f.1 q.1 x)
 
-target_plain : (known : Known) (f : Function) (target : Option Name) → is_target known f target ≡ true → is_source_target target ≡ true → (x : Name) → is_among x (target_names target) ≡ true → (is_plain x ≡ true) × (is_int known x ≡ true)
+target_plain : (known : Known) (f : Function) (target : Option Name) → is_target known f target ≡ true → is_source_target target ≡ true → (x : Name)
+    → is_among x (target_names target) ≡ true → (is_plain x ≡ true) × (is_int known x ≡ true)
 target_plain known f None h s x o = absurd cc
 target_plain known f (Some y) h s x o = go (placed x y [] o)
   where
@@ -257,7 +276,8 @@ target_plain known f (Some y) h s x o = go (placed x y [] o)
     go (after_it other p) = absurd cc
 
 -- the names of a call
-pub call_plain : (fs : List Function) (known : Known) (owners : List Name) → SameKnown known owners → (target : Option Name) (f : Name) (es : List Expr) → CallKept fs known target f es → is_source_target target ≡ true → list_all is_source_expr es ≡ true →
+pub call_plain : (fs : List Function) (known : Known) (owners : List Name) → SameKnown known owners
+    → (target : Option Name) (f : Name) (es : List Expr) → CallKept fs known target f es → is_source_target target ≡ true → list_all is_source_expr es ≡ true →
     (x : Name) → is_among x (target_names target ++ given fs f es) ≡ true → (is_plain x ≡ true) × (is_among x owners ≡ true)
 call_plain fs known owners same target f es k st se x o = go (side x (target_names target) (given fs f es) o)
   where
@@ -266,7 +286,8 @@ call_plain fs known owners same target f es k st se x o = go (side x (target_nam
     go (in_second p) = let r = arrays_plain known (function_named f fs).params es k.arguments se x p in (r.0, same x ∙ either_right (is_int known x) (is_array known x) r.1)
 
 -- the arrays that it only reads
-pub lent_call_plain : (fs : List Function) (known : Known) (owners : List Name) → SameKnown known owners → (target : Option Name) (f : Name) (es : List Expr) → CallKept fs known target f es → list_all is_source_expr es ≡ true →
+pub lent_call_plain : (fs : List Function) (known : Known) (owners : List Name) → SameKnown known owners
+    → (target : Option Name) (f : Name) (es : List Expr) → CallKept fs known target f es → list_all is_source_expr es ≡ true →
     (x : Name) → is_among x (lent fs f es) ≡ true → (is_plain x ≡ true) × (is_among x owners ≡ true)
 lent_call_plain fs known owners same target f es k se x o =
     let r = lent_plain known (function_named f fs).params es k.arguments se x o in

@@ -10,7 +10,8 @@ use Rattle.cw_model.specs.Meaning.{function_named}
 use Rattle.cw_model.specs.Ownership.{Holder, SpawnIn, CutOf, Taken, is_taken, is_held, own_names, given, arrays_given, taken_by, are_loose, Joins, Leaves}
 use Rattle.cw_tree.specs.lemmas.Names.{front_among, later_among}
 use Rattle.cw_gen.proofs.Takens.{loose_free}
-use Rattle.cw_loops.specs.Lowered.{is_plain, low, high, middle, left_part, right_part, int_params, array_params, variables, leaf_turn, leaf_block, left_arguments, right_arguments, both_halves, in_cuts, node_block, loop_function}
+use Rattle.cw_loops.specs.Lowered.{is_plain, low, high, middle, left_part, right_part, int_params, array_params, variables, leaf_turn}
+use Rattle.cw_loops.specs.Lowered.{leaf_block, left_arguments, right_arguments, both_halves, in_cuts, node_block, loop_function}
 use Rattle.cw_loops.specs.lemmas.Apart.{plain_apart, not_later}
 use Rattle.cw_loops.specs.lemmas.Naming.{Placed, at_front, after_it, placed}
 use Rattle.cw_gen.proofs.Held.{held_after, held_after_all}
@@ -96,15 +97,18 @@ right_left over (a ∷ all) y o = go (placed y (right_part a) (map right_part al
 -- of names that a spawn took, and of those before
 spawn_free : (depth : ℕ) (xs : List Name) (held : Taken) (x : Name) → is_among x xs ≡ false → is_taken held x ≡ false → is_taken (taken_by depth xs held) x ≡ false
 spawn_free depth xs held x n free =
-    not_in x (taken_by depth xs held) (λ k i loud. either_way (in_append (x, k) (map (λ y. (y, SpawnIn depth)) xs) held i) (λ j. true≢false (sym (by_spawn depth xs (x, k) j).0 ∙ n)) (λ j. true≢false (sym (in_taken (x, k) held j loud) ∙ free)))
+    not_in x (taken_by depth xs held) (λ k i loud. either_way (in_append (x, k) (map (λ y. (y, SpawnIn depth)) xs) held i)
+    (λ j. true≢false (sym (by_spawn depth xs (x, k) j).0 ∙ n)) (λ j. true≢false (sym (in_taken (x, k) held j loud) ∙ free)))
 
 -- so nothing holds them
 spawn_loose : (depth : ℕ) (xs : List Name) (held : Taken) (x : Name) → is_among x xs ≡ false → is_held held x ≡ false → is_held (taken_by depth xs held) x ≡ false
 spawn_loose depth xs held x n free =
-    not_held x (taken_by depth xs held) (λ k i. either_way (in_append (x, k) (map (λ y. (y, SpawnIn depth)) xs) held i) (λ j. true≢false (sym (by_spawn depth xs (x, k) j).0 ∙ n)) (λ j. true≢false (sym (in_held (x, k) held j) ∙ free)))
+    not_held x (taken_by depth xs held) (λ k i. either_way (in_append (x, k) (map (λ y. (y, SpawnIn depth)) xs) held i)
+    (λ j. true≢false (sym (by_spawn depth xs (x, k) j).0 ∙ n)) (λ j. true≢false (sym (in_held (x, k) held j) ∙ free)))
 
 module _ (gs : List Function) (name : Name) (line : ℕ) (x : Name) (grain : ℕ) (ints over : List Name) (body : Block) (found : function_named name gs ≡ loop_function name line x grain ints over body)
-    (ints_plain : (y : Name) → is_among y ints ≡ true → is_plain y ≡ true) (over_plain : (a : Name) → is_among a over ≡ true → is_plain a ≡ true) (no_int : (y : Name) → is_among y ints ≡ true → is_among y over ≡ false) (apart : differ over ≡ true)
+    (ints_plain : (y : Name) → is_among y ints ≡ true → is_plain y ≡ true) (over_plain : (a : Name) → is_among a over ≡ true → is_plain a ≡ true)
+    (no_int : (y : Name) → is_among y ints ≡ true → is_among y over ≡ false) (apart : differ over ≡ true)
     (body_free : (held : Taken) → Nothing held → BlockFree gs 2 held body × EndsFree gs 2 Joins held body) where
   -- the turns of a leaf
 
@@ -173,7 +177,8 @@ module _ (gs : List Function) (name : Name) (line : ℕ) (x : Name) (grain : ℕ
         free_one held low (hash_free held (only_plain held h) low refl),
         (
           free_one held middle (hash_free held (only_plain held h) middle refl),
-          exprs_both held (variables ints) (variables (map left_part over)) (named_free held ints (int_free held h)) (named_free held (map left_part over) (λ y o. hash_free held (only_plain held h) y (part_hash left_part (λ a. refl) over y o))),
+          exprs_both held (variables ints) (variables (map left_part over)) (named_free held ints (int_free held h))
+              (named_free held (map left_part over) (λ y o. hash_free held (only_plain held h) y (part_hash left_part (λ a. refl) over y o))),
         ),
       ),
       ap differ lefts_given ∙ parts_differ left_part (λ a b. refl) over apart,
@@ -191,7 +196,9 @@ module _ (gs : List Function) (name : Name) (line : ℕ) (x : Name) (grain : ℕ
         ),
         ap differ rights_given ∙ parts_differ right_part (λ a b. refl) over apart,
         subst (λ xs. are_loose (taken_by depth xs held) (given gs name rights) ≡ true) (sym lefts_given)
-            (ap (are_loose now) rights_given ∙ loose_all now (map right_part over) (λ y o. spawn_loose depth (map left_part over) held y (right_left over over y o) (hash_loose held (only_plain held h) y (part_hash right_part (λ a. refl) over y o)))),
+            (ap (are_loose now) rights_given ∙ loose_all now (map right_part over)
+            (λ y o. spawn_loose depth (map left_part over) held y (right_left over over y o)
+            (hash_loose held (only_plain held h) y (part_hash right_part (λ a. refl) over y o)))),
       ),
       tt,
     ),
@@ -211,7 +218,8 @@ module _ (gs : List Function) (name : Name) (line : ℕ) (x : Name) (grain : ℕ
   own_none [] = refl
   own_none (a ∷ todo) = refl
 
-  cuts_free : (todo : List Name) (depth : ℕ) (held : Taken) → OnlyOver held → ((t : Name × Holder) → In t held → is_among t.0 todo ≡ false) → ((a : Name) → is_among a todo ≡ true → is_among a over ≡ true) → differ todo ≡ true →
+  cuts_free : (todo : List Name) (depth : ℕ) (held : Taken) → OnlyOver held → ((t : Name × Holder) → In t held → is_among t.0 todo ≡ false)
+      → ((a : Name) → is_among a todo ≡ true → is_among a over ≡ true) → differ todo ≡ true →
       BlockFree gs depth held (in_cuts line todo (both_halves line name lefts rights))
   cuts_free [] depth held h n within d = halves_free depth held h
   cuts_free (a ∷ todo) depth held h n within d = (

@@ -1,5 +1,6 @@
 -- What is one of the taken names, and where a lowered block has it from.
-use Rattle.std.proofs.Common.{◌≡◌, ℕ, ◌+◌, ◌<◌, List, [], ◌∷◌, ◌++◌, Bool, true, false, not, if◌then◌else◌, cond, refl, sym, ap, ◌∙◌, filter, ◌⊎◌, inl, inr, ⊎_elim, true≢false, arith, zero, suc, zero-lt-suc, get_or, Contains}
+use Rattle.std.proofs.Common.{◌≡◌, ℕ, ◌+◌, ◌<◌, List, [], ◌∷◌, ◌++◌, Bool, true, false, not, if◌then◌else◌, cond, refl, sym, ap, ◌∙◌}
+use Rattle.std.proofs.Common.{filter, ◌⊎◌, inl, inr, ⊎_elim, true≢false, arith, zero, suc, zero-lt-suc, get_or, Contains}
 use Rattle.std.specs.Prelude.{map}
 use Rattle.std.proofs.lemmas.Bool.{eq-eqb}
 use Rattle.std.proofs.lemmas.List.Elements.{Contains-append_right, Contains-append_cases}
@@ -9,7 +10,8 @@ use Rattle.cw_model.specs.declared.syntax.CallKind.TheVariants.{Plain, Spawned}
 use Rattle.cw_model.specs.Syntax.{Name, Stmt, Call, Start, Sync, If, IfElse, While, Scope, Cut, Region, Return, Block, End, Then, Function}
 use Rattle.cw_model.specs.Names.{same_name, is_among}
 use Rattle.cw_model.specs.Typing.{block_returns}
-use Rattle.cw_model.specs.Ownership.{Holder, SpawnIn, ReaderIn, CutOf, Taken, is_reader, is_taken, is_held, is_spawn_in, is_cut_of, freed, without, taken_by, own_names, where_it_goes_on, target_names, given, lent}
+use Rattle.cw_model.specs.Ownership.{Holder, SpawnIn, ReaderIn, CutOf, Taken, is_reader, is_taken, is_held, is_spawn_in, is_cut_of}
+use Rattle.cw_model.specs.Ownership.{freed, without, taken_by, own_names, where_it_goes_on, target_names, given, lent}
 use Rattle.cw_gen.proofs.Held.{held_after, held_after_all}
 
 -- it is one of them
@@ -183,7 +185,8 @@ by_reader : (depth : ℕ) (xs : List Name) (t : Name × Holder) → In t (map (�
 by_reader depth xs t h = ap (is_spawn_in depth) (by_holder (ReaderIn depth) xs t h).1 ∙ eq-eqb depth depth refl
 
 -- out of an inner sync block
-left_inner : (depth : ℕ) (taken : Taken) (own : List Name) (after_it : Taken) (t : Name × Holder) → (In t after_it → From (depth + 1) taken t) → In t (freed (depth + 1) (without own after_it)) → In t taken
+left_inner : (depth : ℕ) (taken : Taken) (own : List Name) (after_it : Taken) (t : Name × Holder) → (In t after_it → From (depth + 1) taken t)
+    → In t (freed (depth + 1) (without own after_it)) → In t taken
 left_inner depth taken own after_it t from h =
     let one = in_filter (λ u. not (is_spawn_in (depth + 1) u.1)) t (without own after_it) h in
     let two = in_filter (λ u. not (is_among u.0 own)) t after_it one.0 in
@@ -218,13 +221,16 @@ mutual
   stmt_from fs depth Sync taken t h = inl (in_filter (λ u. not (is_spawn_in depth u.1)) t taken h).0
   stmt_from fs depth (Return e) taken t h = inl (in_filter (λ u. not (is_spawn_in depth u.1)) t taken h).0
   stmt_from fs depth (If e b) taken t h =
-      either_way (in_append t (where_it_goes_on (block_returns b) (without (own_names b) (held_after_all fs depth b taken))) taken h) (λ k. block_from fs depth b taken t (goes_on (block_returns b) (own_names b) (held_after_all fs depth b taken) t k)) (λ k. inl k)
+      either_way (in_append t (where_it_goes_on (block_returns b) (without (own_names b) (held_after_all fs depth b taken))) taken h)
+      (λ k. block_from fs depth b taken t (goes_on (block_returns b) (own_names b) (held_after_all fs depth b taken) t k)) (λ k. inl k)
   stmt_from fs depth (IfElse e b c) taken t h =
-      either_way (in_append t (where_it_goes_on (block_returns b) (without (own_names b) (held_after_all fs depth b taken))) (where_it_goes_on (block_returns c) (without (own_names c) (held_after_all fs depth c taken))) h)
+      either_way (in_append t (where_it_goes_on (block_returns b) (without (own_names b) (held_after_all fs depth b taken)))
+      (where_it_goes_on (block_returns c) (without (own_names c) (held_after_all fs depth c taken))) h)
       (λ k. block_from fs depth b taken t (goes_on (block_returns b) (own_names b) (held_after_all fs depth b taken) t k))
       (λ k. block_from fs depth c taken t (goes_on (block_returns c) (own_names c) (held_after_all fs depth c taken) t k))
   stmt_from fs depth (While e b) taken t h =
-      either_way (in_append t taken (where_it_goes_on (block_returns b) (without (own_names b) (held_after_all fs depth b taken))) h) (λ k. inl k) (λ k. block_from fs depth b taken t (goes_on (block_returns b) (own_names b) (held_after_all fs depth b taken) t k))
+      either_way (in_append t taken (where_it_goes_on (block_returns b) (without (own_names b) (held_after_all fs depth b taken))) h) (λ k. inl k)
+      (λ k. block_from fs depth b taken t (goes_on (block_returns b) (own_names b) (held_after_all fs depth b taken) t k))
   stmt_from fs depth (Scope b) taken t h = inl (left_inner depth taken (own_names b) (held_after_all fs (depth + 1) b taken) t (block_from fs (depth + 1) b taken t) h)
   stmt_from fs depth (Region tag b) taken t h = inl (left_inner depth taken (own_names b) (held_after_all fs (depth + 1) b taken) t (block_from fs (depth + 1) b taken t) h)
   stmt_from fs depth (Cut a e l r b) taken t h =
@@ -243,7 +249,8 @@ mutual
       then_from (inr e) more = inr e
 
 -- what an inner sync block leaves was taken before it
-pub scope_from : (fs : List Function) (depth : ℕ) (b : Block) (taken : Taken) (t : Name × Holder) → In t (freed (depth + 1) (without (own_names b) (held_after_all fs (depth + 1) b taken))) → In t taken
+pub scope_from : (fs : List Function) (depth : ℕ) (b : Block) (taken : Taken) (t : Name × Holder)
+    → In t (freed (depth + 1) (without (own_names b) (held_after_all fs (depth + 1) b taken))) → In t taken
 scope_from fs depth b taken t h = left_inner depth taken (own_names b) (held_after_all fs (depth + 1) b taken) t (block_from fs (depth + 1) b taken t) h
 
 -- what a cut leaves was taken before it

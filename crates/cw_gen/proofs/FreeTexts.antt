@@ -18,7 +18,8 @@ use Rattle.cw_loops.specs.lemmas.Naming.{Placed, at_front, after_it, placed, Sid
 mutual
   -- a lowered statement surely returns where its source does
   pub surely_same : (over : List Name) (s : Stmt) (k : ℕ) → surely_returns (lower_stmt over k s) ≡ surely_returns s
-  surely_same over (IfElse e b c) k = ap (λ t. t && block_returns (lower_block over (k + loop_count_in b) c)) (returns_same over b k) ∙ ap (λ t. block_returns b && t) (returns_same over c (k + loop_count_in b))
+  surely_same over (IfElse e b c) k = ap (λ t. t && block_returns (lower_block over (k + loop_count_in b) c)) (returns_same over b k)
+      ∙ ap (λ t. block_returns b && t) (returns_same over c (k + loop_count_in b))
   surely_same over _ k = refl
 
   -- a lowered block surely returns where its source does
@@ -46,7 +47,8 @@ own_declared (Then line s b) x h = by s h (own_declared b x)
     one y (at_front same) more = ap (λ z. is_among z (y ∷ declared_in_block b)) same ∙ front_among y (declared_in_block b)
     one y (after_it other o) more = later_among x y (declared_in_block b) (more o)
 
-    by : (s : Stmt) → is_among x (own_names (Then line s b)) ≡ true → (is_among x (own_names b) ≡ true → is_among x (declared_in_block b) ≡ true) → is_among x (declared_in_block (Then line s b)) ≡ true
+    by : (s : Stmt) → is_among x (own_names (Then line s b)) ≡ true → (is_among x (own_names b) ≡ true → is_among x (declared_in_block b) ≡ true)
+        → is_among x (declared_in_block (Then line s b)) ≡ true
     by (Declare y e) o more = one y (placed x y (own_names b) o) more
     by (DeclareArray y e) o more = one y (placed x y (own_names b) o) more
     by s' o more = among_right x (declared_in s') (declared_in_block b) (more o)
@@ -89,7 +91,8 @@ read_is_in (Negative e) x h = read_is_in e x h
 read_is_in (Not e) x h = read_is_in e x h
 read_is_in (Binary operator d e) x h = go (side x (read_by d) (read_by e) h) (read_is_in d x) (read_is_in e x)
   where
-    go : Side x (read_by d) (read_by e) → (is_among x (read_by d) ≡ true → is_among x (names_in d) ≡ true) → (is_among x (read_by e) ≡ true → is_among x (names_in e) ≡ true) → is_among x (names_in d ++ names_in e) ≡ true
+    go : Side x (read_by d) (read_by e) → (is_among x (read_by d) ≡ true → is_among x (names_in d) ≡ true)
+        → (is_among x (read_by e) ≡ true → is_among x (names_in e) ≡ true) → is_among x (names_in d ++ names_in e) ≡ true
     go (in_first o) one other = among_left x (names_in d) (names_in e) (one o)
     go (in_second o) one other = among_right x (names_in d) (names_in e) (other o)
 
@@ -156,4 +159,5 @@ expr_free taken over (Length a) l h = h
 expr_free taken over (Negative e) l h = expr_free taken over e l h
 expr_free taken over (Not e) l h = expr_free taken over e l h
 expr_free taken over (Binary operator d e) l h =
-    free_both taken (names_in (lower_expr over d)) (names_in (lower_expr over e)) (expr_free taken over d l (free_first taken (names_in d) (names_in e) h)) (expr_free taken over e l (free_second taken (names_in d) (names_in e) h))
+    free_both taken (names_in (lower_expr over d)) (names_in (lower_expr over e))
+    (expr_free taken over d l (free_first taken (names_in d) (names_in e) h)) (expr_free taken over e l (free_second taken (names_in d) (names_in e) h))

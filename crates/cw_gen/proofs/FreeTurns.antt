@@ -20,8 +20,10 @@ mutual
   held_same fs (If e b) depth taken h = ap (λ t. where_it_goes_on (block_returns b) (without (own_names b) t) ++ taken) (all_same fs b depth taken h)
   held_same fs (IfElse e b c) depth taken h =
       let p = and_parts (has_no_half_in b) (has_no_half_in c) h in
-      ap (λ t. where_it_goes_on (block_returns b) (without (own_names b) t) ++ where_it_goes_on (block_returns c) (without (own_names c) (held_after_all fs depth c taken))) (all_same fs b depth taken p.0)
-      ∙ ap (λ t. where_it_goes_on (block_returns b) (without (own_names b) (taken_after_all fs depth b taken)) ++ where_it_goes_on (block_returns c) (without (own_names c) t)) (all_same fs c depth taken p.1)
+      ap (λ t. where_it_goes_on (block_returns b) (without (own_names b) t) ++ where_it_goes_on (block_returns c)
+      (without (own_names c) (held_after_all fs depth c taken))) (all_same fs b depth taken p.0)
+      ∙ ap (λ t. where_it_goes_on (block_returns b) (without (own_names b) (taken_after_all fs depth b taken)) ++ where_it_goes_on (block_returns c)
+      (without (own_names c) t)) (all_same fs c depth taken p.1)
   held_same fs (While e b) depth taken h = ap (λ t. taken ++ where_it_goes_on (block_returns b) (without (own_names b) t)) (all_same fs b depth taken h)
   held_same fs (Scope b) depth taken h = ap (λ t. freed (depth + 1) (without (own_names b) t)) (all_same fs b (depth + 1) taken h)
   held_same fs (Region tag b) depth taken h = ap (λ t. freed (depth + 1) (without (own_names b) t)) (all_same fs b (depth + 1) taken h)

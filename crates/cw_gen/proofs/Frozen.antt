@@ -25,7 +25,8 @@ pub frozen_without : (own : List Name) (taken : Taken) → frozen_of (without ow
 frozen_without own [] = refl
 frozen_without own ((x, SpawnIn d) ∷ taken) = test (is_among x own) (frozen_without own taken)
   where
-    test : (b : Bool) → frozen_of (without own taken) ≡ without own (frozen_of taken) → frozen_of (cond (not b) ((x, SpawnIn d) ∷ without own taken) (without own taken)) ≡ without own (frozen_of taken)
+    test : (b : Bool) → frozen_of (without own taken) ≡ without own (frozen_of taken)
+        → frozen_of (cond (not b) ((x, SpawnIn d) ∷ without own taken) (without own taken)) ≡ without own (frozen_of taken)
     test true more = more
     test false more = more
 frozen_without own ((x, CutOf) ∷ taken) = test (is_among x own) (frozen_without own taken)
@@ -45,7 +46,8 @@ frozen_freed depth [] = refl
 frozen_freed depth ((x, CutOf) ∷ taken) = frozen_freed depth taken
 frozen_freed depth ((x, SpawnIn d) ∷ taken) = test (d == depth) (frozen_freed depth taken)
   where
-    test : (b : Bool) → frozen_of (freed depth taken) ≡ freed depth (frozen_of taken) → frozen_of (cond (not b) ((x, SpawnIn d) ∷ freed depth taken) (freed depth taken)) ≡ freed depth (frozen_of taken)
+    test : (b : Bool) → frozen_of (freed depth taken) ≡ freed depth (frozen_of taken)
+        → frozen_of (cond (not b) ((x, SpawnIn d) ∷ freed depth taken) (freed depth taken)) ≡ freed depth (frozen_of taken)
     test true more = more
     test false more = more
 frozen_freed depth ((x, ReaderIn d) ∷ taken) = test (d == depth) (frozen_freed depth taken)
@@ -98,7 +100,8 @@ frozen_in d x ((y, SpawnIn e) ∷ us) h = inr (frozen_in d x us h)
 frozen_in d x ((y, CutOf) ∷ us) h = inr (frozen_in d x us h)
 frozen_in d x ((y, ReaderIn e) ∷ us) h = test (frozen_in d x us) (same_name x y && (e == d)) refl h
   where
-    test : (holds false d x (frozen_of us) ≡ true → In (x, ReaderIn d) us) → (b : Bool) → (same_name x y && (e == d)) ≡ b → (if b then true else holds false d x (frozen_of us)) ≡ true → In (x, ReaderIn d) ((y, ReaderIn e) ∷ us)
+    test : (holds false d x (frozen_of us) ≡ true → In (x, ReaderIn d) us) → (b : Bool) → (same_name x y && (e == d)) ≡ b
+        → (if b then true else holds false d x (frozen_of us)) ≡ true → In (x, ReaderIn d) ((y, ReaderIn e) ∷ us)
     test more true is h' =
         let n : x ≡ y = (bytes_eq-Decides x y).0 (first_true (same_name x y) (e == d) is) in
         let k : e ≡ d = eqb-true e d (second_true (same_name x y) (e == d) is) in
@@ -123,6 +126,7 @@ in_frozen d x (u ∷ us) (inl e) =
 in_frozen d x (u ∷ us) (inr h) = further d x u us (in_frozen d x us h)
 
 -- what a turn leaves frozen was so before it
-pub frozen_by_turns : (turn : Taken → Taken) (before after : Taken) → IsLeastClosed turn before after → (d : ℕ) (x : Name) → holds false d x (frozen_of (turn after)) ≡ true → holds false d x (frozen_of after) ≡ true
+pub frozen_by_turns : (turn : Taken → Taken) (before after : Taken) → IsLeastClosed turn before after → (d : ℕ) (x : Name)
+    → holds false d x (frozen_of (turn after)) ≡ true → holds false d x (frozen_of after) ≡ true
 frozen_by_turns turn before after least d x h =
     in_frozen d x after (contains_in (x, ReaderIn d) after (least.closed (x, ReaderIn d) (in_contains (x, ReaderIn d) (turn after) (frozen_in d x (turn after) h))))

@@ -19,7 +19,8 @@ use Rattle.cw_gen.proofs.LoopCode.{loop_marks, func_emitted, loans_emitted}
 
 pub instrs_joined : (first : ℕ) (fs gs : List Function) → emitted_instrs first (fs ++ gs) ≡ emitted_instrs first fs ++ emitted_instrs first gs
 instrs_joined first [] gs = refl
-instrs_joined first (f ∷ fs) gs = ap (λ is. emitted_function first f ++ is) (instrs_joined first fs gs) ∙ sym (append_assoc (emitted_function first f) (emitted_instrs first fs) (emitted_instrs first gs))
+instrs_joined first (f ∷ fs) gs = ap (λ is. emitted_function first f ++ is) (instrs_joined first fs gs)
+    ∙ sym (append_assoc (emitted_function first f) (emitted_instrs first fs) (emitted_instrs first gs))
 
 pub funcs_joined : (first start : ℕ) (fs gs : List Function) →
     emitted_funcs first start (fs ++ gs) ≡ emitted_funcs first start fs ++ emitted_funcs first (start + length (emitted_instrs first fs)) gs
@@ -58,7 +59,8 @@ instrs_of_both first index fs bodies loops old mid new none is_index is_mid is_n
     ∙ ap (λ is. is ++ emitted_instrs first (loop_texts (length fs) loops)) (is_mid ∙ ap (λ is. is ++ front) none)
     ∙ sym (instrs_joined first (with_bodies fs bodies) (loop_texts (length fs) loops))
 
-pub funcs_of_both : (first index : ℕ) (fs : List source.Function) (bodies : List Block) (loops : List Loop) (old mid : List Instr) (old_funcs mid_funcs new_funcs : List Func) → old ≡ [] → old_funcs ≡ [] → index ≡ length fs →
+pub funcs_of_both : (first index : ℕ) (fs : List source.Function) (bodies : List Block) (loops : List Loop) (old mid : List Instr)
+    (old_funcs mid_funcs new_funcs : List Func) → old ≡ [] → old_funcs ≡ [] → index ≡ length fs →
     mid ≡ old ++ emitted_instrs first (with_bodies fs bodies) → mid_funcs ≡ old_funcs ++ emitted_funcs first (length old) (with_bodies fs bodies) →
     new_funcs ≡ mid_funcs ++ emitted_funcs first (length mid) (loop_texts index loops) →
     new_funcs ≡ emitted_funcs first 0 (with_bodies fs bodies ++ loop_texts (length fs) loops)
@@ -74,7 +76,8 @@ funcs_of_both first index fs bodies loops old mid old_funcs mid_funcs new_funcs 
     ∙ ap (λ made. made ++ emitted_funcs first (0 + length code) (loop_texts (length fs) loops)) funcs_is
     ∙ sym (funcs_joined first 0 (with_bodies fs bodies) (loop_texts (length fs) loops))
 
-pub lists_of_both : (first index n : ℕ) (fs : List source.Function) (bodies : List Block) (loops : List Loop) (none mid new : List (List ℕ)) → length bodies ≡ length fs → index ≡ length fs → n ≡ length fs + length loops →
+pub lists_of_both : (first index n : ℕ) (fs : List source.Function) (bodies : List Block) (loops : List Loop) (none mid new : List (List ℕ))
+    → length bodies ≡ length fs → index ≡ length fs → n ≡ length fs + length loops →
     none ≡ replicate (first + 3 * n) [] → mid ≡ put_lists_of first (with_bodies fs bodies) none → new ≡ put_lists_of first (loop_texts index loops) mid →
     new ≡ emitted_lists first (with_bodies fs bodies ++ loop_texts (length fs) loops)
 lists_of_both first index n fs bodies loops none mid new same is_index is_n is_none is_mid is_new =
@@ -135,7 +138,8 @@ instrs_next first at next l rest left now new whole is_next is_left is_new befor
     ∙ sym (ap (λ ls. now ++ emitted_instrs first (loop_texts at ls)) is_left)
     ∙ before
 
-pub funcs_next : (first at next start end : ℕ) (l : Loop) (rest left : List Loop) (now new : List Instr) (f : Func) (funcs made whole : List Func) → next ≡ at + 1 → left ≡ l ∷ rest → new ≡ now ++ emitted_function first (loop_text at l) →
+pub funcs_next : (first at next start end : ℕ) (l : Loop) (rest left : List Loop) (now new : List Instr) (f : Func) (funcs made whole : List Func)
+    → next ≡ at + 1 → left ≡ l ∷ rest → new ≡ now ++ emitted_function first (loop_text at l) →
     start ≡ length now → end ≡ length new → f ≡ written_func start end l → made ≡ funcs ++ f ∷ [] →
     funcs ++ emitted_funcs first (length now) (loop_texts at left) ≡ whole → made ++ emitted_funcs first (length new) (loop_texts next rest) ≡ whole
 funcs_next first at next start end l rest left now new f funcs made whole is_next is_left is_new is_start is_end is_f is_made before =

@@ -71,7 +71,8 @@ mutual
   numbered_by line k (If e b) = numbered_in k b
   numbered_by line k (IfElse e b c) =
       numbered_on k (k + loop_count_in b) (k + (loop_count_in b + loop_count_in c)) (made_in k b) (made_in (k + loop_count_in b) c) (numbered_in k b)
-      (up_to (k + loop_count_in b) ((k + loop_count_in b) + loop_count_in c) (k + (loop_count_in b + loop_count_in c)) (made_in (k + loop_count_in b) c) (omega arith) (numbered_in (k + loop_count_in b) c))
+      (up_to (k + loop_count_in b) ((k + loop_count_in b) + loop_count_in c) (k + (loop_count_in b + loop_count_in c))
+      (made_in (k + loop_count_in b) c) (omega arith) (numbered_in (k + loop_count_in b) c))
   numbered_by line k (While e b) = numbered_in k b
   numbered_by line k (For x y z from to grain over b) =
       numbered_on k (k + loop_count_in b) (k + (loop_count_in b + 1)) (made_in k b) (loop_function (loop_name (k + loop_count_in b)) line x grain (captured x b) over (lower_block over k b) ∷ [])
@@ -96,7 +97,8 @@ numbered_of : (k : ℕ) (fs : List Function) → Numbered k (k + loops_of fs) (m
 numbered_of k [] = omega arith
 numbered_of k (f ∷ fs) =
     numbered_on k (k + loop_count_in f.body) (k + (loop_count_in f.body + loops_of fs)) (made_in k f.body) (made_of (k + loop_count_in f.body) fs) (numbered_in k f.body)
-    (up_to (k + loop_count_in f.body) ((k + loop_count_in f.body) + loops_of fs) (k + (loop_count_in f.body + loops_of fs)) (made_of (k + loop_count_in f.body) fs) (omega arith) (numbered_of (k + loop_count_in f.body) fs))
+    (up_to (k + loop_count_in f.body) ((k + loop_count_in f.body) + loops_of fs) (k + (loop_count_in f.body + loops_of fs))
+    (made_of (k + loop_count_in f.body) fs) (omega arith) (numbered_of (k + loop_count_in f.body) fs))
 
 -- no loop from this number on has its function here
 abbrev Below : ℕ → List Function → Type 0

@@ -15,7 +15,8 @@ use Rattle.cw_model.specs.lemmas.Kept.{kept, left_none, right_none}
 use Rattle.cw_model.specs.lemmas.Names.{same_are, names_of}
 use Rattle.cw_tree.specs.Resolved.{Locals, with_int, with_array, locals_after, locals_of}
 use Rattle.cw_tree.specs.lemmas.Names.{front_among, later_among}
-use Rattle.cw_loops.specs.Lowered.{is_plain, low, high, middle, left_part, right_part, loop_name, int_params, array_params, variables, leaf_block, left_arguments, right_arguments, both_halves, in_cuts, node_block, loop_function, loop_count, loop_count_in, lower_block, made_by, made_in}
+use Rattle.cw_loops.specs.Lowered.{is_plain, low, high, middle, left_part, right_part, loop_name, int_params, array_params, variables, leaf_block, left_arguments}
+use Rattle.cw_loops.specs.Lowered.{right_arguments, both_halves, in_cuts, node_block, loop_function, loop_count, loop_count_in, lower_block, made_by, made_in}
 use Rattle.cw_loops.specs.Lowerable.{Surroundings, is_local, can_evaluate, new_integers, new_arrays, inside, can_lower, can_lower_all}
 use Rattle.cw_loops.specs.lemmas.Apart.{plain_apart}
 use Rattle.cw_loops.specs.lemmas.Naming.{among_left, among_right, Placed, at_front, after_it, placed, none_among}
@@ -80,26 +81,31 @@ no_part : (z : Name) (rest : List Name) (locals : Locals) → ((b : Name) → sa
 no_part z [] locals left right h = h
 no_part z (a ∷ rest) locals left right h =
     no_part z rest (with_array (right_part a) (with_array (left_part a) locals)) left right
-    (none_among z (locals.arrays ++ left_part a ∷ []) (right_part a ∷ []) (none_among z locals.arrays (left_part a ∷ []) h (past z (left_part a) [] (left a) refl)) (past z (right_part a) [] (right a) refl))
+    (none_among z (locals.arrays ++ left_part a ∷ []) (right_part a ∷ [])
+    (none_among z locals.arrays (left_part a ∷ []) h (past z (left_part a) [] (left a) refl)) (past z (right_part a) [] (right a) refl))
 
 -- a generated name is none of a source
 pub generated_free : (z : Name) (xs : List Name) → is_plain z ≡ false → ((v : Name) → is_among v xs ≡ true → is_plain v ≡ true) → is_among z xs ≡ false
 generated_free z xs e plain = refuted (is_among z xs) (λ o. never (is_plain z) (plain z o) e)
 
 -- integers and arrays as arguments
-int_args : (locals : Locals) (xs : List Name) (ps : List Param) (es : List Expr) → ((x : Name) → is_among x xs ≡ true → (is_among x locals.ints ≡ true) × (is_among x locals.arrays ≡ false)) → ArgsKnown locals ps es →
+int_args : (locals : Locals) (xs : List Name) (ps : List Param) (es : List Expr)
+    → ((x : Name) → is_among x xs ≡ true → (is_among x locals.ints ≡ true) × (is_among x locals.arrays ≡ false)) → ArgsKnown locals ps es →
     ArgsKnown locals (int_params xs ++ ps) (variables xs ++ es)
 int_args locals [] ps es h rest = rest
 int_args locals (x ∷ xs) ps es h rest = (h x (front_among x xs), int_args locals xs ps es (λ y o. h y (later_among y x xs o)) rest)
 
-array_args : (locals : Locals) (part : Name → Name) (over : List Name) → ((a : Name) → is_among a over ≡ true → is_among (part a) locals.arrays ≡ true) → ArgsKnown locals (array_params over) (variables (map part over))
+array_args : (locals : Locals) (part : Name → Name) (over : List Name)
+    → ((a : Name) → is_among a over ≡ true → is_among (part a) locals.arrays ≡ true) → ArgsKnown locals (array_params over) (variables (map part over))
 array_args locals part [] h = tt
 array_args locals part (a ∷ over) h = (h a (front_among a over), array_args locals part over (λ b o. h b (later_among b a over o)))
 
 module _ (all : List Function) (given : List Name) where
   -- the statements inside the cuts of arrays
   cuts_known : (returns : Returns) (line : ℕ) (rest : List Name) (locals : Locals) (text : Block) → is_among low locals.ints ≡ true → is_among middle locals.ints ≡ true →
-      ((a : Name) → is_among a rest ≡ true → is_among a locals.arrays ≡ true) → ((a : Name) → is_among a rest ≡ true → is_among (left_part a) locals.arrays ≡ false) → ((a : Name) → is_among a rest ≡ true → is_among (right_part a) locals.arrays ≡ false) →
+      ((a : Name) → is_among a rest ≡ true → is_among a locals.arrays ≡ true)
+      → ((a : Name) → is_among a rest ≡ true → is_among (left_part a) locals.arrays ≡ false)
+      → ((a : Name) → is_among a rest ≡ true → is_among (right_part a) locals.arrays ≡ false) →
       differ rest ≡ true → Begins given locals.arrays → ((r : Returns) → BlockKnown all given r (cut_locals rest locals) text) → BlockKnown all given returns locals (in_cuts line rest text)
   cuts_known returns line [] locals text lows middles there left right apart begins h = h returns
   cuts_known returns line (a ∷ rest) locals text lows middles there left right apart begins h =
@@ -111,8 +117,12 @@ module _ (all : List Function) (given : List Name) where
           none_among (right_part a) locals.arrays (left_part a ∷ []) (right a (front_among a rest)) refl,
           begins,
           cuts_known Nowhere line rest more text lows middles (λ b o. beside b (left_part a) (right_part a) locals.arrays (there b (later_among b a rest o)))
-              (λ b o. none_among (left_part b) (locals.arrays ++ left_part a ∷ []) (right_part a ∷ []) (none_among (left_part b) locals.arrays (left_part a ∷ []) (left b (later_among b a rest o)) (past (left_part b) (left_part a) [] (other b o (not_true _ two.0)) refl)) refl)
-              (λ b o. none_among (right_part b) (locals.arrays ++ left_part a ∷ []) (right_part a ∷ []) (none_among (right_part b) locals.arrays (left_part a ∷ []) (right b (later_among b a rest o)) refl) (past (right_part b) (right_part a) [] (other b o (not_true _ two.0)) refl))
+              (λ b o. none_among (left_part b) (locals.arrays ++ left_part a ∷ []) (right_part a ∷ [])
+              (none_among (left_part b) locals.arrays (left_part a ∷ []) (left b (later_among b a rest o))
+              (past (left_part b) (left_part a) [] (other b o (not_true _ two.0)) refl)) refl)
+              (λ b o. none_among (right_part b) (locals.arrays ++ left_part a ∷ []) (right_part a ∷ [])
+              (none_among (right_part b) locals.arrays (left_part a ∷ []) (right b (later_among b a rest o)) refl)
+              (past (right_part b) (right_part a) [] (other b o (not_true _ two.0)) refl))
               two.1 (begins_array given (with_array (left_part a) locals) (right_part a) (begins_array given locals (left_part a) begins)) h,
         ),
         tt,
@@ -184,17 +194,36 @@ module _ (all : List Function) (name : Name) (line : ℕ) (x : Name) (grain : �
   taken_in : (v : Name) → is_among v taken ≡ true → (is_among v cut.ints ≡ true) × (is_among v cut.arrays ≡ false)
   taken_in v o =
       let plain = taken_plain v o in
-      in_cut v (later_among v low (high ∷ taken ++ middle ∷ []) (later_among v high (taken ++ middle ∷ []) (among_left v taken (middle ∷ []) o))) (λ b. plain_apart v (60 ∷ b) plain) (λ b. plain_apart v (62 ∷ b) plain) (kept_apart v o)
+      in_cut v (later_among v low (high ∷ taken ++ middle ∷ []) (later_among v high (taken ++ middle ∷ []) (among_left v taken (middle ∷ []) o)))
+      (λ b. plain_apart v (60 ∷ b) plain) (λ b. plain_apart v (62 ∷ b) plain) (kept_apart v o)
 
   -- a call on one half
   half_known : (kind : CallKind) (returns : Returns) (es : List Expr) → ArgsKnown cut (loop_function name line x grain taken over body).params es → StmtKnown all over returns cut (Start kind name es)
-  half_known kind returns es args = (here.there, ap (λ (q : Function). q.gives_int) here.is, subst (λ (q : Function). ArgsKnown cut q.params es) (sym here.is) args, ap (λ (q : Function). marks_for q.params) here.is ∙ loop_unread taken over)
+  half_known kind returns es args = (
+    here.there,
+    ap (λ (q : Function). q.gives_int) here.is,
+    subst (λ (q : Function). ArgsKnown cut q.params es) (sym here.is) args,
+    ap (λ (q : Function). marks_for q.params) here.is ∙ loop_unread taken over,
+  )
 
   halves_known : (returns : Returns) → BlockKnown all over returns cut (both_halves line name (left_arguments taken over) (right_arguments taken over))
   halves_known returns = (
-    half_known Spawned returns (left_arguments taken over) (low_in, (middle_in, int_args cut taken (array_params over) (variables (map left_part over)) taken_in (array_args cut left_part over (λ a o. left_there a over node o)))),
+    half_known Spawned returns (left_arguments taken over) (
+      low_in,
+      (
+        middle_in,
+        int_args cut taken (array_params over) (variables (map left_part over)) taken_in (array_args cut left_part over (λ a o. left_there a over node o)),
+      ),
+    ),
     (
-      half_known Plain returns (right_arguments taken over) (middle_in, (high_in, int_args cut taken (array_params over) (variables (map right_part over)) taken_in (array_args cut right_part over (λ a o. right_there a over node o)))),
+      half_known Plain returns (right_arguments taken over) (
+        middle_in,
+        (
+          high_in,
+          int_args cut taken (array_params over) (variables (map right_part over)) taken_in
+              (array_args cut right_part over (λ a o. right_there a over node o)),
+        ),
+      ),
       tt,
     ),
   )
@@ -203,7 +232,8 @@ module _ (all : List Function) (name : Name) (line : ℕ) (x : Name) (grain : �
   node_known = (
     (front_among low (high ∷ taken), ((high_there taken, front_among low (high ∷ taken)), tt)),
     cuts_known all over Alone line over node (both_halves line name (left_arguments taken over) (right_arguments taken over)) (front_among low (high ∷ taken ++ middle ∷ [])) middle_there
-        (λ a o. o) (λ a o. generated_free (left_part a) over refl over_plain) (λ a o. generated_free (right_part a) over refl over_plain) over_differ (record { more = []; is = sym (append-nil over) }) halves_known,
+        (λ a o. o) (λ a o. generated_free (left_part a) over refl over_plain) (λ a o. generated_free (right_part a) over refl over_plain) over_differ
+        (record { more = []; is = sym (append-nil over) }) halves_known,
   )
 
   params_apart : differ (names_of (loop_function name line x grain taken over body).params) ≡ true
@@ -222,7 +252,8 @@ module _ (all : List Function) (name : Name) (line : ℕ) (x : Name) (grain : �
     apart = params_apart;
     body =
         subst (λ (l : Locals). BlockKnown all l.arrays Alone l (loop_function name line x grain taken over body).body)
-        (sym (same_locals (low ∷ high ∷ (locals_of (int_params taken ++ array_params over)).ints) (low ∷ high ∷ taken) (locals_of (int_params taken ++ array_params over)).arrays over (ap (λ l. low ∷ high ∷ l) (loop_ints taken over)) (loop_arrays taken over)))
+        (sym (same_locals (low ∷ high ∷ (locals_of (int_params taken ++ array_params over)).ints) (low ∷ high ∷ taken)
+        (locals_of (int_params taken ++ array_params over)).arrays over (ap (λ l. low ∷ high ∷ l) (loop_ints taken over)) (loop_arrays taken over)))
         ((((high_there taken, front_among low (high ∷ taken)), tt), leaf_known, node_known), tt);
     returns = λ e. absurd cc;
   }
@@ -238,7 +269,8 @@ module _ (program : Program) (all : List Function) (calls : (f : Name) (g : Func
     pub made_by_known : (returns : Returns) (c : Surroundings) (ints arrays : List Name) (known : Known) (locals : Locals) → Agree c ints arrays known locals → (line k : ℕ) (s : Stmt) →
         faults_in program returns known line s ≡ [] → can_lower c ints arrays s ≡ true → AllFound all (made_by line k s) → AllFunctionsKnown all (made_by line k s)
     made_by_known returns c ints arrays known locals agree line k (If e b) typed can found =
-        made_in_known returns c ints arrays known locals agree k b (right_none (unless (is_fine known e) line) (faults_in_block program returns known b) typed) (and_parts (can_evaluate c e) (can_lower_all c ints arrays b) can).1 found
+        made_in_known returns c ints arrays known locals agree k b (right_none (unless (is_fine known e) line)
+        (faults_in_block program returns known b) typed) (and_parts (can_evaluate c e) (can_lower_all c ints arrays b) can).1 found
     made_by_known returns c ints arrays known locals agree line k (IfElse e b d) typed can found =
         let h = and_parts (can_lower_all c ints arrays b) (can_lower_all c ints arrays d) (and_parts (can_evaluate c e) _ can).1 in
         let first = faults_in_block program returns known b in
@@ -249,7 +281,8 @@ module _ (program : Program) (all : List Function) (calls : (f : Name) (g : Func
         both_known all made made' (made_in_known returns c ints arrays known locals agree k b (left_none first second branches) h.0 (found_first all made made' found))
         (made_in_known returns c ints arrays known locals agree (k + loop_count_in b) d (right_none first second branches) h.1 (found_second all made made' found))
     made_by_known returns c ints arrays known locals agree line k (While e b) typed can found =
-        made_in_known returns c ints arrays known locals agree k b (right_none (unless (is_fine known e) line) (faults_in_block program returns known b) typed) (and_parts (can_evaluate c e) (can_lower_all c ints arrays b) can).1 found
+        made_in_known returns c ints arrays known locals agree k b (right_none (unless (is_fine known e) line)
+        (faults_in_block program returns known b) typed) (and_parts (can_evaluate c e) (can_lower_all c ints arrays b) can).1 found
     made_by_known returns c ints arrays known locals agree line k (For x y z from to grain over b) typed can found =
         let name = loop_name (k + loop_count_in b) in
         let taken = captured x b in
@@ -258,7 +291,8 @@ module _ (program : Program) (all : List Function) (calls : (f : Name) (g : Func
         let keeps = loop_kept c ints arrays x y z from to grain over b can in
         let known' = (x, name_kind.Integer) ∷ known in
         let head_line = unless (is_head_of_loop program known x y z from to grain over) line in
-        let head = head_kept program known x y z from to grain over (kept (is_head_of_loop program known x y z from to grain over) line (left_none head_line (faults_in_block program Nowhere known' b) typed)) in
+        let head = head_kept program known x y z from to grain over (kept (is_head_of_loop program known x y z from to grain over) line
+        (left_none head_line (faults_in_block program Nowhere known' b) typed)) in
         let typed_body = right_none head_line (faults_in_block program Nowhere known' b) typed in
         let made = made_in k b in
         let found_body = found_first all made (g ∷ []) found in
@@ -269,7 +303,8 @@ module _ (program : Program) (all : List Function) (calls : (f : Name) (g : Func
         let body_known = block_known program all calls over Nowhere inner [] [] known' locals' agree' (record { more = []; is = sym (append-nil over) }) k b typed_body keeps.body found_body in
         both_known all made (g ∷ []) (made_in_known Nowhere inner [] [] known' locals' agree' k b typed_body keeps.body found_body) (
           loop_known all name line x grain taken over body here (λ v o. (each_captured c ints taken keeps.captures v o).0) (λ a o. (each_sliced c arrays over keeps.slices a o).0)
-              (λ v o. both_kinds v (each_captured c ints taken keeps.captures v o).2 (λ p. (each_sliced c arrays over keeps.slices v p).2)) keeps.taken_differ keeps.over_differ body_known (no_half_in inner [] [] over k b keeps.body),
+              (λ v o. both_kinds v (each_captured c ints taken keeps.captures v o).2 (λ p. (each_sliced c arrays over keeps.slices v p).2))
+              keeps.taken_differ keeps.over_differ body_known (no_half_in inner [] [] over k b keeps.body),
           tt,
         )
       where
@@ -289,7 +324,8 @@ module _ (program : Program) (all : List Function) (calls : (f : Name) (g : Func
         let five = and_parts (not (is_among l arrays)) _ four.1 in
         let six = and_parts (not (is_among r arrays)) _ five.1 in
         let seven = and_parts (not (same_name r l)) (can_lower_all c ints inner b) six.1 in
-        made_in_known Nowhere c ints inner known' (with_array r (with_array l locals)) (cut_agrees agree a e l r cut) k b (right_none test (faults_in_block program Nowhere known' b) typed) seven.1 found
+        made_in_known Nowhere c ints inner known' (with_array r (with_array l locals)) (cut_agrees agree a e l r cut) k b
+        (right_none test (faults_in_block program Nowhere known' b) typed) seven.1 found
     made_by_known returns c ints arrays known locals agree line k (Region tag b) typed can found = made_in_known Nowhere c ints arrays known locals agree k b typed can found
     made_by_known returns c ints arrays known locals agree line k _ typed can found = tt
 
@@ -306,5 +342,6 @@ module _ (program : Program) (all : List Function) (calls : (f : Name) (g : Func
         let made = made_by line k s in
         let made' = made_in (k + loop_count s) b in
         both_known all made made' (made_by_known returns c ints arrays known locals agree line k s typed_here two.0 (found_first all made made' found))
-        (made_in_known returns c (ints ++ new_integers s) (arrays ++ new_arrays s) (declares s known) (locals_after locals s) (agree_after program returns line c ints arrays known locals s typed_here agree) (k + loop_count s) b
+        (made_in_known returns c (ints ++ new_integers s) (arrays ++ new_arrays s) (declares s known) (locals_after locals s)
+        (agree_after program returns line c ints arrays known locals s typed_here agree) (k + loop_count s) b
         (right_none last behind (right_none here (last ++ behind) typed)) two.1 (found_second all made made' found))

@@ -4,7 +4,8 @@ use Rattle.std.specs.Prelude.{if◌then◌else◌, not, ◌&&◌, ◌||◌, map,
 use Rattle.std.specs.List.{list_all, list_any}
 use Rattle.std.proofs.lemmas.Bool.{and_parts}
 use Rattle.cw_model.specs.Lines.{unless}
-use Rattle.cw_model.specs.Syntax.{wants_array, Name, Stmt, Declare, DeclareArray, Assign, AssignElement, Reduce, Call, Start, Begin, Sync, If, IfElse, While, For, Scope, Cut, Region, Print, Return, Block, End, Then, Function, Program}
+use Rattle.cw_model.specs.Syntax.{wants_array, Name, Stmt, Declare, DeclareArray, Assign, AssignElement, Reduce, Call, Start, Begin, Sync, If}
+use Rattle.cw_model.specs.Syntax.{IfElse, While, For, Scope, Cut, Region, Print, Return, Block, End, Then, Function, Program}
 use Rattle.cw_model.specs.Captured.{captured}
 use Rattle.cw_model.specs.Names.{same_name, is_among, differ}
 use Rattle.cw_model.specs.Answers.{main_name}
@@ -38,7 +39,8 @@ head_of program f h =
 
 module _ (program : Program) (all : List Function) (calls : (f : Name) (g : Function) → called f program.functions ≡ Some g → CallFound all f g) where
   -- a function of the source, and those of its loops
-  source_known : (k : ℕ) (f : Function) → faults_of program f ≡ [] → can_lower_function program.functions f ≡ true → AllFound all (made_in k f.body) → FunctionKnown all (lower_function k f) × AllFunctionsKnown all (made_in k f.body)
+  source_known : (k : ℕ) (f : Function) → faults_of program f ≡ [] → can_lower_function program.functions f ≡ true → AllFound all (made_in k f.body)
+      → FunctionKnown all (lower_function k f) × AllFunctionsKnown all (made_in k f.body)
   source_known k f typed can found =
       let returns = if f.gives_int then WithInt else Alone in
       let test = unless (is_head program f) f.line in
@@ -51,7 +53,8 @@ module _ (program : Program) (all : List Function) (calls : (f : Name) (g : Func
       let locals = locals_of f.params in (
         record {
           apart = head.apart;
-          body = block_known program all calls locals.arrays returns around (integers_of f.params) (arrays_of f.params) (known_of f.params) locals agree (record { more = []; is = sym (append-nil locals.arrays) }) k f.body typed_body can_body found;
+          body = block_known program all calls locals.arrays returns around (integers_of f.params) (arrays_of f.params)
+              (known_of f.params) locals agree (record { more = []; is = sym (append-nil locals.arrays) }) k f.body typed_body can_body found;
           returns = λ e. returns_same [] k f.body ∙ sym (ap (λ b. not b || block_returns f.body) e) ∙ head.returns;
         },
         made_in_known program all calls returns around (integers_of f.params) (arrays_of f.params) (known_of f.params) locals agree k f.body typed_body can_body found,
@@ -73,7 +76,8 @@ module _ (program : Program) (all : List Function) (calls : (f : Name) (g : Func
 pub lowerable_known : (program : Program) → IsWellTyped program → is_lowerable program ≡ true → AllFunctionsKnown (lowered program).functions (lowered program).functions
 lowerable_known program typed can =
     let fs = program.functions in
-    let typed' = right_none (repeated_names program) (flat_map (faults_of program) fs) (right_none (unless (is_among main_name (map (λ f. f.name) fs)) 1) (repeated_names program ++ flat_map (faults_of program) fs) typed) in
+    let typed' = right_none (repeated_names program) (flat_map (faults_of program) fs)
+    (right_none (unless (is_among main_name (map (λ f. f.name) fs)) 1) (repeated_names program ++ flat_map (faults_of program) fs) typed) in
     let two = sources_known program (lowered program).functions (call_found 0 fs (made_of 0 fs)) 0 fs typed' can (loops_found fs fs can) in
     both_known (lowered program).functions (lower_functions 0 fs) (made_of 0 fs) two.0 two.1
 
@@ -123,13 +127,16 @@ module _ (program : Program) (all : List Function) (calls : (f : Name) (g : Func
       let typed_here = left_none (faults_of program f) (flat_map (faults_of program) fs) typed in
       let head = head_of program f (kept (is_head program f) f.line (left_none test inner typed_here)) in
       let more = sources_own (k + loop_count_in f.body) fs (right_none (faults_of program f) (flat_map (faults_of program) fs) typed) in
-      let here = block_own program all calls (marks_for f.params) returns [] (known_of f.params) (locals_of f.params) (head_written f.params head.apart (λ x. array_kind f.params head.apart x ∙ sym (ap (is_among x) (local_arrays f.params)))) k f.body (right_none test inner typed_here) in
+      let here = block_own program all calls (marks_for f.params) returns [] (known_of f.params) (locals_of f.params)
+      (head_written f.params head.apart (λ x. array_kind f.params head.apart x ∙ sym (ap (is_among x) (local_arrays f.params)))) k f.body
+      (right_none test inner typed_here) in
       ((here, more.0), both_own all (made_in k f.body) (made_of (k + loop_count_in f.body) fs) (loops_own_in all k f.body) more.1)
 
 -- in a program that types accept, which can be lowered
 pub functions_own : (program : Program) → IsWellTyped program → AllOwnNames (lowered program).functions (lowered program).functions
 functions_own program typed =
     let fs = program.functions in
-    let typed' = right_none (repeated_names program) (flat_map (faults_of program) fs) (right_none (unless (is_among main_name (map (λ f. f.name) fs)) 1) (repeated_names program ++ flat_map (faults_of program) fs) typed) in
+    let typed' = right_none (repeated_names program) (flat_map (faults_of program) fs)
+    (right_none (unless (is_among main_name (map (λ f. f.name) fs)) 1) (repeated_names program ++ flat_map (faults_of program) fs) typed) in
     let two = sources_own program (lowered program).functions (call_found 0 fs (made_of 0 fs)) 0 fs typed' in
     both_own (lowered program).functions (lower_functions 0 fs) (made_of 0 fs) two.0 two.1

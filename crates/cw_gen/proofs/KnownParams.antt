@@ -13,7 +13,8 @@ pub local_ints : (ps : List Param) → (locals_of ps).ints ≡ integers_of ps
 local_ints [] = refl
 local_ints (p ∷ ps) = go (wants_array p) (local_ints ps)
   where
-    go : (b : Bool) → (locals_of ps).ints ≡ integers_of ps → map (λ (q : Param). q.name) (cond (not b) (p ∷ filter (λ q. not (wants_array q)) ps) (filter (λ q. not (wants_array q)) ps)) ≡ (if b then integers_of ps else p.name ∷ integers_of ps)
+    go : (b : Bool) → (locals_of ps).ints ≡ integers_of ps → map (λ (q : Param). q.name)
+        (cond (not b) (p ∷ filter (λ q. not (wants_array q)) ps) (filter (λ q. not (wants_array q)) ps)) ≡ (if b then integers_of ps else p.name ∷ integers_of ps)
     go true h = h
     go false h = ap (λ r. p.name ∷ r) h
 
@@ -21,7 +22,8 @@ pub local_arrays : (ps : List Param) → (locals_of ps).arrays ≡ arrays_of ps
 local_arrays [] = refl
 local_arrays (p ∷ ps) = go (wants_array p) (local_arrays ps)
   where
-    go : (b : Bool) → (locals_of ps).arrays ≡ arrays_of ps → map (λ (q : Param). q.name) (cond b (p ∷ filter (λ q. (wants_array q)) ps) (filter (λ q. (wants_array q)) ps)) ≡ (if b then p.name ∷ arrays_of ps else arrays_of ps)
+    go : (b : Bool) → (locals_of ps).arrays ≡ arrays_of ps → map (λ (q : Param). q.name)
+        (cond b (p ∷ filter (λ q. (wants_array q)) ps) (filter (λ q. (wants_array q)) ps)) ≡ (if b then p.name ∷ arrays_of ps else arrays_of ps)
     go true h = ap (λ r. p.name ∷ r) h
     go false h = h
 

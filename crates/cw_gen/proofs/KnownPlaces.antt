@@ -13,7 +13,8 @@ use Rattle.cw_model.specs.lemmas.Names.{same_are, names_of}
 use Rattle.cw_tree.specs.Resolved.{Locals, with_int, with_array, locals_after, locals_of}
 use Rattle.cw_tree.specs.lemmas.Names.{front_among, later_among}
 use Rattle.cw_loops.specs.Lowered.{is_plain, low, high, lower_index, lower_expr, lower_exprs, lower_option}
-use Rattle.cw_loops.specs.Lowerable.{Surroundings, nothing_around, can_write, can_read, is_local, is_variable, can_evaluate, can_pass, can_pass_all, can_target, new_integers, new_arrays, can_capture, can_slice, inside, integers_of, arrays_of}
+use Rattle.cw_loops.specs.Lowerable.{Surroundings, nothing_around, can_write, can_read, is_local, is_variable, can_evaluate, can_pass, can_pass_all}
+use Rattle.cw_loops.specs.Lowerable.{can_target, new_integers, new_arrays, can_capture, can_slice, inside, integers_of, arrays_of}
 use Rattle.cw_loops.specs.lemmas.Naming.{among_left, among_right, neither_among, none_among, pushed, passed}
 use Rattle.cw_loops.specs.lemmas.Knowing.{not_there, not_both}
 use Rattle.cw_loops.specs.lemmas.Heads.{int_kind, array_kind}
@@ -97,7 +98,8 @@ module _ {c : Surroundings} {ints arrays : List Name} {known : Known} {locals : 
       (can_evaluate c i ≡ true → ExprKnown locals (lower_expr c.over i)) → (is_among a locals.arrays ≡ true) × ExprKnown locals (lower_index (is_among a c.over) (lower_expr c.over i))
   spot_known a i array can more = go (is_among a c.over) refl can
     where
-      go : (b : Bool) → is_among a c.over ≡ b → (if b then is_variable c i else (is_local c a && can_evaluate c i)) ≡ true → (is_among a locals.arrays ≡ true) × ExprKnown locals (lower_index b (lower_expr c.over i))
+      go : (b : Bool) → is_among a c.over ≡ b → (if b then is_variable c i else (is_local c a && can_evaluate c i)) ≡ true
+          → (is_among a locals.arrays ≡ true) × ExprKnown locals (lower_index b (lower_expr c.over i))
       go true o h = (over_there a o, (variable_known a o i h, given_there low (agree.low_given a o)))
       go false o h = let two = and_parts (is_local c a) (can_evaluate c i) h in (local_there a array two.0, more two.1)
 
@@ -147,7 +149,8 @@ module _ {c : Surroundings} {ints arrays : List Name} {known : Known} {locals : 
   target_known f (Some x) fine can = let two = and_parts (is_int known x) f.gives_int fine in (write_there x two.0 can, two.1)
 
   -- what is returned
-  pub return_known : (returns : Returns) (e : Option Expr) → may_return returns known e ≡ true → ((d : Expr) → e ≡ Some d → can_evaluate c d ≡ true) → ReturnKnown returns locals (lower_option c.over e)
+  pub return_known : (returns : Returns) (e : Option Expr) → may_return returns known e ≡ true → ((d : Expr) → e ≡ Some d → can_evaluate c d ≡ true)
+      → ReturnKnown returns locals (lower_option c.over e)
   return_known Nowhere None fine can = absurd cc
   return_known Nowhere (Some e) fine can = absurd cc
   return_known WithInt None fine can = absurd cc
@@ -240,7 +243,8 @@ agree_head fs ps h = record {
 }
 
 -- behind a statement
-pub agree_after : (program : Program) (returns : Returns) (line : ℕ) (c : Surroundings) (ints arrays : List Name) (known : Known) (locals : Locals) (s : Stmt) → faults_in program returns known line s ≡ [] → Agree c ints arrays known locals →
+pub agree_after : (program : Program) (returns : Returns) (line : ℕ) (c : Surroundings) (ints arrays : List Name) (known : Known) (locals : Locals)
+    (s : Stmt) → faults_in program returns known line s ≡ [] → Agree c ints arrays known locals →
     Agree c (ints ++ new_integers s) (arrays ++ new_arrays s) (declares s known) (locals_after locals s)
 agree_after program returns line c ints arrays known locals (Declare x e) typed agree =
     let new = new_name program known x (and_parts (is_fine known e) (is_new program known x) (kept (is_fine known e && is_new program known x) line typed)).1 in

@@ -7,17 +7,20 @@ use Rattle.std.specs.List.{list_all}
 use Rattle.std.proofs.lemmas.Bool.{and_parts}
 use Rattle.cw_model.specs.declared.limits.TheConstants.{MOST_GRAIN}
 use Rattle.cw_model.specs.Lines.{unless}
-use Rattle.cw_model.specs.Syntax.{Name, Expr, Stmt, Declare, DeclareArray, Assign, AssignElement, Reduce, Call, Start, Begin, Sync, If, IfElse, While, For, Scope, Cut, Region, Print, Return, Block, End, Then, Function, Program}
+use Rattle.cw_model.specs.Syntax.{Name, Expr, Stmt, Declare, DeclareArray, Assign, AssignElement, Reduce, Call, Start, Begin, Sync, If}
+use Rattle.cw_model.specs.Syntax.{IfElse, While, For, Scope, Cut, Region, Print, Return, Block, End, Then, Function, Program}
 use Rattle.cw_model.specs.Names.{same_name, is_among, differ}
 use Rattle.cw_model.specs.Answers.{main_name}
 use Rattle.cw_model.specs.Meaning.{function_named}
 use Rattle.cw_model.specs.Captured.{captured}
-use Rattle.cw_model.specs.Typing.{Returns, Nowhere, Known, is_int, is_array, is_writable, is_new, is_fine, are_arguments, is_target, is_call, is_reducer, is_cut, is_head_of_loop, called, surely_returns, block_returns, ends_block, declares, faults_in, faults_in_block}
+use Rattle.cw_model.specs.Typing.{Returns, Nowhere, Known, is_int, is_array, is_writable, is_new, is_fine, are_arguments, is_target, is_call, is_reducer, is_cut}
+use Rattle.cw_model.specs.Typing.{is_head_of_loop, called, surely_returns, block_returns, ends_block, declares, faults_in, faults_in_block}
 use Rattle.cw_model.specs.lemmas.Kept.{kept, left_none, right_none}
 use Rattle.cw_model.specs.lemmas.Fits.{arguments_fit, writable_array}
 use Rattle.cw_tree.specs.Resolved.{Locals, with_array, locals_after}
 use Rattle.cw_loops.specs.Lowered.{is_plain, loop_name, loop_function, loop_count, loop_count_in, lower_exprs, lower_stmt, lower_block, made_by, made_in}
-use Rattle.cw_loops.specs.Lowerable.{Surroundings, can_write, is_local, can_evaluate, can_pass_all, can_target, new_integers, new_arrays, can_capture, can_slice, can_loop, inside, can_lower, can_lower_all}
+use Rattle.cw_loops.specs.Lowerable.{Surroundings, can_write, is_local, can_evaluate, can_pass_all, can_target, new_integers}
+use Rattle.cw_loops.specs.Lowerable.{new_arrays, can_capture, can_slice, can_loop, inside, can_lower, can_lower_all}
 use Rattle.cw_loops.specs.lemmas.Naming.{none_among}
 use Rattle.cw_loops.specs.lemmas.Declaring.{same_after}
 use Rattle.cw_gen.proofs.Ordered.{range_order}
@@ -27,7 +30,8 @@ use Rattle.cw_gen.proofs.Kept.{ArgsKnown, TargetKnown, StmtKnown, BlockKnown}
 use Rattle.cw_gen.proofs.KnownNames.{past}
 use Rattle.cw_gen.proofs.KnownParams.{loop_ints, loop_arrays, loop_unread}
 use Rattle.cw_gen.proofs.KnownFunctions.{Found, AllFound, found_first, found_second, CallFound}
-use Rattle.cw_gen.proofs.KnownPlaces.{Agree, new_name, write_there, spot_known, expr_known, args_known, target_known, return_known, captured_known, sliced_known, local_there, not_there_alone, agree_array, agree_after}
+use Rattle.cw_gen.proofs.KnownPlaces.{Agree, new_name, write_there, spot_known, expr_known, args_known, target_known, return_known}
+use Rattle.cw_gen.proofs.KnownPlaces.{captured_known, sliced_known, local_there, not_there_alone, agree_array, agree_after}
 
 mutual
   -- a source calls no half
@@ -71,7 +75,8 @@ mutual
 mutual
   -- what surely returns does so lowered
   surely_same : (over : List Name) (k : ℕ) (s : Stmt) → surely_returns (lower_stmt over k s) ≡ surely_returns s
-  surely_same over k (IfElse e b c) = ap (λ q. q && block_returns (lower_block over (k + loop_count_in b) c)) (returns_same over k b) ∙ ap (λ q. block_returns b && q) (returns_same over (k + loop_count_in b) c)
+  surely_same over k (IfElse e b c) = ap (λ q. q && block_returns (lower_block over (k + loop_count_in b) c)) (returns_same over k b)
+      ∙ ap (λ q. block_returns b && q) (returns_same over (k + loop_count_in b) c)
   surely_same over k (Declare x e) = refl
   surely_same over k (DeclareArray a e) = refl
   surely_same over k (Assign x e) = refl
@@ -111,7 +116,8 @@ pub record HeadKept (known : Known) (x : Name) (from to : Expr) : Type 0 where
   pub from_fine : is_fine known from ≡ true
   pub to_fine : is_fine known to ≡ true
 
-pub head_kept : (program : Program) (known : Known) (x y z : Name) (from to : Expr) (grain : ℕ) (over : List Name) → is_head_of_loop program known x y z from to grain over ≡ true → HeadKept known x from to
+pub head_kept : (program : Program) (known : Known) (x y z : Name) (from to : Expr) (grain : ℕ) (over : List Name)
+    → is_head_of_loop program known x y z from to grain over ≡ true → HeadKept known x from to
 head_kept program known x y z from to grain over h =
     let seven = (and_parts _ (list_all (λ a. is_writable known a) over) h).0 in
     let six = (and_parts _ (nat_le grain MOST_GRAIN) seven).0 in
@@ -159,7 +165,8 @@ pub record LoopKept (c : Surroundings) (ints arrays : List Name) (x : Name) (fro
   pub slices : can_slice c arrays over ≡ true
   pub body : can_lower_all (inside c ints arrays x taken over) [] [] b ≡ true
 
-pub loop_kept : (c : Surroundings) (ints arrays : List Name) (x y z : Name) (from to : Expr) (grain : ℕ) (over : List Name) (b : Block) → can_lower c ints arrays (For x y z from to grain over b) ≡ true →
+pub loop_kept : (c : Surroundings) (ints arrays : List Name) (x y z : Name) (from to : Expr) (grain : ℕ) (over : List Name) (b : Block)
+    → can_lower c ints arrays (For x y z from to grain over b) ≡ true →
     LoopKept c ints arrays x from to (captured x b) over b
 loop_kept c ints arrays x y z from to grain over b can =
     let taken = captured x b in
@@ -187,10 +194,17 @@ loop_kept c ints arrays x y z from to grain over b can =
 
 -- the function of a loop takes its range
 takes_range : (name : Name) (line : ℕ) (x : Name) (grain : ℕ) (ints over : List Name) (b : Block) → TakesRange (loop_function name line x grain ints over b) ints over
-takes_range name line x grain ints over b = record { ints = ap (λ l. suc (suc (length l))) (loop_ints ints over); arrays = loop_arrays ints over; order = range_order ints over; unread = loop_unread ints over; gives = refl }
+takes_range name line x grain ints over b = record {
+  ints = ap (λ l. suc (suc (length l))) (loop_ints ints over);
+  arrays = loop_arrays ints over;
+  order = range_order ints over;
+  unread = loop_unread ints over;
+  gives = refl;
+}
 
 module _ (program : Program) (all : List Function) (calls : (f : Name) (g : Function) → called f program.functions ≡ Some g → CallFound all f g) where
-  call_known : (c : Surroundings) (ints arrays : List Name) (known : Known) (locals : Locals) → Agree c ints arrays known locals → (target : Option Name) (f : Name) (es : List Expr) (o : Option Function) → called f program.functions ≡ o → is_call known target o es ≡ true →
+  call_known : (c : Surroundings) (ints arrays : List Name) (known : Known) (locals : Locals) → Agree c ints arrays known locals
+      → (target : Option Name) (f : Name) (es : List Expr) (o : Option Function) → called f program.functions ≡ o → is_call known target o es ≡ true →
       can_target c target ≡ true → can_pass_all c es ≡ true →
       (is_function f all ≡ true) × TargetKnown locals (function_named f all) target × ArgsKnown locals (function_named f all).params (lower_exprs c.over es)
   call_known c ints arrays known locals agree target f es None e typed can_t can_p = absurd cc
@@ -208,7 +222,8 @@ module _ (program : Program) (all : List Function) (calls : (f : Name) (g : Func
       gives (Some x) same h = (h.0, same ∙ h.1)
 
   mutual
-    pub stmt_known : (given : List Name) (returns : Returns) (c : Surroundings) (ints arrays : List Name) (known : Known) (locals : Locals) → Agree c ints arrays known locals → Begins given locals.arrays → (line k : ℕ) (s : Stmt) →
+    pub stmt_known : (given : List Name) (returns : Returns) (c : Surroundings) (ints arrays : List Name) (known : Known) (locals : Locals)
+        → Agree c ints arrays known locals → Begins given locals.arrays → (line k : ℕ) (s : Stmt) →
         faults_in program returns known line s ≡ [] → can_lower c ints arrays s ≡ true → AllFound all (made_by line k s) → StmtKnown all given returns locals (lower_stmt c.over k s)
     stmt_known given returns c ints arrays known locals agree begins line k (Declare x e) typed can found =
         expr_known agree e (and_parts (is_fine known e) (is_new program known x) (kept _ line typed)).0 can
@@ -312,7 +327,8 @@ module _ (program : Program) (all : List Function) (calls : (f : Name) (g : Func
         same : (d : Expr) → Some e ≡ Some d → can_evaluate c e ≡ true → can_evaluate c d ≡ true
         same d q h = let is : e ≡ d = cc in ap (can_evaluate c) (sym is) ∙ h
 
-    pub block_known : (given : List Name) (returns : Returns) (c : Surroundings) (ints arrays : List Name) (known : Known) (locals : Locals) → Agree c ints arrays known locals → Begins given locals.arrays → (k : ℕ) (b : Block) →
+    pub block_known : (given : List Name) (returns : Returns) (c : Surroundings) (ints arrays : List Name) (known : Known) (locals : Locals)
+        → Agree c ints arrays known locals → Begins given locals.arrays → (k : ℕ) (b : Block) →
         faults_in_block program returns known b ≡ [] → can_lower_all c ints arrays b ≡ true → AllFound all (made_in k b) → BlockKnown all given returns locals (lower_block c.over k b)
     block_known given returns c ints arrays known locals agree begins k End typed can found = tt
     block_known given returns c ints arrays known locals agree begins k (Then line s b) typed can found =
@@ -323,6 +339,8 @@ module _ (program : Program) (all : List Function) (calls : (f : Name) (g : Func
         let two = and_parts (can_lower c ints arrays s) (can_lower_all c (ints ++ new_integers s) (arrays ++ new_arrays s) b) can in (
           stmt_known given returns c ints arrays known locals agree begins line k s typed_here two.0 (found_first all (made_by line k s) (made_in (k + loop_count s) b) found),
           subst (λ l. BlockKnown all given returns l (lower_block c.over (k + loop_count s) b)) (sym (same_after c.over k locals s))
-              (block_known given returns c (ints ++ new_integers s) (arrays ++ new_arrays s) (declares s known) (locals_after locals s) (agree_after program returns line c ints arrays known locals s typed_here agree)
-              (begins_next given locals s begins) (k + loop_count s) b (right_none last behind (right_none here (last ++ behind) typed)) two.1 (found_second all (made_by line k s) (made_in (k + loop_count s) b) found)),
+              (block_known given returns c (ints ++ new_integers s) (arrays ++ new_arrays s) (declares s known) (locals_after locals s)
+              (agree_after program returns line c ints arrays known locals s typed_here agree)
+              (begins_next given locals s begins) (k + loop_count s) b (right_none last behind (right_none here (last ++ behind) typed)) two.1
+              (found_second all (made_by line k s) (made_in (k + loop_count s) b) found)),
         )

@@ -1,5 +1,6 @@
 -- The code of each function of a lowered program does what the function does.
-use Rattle.std.proofs.Common.{◌≡◌, ℕ, zero, suc, ◌+◌, ◌-◌, ◌≤◌, List, [], ◌++◌, length, Bool, true, false, if◌then◌else◌, nat_lt, Option, Some, None, refl, sym, ap, ◌∙◌, subst, arith, length-append, ℤ, pos, true≢false}
+use Rattle.std.proofs.Common.{◌≡◌, ℕ, zero, suc, ◌+◌, ◌-◌, ◌≤◌, List, [], ◌++◌, length, Bool, true, false, if◌then◌else◌, nat_lt}
+use Rattle.std.proofs.Common.{Option, Some, None, refl, sym, ap, ◌∙◌, subst, arith, length-append, ℤ, pos, true≢false}
 use Rattle.std.specs.Prelude.{replicate}
 use Rattle.std.proofs.lemmas.List.{length-replicate, length-map}
 use Rattle.cw_facts.specs.Tests.{taken, not_taken}
@@ -31,20 +32,35 @@ use Rattle.cw_gen.proofs.Calling.{CallsRun}
 use Rattle.cw_gen.proofs.StatementRuns.{block_runs}
 
 module _ (code : Code) (fs : List Function) (lists : Lists) (small : length code.instrs ≤ most_jump) (least : TurnsClose fs) where
-  params_agree : (f : Function) (fn : Func) → Compiled code fs lists f fn → (vs : List ℤ) (xss : List (List ℤ)) (given : Frame) → Bound f.params vs xss no_frame given → Agrees (locals_of f.params) [] given (first_store fn vs xss) []
+  params_agree : (f : Function) (fn : Func) → Compiled code fs lists f fn → (vs : List ℤ) (xss : List (List ℤ)) (given : Frame)
+      → Bound f.params vs xss no_frame given → Agrees (locals_of f.params) [] given (first_store fn vs xss) []
   params_agree f fn compiled vs xss given b = record {
     ints = record { named = b.ints; rest = replicate (fn.slots - fn.params) (pos 0); held = ap (λ l. full (l ++ replicate (fn.slots - fn.params) (pos 0))) (sym b.values); levels = (tt, tt) };
-    arrays = record { named = b.arrays; rest = replicate (fn.arrays - fn.array_params) []; held = ap (λ l. full (l ++ replicate (fn.arrays - fn.array_params) [])) (sym b.elements); levels = (tt, tt) };
+    arrays = record {
+      named = b.arrays;
+      rest = replicate (fn.arrays - fn.array_params) [];
+      held = ap (λ l. full (l ++ replicate (fn.arrays - fn.array_params) [])) (sym b.elements);
+      levels = (tt, tt);
+    };
     whole = b.whole;
   }
 
   -- a call that begins has all its slots
-  first_fills : (f : Function) (fn : Func) → Compiled code fs lists f fn → (vs : List ℤ) (xss : List (List ℤ)) → length vs ≡ fn.params → length xss ≡ fn.array_params + fn.readers → Fills (marks_for f.params) (first_store fn vs xss) (room_of_func f fn)
+  first_fills : (f : Function) (fn : Func) → Compiled code fs lists f fn → (vs : List ℤ) (xss : List (List ℤ)) → length vs ≡ fn.params
+      → length xss ≡ fn.array_params + fn.readers → Fills (marks_for f.params) (first_store fn vs xss) (room_of_func f fn)
   first_fills f fn compiled vs xss n m =
       let none : List ℤ = [] in
       record {
-        ints = length-map (vs ++ replicate (fn.slots - fn.params) (pos 0)) (λ v. Some v) ∙ omega (arith, length-append vs (replicate (fn.slots - fn.params) (pos 0)), length-replicate (fn.slots - fn.params) (pos 0), compiled.room, n);
-        arrays = length-map (xss ++ replicate (fn.arrays - fn.array_params) none) (λ v. Some v) ∙ omega (arith, length-append xss (replicate (fn.arrays - fn.array_params) none), length-replicate (fn.arrays - fn.array_params) none, compiled.array_room, m);
+        ints = length-map (vs ++ replicate (fn.slots - fn.params) (pos 0)) (λ v. Some v)
+            ∙ omega (arith, length-append vs (replicate (fn.slots - fn.params) (pos 0)), length-replicate (fn.slots - fn.params) (pos 0), compiled.room, n);
+        arrays = length-map (xss ++ replicate (fn.arrays - fn.array_params) none) (λ v. Some v)
+            ∙ omega (
+              arith,
+              length-append xss (replicate (fn.arrays - fn.array_params) none),
+              length-replicate (fn.arrays - fn.array_params) none,
+              compiled.array_room,
+              m,
+            );
         own = tt;
       }
 
@@ -70,7 +86,8 @@ module _ (code : Code) (fs : List Function) (lists : Lists) (small : length code
       cases false e = refl
 
   -- calls run, from any depth
-  pub calls_run : (table : Table code fs lists) (reducers_are : reducer_names code.reducers ≡ lists.reducers) (tags_are : code.tags ≡ lists.tags) → (bound depth : ℕ) → CallsRun code fs lists bound depth (λ e g given line left. call bound depth fs e g given line left)
+  pub calls_run : (table : Table code fs lists) (reducers_are : reducer_names code.reducers ≡ lists.reducers) (tags_are : code.tags ≡ lists.tags)
+      → (bound depth : ℕ) → CallsRun code fs lists bound depth (λ e g given line left. call bound depth fs e g given line left)
   unfolding call
   calls_run table reducers_are tags_are zero depth = record {
     enters = λ entry h f fn compiled vs xss given n m bound_frame around line left t next below k. absurd (omega arith);
@@ -93,13 +110,20 @@ module _ (code : Code) (fs : List Function) (lists : Lists) (small : length code
         (first_fills f fn compiled vs xss n m)
         (λ goes g st l u ag ln le.
         let nothing = goes_without f fn compiled goes in
-        let there : HasAt code.instrs end (emitted_end false) = subst (λ b. HasAt code.instrs end (emitted_end b)) nothing (has_back code.instrs fn.start body (emitted_end f.gives_int) compiled.stands) in
+        let there : HasAt code.instrs end (emitted_end false) = subst (λ b. HasAt code.instrs end (emitted_end b)) nothing
+        (has_back code.instrs fn.start body (emitted_end f.gives_int) compiled.stands) in
         let begins : Begins size.given (locals_after_all params f.body).arrays = record { more = ext.arrays; is = ap (λ ls. ls.arrays) ext.same } in
         syncs code (None, g) (here marks inner around end [] st u) u l next (λ l' below'.
-        one code (here marks inner around end [] st u) instr.Return there.0 l' ∙ k None g (settled (told_at marks st.arrived) (owned marks st.arrays)) l' (synced u) nothing (gives_back marks size (locals_after_all params f.body) (held_after_all fs 1 f.body []) g st [] refl begins ag ln.own) (omega arith)))
+        one code (here marks inner around end [] st u) instr.Return there.0 l'
+        ∙ k None g (settled (told_at marks st.arrived) (owned marks st.arrays)) l' (synced u) nothing
+        (gives_back marks size (locals_after_all params f.body) (held_after_all fs 1 f.body []) g st [] refl begins ag ln.own) (omega arith)))
         (λ v g arrays l u may gives le. k v g arrays l u (given_by f v f.gives_int refl may) gives le ∙ ap (next (v, g) l) (sym (joined_quiet u)))
         ∙ sym (resume_then t (run_all f.body fs calls given left) (λ way. end_of_call way) next)
-        ∙ sym (ap (λ (piece : Piece Returned). resume t (piece left) next) (not_taken (nat_lt MOST_DEPTH inner) (λ left'. Trapped trap.TooDeep line []) (λ left'. then_do (run_all f.body fs calls given left') (λ way. end_of_call way)) h));
+        ∙ sym (ap (λ (piece : Piece Returned). resume t (piece left) next)
+        (not_taken (nat_lt MOST_DEPTH inner) (λ left'. Trapped trap.TooDeep line [])
+        (λ left'. then_do (run_all f.body fs calls given left') (λ way. end_of_call way)) h));
     traps = λ h f given line left below.
-        ap (λ (piece : Piece Returned). piece left) (taken (nat_lt MOST_DEPTH (depth + 1)) (λ left'. Trapped trap.TooDeep line []) (λ left'. then_do (run_all f.body fs (λ e g given' line' left''. call bound (depth + 1) fs e g given' line' left'') given left') (λ way. end_of_call way)) h);
+        ap (λ (piece : Piece Returned). piece left) (taken (nat_lt MOST_DEPTH (depth + 1)) (λ left'. Trapped trap.TooDeep line [])
+        (λ left'. then_do (run_all f.body fs (λ e g given' line' left''. call bound (depth + 1) fs e g given' line' left'') given left')
+        (λ way. end_of_call way)) h);
   }

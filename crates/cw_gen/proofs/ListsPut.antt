@@ -4,7 +4,8 @@ use Rattle.std.specs.Prelude.{if◌then◌else◌, map, nat_eq, slice_get, slice
 use Rattle.std.proofs.lemmas.Bool.Decides.{nat_tests}
 use Rattle.std.proofs.lemmas.List.{length-set}
 use Rattle.cw_facts.specs.Lists.{set_other}
-use Rattle.cw_loops.specs.Slotted.{Stmt, Declare, DeclareArray, Assign, AssignElement, Reduce, Call, Start, Begin, Sync, If, IfElse, While, Scope, Cut, Region, Print, Return, Block, End, Then, Function}
+use Rattle.cw_loops.specs.Slotted.{Stmt, Declare, DeclareArray, Assign, AssignElement, Reduce, Call, Start, Begin, Sync, If}
+use Rattle.cw_loops.specs.Slotted.{IfElse, While, Scope, Cut, Region, Print, Return, Block, End, Then, Function}
 use Rattle.cw_code.specs.declared.code.Loan.{Loan}
 use Rattle.cw_gen.specs.Marks.{Marks, marks_of, array_at}
 use Rattle.cw_gen.specs.Emit.{whole_list, half_list, passed_in, lent_in, put_lists, put_lists_in, put_lists_of, put_loans, put_loans_in, put_loans_of}
@@ -76,7 +77,8 @@ mutual
   puts first marks (Begin f from to captured over) lists = refl
   puts first marks (If e b) lists = puts_in first marks b lists
   puts first marks (IfElse e b c) lists =
-      puts_in first marks c (put_lists_in first marks b lists) ∙ ap (put_all (entries_in first marks c)) (puts_in first marks b lists) ∙ sym (put_both (entries_in first marks b) (entries_in first marks c) lists)
+      puts_in first marks c (put_lists_in first marks b lists) ∙ ap (put_all (entries_in first marks c)) (puts_in first marks b lists)
+      ∙ sym (put_both (entries_in first marks b) (entries_in first marks c) lists)
   puts first marks (While e b) lists = puts_in first marks b lists
   puts first marks (Scope b) lists = puts_in first marks b lists
   puts first marks (Cut a e l r b) lists = puts_in first marks b lists
@@ -93,14 +95,16 @@ mutual
   puts_in : (first : ℕ) (marks : Marks) (b : Block) (lists : List (List ℕ)) → put_lists_in first marks b lists ≡ put_all (entries_in first marks b) lists
   puts_in first marks End lists = refl
   puts_in first marks (Then line s b) lists =
-      puts_in first marks b (put_lists first marks s lists) ∙ ap (put_all (entries_in first marks b)) (puts first marks s lists) ∙ sym (put_both (entries first marks s) (entries_in first marks b) lists)
+      puts_in first marks b (put_lists first marks s lists) ∙ ap (put_all (entries_in first marks b)) (puts first marks s lists)
+      ∙ sym (put_both (entries first marks s) (entries_in first marks b) lists)
 
 -- functions put their entries in turn
 pub puts_of : (first : ℕ) (fs : List Function) (lists : List (List ℕ)) → put_lists_of first fs lists ≡ put_all (entries_of first fs) lists
 puts_of first [] lists = refl
 puts_of first (f ∷ fs) lists =
     let here = entries_in first (marks_of f.params) f.body in
-    puts_of first fs (put_lists_in first (marks_of f.params) f.body lists) ∙ ap (put_all (entries_of first fs)) (puts_in first (marks_of f.params) f.body lists) ∙ sym (put_both here (entries_of first fs) lists)
+    puts_of first fs (put_lists_in first (marks_of f.params) f.body lists)
+    ∙ ap (put_all (entries_of first fs)) (puts_in first (marks_of f.params) f.body lists) ∙ sym (put_both here (entries_of first fs) lists)
 
 mutual
   lends : (marks : Marks) (s : Stmt) (lists : List (List Loan)) → put_loans marks s lists ≡ put_all (loans marks s) lists

@@ -9,7 +9,8 @@ use Rattle.cw_facts.specs.Tests.{first_true, second_true}
 use Rattle.cw_model.specs.declared.syntax.CallKind.{CallKind}
 use Rattle.cw_model.specs.declared.syntax.CallKind.TheVariants.{Plain, Spawned}
 use Rattle.cw_model.specs.declared.limits.TheConstants.{MOST_CALL_STATEMENTS}
-use Rattle.cw_model.specs.Syntax.{Name, Stmt, Declare, DeclareArray, Assign, AssignElement, Reduce, Call, Start, Begin, Sync, If, IfElse, While, For, Scope, Cut, Region, Print, Return, Block, End, Then, Function, Program}
+use Rattle.cw_model.specs.Syntax.{Name, Stmt, Declare, DeclareArray, Assign, AssignElement, Reduce, Call, Start, Begin, Sync, If, IfElse}
+use Rattle.cw_model.specs.Syntax.{While, For, Scope, Cut, Region, Print, Return, Block, End, Then, Function, Program}
 use Rattle.cw_model.specs.Sites.{CallSite, call_sites, are_numbered}
 use Rattle.cw_tree.specs.Resolved.{Lists, Locals, slot_of, with_array, locals_after, locals_of, function_names, resolved}
 use Rattle.cw_loops.specs.Lowered.{is_plain, loop_name, loop_count_in, lower_functions, made_of, lowered}
@@ -34,7 +35,8 @@ module _ (lists : Lists) (tables : Tables) where
   first = first_list tables.sites
 
   mutual
-    passes : (marks : Marks) (locals : Locals) (s : Stmt) → AllFound tables.passed (entries first marks (slotted_stmt lists locals s)) → AllFound tables.lent (loans marks (slotted_stmt lists locals s)) → PassesStmt lists tables marks locals s
+    passes : (marks : Marks) (locals : Locals) (s : Stmt) → AllFound tables.passed (entries first marks (slotted_stmt lists locals s))
+        → AllFound tables.lent (loans marks (slotted_stmt lists locals s)) → PassesStmt lists tables marks locals s
     passes marks locals (Call kind site target f es) h k = (h.0, k.0)
     passes marks locals (Start kind f es) h k = h.0
     passes marks locals (Begin f from to captured over) h k = h.0
@@ -51,16 +53,19 @@ module _ (lists : Lists) (tables : Tables) where
     passes marks locals (Region tag b) h k = passes_in marks locals b h k
     passes marks locals _ h k = tt
 
-    passes_in : (marks : Marks) (locals : Locals) (b : Block) → AllFound tables.passed (entries_in first marks (slotted_block lists locals b)) → AllFound tables.lent (loans_in marks (slotted_block lists locals b)) → PassesBlock lists tables marks locals b
+    passes_in : (marks : Marks) (locals : Locals) (b : Block) → AllFound tables.passed (entries_in first marks (slotted_block lists locals b))
+        → AllFound tables.lent (loans_in marks (slotted_block lists locals b)) → PassesBlock lists tables marks locals b
     passes_in marks locals End h k = tt
     passes_in marks locals (Then line s b) h k =
         let one = slotted_stmt lists locals s in
         let other = slotted_block lists (locals_after locals s) b in (
           passes marks locals s (found_front tables.passed (entries first marks one) (entries_in first marks other) h) (found_front tables.lent (loans marks one) (loans_in marks other) k),
-          passes_in marks (locals_after locals s) b (found_back tables.passed (entries first marks one) (entries_in first marks other) h) (found_back tables.lent (loans marks one) (loans_in marks other) k),
+          passes_in marks (locals_after locals s) b (found_back tables.passed (entries first marks one) (entries_in first marks other) h)
+              (found_back tables.lent (loans marks one) (loans_in marks other) k),
         )
 
-  passes_of : (fs : List Function) → AllFound tables.passed (entries_of first (map (slotted_function lists) fs)) → AllFound tables.lent (loans_of (map (slotted_function lists) fs)) → AllPass lists tables fs
+  passes_of : (fs : List Function) → AllFound tables.passed (entries_of first (map (slotted_function lists) fs))
+      → AllFound tables.lent (loans_of (map (slotted_function lists) fs)) → AllPass lists tables fs
   passes_of [] h k = tt
   passes_of (f ∷ fs) h k =
       let body = slotted_block lists (locals_of f.params) f.body in
@@ -202,11 +207,13 @@ one_within key n = go (nat_eq key n) refl
     go true e = let same : key ≡ n = grind (arith, nat_tests) in record { once = omega arith; from = λ u. omega (arith, same); below = λ u. omega (arith, same) }
 
 -- the sites of the source
-sites_within : (first : ℕ) (names : List Name) (key n : ℕ) (sites : List CallSite) → are_numbered n sites ≡ true → Within (sites_weigh (weights_at first names key) sites) key (suc n) (suc n + length sites)
+sites_within : (first : ℕ) (names : List Name) (key n : ℕ) (sites : List CallSite) → are_numbered n sites ≡ true
+    → Within (sites_weigh (weights_at first names key) sites) key (suc n) (suc n + length sites)
 sites_within first names key n [] h = record { once = omega arith; from = λ u. absurd (omega (arith, u)); below = λ u. absurd (omega (arith, u)) }
 sites_within first names key n (s ∷ sites) h =
     let is : s.number ≡ suc n = number (first_true (nat_eq s.number (suc n)) (are_numbered (suc n) sites) h) in
-    let here : Within (is_at key s.number) key (suc n) (suc (suc n)) = subst (λ i. Within (is_at key i) key (suc n) (suc (suc n))) (sym is) (subst (Within (is_at key (suc n)) key (suc n)) next (one_within key (suc n))) in
+    let here : Within (is_at key s.number) key (suc n) (suc (suc n)) =
+    subst (λ i. Within (is_at key i) key (suc n) (suc (suc n))) (sym is) (subst (Within (is_at key (suc n)) key (suc n)) next (one_within key (suc n))) in
     subst (Within (is_at key s.number + sites_weigh (weights_at first names key) sites) key (suc n)) (later (length sites))
     (both_within (is_at key s.number) (sites_weigh (weights_at first names key) sites) key (suc n) (suc (suc n)) (suc (suc n) + length sites) (omega arith) (omega arith) here
     (sites_within first names key (suc n) sites (second_true (nat_eq s.number (suc n)) (are_numbered (suc n) sites) h)))
@@ -232,12 +239,14 @@ loops_lend_none key k (suc count) = omega (arith, loops_lend_none key k count)
 
 -- the slots of generated functions are behind those of the source
 
-past_source : (fs made : List Function) (k j : ℕ) → list_all is_source_function fs ≡ true → slot_of (loop_name j) (function_names (lower_functions k fs ++ made)) ≡ length fs + slot_of (loop_name j) (function_names made)
+past_source : (fs made : List Function) (k j : ℕ) → list_all is_source_function fs ≡ true
+    → slot_of (loop_name j) (function_names (lower_functions k fs ++ made)) ≡ length fs + slot_of (loop_name j) (function_names made)
 past_source [] made k j h = omega arith
 past_source (f ∷ fs) made k j h =
     let here = first_true (is_source_function f) (list_all is_source_function fs) h in
     let more = past_source fs made (k + loop_count_in f.body) j (second_true (is_source_function f) (list_all is_source_function fs) h) in
-    ap (λ b. if b then 0 else suc (slot_of (loop_name j) (function_names (lower_functions (k + loop_count_in f.body) fs ++ made)))) (apart_plain f.name (j ∷ []) (first_true (is_plain f.name) (is_source_block f.body) here))
+    ap (λ b. if b then 0 else suc (slot_of (loop_name j) (function_names (lower_functions (k + loop_count_in f.body) fs ++ made))))
+    (apart_plain f.name (j ∷ []) (first_true (is_plain f.name) (is_source_block f.body) here))
     ∙ omega (arith, more)
 
 -- the lists of the calls of a loop's function have three numbers of their own
@@ -267,14 +276,16 @@ module _ (first : ℕ) (names : List Name) (key sources : ℕ) where
   loop_within : (j : ℕ) → slot_of (loop_name j) names ≡ sources + j → start (suc j) ≤ most_jump → Within (loop_weighs (weights_at first names key) j) key (start j) (start (suc j))
   loop_within j at small =
       subst (Within (loop_weighs (weights_at first names key) j) key (start j)) behind
-      (both_within (is_at key (whole j)) (is_at key (half Spawned j) + is_at key (half Plain j)) key (start j) (start j + 1) (start j + 1 + 1 + 1) (omega arith) (omega arith) (here_within (whole j) (start j) (whole_is j at small))
+      (both_within (is_at key (whole j)) (is_at key (half Spawned j) + is_at key (half Plain j)) key (start j) (start j + 1) (start j + 1 + 1 + 1)
+      (omega arith) (omega arith) (here_within (whole j) (start j) (whole_is j at small))
       (both_within (is_at key (half Spawned j)) (is_at key (half Plain j)) key (start j + 1) (start j + 1 + 1) (start j + 1 + 1 + 1) (omega arith) (omega arith)
       (here_within (half Spawned j) (start j + 1) (left_is j at small)) (here_within (half Plain j) (start j + 1 + 1) (right_is j at small))))
     where
       behind : start j + 1 + 1 + 1 ≡ start (suc j)
       behind = omega arith
 
-  loops_within : (count : ℕ) → ((j : ℕ) → j < count → slot_of (loop_name j) names ≡ sources + j) → start count ≤ most_jump → Within (loops_weigh (weights_at first names key) 0 count) key (start 0) (start count)
+  loops_within : (count : ℕ) → ((j : ℕ) → j < count → slot_of (loop_name j) names ≡ sources + j) → start count ≤ most_jump
+      → Within (loops_weigh (weights_at first names key) 0 count) key (start 0) (start count)
   loops_within zero at small = record { once = omega arith; from = λ u. absurd (omega (arith, u)); below = λ u. absurd (omega (arith, u)) }
   loops_within (suc count) at small =
       let here : Within (loop_weighs (weights_at first names key) (0 + count)) key (start count) (start (suc count)) =
@@ -350,7 +361,8 @@ module _ (program : Program) (source_like : list_all is_source_function program.
       only a b h' = omega (arith, h')
 
 -- each call of a lowered program has its lists at its number
-pub all_pass : (program : Program) → IsOwnedSource program → are_numbered 0 (call_sites program) ≡ true → length (call_sites program) ≤ MOST_CALL_STATEMENTS → length (lowered program).functions ≤ 8192 →
+pub all_pass : (program : Program) → IsOwnedSource program → are_numbered 0 (call_sites program) ≡ true
+    → length (call_sites program) ≤ MOST_CALL_STATEMENTS → length (lowered program).functions ≤ 8192 →
     length (emitted_sites_of (resolved program).functions) ≡ length (call_sites program) → AllPass (lowered_lists program) (tables_in (code_of program)) (lowered program).functions
 all_pass program owned numbered few_sites few_functions as_many_sites =
     passes_of (lowered_lists program) (tables_in (code_of program)) (lowered program).functions

@@ -5,10 +5,12 @@ use Rattle.std.specs.List.{list_all}
 use Rattle.cw_facts.specs.Tests.{first_true, second_true}
 use Rattle.cw_model.specs.declared.syntax.CallKind.{CallKind}
 use Rattle.cw_model.specs.declared.syntax.CallKind.TheVariants.{Plain, Spawned}
-use Rattle.cw_model.specs.Syntax.{Name, Stmt, Declare, DeclareArray, Assign, AssignElement, Reduce, Call, Start, Begin, Sync, If, IfElse, While, For, Scope, Cut, Region, Print, Return, Block, End, Then, Function}
+use Rattle.cw_model.specs.Syntax.{Name, Stmt, Declare, DeclareArray, Assign, AssignElement, Reduce, Call, Start, Begin, Sync, If}
+use Rattle.cw_model.specs.Syntax.{IfElse, While, For, Scope, Cut, Region, Print, Return, Block, End, Then, Function}
 use Rattle.cw_model.specs.Captured.{captured}
 use Rattle.cw_model.specs.Sites.{CallSite, sites_in, sites_in_block}
-use Rattle.cw_loops.specs.Lowered.{is_plain, in_cuts, both_halves, left_arguments, right_arguments, loop_name, loop_function, loop_count, loop_count_in, lower_stmt, lower_block, made_by, made_in, lower_functions, made_of}
+use Rattle.cw_loops.specs.Lowered.{is_plain, in_cuts, both_halves, left_arguments, right_arguments, loop_name, loop_function, loop_count}
+use Rattle.cw_loops.specs.Lowered.{loop_count_in, lower_stmt, lower_block, made_by, made_in, lower_functions, made_of}
 use Rattle.cw_loops.specs.SourceLike.{is_source_expr, is_source_stmt, is_source_block, is_source_function}
 use Rattle.cw_loops.specs.lemmas.Numbering.{count_of}
 
@@ -88,11 +90,13 @@ module _ (w : Weights) where
   cuts_weigh line (a ∷ over) b = omega (arith, cuts_weigh line over b)
 
   -- the function of a loop has the calls of its body, and one on each half
-  function_weighs : (name : Name) (line : ℕ) (x : Name) (grain : ℕ) (ints over : List Name) (b : Block) → weight_in w (loop_function name line x grain ints over b).body ≡ weight_in w b + (w.half Spawned name + w.half Plain name)
+  function_weighs : (name : Name) (line : ℕ) (x : Name) (grain : ℕ) (ints over : List Name) (b : Block)
+      → weight_in w (loop_function name line x grain ints over b).body ≡ weight_in w b + (w.half Spawned name + w.half Plain name)
   function_weighs name line x grain ints over b = omega (arith, cuts_weigh line over (both_halves line name (left_arguments ints over) (right_arguments ints over)))
 
   mutual
-    stmt_weighs : (s : Stmt) (over : List Name) (k line : ℕ) → is_source_stmt s ≡ true → weight w (lower_stmt over k s) + weight_of w (made_by line k s) ≡ sites_weigh w (sites_in line s) + loops_weigh w k (loop_count s)
+    stmt_weighs : (s : Stmt) (over : List Name) (k line : ℕ) → is_source_stmt s ≡ true
+        → weight w (lower_stmt over k s) + weight_of w (made_by line k s) ≡ sites_weigh w (sites_in line s) + loops_weigh w k (loop_count s)
     stmt_weighs (If e b) over k line h = block_weighs b over k (second_true (is_source_expr e) (is_source_block b) h)
     stmt_weighs (IfElse e b c) over k line h =
         let two = second_true (is_source_expr e) (is_source_block b && is_source_block c) h in
@@ -140,7 +144,8 @@ module _ (w : Weights) where
     stmt_weighs (Print e) over k line h = omega arith
     stmt_weighs (Return e) over k line h = omega arith
 
-    block_weighs : (b : Block) (over : List Name) (k : ℕ) → is_source_block b ≡ true → weight_in w (lower_block over k b) + weight_of w (made_in k b) ≡ sites_weigh w (sites_in_block b) + loops_weigh w k (loop_count_in b)
+    block_weighs : (b : Block) (over : List Name) (k : ℕ) → is_source_block b ≡ true
+        → weight_in w (lower_block over k b) + weight_of w (made_in k b) ≡ sites_weigh w (sites_in_block b) + loops_weigh w k (loop_count_in b)
     block_weighs End over k h = omega arith
     block_weighs (Then line s b) over k h =
         omega (

@@ -1,5 +1,6 @@
 -- What the function of a loop is made of: the code of its text is what is written, part by part.
-use Rattle.std.proofs.Common.{◌≡◌, ℕ, zero, suc, ◌+◌, ◌-◌, ◌*◌, ◌<◌, Bool, true, false, if◌then◌else◌, cond, filter, List, [], ◌∷◌, ◌++◌, length, map, refl, sym, ap, ◌∙◌, arith, append_assoc, length-append}
+use Rattle.std.proofs.Common.{◌≡◌, ℕ, zero, suc, ◌+◌, ◌-◌, ◌*◌, ◌<◌, Bool, true, false, if◌then◌else◌, cond, filter, List, []}
+use Rattle.std.proofs.Common.{◌∷◌, ◌++◌, length, map, refl, sym, ap, ◌∙◌, arith, append_assoc, length-append}
 use Rattle.std.specs.Prelude.{◌==◌, max, replicate, slice_set}
 use Rattle.std.proofs.lemmas.List.{append-nil}
 use Rattle.cw_model.specs.declared.syntax.CallKind.{CallKind}
@@ -15,7 +16,8 @@ use Rattle.cw_code.specs.declared.code.Func.{Func}
 use Rattle.cw_code.specs.declared.code.Loan.{Loan}
 use Rattle.cw_code.specs.declared.code.Instr.{Instr}
 use Rattle.cw_code.specs.declared.code.Instr.TheVariants as instr
-use Rattle.cw_gen.specs.Emit.{halves_of, emitted_args, emitted_loads, emitted_alone, emitted_block, emitted_turn, passed_in, half_of, half_list, ints_in_block, arrays_in_block, put_lists_in, put_loans_in, emitted_func, emitted_function}
+use Rattle.cw_gen.specs.Emit.{halves_of, emitted_args, emitted_loads, emitted_alone, emitted_block, emitted_turn, passed_in, half_of, half_list}
+use Rattle.cw_gen.specs.Emit.{ints_in_block, arrays_in_block, put_lists_in, put_loans_in, emitted_func, emitted_function}
 use Rattle.cw_gen.specs.Marks.{marks_in, marks_of, readers_in, count_such, count_ints, count_arrays, count_taken, count_readers, is_integer_kind}
 use Rattle.cw_gen.specs.Written.{turn_text, written_cuts, written_ends, written_half, written_middle, written_func}
 
@@ -78,7 +80,8 @@ pub node_emitted : (first index : ℕ) (l : Loop) →
     let m = turn_slot l.captured in
     let arrays = numbers 0 l.over in
     emitted_block first [] (node index l)
-    ≡ written_middle l ++ (written_cuts l arrays ++ ((written_half Spawned (half_of first Spawned index) low m l.captured ++ written_half Plain (half_of first Plain index) m high l.captured) ++ written_ends arrays))
+    ≡ written_middle l ++ (written_cuts l arrays ++ ((written_half Spawned (half_of first Spawned index) low m l.captured
+    ++ written_half Plain (half_of first Plain index) m high l.captured) ++ written_ends arrays))
 node_emitted first index l =
     let m = turn_slot l.captured in
     let arrays = numbers 0 l.over in
@@ -97,7 +100,8 @@ pub leaf_emitted : (first : ℕ) (l : Loop) →
     emitted_block first [] (leaf l)
     ≡ instr.Load low ∷ instr.Store (turn_slot l.captured) ∷ instr.Load (turn_slot l.captured) ∷ instr.Load high ∷ instr.Binary Less l.line ∷ emitted_turn 3 (emitted_block first [] (turn_text l))
 leaf_emitted first l =
-    ap (λ is. instr.Load low ∷ instr.Store (turn_slot l.captured) ∷ instr.Load (turn_slot l.captured) ∷ instr.Load high ∷ instr.Binary Less l.line ∷ is) (append-nil (emitted_turn 3 (emitted_block first [] (turn_text l))))
+    ap (λ is. instr.Load low ∷ instr.Store (turn_slot l.captured) ∷ instr.Load (turn_slot l.captured) ∷ instr.Load high ∷ instr.Binary Less l.line
+    ∷ is) (append-nil (emitted_turn 3 (emitted_block first [] (turn_text l))))
 
 -- what is counted of parameters, of which integers come first
 count_behind : (such : NameKind → Bool) (k : NameKind) (q : ℕ) → such k ≡ true → count_such such (replicate q k) ≡ q
@@ -220,7 +224,8 @@ lists_emitted first index l lists =
     let ints = numbers 2 l.captured in
     let before = put_lists_in first [] l.body lists in
     lists_in_cuts first l arrays (both_halves index l) before
-    ∙ ap (λ slots. slice_set (slice_set before (half_list first Spawned index) slots) (half_list first Plain index) (passed_in [] (map (λ s. Int (Variable s)) ints ++ map Array rights))) (passed_by_half ints lefts)
+    ∙ ap (λ slots. slice_set (slice_set before (half_list first Spawned index) slots) (half_list first Plain index)
+    (passed_in [] (map (λ s. Int (Variable s)) ints ++ map Array rights))) (passed_by_half ints lefts)
     ∙ ap (λ slots. slice_set (slice_set before (half_list first Spawned index) lefts) (half_list first Plain index) slots) (passed_by_half ints rights)
 
 -- the slots of the parts of a cut, as they are counted
@@ -234,7 +239,8 @@ cut_row l i =
 
 -- a leaf, from what each step of the emission leaves
 pub leaf_written : (old set tested new : List Instr) (first start v : ℕ) (l : Loop) → v ≡ turn_slot l.captured → set ≡ old ++ instr.Load 0 ∷ instr.Store v ∷ [] → start ≡ length set →
-    tested ≡ set ++ instr.Load v ∷ instr.Load 1 ∷ instr.Binary Less l.line ∷ [] → new ≡ tested ++ emitted_turn (length tested - start) (emitted_block first [] (turn_text l)) → new ≡ old ++ emitted_block first [] (leaf l)
+    tested ≡ set ++ instr.Load v ∷ instr.Load 1 ∷ instr.Binary Less l.line ∷ []
+    → new ≡ tested ++ emitted_turn (length tested - start) (emitted_block first [] (turn_text l)) → new ≡ old ++ emitted_block first [] (leaf l)
 leaf_written old set tested new first start v l is_v is_set is_start is_tested is_new =
     let x = turn_slot l.captured in
     let one = instr.Load 0 ∷ instr.Store x ∷ [] in

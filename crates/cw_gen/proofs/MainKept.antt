@@ -60,7 +60,8 @@ main_fine program (f ∷ fs) typed h = test (main_fine program fs (right_none (f
         let two = both ((bytes_eq-Decides f.name main_name).1 (sym ((bytes_eq-Decides main_name f.name).0 e))) in
         record {
           gives = ap (λ b. (if b then f else function_named main_name fs).gives_int) e ∙ first_true f.gives_int (not (list_any (λ p. (wants_array p)) f.params)) two;
-          ints = ap (λ b. list_all (λ p. not (wants_array p)) (if b then f else function_named main_name fs).params) e ∙ all_ints f.params (not_true (list_any (λ p. (wants_array p)) f.params) (second_true f.gives_int (not (list_any (λ p. (wants_array p)) f.params)) two));
+          ints = ap (λ b. list_all (λ p. not (wants_array p)) (if b then f else function_named main_name fs).params) e
+              ∙ all_ints f.params (not_true (list_any (λ p. (wants_array p)) f.params) (second_true f.gives_int (not (list_any (λ p. (wants_array p)) f.params)) two));
         }
     test more false e h' =
         let rest = more h' in
@@ -89,7 +90,8 @@ same_head name k (f ∷ fs) more h = test (same_head name (k + loop_count_in f.b
     source : Bool → Function
     source b = if b then f else function_named name fs
 
-    test : (is_function name fs ≡ true → SameHead name fs rest) → (b : Bool) → same_name name f.name ≡ b → (if b then true else is_function name fs) ≡ true → SameHead name (f ∷ fs) (lower_functions k (f ∷ fs) ++ more)
+    test : (is_function name fs ≡ true → SameHead name fs rest) → (b : Bool) → same_name name f.name ≡ b
+        → (if b then true else is_function name fs) ≡ true → SameHead name (f ∷ fs) (lower_functions k (f ∷ fs) ++ more)
     test next true e h' = record {
       there = ap (λ b. if b then true else is_function name rest) e;
       gives = ap (λ b. (here b).gives_int) e ∙ sym (ap (λ b. (source b).gives_int) e);
@@ -126,7 +128,8 @@ reducers_apart : (ds : List (Name × ℕ)) (earlier : List Name) → repeated ds
 reducers_apart [] earlier h = refl
 reducers_apart (d ∷ ds) earlier h =
     let more = right_none (unless (not (is_among d.0 earlier)) d.1) (repeated ds (d.0 ∷ earlier)) h in
-    ap (λ b. not b && fits.are_apart (map (λ e. e.0) ds)) (no_earlier ds (d.0 ∷ earlier) more d.0 (ap (λ b. if b then true else is_among d.0 earlier) ((bytes_eq-Decides d.0 d.0).1 refl))) ∙ reducers_apart ds (d.0 ∷ earlier) more
+    ap (λ b. not b && fits.are_apart (map (λ e. e.0) ds)) (no_earlier ds (d.0 ∷ earlier) more d.0
+    (ap (λ b. if b then true else is_among d.0 earlier) ((bytes_eq-Decides d.0 d.0).1 refl))) ∙ reducers_apart ds (d.0 ∷ earlier) more
 
 reducer_names_are : (rs : List Reducer) → map (λ r. r.name) rs ≡ map (λ (d : Name × ℕ). d.0) (map (λ (r : Reducer). (r.name, r.line)) rs)
 reducer_names_are [] = refl

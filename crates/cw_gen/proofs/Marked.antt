@@ -172,7 +172,8 @@ told_both marks [] b = refl
 told_both marks (r ∷ a) b = ap (λ l. (array_at marks r.0, r.1) ∷ l) (told_both marks a b)
 
 -- a join
-pub settle_owned : {X : Type 0} (marks : Marks) (results : Results X) (slots : Slots X) → AllOwn marks results → owned marks (settled results slots) ≡ settled (told_at marks results) (owned marks slots)
+pub settle_owned : {X : Type 0} (marks : Marks) (results : Results X) (slots : Slots X) → AllOwn marks results
+    → owned marks (settled results slots) ≡ settled (told_at marks results) (owned marks slots)
 settle_owned marks [] slots h = refl
 settle_owned marks (r ∷ results) slots h =
     settle_owned marks results (slice_set slots r.0 (Some r.1)) h.1 ∙ ap (settled (told_at marks results)) (set_owned marks r.0 (Some r.1) slots h.0)

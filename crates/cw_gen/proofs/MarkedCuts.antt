@@ -21,16 +21,19 @@ three marks i j k x y z slots hi hj hk =
     set_owned marks k z (slice_set (slice_set slots i x) j y) hk
     ∙ ap (λ l. slice_set l (array_at marks k) z) (set_owned marks j y (slice_set slots i x) hj ∙ ap (λ l. slice_set l (array_at marks j) y) (set_owned marks i x slots hi))
 
-three_read : (marks : Marks) (i j k : ℕ) (x y z : Option (List ℤ)) (slots : Slots (List ℤ)) → IsOwn marks i → IsOwn marks j → IsOwn marks k → read_in marks (slice_set (slice_set (slice_set slots i x) j y) k z) ≡ read_in marks slots
+three_read : (marks : Marks) (i j k : ℕ) (x y z : Option (List ℤ)) (slots : Slots (List ℤ)) → IsOwn marks i → IsOwn marks j → IsOwn marks k
+    → read_in marks (slice_set (slice_set (slice_set slots i x) j y) k z) ≡ read_in marks slots
 three_read marks i j k x y z slots hi hj hk = set_read marks k z (slice_set (slice_set slots i x) j y) hk ∙ set_read marks j y (slice_set slots i x) hj ∙ set_read marks i x slots hi
 
-pub cut_owned : (marks : Marks) (h : Halves) (xs : List ℤ) (n : ℕ) (slots : Slots (List ℤ)) → OwnHalves marks h → owned marks (cut_arrays h xs n slots) ≡ cut_arrays (cut_numbers marks h) xs n (owned marks slots)
+pub cut_owned : (marks : Marks) (h : Halves) (xs : List ℤ) (n : ℕ) (slots : Slots (List ℤ)) → OwnHalves marks h
+    → owned marks (cut_arrays h xs n slots) ≡ cut_arrays (cut_numbers marks h) xs n (owned marks slots)
 cut_owned marks h xs n slots own = three marks h.array h.left h.right None (Some (take n xs)) (Some (drop n xs)) slots own.0 own.1 own.2
 
 pub cut_read : (marks : Marks) (h : Halves) (xs : List ℤ) (n : ℕ) (slots : Slots (List ℤ)) → OwnHalves marks h → read_in marks (cut_arrays h xs n slots) ≡ read_in marks slots
 cut_read marks h xs n slots own = three_read marks h.array h.left h.right None (Some (take n xs)) (Some (drop n xs)) slots own.0 own.1 own.2
 
-pub uncut_owned : (marks : Marks) (h : Halves) (left right : List ℤ) (slots : Slots (List ℤ)) → OwnHalves marks h → owned marks (uncut_arrays h left right slots) ≡ uncut_arrays (cut_numbers marks h) left right (owned marks slots)
+pub uncut_owned : (marks : Marks) (h : Halves) (left right : List ℤ) (slots : Slots (List ℤ)) → OwnHalves marks h
+    → owned marks (uncut_arrays h left right slots) ≡ uncut_arrays (cut_numbers marks h) left right (owned marks slots)
 uncut_owned marks h left right slots own = three marks h.left h.right h.array (Some []) (Some []) (Some (left ++ right)) slots own.1 own.2 own.0
 
 pub uncut_read : (marks : Marks) (h : Halves) (left right : List ℤ) (slots : Slots (List ℤ)) → OwnHalves marks h → read_in marks (uncut_arrays h left right slots) ≡ read_in marks slots

@@ -134,12 +134,15 @@ find_owned none [] q es h = refl
 find_owned none (m ∷ marks) q [] h = refl
 find_owned none (true ∷ marks) q (e ∷ es) h = test (find_owned none marks q es) (same_name q e.0) h
   where
-    test : (IsOwn marks (slot_of q (holding.names_in es)) → find none q es ≡ find none q (owned marks es)) → (b : Bool) → is_read (true ∷ marks) (if b then 0 else suc (slot_of q (holding.names_in es))) ≡ false → (if b then e.1 else find none q es) ≡ find none q (owned marks es)
+    test : (IsOwn marks (slot_of q (holding.names_in es)) → find none q es ≡ find none q (owned marks es)) → (b : Bool)
+        → is_read (true ∷ marks) (if b then 0 else suc (slot_of q (holding.names_in es))) ≡ false → (if b then e.1 else find none q es) ≡ find none q (owned marks es)
     test more true h' = cc
     test more false h' = more h'
 find_owned none (false ∷ marks) q (e ∷ es) h = test (find_owned none marks q es) (same_name q e.0) h
   where
-    test : (IsOwn marks (slot_of q (holding.names_in es)) → find none q es ≡ find none q (owned marks es)) → (b : Bool) → is_read (false ∷ marks) (if b then 0 else suc (slot_of q (holding.names_in es))) ≡ false → (if b then e.1 else find none q es) ≡ (if b then e.1 else find none q (owned marks es))
+    test : (IsOwn marks (slot_of q (holding.names_in es)) → find none q es ≡ find none q (owned marks es)) → (b : Bool)
+        → is_read (false ∷ marks) (if b then 0 else suc (slot_of q (holding.names_in es))) ≡ false
+        → (if b then e.1 else find none q es) ≡ (if b then e.1 else find none q (owned marks es))
     test more true h' = refl
     test more false h' = more h'
 
@@ -195,14 +198,16 @@ lent_args f marks locals taken ps es fine =
     lent_same (all_marks ps) (map f (arrays_named ps es)) ∙ lent_map f (all_marks ps) (arrays_named ps es) ∙ ap (map f) (all_lent marks locals taken ps es fine)
 
 -- as many arrays are named as parameters are arrays
-pub as_many_named : (marks : Marks) (locals : Locals) (taken : Taken) (ps : List Param) (es : List Expr) → ArgsFine marks locals taken ps es → length (arrays_named ps es) ≡ length (locals_of ps).arrays
+pub as_many_named : (marks : Marks) (locals : Locals) (taken : Taken) (ps : List Param) (es : List Expr) → ArgsFine marks locals taken ps es
+    → length (arrays_named ps es) ≡ length (locals_of ps).arrays
 as_many_named marks locals taken [] [] fine = refl
 as_many_named marks locals taken [] (e ∷ es) fine = absurd fine
 as_many_named marks locals taken (p ∷ ps) [] fine = absurd fine
 as_many_named marks locals taken (p ∷ ps) (e ∷ es) fine = one p.kind e fine.0 (as_many_named marks locals taken ps es fine.1)
   where
     one : (k : NameKind) (e : Expr) → ArgFine k marks locals taken e → length (arrays_named ps es) ≡ length (locals_of ps).arrays →
-        length ((if is_array_kind k then names_in e else []) ++ arrays_named ps es) ≡ length (map (λ (q : Param). q.name) (cond (is_array_kind k) (p ∷ filter (λ q. wants_array q) ps) (filter (λ q. wants_array q) ps)))
+        length ((if is_array_kind k then names_in e else []) ++ arrays_named ps es)
+        ≡ length (map (λ (q : Param). q.name) (cond (is_array_kind k) (p ∷ filter (λ q. wants_array q) ps) (filter (λ q. wants_array q) ps)))
     one Integer e h more = more
     one Array (Variable a) h more = ap suc more
     one Array _ h more = absurd h
@@ -242,7 +247,9 @@ counted_ints [] = refl
 counted_ints (p ∷ ps) = test p.kind (counted_ints ps)
   where
     test : (k : NameKind) → length (locals_of ps).ints ≡ count_ints (map (λ p. p.kind) ps) →
-        length (map (λ (q : Param). q.name) (cond (not (is_array_kind k)) (p ∷ filter (λ q. not (wants_array q)) ps) (filter (λ q. not (wants_array q)) ps))) ≡ length (cond (is_integer_kind k) (k ∷ filter is_integer_kind (map (λ p. p.kind) ps)) (filter is_integer_kind (map (λ p. p.kind) ps)))
+        length (map (λ (q : Param). q.name) (cond (not (is_array_kind k)) (p ∷ filter (λ q. not (wants_array q)) ps)
+        (filter (λ q. not (wants_array q)) ps))) ≡ length (cond (is_integer_kind k) (k ∷ filter is_integer_kind (map (λ p. p.kind) ps))
+        (filter is_integer_kind (map (λ p. p.kind) ps)))
     test Integer more = ap suc more
     test Array more = more
     test Const more = more
@@ -252,7 +259,8 @@ counted_arrays [] = refl
 counted_arrays (p ∷ ps) = test p.kind (counted_arrays ps)
   where
     test : (k : NameKind) → length (locals_of ps).arrays ≡ count_arrays (map (λ p. p.kind) ps) →
-        length (map (λ (q : Param). q.name) (cond (is_array_kind k) (p ∷ filter (λ q. wants_array q) ps) (filter (λ q. wants_array q) ps))) ≡ length (cond (is_array_kind k) (k ∷ filter is_array_kind (map (λ p. p.kind) ps)) (filter is_array_kind (map (λ p. p.kind) ps)))
+        length (map (λ (q : Param). q.name) (cond (is_array_kind k) (p ∷ filter (λ q. wants_array q) ps) (filter (λ q. wants_array q) ps)))
+        ≡ length (cond (is_array_kind k) (k ∷ filter is_array_kind (map (λ p. p.kind) ps)) (filter is_array_kind (map (λ p. p.kind) ps)))
     test Integer more = more
     test Array more = ap suc more
     test Const more = ap suc more
@@ -262,7 +270,8 @@ counted_taken [] = refl
 counted_taken (p ∷ ps) = test p.kind (counted_taken ps)
   where
     test : (k : NameKind) → length (taken_params ps) ≡ count_taken (map (λ p. p.kind) ps) →
-        length (map (λ (q : Param). q.name) (cond (is_written_kind k) (p ∷ filter (λ q. takes_array q) ps) (filter (λ q. takes_array q) ps))) ≡ length (cond (is_written_kind k) (k ∷ filter is_written_kind (map (λ p. p.kind) ps)) (filter is_written_kind (map (λ p. p.kind) ps)))
+        length (map (λ (q : Param). q.name) (cond (is_written_kind k) (p ∷ filter (λ q. takes_array q) ps) (filter (λ q. takes_array q) ps)))
+        ≡ length (cond (is_written_kind k) (k ∷ filter is_written_kind (map (λ p. p.kind) ps)) (filter is_written_kind (map (λ p. p.kind) ps)))
     test Integer more = more
     test Array more = ap suc more
     test Const more = more
@@ -271,7 +280,8 @@ all_readers : (kinds : List NameKind) → readers_in (marks_in kinds) ≡ count_
 all_readers [] = refl
 all_readers (k ∷ kinds) = test k (all_readers kinds)
   where
-    test : (k : NameKind) → readers_in (marks_in kinds) ≡ count_readers kinds → readers_in (marks_in (k ∷ kinds)) ≡ length (cond (is_const_kind k) (k ∷ filter is_const_kind kinds) (filter is_const_kind kinds))
+    test : (k : NameKind) → readers_in (marks_in kinds) ≡ count_readers kinds
+        → readers_in (marks_in (k ∷ kinds)) ≡ length (cond (is_const_kind k) (k ∷ filter is_const_kind kinds) (filter is_const_kind kinds))
     test Integer more = more
     test Array more = more
     test Const more = ap suc more
@@ -285,7 +295,9 @@ both_counted [] = refl
 both_counted (k ∷ kinds) = test k (both_counted kinds)
   where
     test : (k : NameKind) → count_taken kinds + count_readers kinds ≡ count_arrays kinds →
-        length (cond (is_written_kind k) (k ∷ filter is_written_kind kinds) (filter is_written_kind kinds)) + length (cond (is_const_kind k) (k ∷ filter is_const_kind kinds) (filter is_const_kind kinds)) ≡ length (cond (is_array_kind k) (k ∷ filter is_array_kind kinds) (filter is_array_kind kinds))
+        length (cond (is_written_kind k) (k ∷ filter is_written_kind kinds) (filter is_written_kind kinds))
+        + length (cond (is_const_kind k) (k ∷ filter is_const_kind kinds) (filter is_const_kind kinds))
+        ≡ length (cond (is_array_kind k) (k ∷ filter is_array_kind kinds) (filter is_array_kind kinds))
     test Integer more = more
     test Array more = omega (arith, more)
     test Const more = omega (arith, more)
@@ -295,7 +307,8 @@ pub among_arrays : (q : Name) (ps : List Param) → is_among q (taken_params ps)
 among_arrays q [] h = cc
 among_arrays q (p ∷ ps) h = one p.kind h (among_arrays q ps)
   where
-    one : (k : NameKind) → is_among q (map (λ (z : Param). z.name) (cond (is_written_kind k) (p ∷ filter (λ z. takes_array z) ps) (filter (λ z. takes_array z) ps))) ≡ true → (is_among q (taken_params ps) ≡ true → is_among q (locals_of ps).arrays ≡ true) →
+    one : (k : NameKind) → is_among q (map (λ (z : Param). z.name) (cond (is_written_kind k) (p ∷ filter (λ z. takes_array z) ps)
+        (filter (λ z. takes_array z) ps))) ≡ true → (is_among q (taken_params ps) ≡ true → is_among q (locals_of ps).arrays ≡ true) →
         is_among q (map (λ (z : Param). z.name) (cond (is_array_kind k) (p ∷ filter (λ z. wants_array z) ps) (filter (λ z. wants_array z) ps))) ≡ true
     one Integer h' more = more h'
     one Array h' more = test (same_name q p.name) h'

@@ -1,13 +1,15 @@
 -- The reducers, the tags and the sites that a lowered program names are told by its code.
 use Rattle.std.proofs.Common.{◌≡◌, ℕ, ◌+◌, List, [], ◌∷◌, ◌++◌, true, refl, ap, ◌∙◌}
 use Rattle.std.proofs.lemmas.List.{map-append}
-use Rattle.cw_model.specs.Syntax.{Name, Stmt, Declare, DeclareArray, Assign, AssignElement, Reduce, Call, Start, Begin, Sync, If, IfElse, While, For, Scope, Cut, Region, Print, Return, Block, End, Then, Function, Program}
+use Rattle.cw_model.specs.Syntax.{Name, Stmt, Declare, DeclareArray, Assign, AssignElement, Reduce, Call, Start, Begin, Sync, If, IfElse}
+use Rattle.cw_model.specs.Syntax.{While, For, Scope, Cut, Region, Print, Return, Block, End, Then, Function, Program}
 use Rattle.cw_model.specs.Names.{is_among}
 use Rattle.cw_model.specs.Captured.{captured}
 use Rattle.cw_model.specs.Sites.{call_sites, are_numbered}
 use Rattle.cw_tree.specs.Resolved.{Lists, slot_of, function_names}
 use Rattle.cw_tree.specs.lemmas.NamedSlots.{slot_stays}
-use Rattle.cw_loops.specs.Lowered.{loop_name, loop_count, loop_count_in, lower_stmt, lower_block, made_by, made_in, in_cuts, both_halves, left_arguments, right_arguments, loop_function, lower_functions, made_of, lowered}
+use Rattle.cw_loops.specs.Lowered.{loop_name, loop_count, loop_count_in, lower_stmt, lower_block, made_by, made_in, in_cuts, both_halves}
+use Rattle.cw_loops.specs.Lowered.{left_arguments, right_arguments, loop_function, lower_functions, made_of, lowered}
 use Rattle.cw_loops.specs.LoweringLaws.{IsOwnedSource}
 use Rattle.cw_loops.specs.Slotted.{lowered_lists}
 use Rattle.cw_loops.specs.lemmas.Numbering.{names_stay}
@@ -54,7 +56,8 @@ module _ (lists : Lists) (tables : Tables) where
   cuts_listed line (a ∷ arrays) inside h = (cuts_listed line arrays inside h, tt)
 
   -- the function of a loop names what its body names
-  loop_listed : (name : Name) (line : ℕ) (x : Name) (grain : ℕ) (ints over : List Name) (b : Block) → ListedBlock lists tables b → ListedBlock lists tables (loop_function name line x grain ints over b).body
+  loop_listed : (name : Name) (line : ℕ) (x : Name) (grain : ℕ) (ints over : List Name) (b : Block) → ListedBlock lists tables b
+      → ListedBlock lists tables (loop_function name line x grain ints over b).body
   loop_listed name line x grain ints over b h =
       let halves = cuts_listed line over (both_halves line name (left_arguments ints over) (right_arguments ints over)) (tt, (tt, tt)) in
       (((tt, ((h, (tt, tt)), tt)), (tt, halves)), tt)
@@ -104,4 +107,5 @@ all_listed program owned numbered =
     let lists = lowered_lists program in
     let tables = tables_in (code_of program) in
     let named = source_named program lists tables refl refl (same_index program) owned.typed (sites_stand program numbered) in
-    listed_both lists tables (lower_functions 0 program.functions) (made_of 0 program.functions) (lowered_listed lists tables 0 program.functions named) (loops_listed lists tables 0 program.functions named)
+    listed_both lists tables (lower_functions 0 program.functions) (made_of 0 program.functions)
+    (lowered_listed lists tables 0 program.functions named) (loops_listed lists tables 0 program.functions named)

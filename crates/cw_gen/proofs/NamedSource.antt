@@ -7,10 +7,12 @@ use Rattle.std.proofs.lemmas.Slice.Eq.{bytes_eq-Decides}
 use Rattle.cw_model.specs.Syntax.{Name, Expr, Stmt, Reduce, Call, If, IfElse, While, For, Scope, Cut, Region, Block, End, Then, Function, Program}
 use Rattle.cw_model.specs.Names.{same_name, is_among, new_names}
 use Rattle.cw_model.specs.Lines.{unless}
-use Rattle.cw_model.specs.Typing.{Returns, Nowhere, WithInt, Alone, Known, is_fine, called, is_call, is_cut, is_head_of_loop, is_head, is_reducer, surely_returns, declares, ends_block, faults_in, faults_in_block, faults_of, known_of, type_faults}
+use Rattle.cw_model.specs.Typing.{Returns, Nowhere, WithInt, Alone, Known, is_fine, called, is_call, is_cut, is_head_of_loop, is_head, is_reducer}
+use Rattle.cw_model.specs.Typing.{surely_returns, declares, ends_block, faults_in, faults_in_block, faults_of, known_of, type_faults}
 use Rattle.cw_model.specs.Report.{tags_in, tags_in_block}
 use Rattle.cw_model.specs.lemmas.Kept.{kept, left_none, right_none}
-use Rattle.cw_tree.specs.Resolved.{Lists, Locals, slot_of, with_int, with_array, locals_after, locals_of, lists_of, function_names, reducer_names, tags_of, resolved_stmt, resolved_block, resolved_function, resolved}
+use Rattle.cw_tree.specs.Resolved.{Lists, Locals, slot_of, with_int, with_array, locals_after, locals_of, lists_of, function_names}
+use Rattle.cw_tree.specs.Resolved.{reducer_names, tags_of, resolved_stmt, resolved_block, resolved_function, resolved}
 use Rattle.cw_tree.specs.lemmas.Reducers.{is_named}
 use Rattle.cw_loops.specs.lemmas.Heads.{heads_kept}
 use Rattle.cw_gen.specs.Emit.{Tables, emitted_sites, emitted_sites_in, emitted_sites_of}
@@ -52,7 +54,8 @@ called_there f (k ∷ fs) g e = test (called_there f fs g) (same_name f k.name) 
     test more true e' = refl
     test more false e' = more e'
 
-callee_there : (fs : List Function) (known : Known) (target : Option Name) (f : Name) (es : List Expr) → (o : Option Function) → called f fs ≡ o → is_call known target o es ≡ true → is_among f (function_names fs) ≡ true
+callee_there : (fs : List Function) (known : Known) (target : Option Name) (f : Name) (es : List Expr) → (o : Option Function) → called f fs ≡ o
+    → is_call known target o es ≡ true → is_among f (function_names fs) ≡ true
 callee_there fs known target f es None e h = cc
 callee_there fs known target f es (Some g) e h = called_there f fs g e
 
@@ -75,13 +78,16 @@ tags_listed P (x ∷ xs) known new old = test (λ new'. tags_listed P xs known n
     known_or y true e' h p = subst (λ z. P z) (sym ((bytes_eq-Decides y x).0 e')) p
     known_or y false e' h p = old y h
 
-    test : (((y : Name) → is_among y (new_names xs known) ≡ true → P y) → Each P xs) → (((y : Name) → is_among y (new_names xs (x ∷ known)) ≡ true → P y) → ((y : Name) → is_among y (x ∷ known) ≡ true → P y) → Each P xs) → (b : Bool) → is_among x known ≡ b → P x × Each P xs
+    test : (((y : Name) → is_among y (new_names xs known) ≡ true → P y) → Each P xs)
+        → (((y : Name) → is_among y (new_names xs (x ∷ known)) ≡ true → P y) → ((y : Name) → is_among y (x ∷ known) ≡ true → P y) → Each P xs)
+        → (b : Bool) → is_among x known ≡ b → P x × Each P xs
     test same more true e = (old x e, same (λ y h. there true e y h))
     test same more false e =
         let itself : P x = there false e x (ap (λ b. if b then true else is_among x (new_names xs (x ∷ known))) ((bytes_eq-Decides x x).1 refl)) in
         (itself, more (λ y h. there false e y (behind y (new_names xs (x ∷ known)) (same_name y x) h)) (λ y h. known_or y (same_name y x) refl h itself))
 
-module _ (program : Program) (lists : Lists) (tables : Tables) (reducers_are : lists.reducers ≡ reducer_names program.reducers) (same_slots : (f : Name) → is_among f (function_names program.functions) ≡ true → slot_of f lists.functions ≡ slot_of f (function_names program.functions)) where
+module _ (program : Program) (lists : Lists) (tables : Tables) (reducers_are : lists.reducers ≡ reducer_names program.reducers)
+    (same_slots : (f : Name) → is_among f (function_names program.functions) ≡ true → slot_of f lists.functions ≡ slot_of f (function_names program.functions)) where
   abbrev Tag : Name → Type 0
   Tag tag = IsListed lists.tags tag
 
@@ -89,9 +95,12 @@ module _ (program : Program) (lists : Lists) (tables : Tables) (reducers_are : l
   plain_lists = lists_of program
 
   mutual
-    stmt_named : (returns : Returns) (known : Known) (locals : Locals) (line : ℕ) (s : Stmt) → faults_in program returns known line s ≡ [] → Each (λ t. Tag t) (tags_in s) → Each (StandsAtItsNumber tables.sites) (emitted_sites line (resolved_stmt plain_lists locals s)) → NamedStmt lists tables s
+    stmt_named : (returns : Returns) (known : Known) (locals : Locals) (line : ℕ) (s : Stmt) → faults_in program returns known line s ≡ []
+        → Each (λ t. Tag t) (tags_in s) → Each (StandsAtItsNumber tables.sites) (emitted_sites line (resolved_stmt plain_lists locals s)) → NamedStmt lists tables s
     stmt_named returns known locals line (Reduce how s e) typed tags sites =
-        subst (λ names. IsListed names s) (sym reducers_are) (listed_there s (reducer_names program.reducers) (is_named how s program.reducers (first_true (is_reducer program how s) (is_fine known e) (kept (is_reducer program how s && is_fine known e) line typed))))
+        subst (λ names. IsListed names s) (sym reducers_are) (listed_there s (reducer_names program.reducers)
+        (is_named how s program.reducers (first_true (is_reducer program how s) (is_fine known e)
+        (kept (is_reducer program how s && is_fine known e) line typed))))
     stmt_named returns known locals line (Call kind site target f es) typed tags sites =
         let there = callee_there program.functions known target f es (called f program.functions) refl (kept (is_call known target (called f program.functions) es) line typed) in
         record { site = _; positive = sites.0.positive; there = sites.0.there; numbered = refl; of_kind = refl; calls = sym (same_slots f there) }
@@ -103,8 +112,10 @@ module _ (program : Program) (lists : Lists) (tables : Tables) (reducers_are : l
         let both = right_none (unless (is_fine known e) line) (faults_b ++ faults_c) typed in
         let sites_b = emitted_sites_in (resolved_block plain_lists locals b) in
         let sites_c = emitted_sites_in (resolved_block plain_lists locals c) in (
-          block_named returns known locals b (left_none faults_b faults_c both) (each_front (λ t. Tag t) (tags_in_block b) (tags_in_block c) tags) (each_front (StandsAtItsNumber tables.sites) sites_b sites_c sites),
-          block_named returns known locals c (right_none faults_b faults_c both) (each_rear (λ t. Tag t) (tags_in_block b) (tags_in_block c) tags) (each_rear (StandsAtItsNumber tables.sites) sites_b sites_c sites),
+          block_named returns known locals b (left_none faults_b faults_c both) (each_front (λ t. Tag t) (tags_in_block b) (tags_in_block c) tags)
+              (each_front (StandsAtItsNumber tables.sites) sites_b sites_c sites),
+          block_named returns known locals c (right_none faults_b faults_c both) (each_rear (λ t. Tag t) (tags_in_block b) (tags_in_block c) tags)
+              (each_rear (StandsAtItsNumber tables.sites) sites_b sites_c sites),
         )
     stmt_named returns known locals line (While e b) typed tags sites =
         block_named returns known locals b (right_none (unless (is_fine known e) line) _ typed) tags sites
@@ -116,7 +127,9 @@ module _ (program : Program) (lists : Lists) (tables : Tables) (reducers_are : l
     stmt_named returns known locals line (Region tag b) typed tags sites = (tags.0, block_named Nowhere known locals b typed tags.1 sites)
     stmt_named returns known locals line _ typed tags sites = tt
 
-    block_named : (returns : Returns) (known : Known) (locals : Locals) (b : Block) → faults_in_block program returns known b ≡ [] → Each (λ t. Tag t) (tags_in_block b) → Each (StandsAtItsNumber tables.sites) (emitted_sites_in (resolved_block plain_lists locals b)) → NamedBlock lists tables b
+    block_named : (returns : Returns) (known : Known) (locals : Locals) (b : Block) → faults_in_block program returns known b ≡ []
+        → Each (λ t. Tag t) (tags_in_block b) → Each (StandsAtItsNumber tables.sites) (emitted_sites_in (resolved_block plain_lists locals b))
+        → NamedBlock lists tables b
     block_named returns known locals End typed tags sites = tt
     block_named returns known locals (Then line s b) typed tags sites =
         let here = faults_in program returns known line s in
@@ -124,25 +137,32 @@ module _ (program : Program) (lists : Lists) (tables : Tables) (reducers_are : l
         let there = faults_in_block program returns (declares s known) b in
         let sites_here = emitted_sites line (resolved_stmt plain_lists locals s) in
         let sites_there = emitted_sites_in (resolved_block plain_lists (locals_after locals s) b) in (
-          stmt_named returns known locals line s (left_none here (last ++ there) typed) (each_front (λ t. Tag t) (tags_in s) (tags_in_block b) tags) (each_front (StandsAtItsNumber tables.sites) sites_here sites_there sites),
-          block_named returns (declares s known) (locals_after locals s) b (right_none last there (right_none here (last ++ there) typed)) (each_rear (λ t. Tag t) (tags_in s) (tags_in_block b) tags) (each_rear (StandsAtItsNumber tables.sites) sites_here sites_there sites),
+          stmt_named returns known locals line s (left_none here (last ++ there) typed) (each_front (λ t. Tag t) (tags_in s) (tags_in_block b) tags)
+              (each_front (StandsAtItsNumber tables.sites) sites_here sites_there sites),
+          block_named returns (declares s known) (locals_after locals s) b (right_none last there (right_none here (last ++ there) typed))
+              (each_rear (λ t. Tag t) (tags_in s) (tags_in_block b) tags) (each_rear (StandsAtItsNumber tables.sites) sites_here sites_there sites),
         )
 
-  functions_named : (fs : List Function) → flat_map (faults_of program) fs ≡ [] → Each (λ t. Tag t) (flat_map (λ f. tags_in_block f.body) fs) → Each (StandsAtItsNumber tables.sites) (emitted_sites_of (map (resolved_function plain_lists) fs)) → AllNamed lists tables fs
+  functions_named : (fs : List Function) → flat_map (faults_of program) fs ≡ [] → Each (λ t. Tag t) (flat_map (λ f. tags_in_block f.body) fs)
+      → Each (StandsAtItsNumber tables.sites) (emitted_sites_of (map (resolved_function plain_lists) fs)) → AllNamed lists tables fs
   functions_named [] typed tags sites = tt
   functions_named (f ∷ fs) typed tags sites =
       let sites_here = emitted_sites_in (resolved_block plain_lists (locals_of f.params) f.body) in
       let sites_there = emitted_sites_of (map (resolved_function plain_lists) fs) in
       let tags_there = flat_map (λ g. tags_in_block g.body) fs in (
-        block_named (if f.gives_int then WithInt else Alone) (known_of f.params) (locals_of f.params) f.body (right_none (unless (is_head program f) f.line) _ (left_none (faults_of program f) _ typed)) (each_front (λ t. Tag t) (tags_in_block f.body) tags_there tags) (each_front (StandsAtItsNumber tables.sites) sites_here sites_there sites),
-        functions_named fs (right_none (faults_of program f) _ typed) (each_rear (λ t. Tag t) (tags_in_block f.body) tags_there tags) (each_rear (StandsAtItsNumber tables.sites) sites_here sites_there sites),
+        block_named (if f.gives_int then WithInt else Alone) (known_of f.params) (locals_of f.params) f.body
+            (right_none (unless (is_head program f) f.line) _ (left_none (faults_of program f) _ typed))
+            (each_front (λ t. Tag t) (tags_in_block f.body) tags_there tags) (each_front (StandsAtItsNumber tables.sites) sites_here sites_there sites),
+        functions_named fs (right_none (faults_of program f) _ typed) (each_rear (λ t. Tag t) (tags_in_block f.body) tags_there tags)
+            (each_rear (StandsAtItsNumber tables.sites) sites_here sites_there sites),
       )
 
 -- each tag of a program is one of those that it lists
 tags_of_program : (program : Program) → Each (λ tag. IsListed (tags_of program) tag) (flat_map (λ f. tags_in_block f.body) program.functions)
 tags_of_program program =
     let all = flat_map (λ (f : Function). tags_in_block f.body) program.functions in
-    subst (λ names. Each (λ tag. IsListed names tag) all) (sym (tags_are_told program)) (tags_listed (λ tag. IsListed (new_names all []) tag) all [] (λ x h. listed_there x (new_names all []) h) (λ x h. cc))
+    subst (λ names. Each (λ tag. IsListed names tag) all) (sym (tags_are_told program))
+    (tags_listed (λ tag. IsListed (new_names all []) tag) all [] (λ x h. listed_there x (new_names all []) h) (λ x h. cc))
 
 -- a program of right types whose sites stand at their numbers
 pub source_named : (program : Program) (lists : Lists) (tables : Tables) → lists.reducers ≡ reducer_names program.reducers → lists.tags ≡ tags_of program →

@@ -1,5 +1,6 @@
 -- Names by their slots, and the results that wait.
-use Rattle.std.proofs.Common.{◌≡◌, ◌≢◌, ℕ, zero, suc, ◌+◌, ◌-◌, ◌<◌, ◌≤◌, List, [], ◌∷◌, ◌++◌, length, Bool, true, false, if◌then◌else◌, Option, Some, None, refl, sym, ap, ◌∙◌, arith, append_assoc, length-append, true≢false}
+use Rattle.std.proofs.Common.{◌≡◌, ◌≢◌, ℕ, zero, suc, ◌+◌, ◌-◌, ◌<◌, ◌≤◌, List, [], ◌∷◌, ◌++◌, length, Bool, true, false, if◌then◌else◌}
+use Rattle.std.proofs.Common.{Option, Some, None, refl, sym, ap, ◌∙◌, arith, append_assoc, length-append, true≢false}
 use Rattle.std.specs.Prelude.{slice_get, slice_set, take, drop}
 use Rattle.std.proofs.Math.Seq.{set-append_seam, take-append_seam}
 use Rattle.std.proofs.lemmas.List.{length-map, map-set, set-set, set_comm}
@@ -75,15 +76,20 @@ load_in : {A : Type 0} (none : A) (x : Name) (es : Entries A) (rest : List A) �
 load_in none x [] rest h = cc
 load_in none x (e ∷ es) rest h = test (load_in none x es rest) (same_name x e.0) h
   where
-    test : (is_among x (names_in es) ≡ true → slice_get (values_in es ++ rest) (slot_of x (names_in es)) ≡ Some (find none x es)) → (b : Bool) → (if b then true else is_among x (names_in es)) ≡ true → slice_get (e.1 ∷ (values_in es ++ rest)) (if b then 0 else suc (slot_of x (names_in es))) ≡ Some (if b then e.1 else find none x es)
+    test : (is_among x (names_in es) ≡ true → slice_get (values_in es ++ rest) (slot_of x (names_in es)) ≡ Some (find none x es)) → (b : Bool)
+        → (if b then true else is_among x (names_in es)) ≡ true → slice_get (e.1 ∷ (values_in es ++ rest))
+        (if b then 0 else suc (slot_of x (names_in es))) ≡ Some (if b then e.1 else find none x es)
     test more true h' = refl
     test more false h' = more h'
 
-store_in : {A : Type 0} (x : Name) (v : A) (es : Entries A) (rest : List A) → is_among x (names_in es) ≡ true → slice_set (values_in es ++ rest) (slot_of x (names_in es)) v ≡ values_in (put x v es) ++ rest
+store_in : {A : Type 0} (x : Name) (v : A) (es : Entries A) (rest : List A) → is_among x (names_in es) ≡ true
+    → slice_set (values_in es ++ rest) (slot_of x (names_in es)) v ≡ values_in (put x v es) ++ rest
 store_in x v [] rest h = cc
 store_in x v (e ∷ es) rest h = test (store_in x v es rest) (same_name x e.0) h
   where
-    test : (is_among x (names_in es) ≡ true → slice_set (values_in es ++ rest) (slot_of x (names_in es)) v ≡ values_in (put x v es) ++ rest) → (b : Bool) → (if b then true else is_among x (names_in es)) ≡ true → slice_set (e.1 ∷ (values_in es ++ rest)) (if b then 0 else suc (slot_of x (names_in es))) v ≡ values_in (if b then (e.0, v) ∷ es else e ∷ put x v es) ++ rest
+    test : (is_among x (names_in es) ≡ true → slice_set (values_in es ++ rest) (slot_of x (names_in es)) v ≡ values_in (put x v es) ++ rest)
+        → (b : Bool) → (if b then true else is_among x (names_in es)) ≡ true
+        → slice_set (e.1 ∷ (values_in es ++ rest)) (if b then 0 else suc (slot_of x (names_in es))) v ≡ values_in (if b then (e.0, v) ∷ es else e ∷ put x v es) ++ rest
     test more true h' = refl
     test more false h' = ap (λ l. e.1 ∷ l) (more h')
 
@@ -113,7 +119,8 @@ pub slot_new : (x : Name) (names : List Name) → is_among x names ≡ false →
 slot_new x [] h = ap (λ b. if b then 0 else 1) ((bytes_eq-Decides x x).1 refl)
 slot_new x (y ∷ names) h = test (slot_new x names) (same_name x y) h
   where
-    test : (is_among x names ≡ false → slot_of x (names ++ x ∷ []) ≡ length names) → (b : Bool) → (if b then true else is_among x names) ≡ false → (if b then 0 else suc (slot_of x (names ++ x ∷ []))) ≡ suc (length names)
+    test : (is_among x names ≡ false → slot_of x (names ++ x ∷ []) ≡ length names) → (b : Bool) → (if b then true else is_among x names) ≡ false
+        → (if b then 0 else suc (slot_of x (names ++ x ∷ []))) ≡ suc (length names)
     test more true h' = cc
     test more false h' = ap suc (more h')
 
@@ -137,7 +144,8 @@ pub record Keeps (cuts : Bool) (names names' : List Name) (taken taken' : Taken)
   pub hold : (x : Name) → is_among x names ≡ true → holds cuts depth x taken ≡ true → holds cuts depth x taken' ≡ true
 
 -- more is taken
-pub more_taken : (cuts : Bool) (names : List Name) (taken taken' : Taken) → ((depth : ℕ) (x : Name) → holds cuts depth x taken ≡ true → holds cuts depth x taken' ≡ true) → (depth : ℕ) → Keeps cuts names names taken taken' depth
+pub more_taken : (cuts : Bool) (names : List Name) (taken taken' : Taken)
+    → ((depth : ℕ) (x : Name) → holds cuts depth x taken ≡ true → holds cuts depth x taken' ≡ true) → (depth : ℕ) → Keeps cuts names names taken taken' depth
 more_taken cuts names taken taken' more depth = record { name = λ x h k. (h, refl); hold = λ x h k. more depth x k }
 
 module _ (cuts : Bool) {A : Type 0} where
@@ -192,13 +200,15 @@ module _ (cuts : Bool) {A : Type 0} where
       each [] k = tt
       each (r ∷ rs) k = (λ e. omega (arith, le, e, slot_in k.0.name names k.0.declared, k.0.slot), each rs k.1)
 
-  pub all_kept : (names names' : List Name) (taken taken' : Taken) (depth : ℕ) (results : Results A) → Keeps cuts names names' taken taken' depth → AllHeld names taken depth results → AllHeld names' taken' depth results
+  pub all_kept : (names names' : List Name) (taken taken' : Taken) (depth : ℕ) (results : Results A) → Keeps cuts names names' taken taken' depth
+      → AllHeld names taken depth results → AllHeld names' taken' depth results
   all_kept names names' taken taken' depth [] k h = tt
   all_kept names names' taken taken' depth (r ∷ results) k h =
       let there = k.name h.0.name h.0.declared h.0.held in
       (record { name = h.0.name; declared = there.0; slot = there.1 ∙ h.0.slot; held = k.hold h.0.name h.0.declared h.0.held }, all_kept names names' taken taken' depth results k h.1)
 
-  pub levels_kept : (names names' : List Name) (taken taken' : Taken) (waits : List (Results A)) → ((depth : ℕ) → depth ≤ length waits → Keeps cuts names names' taken taken' depth) → Levels names taken waits → Levels names' taken' waits
+  pub levels_kept : (names names' : List Name) (taken taken' : Taken) (waits : List (Results A))
+      → ((depth : ℕ) → depth ≤ length waits → Keeps cuts names names' taken taken' depth) → Levels names taken waits → Levels names' taken' waits
   levels_kept names names' taken taken' [] k h = tt
   levels_kept names names' taken taken' (results ∷ outer) k h = (
     all_kept names names' taken taken' (suc (length outer)) results (k (suc (length outer)) (omega arith)) h.0,
@@ -206,7 +216,8 @@ module _ (cuts : Bool) {A : Type 0} where
   )
 
   -- a name that is not taken holds its value
-  pub loads : (none : A) (names : List Name) (taken : Taken) (x : Name) (entries : Entries A) (slots : Slots A) (waits : List (Results A)) → IsUsable names taken x → AgreesOf names taken entries slots waits → slice_get slots (slot_of x names) ≡ Some (Some (find none x entries))
+  pub loads : (none : A) (names : List Name) (taken : Taken) (x : Name) (entries : Entries A) (slots : Slots A) (waits : List (Results A))
+      → IsUsable names taken x → AgreesOf names taken entries slots waits → slice_get slots (slot_of x names) ≡ Some (Some (find none x entries))
   loads none names taken x entries slots waits u a =
       sym (get-settled (slot_of x names) (all_of waits) slots (is_free names taken x waits u a.levels))
       ∙ ap (λ l. slice_get l (slot_of x names)) a.held
@@ -218,7 +229,8 @@ module _ (cuts : Bool) {A : Type 0} where
       option_some None = None
 
   -- a slot that no result waits for can be written
-  pub is_there : (names : List Name) (taken : Taken) (a : ℕ) (entries : Entries A) (slots : Slots A) (waits : List (Results A)) → NotAwaited a (all_of waits) → a < length slots → AgreesOf names taken entries slots waits → is_full (slice_get slots a) ≡ true
+  pub is_there : (names : List Name) (taken : Taken) (a : ℕ) (entries : Entries A) (slots : Slots A) (waits : List (Results A))
+      → NotAwaited a (all_of waits) → a < length slots → AgreesOf names taken entries slots waits → is_full (slice_get slots a) ≡ true
   is_there names taken a entries slots waits free within agrees =
       let all = values_in entries ++ agrees.rest in
       let n : length slots ≡ length all = sym (settled_count (all_of waits) slots) ∙ ap length agrees.held ∙ length-map all (λ v. Some v) in
@@ -226,18 +238,21 @@ module _ (cuts : Bool) {A : Type 0} where
       ∙ full_is_full all a (omega (arith, n))
 
   -- how many slots there are
-  pub count_slots : (names : List Name) (taken : Taken) (entries : Entries A) (slots : Slots A) (waits : List (Results A)) (a : AgreesOf names taken entries slots waits) → length slots ≡ length names + length a.rest
+  pub count_slots : (names : List Name) (taken : Taken) (entries : Entries A) (slots : Slots A) (waits : List (Results A))
+      (a : AgreesOf names taken entries slots waits) → length slots ≡ length names + length a.rest
   count_slots names taken entries slots waits a =
       let n : length slots ≡ length (values_in entries ++ a.rest) = sym (settled_count (all_of waits) slots) ∙ ap length a.held ∙ length-map (values_in entries ++ a.rest) (λ v. Some v) in
       omega (arith, n, length-append (values_in entries) a.rest, length_names entries, ap length a.named)
 
   -- the slot of a name can be written
-  pub can_write : (names : List Name) (taken : Taken) (x : Name) (entries : Entries A) (slots : Slots A) (waits : List (Results A)) → IsUsable names taken x → AgreesOf names taken entries slots waits → is_full (slice_get slots (slot_of x names)) ≡ true
+  pub can_write : (names : List Name) (taken : Taken) (x : Name) (entries : Entries A) (slots : Slots A) (waits : List (Results A))
+      → IsUsable names taken x → AgreesOf names taken entries slots waits → is_full (slice_get slots (slot_of x names)) ≡ true
   can_write names taken x entries slots waits u a =
       is_there names taken (slot_of x names) entries slots waits (is_free names taken x waits u a.levels) (omega (arith, slot_in x names u.declared, count_slots names taken entries slots waits a)) a
 
   -- what the slots hold after all joins, with one value written
-  written : (names : List Name) (taken : Taken) (x : Name) (v : A) (entries : Entries A) (slots : Slots A) (waits : List (Results A)) → IsUsable names taken x → (a : AgreesOf names taken entries slots waits) →
+  written : (names : List Name) (taken : Taken) (x : Name) (v : A) (entries : Entries A) (slots : Slots A) (waits : List (Results A))
+      → IsUsable names taken x → (a : AgreesOf names taken entries slots waits) →
       settled (all_of waits) (slice_set slots (slot_of x names) (Some v)) ≡ full (values_in (put x v entries) ++ a.rest)
   written names taken x v entries slots waits u a =
       settled-set (slot_of x names) (Some v) (all_of waits) slots (is_free names taken x waits u a.levels)
@@ -246,7 +261,8 @@ module _ (cuts : Bool) {A : Type 0} where
       ∙ ap full (ap (λ ns. slice_set (values_in entries ++ a.rest) (slot_of x ns) v) (sym a.named) ∙ store_in x v entries a.rest (ap (is_among x) a.named ∙ u.declared))
 
   -- a value, into the slot of a name that is not taken
-  pub assigns : (names : List Name) (taken : Taken) (x : Name) (v : A) (entries : Entries A) (slots : Slots A) (waits : List (Results A)) → IsUsable names taken x → AgreesOf names taken entries slots waits →
+  pub assigns : (names : List Name) (taken : Taken) (x : Name) (v : A) (entries : Entries A) (slots : Slots A) (waits : List (Results A))
+      → IsUsable names taken x → AgreesOf names taken entries slots waits →
       AgreesOf names taken (put x v entries) (slice_set slots (slot_of x names) (Some v)) waits
   assigns names taken x v entries slots waits u a = record {
     named = put_names x v entries ∙ a.named;
@@ -256,7 +272,8 @@ module _ (cuts : Bool) {A : Type 0} where
   }
 
   -- a value, into the slot of a new name
-  pub declares : (names : List Name) (taken : Taken) (x : Name) (v : A) (entries : Entries A) (slots : Slots A) (waits : List (Results A)) → length names < length slots → AgreesOf names taken entries slots waits →
+  pub declares : (names : List Name) (taken : Taken) (x : Name) (v : A) (entries : Entries A) (slots : Slots A) (waits : List (Results A))
+      → length names < length slots → AgreesOf names taken entries slots waits →
       AgreesOf (names ++ x ∷ []) taken (entries ++ (x, v) ∷ []) (slice_set slots (length names) (Some v)) waits
   declares names taken x v entries slots waits room a = cases a.rest a.held (omega (arith, count_slots names taken entries slots waits a, room))
     where
@@ -269,7 +286,8 @@ module _ (cuts : Bool) {A : Type 0} where
       kept : (depth : ℕ) → Keeps cuts names (names ++ x ∷ []) taken taken depth
       kept depth = record { name = λ y h k. (among_left y names (x ∷ []) h, slot_stays y names (x ∷ []) h); hold = λ y h k. k }
 
-      cases : (rest : List A) → settled (all_of waits) slots ≡ full (values_in entries ++ rest) → 0 < length rest → AgreesOf (names ++ x ∷ []) taken (entries ++ (x, v) ∷ []) (slice_set slots (length names) (Some v)) waits
+      cases : (rest : List A) → settled (all_of waits) slots ≡ full (values_in entries ++ rest) → 0 < length rest
+          → AgreesOf (names ++ x ∷ []) taken (entries ++ (x, v) ∷ []) (slice_set slots (length names) (Some v)) waits
       cases [] held some = absurd (omega (arith, some))
       cases (r ∷ rest) held some = record {
         named = names_more entries x v ∙ ap (λ l. l ++ x ∷ []) a.named;
@@ -286,7 +304,8 @@ module _ (cuts : Bool) {A : Type 0} where
       }
 
   -- other names are taken
-  pub takes : (names : List Name) (taken taken' : Taken) (entries : Entries A) (slots : Slots A) (waits : List (Results A)) → ((depth : ℕ) (x : Name) → holds cuts depth x taken ≡ true → holds cuts depth x taken' ≡ true) → AgreesOf names taken entries slots waits →
+  pub takes : (names : List Name) (taken taken' : Taken) (entries : Entries A) (slots : Slots A) (waits : List (Results A))
+      → ((depth : ℕ) (x : Name) → holds cuts depth x taken ≡ true → holds cuts depth x taken' ≡ true) → AgreesOf names taken entries slots waits →
       AgreesOf names taken' entries slots waits
   takes names taken taken' entries slots waits more a = record {
     named = a.named;
@@ -322,11 +341,13 @@ module _ (cuts : Bool) {A : Type 0} where
       kept depth le = record { name = λ x h k. (h, refl); hold = λ x h k. held_past cuts (suc (length outer)) depth x taken (λ e. omega (arith, le, e)) k }
 
   -- a further sync block begins
-  pub enters : (names : List Name) (taken : Taken) (entries : Entries A) (slots : Slots A) (waits : List (Results A)) → AgreesOf names taken entries slots waits → AgreesOf names taken entries slots ([] ∷ waits)
+  pub enters : (names : List Name) (taken : Taken) (entries : Entries A) (slots : Slots A) (waits : List (Results A))
+      → AgreesOf names taken entries slots waits → AgreesOf names taken entries slots ([] ∷ waits)
   enters names taken entries slots waits a = record { named = a.named; rest = a.rest; held = a.held; levels = (tt, a.levels) }
 
   -- it has ended
-  pub exits : (names : List Name) (taken : Taken) (entries : Entries A) (slots : Slots A) (waits : List (Results A)) → AgreesOf names taken entries slots ([] ∷ waits) → AgreesOf names taken entries slots waits
+  pub exits : (names : List Name) (taken : Taken) (entries : Entries A) (slots : Slots A) (waits : List (Results A))
+      → AgreesOf names taken entries slots ([] ∷ waits) → AgreesOf names taken entries slots waits
   exits names taken entries slots waits a = record { named = a.named; rest = a.rest; held = a.held; levels = a.levels.1 }
 
   -- at the end of a block its names are gone; none of them is taken then
@@ -388,8 +409,10 @@ module _ (cuts : Bool) {A : Type 0} where
       behind (x ∷ xs) rest (suc i) h = let e : i - length xs ≡ suc i - suc (length xs) = omega arith in ap (λ l. x ∷ l) (behind xs rest i (omega (arith, h)) ∙ ap (λ n. xs ++ slice_set rest n v) e)
 
   -- a value, into the slot whose result no longer waits
-  pub put_back : (names : List Name) (taken : Taken) (x : Name) (v w : A) (entries : Entries A) (slots : Slots A) (results : Results A) (outer : List (Results A)) → is_among x names ≡ true → NotAwaited (slot_of x names) (all_of (results ∷ outer)) →
-      AgreesOf names taken entries slots (((slot_of x names, w) ∷ results) ∷ outer) → AgreesOf names (cut_ended x taken) (put x v entries) (slice_set slots (slot_of x names) (Some v)) (results ∷ outer)
+  pub put_back : (names : List Name) (taken : Taken) (x : Name) (v w : A) (entries : Entries A) (slots : Slots A) (results : Results A)
+      (outer : List (Results A)) → is_among x names ≡ true → NotAwaited (slot_of x names) (all_of (results ∷ outer)) →
+      AgreesOf names taken entries slots (((slot_of x names, w) ∷ results) ∷ outer)
+      → AgreesOf names (cut_ended x taken) (put x v entries) (slice_set slots (slot_of x names) (Some v)) (results ∷ outer)
   put_back names taken x v w entries slots results outer declared free a =
       let i = slot_of x names in
       let waits = all_of (results ∷ outer) in
@@ -420,7 +443,12 @@ module _ (cuts : Bool) {A : Type 0} where
       kept : (depth : ℕ) (rs : Results A) → NotAwaited (slot_of x names) rs → AllHeld names taken depth rs → AllHeld names (cut_ended x taken) depth rs
       kept depth [] h k = tt
       kept depth (r ∷ rs) h k = (
-        record { name = k.0.name; declared = k.0.declared; slot = k.0.slot; held = held_past_cut cuts depth x k.0.name taken (other k.0.name (λ e. h.0 (e ∙ k.0.slot)) (same_name x k.0.name) refl) k.0.held },
+        record {
+          name = k.0.name;
+          declared = k.0.declared;
+          slot = k.0.slot;
+          held = held_past_cut cuts depth x k.0.name taken (other k.0.name (λ e. h.0 (e ∙ k.0.slot)) (same_name x k.0.name) refl) k.0.held;
+        },
         kept depth rs h.1 k.1,
       )
 

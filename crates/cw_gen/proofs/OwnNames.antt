@@ -8,10 +8,12 @@ use Rattle.std.specs.List.{list_all}
 use Rattle.std.proofs.lemmas.Slice.Eq.{bytes_eq-Decides}
 use Rattle.std.proofs.lemmas.Bool.{and_parts}
 use Rattle.cw_model.specs.Lines.{unless}
-use Rattle.cw_model.specs.Syntax.{is_written_kind, takes_array, Name, Expr, Number, Variable, Element, Length, Negative, Not, Binary, Stmt, Declare, DeclareArray, Assign, AssignElement, Reduce, Call, Start, Begin, Sync, If, IfElse, While, For, Scope, Cut, Region, Print, Return, Block, End, Then, Param, Function, Program}
+use Rattle.cw_model.specs.Syntax.{is_written_kind, takes_array, Name, Expr, Number, Variable, Element, Length, Negative, Not, Binary, Stmt, Declare, DeclareArray, Assign, AssignElement}
+use Rattle.cw_model.specs.Syntax.{Reduce, Call, Start, Begin, Sync, If, IfElse, While, For, Scope, Cut, Region, Print, Return, Block, End, Then, Param, Function, Program}
 use Rattle.cw_model.specs.Names.{same_name, is_among, differ}
 use Rattle.cw_model.specs.Meaning.{function_named}
-use Rattle.cw_model.specs.Typing.{Known, is_known, is_array, is_writable, is_fine, is_new, is_argument, are_arguments, is_cut, is_head_of_loop, is_target, called, is_call, Returns, Nowhere, declares, known_of, faults_in, faults_in_block, surely_returns, ends_block}
+use Rattle.cw_model.specs.Typing.{Known, is_known, is_array, is_writable, is_fine, is_new, is_argument, are_arguments, is_cut, is_head_of_loop, is_target}
+use Rattle.cw_model.specs.Typing.{called, is_call, Returns, Nowhere, declares, known_of, faults_in, faults_in_block, surely_returns, ends_block}
 use Rattle.cw_model.specs.lemmas.Kept.{kept, left_none, right_none}
 use Rattle.cw_tree.specs.Resolved.{Locals, slot_of, with_int, with_array, locals_after, locals_of}
 use Rattle.cw_tree.specs.lemmas.NamedSlots.{slot_stays}
@@ -131,7 +133,8 @@ among_last : (x y : Name) (names : List Name) → is_among x (names ++ y ∷ [])
 among_last x y [] = refl
 among_last x y (z ∷ names) = test (among_last x y names) (same_name x z) (same_name x y)
   where
-    test : is_among x (names ++ y ∷ []) ≡ (if same_name x y then true else is_among x names) → (b c : Bool) → (if b then true else is_among x (names ++ y ∷ [])) ≡ (if same_name x y then true else if b then true else is_among x names)
+    test : is_among x (names ++ y ∷ []) ≡ (if same_name x y then true else is_among x names) → (b c : Bool)
+        → (if b then true else is_among x (names ++ y ∷ [])) ≡ (if same_name x y then true else if b then true else is_among x names)
     test more true c = both (same_name x y)
       where
         both : (d : Bool) → true ≡ (if d then true else true)
@@ -155,7 +158,8 @@ int_written marks known locals x new w = record {
     only true c h = cc
     only false c h = h
 
-array_written : (marks : Marks) (known : Known) (locals : Locals) (x : Name) → is_array known x ≡ false → Written marks known locals → Written marks ((x, name_kind.Array) ∷ known) (with_array x locals)
+array_written : (marks : Marks) (known : Known) (locals : Locals) (x : Name) → is_array known x ≡ false → Written marks known locals
+    → Written marks ((x, name_kind.Array) ∷ known) (with_array x locals)
 array_written marks known locals x new w = record {
   same = λ y. ap (λ c. if same_name y x then true else c) (w.same y) ∙ sym (among_last y x locals.arrays);
   short = omega (arith, w.short, length-append locals.arrays (x ∷ []));
@@ -173,7 +177,8 @@ array_written marks known locals x new w = record {
         past y [] h' = omega arith
         past y (z ∷ names) h' = test (past y names) (same_name y z) h'
           where
-            test : (is_among y names ≡ false → length names ≤ slot_of y (names ++ x ∷ [])) → (b : Bool) → (if b then true else is_among y names) ≡ false → suc (length names) ≤ (if b then 0 else suc (slot_of y (names ++ x ∷ [])))
+            test : (is_among y names ≡ false → length names ≤ slot_of y (names ++ x ∷ [])) → (b : Bool)
+                → (if b then true else is_among y names) ≡ false → suc (length names) ≤ (if b then 0 else suc (slot_of y (names ++ x ∷ [])))
             test more true h'' = cc
             test more false h'' = omega (arith, more h'')
 
@@ -189,7 +194,8 @@ new_array : (program : Program) (known : Known) (x : Name) → is_new program kn
 new_array program known x h = (new_name program known x h).1
 
 -- what is written among parameters is taken
-pushed_known : (such : NameKind → Bool) (x : Name) (ks : Known) (n : Name) (k : NameKind) → is_known x such (ks ++ (n, k) ∷ []) ≡ true → (is_known x such ks ≡ true) ⊎ ((same_name x n ≡ true) × (such k ≡ true))
+pushed_known : (such : NameKind → Bool) (x : Name) (ks : Known) (n : Name) (k : NameKind) → is_known x such (ks ++ (n, k) ∷ []) ≡ true
+    → (is_known x such ks ≡ true) ⊎ ((same_name x n ≡ true) × (such k ≡ true))
 pushed_known such x [] n k h = test (same_name x n) refl h
   where
     test : (b : Bool) → same_name x n ≡ b → (if b then such k else false) ≡ true → (false ≡ true) ⊎ ((same_name x n ≡ true) × (such k ≡ true))
@@ -197,7 +203,8 @@ pushed_known such x [] n k h = test (same_name x n) refl h
     test false e h' = cc
 pushed_known such x (q ∷ ks) n k h = test (pushed_known such x ks n k) (same_name x q.0) h
   where
-    test : (is_known x such (ks ++ (n, k) ∷ []) ≡ true → (is_known x such ks ≡ true) ⊎ ((same_name x n ≡ true) × (such k ≡ true))) → (b : Bool) → (if b then such q.1 else is_known x such (ks ++ (n, k) ∷ [])) ≡ true →
+    test : (is_known x such (ks ++ (n, k) ∷ []) ≡ true → (is_known x such ks ≡ true) ⊎ ((same_name x n ≡ true) × (such k ≡ true))) → (b : Bool)
+        → (if b then such q.1 else is_known x such (ks ++ (n, k) ∷ [])) ≡ true →
         ((if b then such q.1 else is_known x such ks) ≡ true) ⊎ ((same_name x n ≡ true) × (such k ≡ true))
     test more true h' = inl h'
     test more false h' = more h'
@@ -210,7 +217,8 @@ written_taken (p ∷ ps) x h = by p.kind refl (pushed_known is_written_kind x (k
     further true h' = refl
     further false h' = h'
 
-    by : (k : NameKind) → p.kind ≡ k → (is_writable (known_of ps) x ≡ true) ⊎ ((same_name x p.name ≡ true) × (is_written_kind p.kind ≡ true)) → (is_writable (known_of ps) x ≡ true → is_among x (taken_params ps) ≡ true) →
+    by : (k : NameKind) → p.kind ≡ k → (is_writable (known_of ps) x ≡ true) ⊎ ((same_name x p.name ≡ true) × (is_written_kind p.kind ≡ true))
+        → (is_writable (known_of ps) x ≡ true → is_among x (taken_params ps) ≡ true) →
         is_among x (map (λ (z : Param). z.name) (cond (is_written_kind p.kind) (p ∷ filter (λ z. takes_array z) ps) (filter (λ z. takes_array z) ps))) ≡ true
     by k e (inl h') more = kinds (is_written_kind p.kind) (more h')
       where
@@ -222,11 +230,13 @@ written_taken (p ∷ ps) x h = by p.kind refl (pushed_known is_written_kind x (k
         ∙ ap (λ b. if b then true else is_among x (taken_params ps)) h'.0
 
 -- at the head of a function
-pub head_written : (ps : List Param) → differ (map (λ p. p.name) ps) ≡ true → ((x : Name) → is_array (known_of ps) x ≡ is_among x (locals_of ps).arrays) → Written (marks_for ps) (known_of ps) (locals_of ps)
+pub head_written : (ps : List Param) → differ (map (λ p. p.name) ps) ≡ true
+    → ((x : Name) → is_array (known_of ps) x ≡ is_among x (locals_of ps).arrays) → Written (marks_for ps) (known_of ps) (locals_of ps)
 head_written ps apart same = record { same = same; short = marks_short ps; own = λ x h. taken_own ps x apart (written_taken ps x h) }
 
 -- arguments
-args_own : (marks : Marks) (known : Known) (locals : Locals) → Written marks known locals → (over : List Name) (ps : List Param) (es : List Expr) → are_arguments known ps es ≡ true → OwnArgs marks locals ps (lower_exprs over es)
+args_own : (marks : Marks) (known : Known) (locals : Locals) → Written marks known locals → (over : List Name) (ps : List Param) (es : List Expr)
+    → are_arguments known ps es ≡ true → OwnArgs marks locals ps (lower_exprs over es)
 args_own marks known locals w over [] [] h = tt
 args_own marks known locals w over [] (e ∷ es) h = tt
 args_own marks known locals w over (p ∷ ps) [] h = tt
@@ -252,7 +262,8 @@ over_own marks known locals w (a ∷ over) h =
     (w.own a two.0, over_own marks known locals w over two.1)
 
 -- behind a statement
-after_written : (program : Program) (returns : Returns) (marks : Marks) (known : Known) (locals : Locals) (line : ℕ) (s : Stmt) → faults_in program returns known line s ≡ [] → Written marks known locals → Written marks (declares s known) (locals_after locals s)
+after_written : (program : Program) (returns : Returns) (marks : Marks) (known : Known) (locals : Locals) (line : ℕ) (s : Stmt)
+    → faults_in program returns known line s ≡ [] → Written marks known locals → Written marks (declares s known) (locals_after locals s)
 after_written program returns marks known locals line (Declare x e) typed w =
     int_written marks known locals x (new_array program known x (and_parts (is_fine known e) (is_new program known x) (kept (is_fine known e && is_new program known x) line typed)).1) w
 after_written program returns marks known locals line (DeclareArray x e) typed w =
@@ -279,7 +290,8 @@ cut_typed program known a e l r h =
     other false q n = refl
 
 module _ (program : Program) (all : List Function) (calls : (f : Name) (g : Function) → called f program.functions ≡ Some g → CallFound all f g) (marks : Marks) where
-  call_own : (over : List Name) (known : Known) (locals : Locals) → Written marks known locals → (target : Option Name) (f : Name) (es : List Expr) (o : Option Function) → called f program.functions ≡ o → is_call known target o es ≡ true →
+  call_own : (over : List Name) (known : Known) (locals : Locals) → Written marks known locals
+      → (target : Option Name) (f : Name) (es : List Expr) (o : Option Function) → called f program.functions ≡ o → is_call known target o es ≡ true →
       OwnArgs marks locals (function_named f all).params (lower_exprs over es)
   call_own over known locals w target f es None e typed = absurd cc
   call_own over known locals w target f es (Some g) e typed =
@@ -288,7 +300,8 @@ module _ (program : Program) (all : List Function) (calls : (f : Name) (g : Func
       subst (λ ps. OwnArgs marks locals ps (lower_exprs over es)) (sym (calls f g e).params) (args_own marks known locals w over g.params es two.1)
 
   mutual
-    stmt_own : (returns : Returns) (over : List Name) (known : Known) (locals : Locals) → Written marks known locals → (line k : ℕ) (s : Stmt) → faults_in program returns known line s ≡ [] → OwnStmt all marks locals (lower_stmt over k s)
+    stmt_own : (returns : Returns) (over : List Name) (known : Known) (locals : Locals) → Written marks known locals → (line k : ℕ) (s : Stmt)
+        → faults_in program returns known line s ≡ [] → OwnStmt all marks locals (lower_stmt over k s)
     stmt_own returns over known locals w line k (Declare x e) typed = tt
     stmt_own returns over known locals w line k (DeclareArray a e) typed = w.short
     stmt_own returns over known locals w line k (Assign x e) typed = tt
@@ -305,9 +318,12 @@ module _ (program : Program) (all : List Function) (calls : (f : Name) (g : Func
         let second = faults_in_block program returns known c in
         let branches = right_none (unless (is_fine known e) line) (first ++ second) typed in
         (block_own returns over known locals w k b (left_none first second branches), block_own returns over known locals w (k + loop_count_in b) c (right_none first second branches))
-    stmt_own returns over known locals w line k (While e b) typed = block_own returns over known locals w k b (right_none (unless (is_fine known e) line) (faults_in_block program returns known b) typed)
+    stmt_own returns over known locals w line k (While e b) typed = block_own returns over known locals w k b
+        (right_none (unless (is_fine known e) line) (faults_in_block program returns known b) typed)
     stmt_own returns over known locals w line k (For x y z from to grain over' b) typed =
-        over_own marks known locals w over' (and_parts _ (list_all (λ a. is_writable known a) over') (kept (is_head_of_loop program known x y z from to grain over') line (left_none _ (faults_in_block program Nowhere ((x, name_kind.Integer) ∷ known) b) typed))).1
+        over_own marks known locals w over' (and_parts _ (list_all (λ a. is_writable known a) over')
+        (kept (is_head_of_loop program known x y z from to grain over') line
+        (left_none _ (faults_in_block program Nowhere ((x, name_kind.Integer) ∷ known) b) typed))).1
     stmt_own returns over known locals w line k (Scope b) typed = block_own Nowhere over known locals w k b typed
     stmt_own returns over known locals w line k (Cut a e l r b) typed =
         let known' = (r, name_kind.Array) ∷ (l, name_kind.Array) ∷ known in
@@ -321,7 +337,8 @@ module _ (program : Program) (all : List Function) (calls : (f : Name) (g : Func
     stmt_own returns over known locals w line k (Return e) typed = tt
 
     -- a block of the source, lowered
-    pub block_own : (returns : Returns) (over : List Name) (known : Known) (locals : Locals) → Written marks known locals → (k : ℕ) (b : Block) → faults_in_block program returns known b ≡ [] → OwnBlock all marks locals (lower_block over k b)
+    pub block_own : (returns : Returns) (over : List Name) (known : Known) (locals : Locals) → Written marks known locals → (k : ℕ) (b : Block)
+        → faults_in_block program returns known b ≡ [] → OwnBlock all marks locals (lower_block over k b)
     block_own returns over known locals w k End typed = tt
     block_own returns over known locals w k (Then line s b) typed =
         let here = faults_in program returns known line s in
@@ -330,5 +347,7 @@ module _ (program : Program) (all : List Function) (calls : (f : Name) (g : Func
         let typed_here = left_none here (last ++ behind) typed in (
           stmt_own returns over known locals w line k s typed_here,
           subst (λ ls. OwnBlock all marks ls (lower_block over (k + loop_count s) b)) (sym (same_after over k locals s))
-              (block_own returns over (declares s known) (locals_after locals s) (after_written program returns marks known locals line s typed_here w) (k + loop_count s) b (right_none last behind (right_none here (last ++ behind) typed))),
+              (block_own returns over (declares s known) (locals_after locals s)
+              (after_written program returns marks known locals line s typed_here w) (k + loop_count s) b
+              (right_none last behind (right_none here (last ++ behind) typed))),
         )

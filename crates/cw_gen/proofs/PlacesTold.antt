@@ -94,7 +94,8 @@ place_past items readers s many le =
     ap (λ k. loan.Array (s - k)) many ∙ sym (place_beyond (marks_told items) s (omega (arith, le, n)))
 
 -- a table behind the last parameter
-pub table_ends : (kinds left : List NameKind) (items : List Loan) (a r : ℕ) → left ≡ [] → items ++ places_from a r (marks_in left) ≡ places_from 0 0 (marks_in kinds) → items ≡ places_from 0 0 (marks_in kinds)
+pub table_ends : (kinds left : List NameKind) (items : List Loan) (a r : ℕ) → left ≡ []
+    → items ++ places_from a r (marks_in left) ≡ places_from 0 0 (marks_in kinds) → items ≡ places_from 0 0 (marks_in kinds)
 table_ends kinds left items a r none before = sym (append-nil items) ∙ sym (ap (λ l. items ++ places_from a r (marks_in l)) none) ∙ before
 
 pub readers_end : (kinds left : List NameKind) (readers : ℕ) → left ≡ [] → readers + readers_in (marks_in left) ≡ readers_in (marks_in kinds) → readers ≡ readers_in (marks_in kinds)

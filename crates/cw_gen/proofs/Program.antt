@@ -1,5 +1,6 @@
 -- The code of a program does what its lowered program does.
-use Rattle.std.proofs.Common.{◌≡◌, ℕ, suc, ◌+◌, ◌-◌, ◌≤◌, List, [], ◌∷◌, ◌++◌, length, Bool, true, false, ◌&&◌, if◌then◌else◌, Some, refl, sym, ap, ◌∙◌, subst, arith, append_assoc, length-append, true≢false, ℤ}
+use Rattle.std.proofs.Common.{◌≡◌, ℕ, suc, ◌+◌, ◌-◌, ◌≤◌, List, [], ◌∷◌, ◌++◌, length, Bool, true, false, ◌&&◌, if◌then◌else◌}
+use Rattle.std.proofs.Common.{Some, refl, sym, ap, ◌∙◌, subst, arith, append_assoc, length-append, true≢false, ℤ}
 use Rattle.std.specs.Prelude.{slice_get, nat_eq, nat_le, option_map, map}
 use Rattle.std.proofs.lemmas.List.{nil_from_length}
 use Rattle.cw_facts.specs.Tests.{taken, both_true, at_most, equal}
@@ -83,7 +84,12 @@ module _ (code : Code) (all : List Function) (lists : Lists) where
       let all_ints : ints_in_block (length (locals_of f.params).ints) body ≡ ints_in_block (count_ints kinds) body = ap (λ n. ints_in_block n body) ints in
       let same : room_of lists f ≡ room_of_func f (own_entry start f) =
       ap (λ n. record { ints = n; arrays = arrays_in_block (length (locals_of f.params).arrays) body; given = (locals_of f.params).arrays; marks = marks_for f.params }) all_ints
-      ∙ ap (λ n. record { ints = ints_in_block (count_ints kinds) body; arrays = n; given = (locals_of f.params).arrays; marks = marks_for f.params }) (omega (arith, wide, fine.array_room, arrays, both)) in
+      ∙ ap (λ n. record {
+        ints = ints_in_block (count_ints kinds) body;
+        arrays = n;
+        given = (locals_of f.params).arrays;
+        marks = marks_for f.params;
+      }) (omega (arith, wide, fine.array_room, arrays, both)) in
       record {
         params = sym ints;
         array_params = sym taken;
@@ -103,14 +109,16 @@ module _ (code : Code) (all : List Function) (lists : Lists) where
   Entry start fs name = (fn : Func) × (slice_get (funcs_from start fs) (slot_of name (function_names fs)) ≡ Some fn) × Compiled code all lists (function_named name fs) fn
 
   -- each function has
-  pub entries : (pre : List Instr) (fs : List Function) → code.instrs ≡ pre ++ codes fs → FunctionsFine all lists (tables_in code) fs → (name : Name) → is_function name fs ≡ true → Entry (length pre) fs name
+  pub entries : (pre : List Instr) (fs : List Function) → code.instrs ≡ pre ++ codes fs → FunctionsFine all lists (tables_in code) fs → (name : Name)
+      → is_function name fs ≡ true → Entry (length pre) fs name
   entries pre [] e fine name h = cc
   entries pre (f ∷ fs) e fine name h =
       let here = function_code first lists f in
       test (λ h'. subst (λ n. Entry n fs name) (length-append pre here) (entries (pre ++ here) fs (e ∙ sym (append_assoc pre here (codes fs))) fine.1 name h')) (same_name name f.name) h
     where
       test : (is_function name fs ≡ true → Entry (length pre + length (function_code first lists f)) fs name) → (b : Bool) → (if b then true else is_function name fs) ≡ true →
-          (fn : Func) × (slice_get (funcs_from (length pre) (f ∷ fs)) (if b then 0 else suc (slot_of name (function_names fs))) ≡ Some fn) × Compiled code all lists (if b then f else function_named name fs) fn
+          (fn : Func) × (slice_get (funcs_from (length pre) (f ∷ fs)) (if b then 0 else suc (slot_of name (function_names fs))) ≡ Some fn)
+          × Compiled code all lists (if b then f else function_named name fs) fn
       test more true h' = (
         own_entry (length pre) f,
         refl,
@@ -127,7 +135,8 @@ neither : (name : Name) (fs gs : List Function) → is_among name (function_name
 neither name [] gs h k = k
 neither name (f ∷ fs) gs h k = test (λ h'. neither name fs gs h' k) (same_name name f.name) h
   where
-    test : (is_among name (function_names fs) ≡ false → is_among name (function_names (fs ++ gs)) ≡ false) → (b : Bool) → (if b then true else is_among name (function_names fs)) ≡ false → (if b then true else is_among name (function_names (fs ++ gs))) ≡ false
+    test : (is_among name (function_names fs) ≡ false → is_among name (function_names (fs ++ gs)) ≡ false) → (b : Bool)
+        → (if b then true else is_among name (function_names fs)) ≡ false → (if b then true else is_among name (function_names (fs ++ gs))) ≡ false
     test more true h' = cc
     test more false h' = more h'
 
@@ -163,18 +172,21 @@ main_there program h = cases (is_among main_name (function_names program.functio
         absurd (true≢false (sym (in_second main_name (function_names program.functions) (function_names (made_of 0 program.functions)) among e) ∙ not_made_of 0 program.functions))
 
 -- main has the same place among the functions of the source
-pub main_place : (program : Program) → is_function main_name (lowered program).functions ≡ true → slot_of main_name (function_names program.functions) ≡ slot_of main_name (lowered_lists program).functions
+pub main_place : (program : Program) → is_function main_name (lowered program).functions ≡ true
+    → slot_of main_name (function_names program.functions) ≡ slot_of main_name (lowered_lists program).functions
 main_place program h =
     sym (slot_stays main_name (function_names program.functions) (function_names (made_of 0 program.functions)) (main_there program h)) ∙ sym (ap (slot_of main_name) (first_names program))
 
 -- the answer of the code is that of the program
-same_answer : (program : Program) (o : Outcome Returned) → option_map (λ o'. answer_of (reducers_of (code_of program)) o') (resume quiet o (λ r l u. Some (Done (r.0, no_frame) l u))) ≡ Some (answer_of program.reducers o)
+same_answer : (program : Program) (o : Outcome Returned) → option_map (λ o'. answer_of (reducers_of (code_of program)) o')
+    (resume quiet o (λ r l u. Some (Done (r.0, no_frame) l u))) ≡ Some (answer_of program.reducers o)
 same_answer program (Done r l u) = ap (λ totals. Some (Ended (int_given r.0) u.lines totals (normal (Marked (Invocation 0) (tree_of u.events))))) (same_totals program.reducers u.updates)
 same_answer program (Trapped trap line lines) = refl
 same_answer program Over = refl
 
 -- code runs as its program does, lowered
-pub same_run : (program : Program) → length (code_of program).instrs ≤ most_jump → TurnsClose (lowered program).functions → ProgramFine (lowered program) (lowered_lists program) (tables_in (code_of program)) →
+pub same_run : (program : Program) → length (code_of program).instrs ≤ most_jump → TurnsClose (lowered program).functions
+    → ProgramFine (lowered program) (lowered_lists program) (tables_in (code_of program)) →
     (args : List ℤ) → length args ≡ main_count (lowered program) → (n : ℕ) → code_serial (code_of program) args n ≡ Some (serial_answer (lowered program) args n)
 unfolding code_serial serial_answer
 same_run program small least fine args m n =
@@ -201,11 +213,14 @@ same_run program small least fine args m n =
     ∙ ap (λ o. answer (go_on (first_transition o args) n (λ s. steps code n s))) entry.1
     ∙ ap (λ w. answer (go_on w n (λ s. steps code n s))) (taken (nat_eq (length args) fn.params && (nat_le fn.params fn.slots && (nat_eq fn.array_params 0 && nat_eq fn.readers 0))) begin Stuck fits)
     ∙ ap (λ ms. answer (steps code n (record first { arrays = owned ms first.arrays; readers = read_in ms first.arrays }))) (sym (nil_from_length (marks_for main.params) no_marks))
-    ∙ ap answer ((calls_run code fs lists small least table (names_kept program.reducers) refl (suc n) 0).enters Deeper refl main fn entry.2 args [] given many none (bound_main main.params args no_frame fine.ints m) [] main.line n quiet (λ r l u. Some (Done (r.0, no_frame) l u)) (omega arith) (λ v g arrays l u gives_int gives le. refl))
+    ∙ ap answer ((calls_run code fs lists small least table (names_kept program.reducers) refl (suc n) 0).enters Deeper refl main fn entry.2 args
+    [] given many none (bound_main main.params args no_frame fine.ints m) [] main.line n quiet (λ r l u. Some (Done (r.0, no_frame) l u))
+    (omega arith) (λ v g arrays l u gives_int gives le. refl))
     ∙ same_answer program (call (suc n) 0 fs Deeper main (main_frame main.params args no_frame) main.line n)
 
 -- main takes as many arguments as the program's
-pub same_params : (program : Program) → length (code_of program).instrs ≤ most_jump → ProgramFine (lowered program) (lowered_lists program) (tables_in (code_of program)) → main_params (code_of program) ≡ main_count (lowered program)
+pub same_params : (program : Program) → length (code_of program).instrs ≤ most_jump
+    → ProgramFine (lowered program) (lowered_lists program) (tables_in (code_of program)) → main_params (code_of program) ≡ main_count (lowered program)
 same_params program small fine =
     let entry = (table_of program fine).entry main_name fine.main in
     ap (λ i. params_of (slice_get (code_of program).funcs i)) (main_place program fine.main)

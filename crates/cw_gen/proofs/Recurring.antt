@@ -17,7 +17,8 @@ use Rattle.cw_code.specs.declared.code.Func.{Func}
 use Rattle.cw_code.specs.declared.code.Instr.TheVariants as instr
 use Rattle.cw_code.specs.Code.{Code}
 use Rattle.cw_code.specs.Run as run
-use Rattle.cw_code.specs.Run.{Readers, Transition, lent_by, moved_out, full, Around, State, On, Stops, RunOutcome, ticked, inside, arrays_in, Whole, begins, call_of, on_arrays, arguments_of, enter, recur, passed_by, given_back, rejoined, go_on, steps}
+use Rattle.cw_code.specs.Run.{Readers, Transition, lent_by, moved_out, full, Around, State, On, Stops, RunOutcome, ticked, inside, arrays_in, Whole}
+use Rattle.cw_code.specs.Run.{begins, call_of, on_arrays, arguments_of, enter, recur, passed_by, given_back, rejoined, go_on, steps}
 use Rattle.cw_code.specs.lemmas.Slots.{whole_slots}
 use Rattle.cw_gen.specs.Emit.{half_list, callee_of, half_of}
 use Rattle.cw_gen.specs.Marks.{Marks, place_of}
@@ -38,7 +39,8 @@ use Rattle.cw_gen.proofs.Calling.{taken_on, Hands, CallsRun, can_take, entering,
 module _ (code : Code) (fs : List Function) (lists : Lists) (marks : Marks) where
   -- what the arguments of a call hand over
   hands_for : (locals : Locals) (taken' : Taken) (frame : Frame) (name : Name) (es : List Expr) (fn : Func) (vs : List ℤ) (given : Frame) →
-      Compiled code fs lists (function_named name fs) fn → length vs ≡ fn.params → Bound (function_named name fs).params vs (map (λ a. array_of frame a) (arrays_named (function_named name fs).params es)) no_frame given →
+      Compiled code fs lists (function_named name fs) fn → length vs ≡ fn.params
+      → Bound (function_named name fs).params vs (map (λ a. array_of frame a) (arrays_named (function_named name fs).params es)) no_frame given →
       ArgsFine marks locals taken' (function_named name fs).params es → differ (ownership.given fs name es) ≡ true → Hands marks locals taken' frame (function_named name fs) fn
   hands_for locals taken' frame name es fn vs given compiled n bound_frame args_fine apart =
       let f = function_named name fs in
@@ -65,11 +67,19 @@ module _ (code : Code) (fs : List Function) (lists : Lists) (marks : Marks) wher
             let ms = marks_for f.params in
             let es' = owned ms g.arrays in
             let named = entries_names ms g.arrays ∙ ap (owned ms) gives.named ∙ names_owned f.params gives.more in
-            let short : length ms ≤ length (values_in g.arrays) = omega (arith, marks_short f.params, length_names g.arrays, ap length gives.named, length-append (locals_of f.params).arrays gives.more) in
-            let slots_are : slots ≡ full (values_in es' ++ gives.rest) = gives.are ∙ owned_full ms (values_in g.arrays) gives.rest short ∙ ap (λ vs'. full (vs' ++ gives.rest)) (sym (entries_values ms g.arrays)) in
+            let short : length ms ≤ length (values_in g.arrays) = omega (
+              arith,
+              marks_short f.params,
+              length_names g.arrays,
+              ap length gives.named,
+              length-append (locals_of f.params).arrays gives.more,
+            ) in
+            let slots_are : slots ≡ full (values_in es' ++ gives.rest) = gives.are ∙ owned_full ms (values_in g.arrays) gives.rest short
+            ∙ ap (λ vs'. full (vs' ++ gives.rest)) (sym (entries_values ms g.arrays)) in
             ap (given_back (map (λ a. Whole a) (slots_for locals.arrays xs))) slots_are
             ∙ firsts locals.arrays xs qs gives.more g es' gives.rest many named (differ_some (λ p. takes_array p) f.params compiled.apart)
-            (λ q h'. find_owned [] ms q g.arrays (ap (is_read ms) (ap (slot_of q) gives.named ∙ slot_stays q (locals_of f.params).arrays gives.more (among_arrays q f.params h')) ∙ taken_own f.params q compiled.apart h'));
+            (λ q h'. find_owned [] ms q g.arrays (ap (is_read ms) (ap (slot_of q) gives.named
+            ∙ slot_stays q (locals_of f.params).arrays gives.more (among_arrays q f.params h')) ∙ taken_own f.params q compiled.apart h'));
         back = λ g. returned_are marks locals taken' f.params es g frame args_fine;
       }
 
@@ -78,27 +88,43 @@ module _ (code : Code) (fs : List Function) (lists : Lists) (marks : Marks) wher
     at around pc ops store t = here marks depth around pc ops store t
 
     -- a call that would be too deep traps, and any other begins
-    deep_or_not : (around : List Around) (locals : Locals) (taken' : Taken) (level : ℕ) (kind : CallKind) (site : ℕ) (target : Option Name) (line pc : ℕ) (size : Room) (f : Function) (fn : Func) (frame : Frame) (h : Hands marks locals taken' frame f fn) (store : Store) (outer : Outside) (read : List Name) (u : Trace) (l : ℕ) (next : Completion → ℕ → Trace → RunOutcome) →
+    deep_or_not : (around : List Around) (locals : Locals) (taken' : Taken) (level : ℕ) (kind : CallKind) (site : ℕ) (target : Option Name)
+        (line pc : ℕ) (size : Room) (f : Function) (fn : Func) (frame : Frame) (h : Hands marks locals taken' frame f fn) (store : Store)
+        (outer : Outside) (read : List Name) (u : Trace) (l : ℕ) (next : Completion → ℕ → Trace → RunOutcome) →
         level ≡ suc (length outer) → Compiled code fs lists f fn → TargetFine locals taken' f target → Agrees locals taken' frame store outer → Fills marks store size → l < bound →
         Onwards code marks depth around locals (taken_on kind level target h.names read taken') (pc + 1) outer size l next → (b : Bool) → nat_lt MOST_DEPTH (depth + 1) ≡ b →
-        go_on (if b then Stops trap.TooDeep line u.lines else On (entered code fs lists marks depth around pc store kind (Some site) (option_map (λ x. slot_of x locals.ints) target) (depth + 1) (slots_for locals.arrays h.names) h.outs (marks_for f.params) fn h.ints h.arrays u)) l (λ s. steps code l s)
+        go_on (if b then Stops trap.TooDeep line u.lines else On (entered code fs lists marks depth around pc store kind (Some site)
+        (option_map (λ x. slot_of x locals.ints) target) (depth + 1) (slots_for locals.arrays h.names) h.outs
+        (marks_for f.params) fn h.ints h.arrays u)) l (λ s. steps code l s)
         ≡ resume (inside (ticked u)) (calls Deeper f h.given line l) (λ r l' u'. resume (rejoined (call_event kind site) (ticked u).events u') (going (set_result target r.0 (h.returned r.1)) l') next)
     deep_or_not around locals taken' level kind site target line pc size f fn frame h store outer read u l next at_level compiled target_fine agrees m below on true deep =
         ap (λ ls. Some (Trapped trap.TooDeep line ls)) (sym (append-nil (u.lines ++ []) ∙ append-nil u.lines))
-        ∙ sym (ap (λ o. resume (inside (ticked u)) o (λ r l' u'. resume (rejoined (call_event kind site) (ticked u).events u') (going (set_result target r.0 (h.returned r.1)) l') next)) (run_calls.traps deep f h.given line l below))
+        ∙ sym (ap (λ o. resume (inside (ticked u)) o (λ r l' u'. resume (rejoined (call_event kind site) (ticked u).events u')
+        (going (set_result target r.0 (h.returned r.1)) l') next)) (run_calls.traps deep f h.given line l below))
     deep_or_not around locals taken' level kind site target line pc size f fn frame h store outer read u l next at_level compiled target_fine agrees m below on false shallow =
-        inside_runs code fs lists marks depth bound calls run_calls around locals taken' level kind Deeper (Some site) target line pc size f fn frame h store outer read u l next shallow at_level compiled target_fine agrees m below on
+        inside_runs code fs lists marks depth bound calls run_calls around locals taken' level kind Deeper
+        (Some site) target line pc size f fn frame h store outer read u l next shallow at_level compiled target_fine agrees m below on
 
     -- the instruction of a call statement
-    pub call_runs : (around : List Around) (locals : Locals) (taken' : Taken) (level : ℕ) (kind : CallKind) (site line pc : ℕ) (size : Room) (target : Option Name) (name : Name) (es : List Expr) (fn : Func) (vs : List ℤ) (given_frame : Frame) (store : Store) (outer : Outside) (frame : Frame) (u : Trace) (left : ℕ) (next : Completion → ℕ → Trace → RunOutcome) →
-        slice_get code.instrs pc ≡ Some (instr.Call kind (callee_of line site (option_map (λ x. slot_of x locals.ints) target) (slot_of name lists.functions))) → slice_get code.funcs (slot_of name lists.functions) ≡ Some fn → passed_by code site ≡ numbers_at marks (slots_for locals.arrays (ownership.given fs name es)) → lent_by code site ≡ map (place_of marks) (slots_for locals.arrays (ownership.lent fs name es)) → NotBoth (ownership.given fs name es) (ownership.lent fs name es) →
+    pub call_runs : (around : List Around) (locals : Locals) (taken' : Taken) (level : ℕ) (kind : CallKind) (site line pc : ℕ) (size : Room)
+        (target : Option Name) (name : Name) (es : List Expr) (fn : Func) (vs : List ℤ) (given_frame : Frame) (store : Store) (outer : Outside)
+        (frame : Frame) (u : Trace) (left : ℕ) (next : Completion → ℕ → Trace → RunOutcome) →
+        slice_get code.instrs pc ≡ Some (instr.Call kind (callee_of line site (option_map (λ x. slot_of x locals.ints) target)
+        (slot_of name lists.functions))) → slice_get code.funcs (slot_of name lists.functions) ≡ Some fn
+        → passed_by code site ≡ numbers_at marks (slots_for locals.arrays (ownership.given fs name es))
+        → lent_by code site ≡ map (place_of marks) (slots_for locals.arrays (ownership.lent fs name es))
+        → NotBoth (ownership.given fs name es) (ownership.lent fs name es) →
         level ≡ suc (length outer) → Compiled code fs lists (function_named name fs) fn →
         length vs ≡ fn.params → Bound (function_named name fs).params vs (map (λ a. array_of frame a) (arrays_named (function_named name fs).params es)) no_frame given_frame →
-        TargetFine locals taken' (function_named name fs) target → ArgsFine marks locals taken' (function_named name fs).params es → differ (ownership.given fs name es) ≡ true → Agrees locals taken' frame store outer → Fills marks store size → left ≤ bound →
+        TargetFine locals taken' (function_named name fs) target → ArgsFine marks locals taken' (function_named name fs).params es
+        → differ (ownership.given fs name es) ≡ true → Agrees locals taken' frame store outer → Fills marks store size → left ≤ bound →
         Onwards code marks depth around locals (taken_on kind level target (ownership.given fs name es) (ownership.lent fs name es) taken') (pc + 1) outer size left next →
-        steps code left (at around pc (reverse vs) store u) ≡ resume u (then_do (pay 1 left) (λ _ left'. then_do (joined_up (call_event kind site) (calls Deeper (function_named name fs) given_frame line left')) (leaves target (function_named name fs).params es frame))) next
+        steps code left (at around pc (reverse vs) store u) ≡ resume u (then_do (pay 1 left)
+        (λ _ left'. then_do (joined_up (call_event kind site) (calls Deeper (function_named name fs) given_frame line left'))
+        (leaves target (function_named name fs).params es frame))) next
     unfolding hands_for
-    call_runs around locals taken' level kind site line pc size target name es fn vs given_frame store outer frame u left next has found passed_is lent_is not_both at_level compiled n bound_frame target_fine args_fine apart agrees m within on =
+    call_runs around locals taken' level kind site line pc size target name es fn vs given_frame store outer frame u left next has found passed_is
+        lent_is not_both at_level compiled n bound_frame target_fine args_fine apart agrees m within on =
         let s = at around pc (reverse vs) store u in
         let f = function_named name fs in
         let xs = ownership.given fs name es in
@@ -126,12 +152,16 @@ module _ (code : Code) (fs : List Function) (lists : Lists) (marks : Marks) wher
         let read_are : yss ≡ lent callee all = sym (lent_args (λ a. array_of frame a) marks locals taken' f.params es args_fine) in
         let deep_or : Transition → ℕ → RunOutcome = λ w l. go_on (if deep then Stops trap.TooDeep line u.lines else w) l (λ s'. steps code l s') in
         let many : length (reverse vs) ≡ fn.params = length-reverse vs ∙ n in
-        let begin = begins_so code fs lists marks depth around pc (reverse vs) store kind (Some site) slot (depth + 1) f fn vs all outs passed u compiled many hands.as_arrays hands.moved own (can_take code fs lists marks depth locals taken' f kind target store outer frame target_fine agrees) in
+        let begin = begins_so code fs lists marks depth around pc (reverse vs) store kind (Some site) slot
+        (depth + 1) f fn vs all outs passed u compiled many hands.as_arrays hands.moved own
+        (can_take code fs lists marks depth locals taken' f kind target store outer frame target_fine agrees) in
         pays code tt s u left (λ _ l u'. resume u' (then_do (joined_up (call_event kind site) (calls Deeper f given_frame line l)) (leaves target f.params es frame)) next) (λ l below.
         one code s (instr.Call kind c) has l
         ∙ ap (λ w. go_on w l (λ s'. steps code l s')) (ap (enter s kind c (passed_by code site) (lent_by code site)) found)
-        ∙ ap (λ p. deep_or (on_arrays (arrays_in p s.arrays) (λ given. on_arrays (run.lent_in (lent_by code site) (moved_out p s.arrays) s.readers) (λ read. begins s (call_of s kind c p fn given read)))) l) passed_is
-        ∙ ap (λ q. deep_or (on_arrays (arrays_in numbers s.arrays) (λ given. on_arrays (run.lent_in q (moved_out numbers s.arrays) s.readers) (λ read. begins s (call_of s kind c numbers fn given read)))) l) lent_is
+        ∙ ap (λ p. deep_or (on_arrays (arrays_in p s.arrays) (λ given. on_arrays (run.lent_in (lent_by code site) (moved_out p s.arrays) s.readers)
+        (λ read. begins s (call_of s kind c p fn given read)))) l) passed_is
+        ∙ ap (λ q. deep_or (on_arrays (arrays_in numbers s.arrays) (λ given. on_arrays (run.lent_in q (moved_out numbers s.arrays) s.readers)
+        (λ read. begins s (call_of s kind c numbers fn given read)))) l) lent_is
         ∙ ap (λ o. deep_or (on_arrays o (λ given. on_arrays (run.lent_in loans (moved_out numbers s.arrays) s.readers) (λ read. begins s (call_of s kind c numbers fn given read)))) l) arrays_are
         ∙ ap (λ o. deep_or (on_arrays o (λ read. begins s (call_of s kind c numbers fn xss read))) l) loans_are
         ∙ ap (λ ts. deep_or (begins s (record (call_of s kind c numbers fn xss yss) { taken = ts })) l) (wholes_told marks passed)
@@ -139,21 +169,30 @@ module _ (code : Code) (fs : List Function) (lists : Lists) (marks : Marks) wher
         ∙ ap (λ g. deep_or (begins s (entering code fs lists marks depth kind (Some site) slot (depth + 1) fn vs g outs yss)) l) given_are
         ∙ ap (λ r. deep_or (begins s (entering code fs lists marks depth kind (Some site) slot (depth + 1) fn vs (owned callee all) outs r)) l) read_are
         ∙ ap (λ w. deep_or w l) begin
-        ∙ deep_or_not around locals taken' level kind site target line pc size f fn frame hands store outer ys u l next at_level compiled target_fine agrees m (omega arith) (λ g st l' u' ag ln le. on g st l' u' ag ln (omega arith)) deep refl
+        ∙ deep_or_not around locals taken' level kind site target line pc size f fn frame hands store outer ys u l next at_level compiled target_fine
+        agrees m (omega arith) (λ g st l' u' ag ln le. on g st l' u' ag ln (omega arith)) deep refl
         ∙ sym (resume_one (call_event kind site) (ticked u) (calls Deeper f given_frame line l) (λ r l' u'. resume u' (leaves target f.params es frame r l') next))
         ∙ sym (resume_then (ticked u) (joined_up (call_event kind site) (calls Deeper f given_frame line l)) (leaves target f.params es frame) next))
         ∙ sym (resume_then u (pay 1 left) (λ _ left'. then_do (joined_up (call_event kind site) (calls Deeper f given_frame line left')) (leaves target f.params es frame)) next)
 
     -- the instruction of a call on one half: it is as deep as its caller, and at no site
-    pub recur_runs : (around : List Around) (locals : Locals) (taken' : Taken) (level : ℕ) (kind : CallKind) (first line pc : ℕ) (size : Room) (name : Name) (es : List Expr) (fn : Func) (vs : List ℤ) (given_frame : Frame) (store : Store) (outer : Outside) (frame : Frame) (u : Trace) (left : ℕ) (next : Completion → ℕ → Trace → RunOutcome) →
-        nat_lt MOST_DEPTH depth ≡ false → slice_get code.instrs pc ≡ Some (instr.Recur kind (half_of first kind (slot_of name lists.functions))) → slice_get code.funcs (slot_of name lists.functions) ≡ Some fn → passed_by code (half_list first kind (slot_of name lists.functions)) ≡ numbers_at marks (slots_for locals.arrays (ownership.given fs name es)) → marks_for (function_named name fs).params ≡ [] →
+    pub recur_runs : (around : List Around) (locals : Locals) (taken' : Taken) (level : ℕ) (kind : CallKind) (first line pc : ℕ) (size : Room)
+        (name : Name) (es : List Expr) (fn : Func) (vs : List ℤ) (given_frame : Frame) (store : Store) (outer : Outside) (frame : Frame) (u : Trace)
+        (left : ℕ) (next : Completion → ℕ → Trace → RunOutcome) →
+        nat_lt MOST_DEPTH depth ≡ false → slice_get code.instrs pc ≡ Some (instr.Recur kind (half_of first kind (slot_of name lists.functions)))
+        → slice_get code.funcs (slot_of name lists.functions) ≡ Some fn
+        → passed_by code (half_list first kind (slot_of name lists.functions))
+        ≡ numbers_at marks (slots_for locals.arrays (ownership.given fs name es)) → marks_for (function_named name fs).params ≡ [] →
         level ≡ suc (length outer) → Compiled code fs lists (function_named name fs) fn →
         length vs ≡ fn.params → Bound (function_named name fs).params vs (map (λ a. array_of frame a) (arrays_named (function_named name fs).params es)) no_frame given_frame →
         ArgsFine marks locals taken' (function_named name fs).params es → differ (ownership.given fs name es) ≡ true → Agrees locals taken' frame store outer → Fills marks store size → left ≤ bound →
         Onwards code marks depth around locals (taken_on kind level None (ownership.given fs name es) [] taken') (pc + 1) outer size left next →
-        steps code left (at around pc (reverse vs) store u) ≡ resume u (then_do (pay 1 left) (λ _ left'. then_do (joined_up (start_event kind) (calls SameDepth (function_named name fs) given_frame line left')) (leaves None (function_named name fs).params es frame))) next
+        steps code left (at around pc (reverse vs) store u) ≡ resume u (then_do (pay 1 left)
+        (λ _ left'. then_do (joined_up (start_event kind) (calls SameDepth (function_named name fs) given_frame line left'))
+        (leaves None (function_named name fs).params es frame))) next
     unfolding hands_for
-    recur_runs around locals taken' level kind first line pc size name es fn vs given_frame store outer frame u left next shallow has found passed_is unread at_level compiled n bound_frame args_fine apart agrees m within on =
+    recur_runs around locals taken' level kind first line pc size name es fn vs given_frame store outer frame u left next shallow has found passed_is
+        unread at_level compiled n bound_frame args_fine apart agrees m within on =
         let s = at around pc (reverse vs) store u in
         let f = function_named name fs in
         let xs = ownership.given fs name es in
@@ -174,18 +213,22 @@ module _ (code : Code) (fs : List Function) (lists : Lists) (marks : Marks) wher
         let given_are : xss ≡ owned callee all = sym (owned_args (λ a. array_of frame a) marks locals taken' f.params es args_fine) in
         let read_are : none ≡ lent callee all = sym (ap (λ ms. lent ms all) unread) in
         let many : length (reverse vs) ≡ fn.params = length-reverse vs ∙ n in
-        let begin = begins_so code fs lists marks depth around pc (reverse vs) store kind None None depth f fn vs all outs passed u compiled many hands.as_arrays hands.moved own (can_take code fs lists marks depth locals taken' f kind None store outer frame tt agrees) in
+        let begin = begins_so code fs lists marks depth around pc (reverse vs) store kind None None depth f fn vs all outs passed u compiled many
+        hands.as_arrays hands.moved own (can_take code fs lists marks depth locals taken' f kind None store outer frame tt agrees) in
         pays code tt s u left (λ _ l u'. resume u' (then_do (joined_up (start_event kind) (calls SameDepth f given_frame line l)) (leaves None f.params es frame)) next) (λ l below.
         one code s (instr.Recur kind c) has l
         ∙ ap (λ w. go_on w l (λ s'. steps code l s')) (ap (recur s kind (passed_by code c.passed)) found)
         ∙ ap (λ p. go_on (recur s kind p (Some fn)) l (λ s'. steps code l s')) passed_is
-        ∙ ap (λ o. go_on (on_arrays o (λ given. begins s (record (entering code fs lists marks depth kind None None depth fn (arguments_of fn (reverse vs)) given outs none) { taken = map (λ a. Whole a) numbers }))) l (λ s'. steps code l s')) arrays_are
-        ∙ ap (λ ts. go_on (begins s (record (entering code fs lists marks depth kind None None depth fn (arguments_of fn (reverse vs)) xss outs none) { taken = ts })) l (λ s'. steps code l s')) (wholes_told marks passed)
+        ∙ ap (λ o. go_on (on_arrays o (λ given. begins s (record (entering code fs lists marks depth kind None None depth fn
+        (arguments_of fn (reverse vs)) given outs none) { taken = map (λ a. Whole a) numbers }))) l (λ s'. steps code l s')) arrays_are
+        ∙ ap (λ ts. go_on (begins s (record (entering code fs lists marks depth kind None None depth fn (arguments_of fn (reverse vs)) xss outs none)
+        { taken = ts })) l (λ s'. steps code l s')) (wholes_told marks passed)
         ∙ ap (λ ws'. go_on (begins s (entering code fs lists marks depth kind None None depth fn ws' xss outs none)) l (λ s'. steps code l s')) (arguments_are fn vs (sym n))
         ∙ ap (λ g. go_on (begins s (entering code fs lists marks depth kind None None depth fn vs g outs none)) l (λ s'. steps code l s')) given_are
         ∙ ap (λ r. go_on (begins s (entering code fs lists marks depth kind None None depth fn vs (owned callee all) outs r)) l (λ s'. steps code l s')) read_are
         ∙ ap (λ w. go_on w l (λ s'. steps code l s')) begin
-        ∙ inside_runs code fs lists marks depth bound calls run_calls around locals taken' level kind SameDepth None None line pc size f fn frame hands store outer [] u l next shallow at_level compiled tt agrees m (omega arith) (λ g st l' u' ag ln le. on g st l' u' ag ln (omega arith))
+        ∙ inside_runs code fs lists marks depth bound calls run_calls around locals taken' level kind SameDepth None None line pc size f fn frame
+        hands store outer [] u l next shallow at_level compiled tt agrees m (omega arith) (λ g st l' u' ag ln le. on g st l' u' ag ln (omega arith))
         ∙ sym (resume_one (start_event kind) (ticked u) (calls SameDepth f given_frame line l) (λ r l' u'. resume u' (leaves None f.params es frame r l') next))
         ∙ sym (resume_then (ticked u) (joined_up (start_event kind) (calls SameDepth f given_frame line l)) (leaves None f.params es frame) next))
         ∙ sym (resume_then u (pay 1 left) (λ _ left'. then_do (joined_up (start_event kind) (calls SameDepth f given_frame line left')) (leaves None f.params es frame)) next)

@@ -66,7 +66,8 @@ module _ (lists : Lists) (room : Room) where
     stmt_room n m locals _ h k = tt
 
     -- a block
-    block_room : (n m : ℕ) (locals : Locals) (b : model.Block) → ints_in_block n (slotted_block lists locals b) ≤ room.ints → arrays_in_block m (slotted_block lists locals b) ≤ room.arrays → RoomBlock room locals b
+    block_room : (n m : ℕ) (locals : Locals) (b : model.Block) → ints_in_block n (slotted_block lists locals b) ≤ room.ints
+        → arrays_in_block m (slotted_block lists locals b) ≤ room.arrays → RoomBlock room locals b
     block_room n m locals End h k = tt
     block_room n m locals (Then line s b) h k =
         let here = slotted_stmt lists locals s in

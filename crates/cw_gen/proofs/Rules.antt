@@ -23,7 +23,8 @@ pub listed_there : (x : Name) (names : List Name) → is_among x names ≡ true 
 listed_there x [] h = cc
 listed_there x (y ∷ names) h = test (listed_there x names) (same_name x y) refl h
   where
-    test : (is_among x names ≡ true → IsListed names x) → (b : Bool) → same_name x y ≡ b → (if b then true else is_among x names) ≡ true → slice_get (y ∷ names) (if b then 0 else suc (slot_of x names)) ≡ Some x
+    test : (is_among x names ≡ true → IsListed names x) → (b : Bool) → same_name x y ≡ b → (if b then true else is_among x names) ≡ true
+        → slice_get (y ∷ names) (if b then 0 else suc (slot_of x names)) ≡ Some x
     test more true e h' = ap (λ n. Some n) (sym ((bytes_eq-Decides x y).0 e))
     test more false e h' = more h'
 
@@ -32,6 +33,7 @@ pub function_there : (name : Name) (fs : List Function) → is_among name (map (
 function_there name [] h = cc
 function_there name (f ∷ fs) h = test (function_there name fs) (same_name name f.name) h
   where
-    test : (is_among name (map (λ g. g.name) fs) ≡ true → is_function name fs ≡ true) → (b : Bool) → (if b then true else is_among name (map (λ g. g.name) fs)) ≡ true → (if b then true else is_function name fs) ≡ true
+    test : (is_among name (map (λ g. g.name) fs) ≡ true → is_function name fs ≡ true) → (b : Bool)
+        → (if b then true else is_among name (map (λ g. g.name) fs)) ≡ true → (if b then true else is_function name fs) ≡ true
     test more true h' = refl
     test more false h' = more h'

@@ -41,13 +41,21 @@ behind x y names others more h = test (same_name x y) h
     test false h' = more h'
 
 pub names_extend : (b : Block) (locals : Locals) → More locals b
-names_extend End locals = record { ints = []; arrays = []; same = same_locals locals.ints (locals.ints ++ []) locals.arrays (locals.arrays ++ []) (sym (append-nil locals.ints)) (sym (append-nil locals.arrays)); own = λ x h. cc; own_arrays = λ x h. cc }
+names_extend End locals = record {
+  ints = [];
+  arrays = [];
+  same = same_locals locals.ints (locals.ints ++ []) locals.arrays (locals.arrays ++ [])
+      (sym (append-nil locals.ints)) (sym (append-nil locals.arrays));
+  own = λ x h. cc;
+  own_arrays = λ x h. cc;
+}
 names_extend (Then line (Declare x e) b) locals =
     let all = names_extend b (with_int x locals) in
     record {
       ints = x ∷ all.ints;
       arrays = all.arrays;
-      same = all.same ∙ same_locals ((locals.ints ++ x ∷ []) ++ all.ints) (locals.ints ++ x ∷ all.ints) (locals.arrays ++ all.arrays) (locals.arrays ++ all.arrays) (append_assoc locals.ints (x ∷ []) all.ints) refl;
+      same = all.same ∙ same_locals ((locals.ints ++ x ∷ []) ++ all.ints) (locals.ints ++ x ∷ all.ints) (locals.arrays ++ all.arrays)
+          (locals.arrays ++ all.arrays) (append_assoc locals.ints (x ∷ []) all.ints) refl;
       own = λ y h. behind y x all.ints (own_names b) (all.own y) h;
       own_arrays = λ y h. later_among y x (own_names b) (all.own_arrays y h);
     }
@@ -56,7 +64,8 @@ names_extend (Then line (DeclareArray a e) b) locals =
     record {
       ints = all.ints;
       arrays = a ∷ all.arrays;
-      same = all.same ∙ same_locals (locals.ints ++ all.ints) (locals.ints ++ all.ints) ((locals.arrays ++ a ∷ []) ++ all.arrays) (locals.arrays ++ a ∷ all.arrays) refl (append_assoc locals.arrays (a ∷ []) all.arrays);
+      same = all.same ∙ same_locals (locals.ints ++ all.ints) (locals.ints ++ all.ints) ((locals.arrays ++ a ∷ []) ++ all.arrays)
+          (locals.arrays ++ a ∷ all.arrays) refl (append_assoc locals.arrays (a ∷ []) all.arrays);
       own = λ y h. later_among y a (own_names b) (all.own y h);
       own_arrays = λ y h. behind y a all.arrays (own_names b) (all.own_arrays y) h;
     }

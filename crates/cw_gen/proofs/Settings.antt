@@ -46,7 +46,15 @@ table_of tab = λ place. flat (slice_get tab place)
 
 -- a place takes the shape that stands there
 pub exact : (tab : Shapes) (place : ℕ) (shape : Shape) → slice_get tab place ≡ Some (Some shape) → FlowsInto (table_of tab) place shape
-exact tab place shape e = record { there = shape; found = ap flat e; as_many = refl; covers = (over_itself shape).0; covers_gone = (over_itself shape).1; covers_frozen = (over_itself shape).2; covers_outer = (over_itself shape).3 }
+exact tab place shape e = record {
+  there = shape;
+  found = ap flat e;
+  as_many = refl;
+  covers = (over_itself shape).0;
+  covers_gone = (over_itself shape).1;
+  covers_frozen = (over_itself shape).2;
+  covers_outer = (over_itself shape).3;
+}
 
 -- a place that takes a shape takes one of which less is empty
 pub takes_less : (table : Table) (place : ℕ) (few many : Shape) → FlowsInto table place many → many.operands ≡ few.operands → Over many few → FlowsInto table place few
@@ -99,7 +107,8 @@ module _ (setting : Setting) where
   -- an instruction of a place that finds a shape, or that is not reached
   abbrev pub FitsAt : ℕ → Option Shape → Instr → Type 0
   FitsAt place None i = names_well setting.code setting.f place i ≡ true
-  FitsAt place (Some shape) i = (names_well setting.code setting.f place i ≡ true) × (is_ready setting.code shape i ≡ true) × FlowsIntoEach table (leaves setting.code shape i) (nexts place i) × (is_thawed setting.code shape i ≡ true)
+  FitsAt place (Some shape) i = (names_well setting.code setting.f place i ≡ true) × (is_ready setting.code shape i ≡ true)
+      × FlowsIntoEach table (leaves setting.code shape i) (nexts place i) × (is_thawed setting.code shape i ≡ true)
 
   abbrev pub AllFit : ℕ → Shapes → List Instr → Type 0
   AllFit place [] [] = Unit {0}

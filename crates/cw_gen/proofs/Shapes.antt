@@ -1,7 +1,8 @@
 -- What the places of generated code find.
 use Rattle.std.proofs.Common.{◌≡◌, ℕ, suc, ◌+◌, List, [], ◌∷◌, ◌++◌, length, Bool, true, false, if◌then◌else◌, Option, Some, None, refl, sym, ap, ◌∙◌, subst, arith, length-append}
 use Rattle.std.specs.Prelude.{map}
-use Rattle.cw_model.specs.Syntax.{wants_array, Name, Expr, Number, Variable, Element, Length, Negative, Not, Binary, Stmt, Declare, DeclareArray, Assign, AssignElement, Reduce, Call, Start, Begin, Sync, If, IfElse, While, Scope, Cut, Region, Print, Return, Block, End, Then, Param, Function}
+use Rattle.cw_model.specs.Syntax.{wants_array, Name, Expr, Number, Variable, Element, Length, Negative, Not, Binary, Stmt, Declare, DeclareArray, Assign, AssignElement}
+use Rattle.cw_model.specs.Syntax.{Reduce, Call, Start, Begin, Sync, If, IfElse, While, Scope, Cut, Region, Print, Return, Block, End, Then, Param, Function}
 use Rattle.cw_model.specs.Meaning.{function_named}
 use Rattle.cw_model.specs.Typing.{Returns, Nowhere, block_returns}
 use Rattle.cw_model.specs.Ownership.{CutOf, Taken}
@@ -86,14 +87,18 @@ abbrev mutual
   stmt_shapes fs size opened locals taken (Assign x e) = valued_shapes (shape_at size opened locals taken) e
   stmt_shapes fs size opened locals taken (Reduce how s e) = valued_shapes (shape_at size opened locals taken) e
   stmt_shapes fs size opened locals taken (Print e) = valued_shapes (shape_at size opened locals taken) e
-  stmt_shapes fs size opened locals taken (Call kind site target f es) = args_shapes (shape_at size opened locals taken) 0 (function_named f fs).params es ++ Some (shape_at size opened locals taken (args_after 0 (function_named f fs).params es)) ∷ []
-  stmt_shapes fs size opened locals taken (Start kind f es) = args_shapes (shape_at size opened locals taken) 0 (function_named f fs).params es ++ Some (shape_at size opened locals taken (args_after 0 (function_named f fs).params es)) ∷ []
+  stmt_shapes fs size opened locals taken (Call kind site target f es) =
+      args_shapes (shape_at size opened locals taken) 0 (function_named f fs).params es
+      ++ Some (shape_at size opened locals taken (args_after 0 (function_named f fs).params es)) ∷ []
+  stmt_shapes fs size opened locals taken (Start kind f es) = args_shapes (shape_at size opened locals taken) 0 (function_named f fs).params es
+      ++ Some (shape_at size opened locals taken (args_after 0 (function_named f fs).params es)) ∷ []
   stmt_shapes fs size opened locals taken (Begin f from to captured over) = range_shapes (shape_at size opened locals taken) from to captured
   stmt_shapes fs size opened locals taken Sync = Some (shape_at size opened locals taken 0) ∷ []
   stmt_shapes fs size opened locals taken (If e b) = expr_shapes (shape_at size opened locals taken) 0 e ++ Some (shape_at size opened locals taken 1) ∷ block_shapes fs size opened locals taken b
   stmt_shapes fs size opened locals taken (IfElse e b c) =
       expr_shapes (shape_at size opened locals taken) 0 e
-      ++ (Some (shape_at size opened locals taken 1) ∷ (block_shapes fs size opened locals taken b ++ reached (block_returns b) (end_shape fs size opened locals taken b) ∷ []) ++ block_shapes fs size opened locals taken c)
+      ++ (Some (shape_at size opened locals taken 1) ∷ (block_shapes fs size opened locals taken b
+      ++ reached (block_returns b) (end_shape fs size opened locals taken b) ∷ []) ++ block_shapes fs size opened locals taken c)
   stmt_shapes fs size opened locals taken (While e b) =
       let all = held_after fs (depth_in opened) (While e b) taken in
       expr_shapes (shape_at size opened locals all) 0 e
@@ -104,7 +109,8 @@ abbrev mutual
       let inner = with_array r (with_array l locals) in
       let inside = Some (halves_at locals a) ∷ opened in
       expr_shapes (shape_at size opened locals taken) 0 e
-      ++ Some (shape_at size opened locals taken 1) ∷ (block_shapes fs size inside inner ((a, CutOf) ∷ taken) b ++ reached (block_returns b) (end_shape fs size inside inner ((a, CutOf) ∷ taken) b) ∷ [])
+      ++ Some (shape_at size opened locals taken 1) ∷ (block_shapes fs size inside inner ((a, CutOf) ∷ taken) b
+      ++ reached (block_returns b) (end_shape fs size inside inner ((a, CutOf) ∷ taken) b) ∷ [])
   stmt_shapes fs size opened locals taken (Region tag b) =
       Some (shape_at size opened locals taken 0) ∷ (block_shapes fs size (None ∷ opened) locals taken b ++ reached (block_returns b) (end_shape fs size (None ∷ opened) locals taken b) ∷ [])
   stmt_shapes fs size opened locals taken (Return None) = Some (shape_at size opened locals taken 0) ∷ []
@@ -113,7 +119,8 @@ abbrev mutual
 
   pub block_shapes : List Function → (size : Room) (opened : Opened) → Locals → Taken → Block → Shapes
   block_shapes fs size opened locals taken End = []
-  block_shapes fs size opened locals taken (Then line s b) = stmt_shapes fs size opened locals taken s ++ block_shapes fs size opened (locals_after locals s) (held_after fs (depth_in opened) s taken) b
+  block_shapes fs size opened locals taken (Then line s b) = stmt_shapes fs size opened locals taken s
+      ++ block_shapes fs size opened (locals_after locals s) (held_after fs (depth_in opened) s taken) b
 
 last_one : {X Y : Type 0} (a : List X) (x : X) (b : List Y) (y : Y) → length a ≡ length b → length (a ++ x ∷ []) ≡ length (b ++ y ∷ [])
 last_one a x b y e = length-append a (x ∷ []) ∙ ap (λ k. k + 1) e ∙ sym (length-append b (y ∷ []))
@@ -139,17 +146,21 @@ expr_as_many made n marks locals line (Binary operator d e) =
 both_as_many : {X Y : Type 0} (a b : List X) (c d : List Y) → length a ≡ length c → length b ≡ length d → length (a ++ b) ≡ length (c ++ d)
 both_as_many a b c d e e' = length-append a b ∙ ap (λ k. k + length b) e ∙ ap (λ k. length c + k) e' ∙ sym (length-append c d)
 
-pub arg_as_many : (made : ℕ → Shape) (n : ℕ) (marks : Marks) (locals : Locals) (taken : Taken) (line : ℕ) (ps : List Param) (b : Bool) (e : Expr) → ArgKept b locals taken e → length (arg_shapes b made n e) ≡ length (emitted_arg marks line (slotted_argument locals ps e))
+pub arg_as_many : (made : ℕ → Shape) (n : ℕ) (marks : Marks) (locals : Locals) (taken : Taken) (line : ℕ) (ps : List Param) (b : Bool) (e : Expr)
+    → ArgKept b locals taken e → length (arg_shapes b made n e) ≡ length (emitted_arg marks line (slotted_argument locals ps e))
 arg_as_many made n marks locals taken line ps true e fine = sym (ap length (array_code marks locals line ps e fine))
 arg_as_many made n marks locals taken line ps false e fine = expr_as_many made n marks locals line e ∙ sym (ap length (arg_code marks locals line ps e fine.1))
 
-pub args_as_many : (made : ℕ → Shape) (n : ℕ) (marks : Marks) (locals : Locals) (taken : Taken) (line : ℕ) (ps : List Param) (es : List Expr) → ArgsFine marks locals taken ps es → length (args_shapes made n ps es) ≡ length (args_code marks locals line ps es)
+pub args_as_many : (made : ℕ → Shape) (n : ℕ) (marks : Marks) (locals : Locals) (taken : Taken) (line : ℕ) (ps : List Param) (es : List Expr)
+    → ArgsFine marks locals taken ps es → length (args_shapes made n ps es) ≡ length (args_code marks locals line ps es)
 args_as_many made n marks locals taken line [] [] fine = refl
 args_as_many made n marks locals taken line [] (e ∷ es) fine = absurd fine
 args_as_many made n marks locals taken line (p ∷ ps) [] fine = absurd fine
 args_as_many made n marks locals taken line (p ∷ ps) (e ∷ es) fine =
-    both_as_many (arg_shapes (wants_array p) made n e) (args_shapes made (after_arg (wants_array p) n) ps es) (emitted_arg marks line (slotted_argument locals (p ∷ ps) e)) (args_code marks locals line ps es)
-    (arg_as_many made n marks locals taken line (p ∷ ps) (wants_array p) e (arg_kept p.kind marks locals taken e fine.0)) (args_as_many made (after_arg (wants_array p) n) marks locals taken line ps es fine.1)
+    both_as_many (arg_shapes (wants_array p) made n e) (args_shapes made (after_arg (wants_array p) n) ps es)
+    (emitted_arg marks line (slotted_argument locals (p ∷ ps) e)) (args_code marks locals line ps es)
+    (arg_as_many made n marks locals taken line (p ∷ ps) (wants_array p) e (arg_kept p.kind marks locals taken e fine.0))
+    (args_as_many made (after_arg (wants_array p) n) marks locals taken line ps es fine.1)
 
 -- as many integers are taken along as are loaded
 pub loads_as_many : (made : ℕ → Shape) (n : ℕ) (locals : Locals) (xs : List Name) → length (loads_shapes made n xs) ≡ length (emitted_loads (map (λ x. slot_of x locals.ints) xs))
@@ -161,11 +172,14 @@ module _ (fs : List Function) (lists : Lists) (tables : Tables) (size : Room) wh
   first = first_list tables.sites
 
   mutual
-    pub stmt_as_many : (returns : Returns) (level : ℕ) (opened : Opened) (locals : Locals) (taken : Taken) (line : ℕ) (s : Stmt) → level ≡ depth_in opened → StmtFine fs lists tables size.marks size returns level locals taken s → length (stmt_shapes fs size opened locals taken s) ≡ length (stmt_code first size.marks lists locals line s)
+    pub stmt_as_many : (returns : Returns) (level : ℕ) (opened : Opened) (locals : Locals) (taken : Taken) (line : ℕ) (s : Stmt)
+        → level ≡ depth_in opened → StmtFine fs lists tables size.marks size returns level locals taken s
+        → length (stmt_shapes fs size opened locals taken s) ≡ length (stmt_code first size.marks lists locals line s)
     stmt_as_many returns level opened locals taken line (Declare x e) at fine = last_one (expr_shapes _ 0 e) _ (expr_code size.marks locals line e) _ (expr_as_many _ 0 size.marks locals line e)
     stmt_as_many returns level opened locals taken line (DeclareArray x e) at fine = last_one (expr_shapes _ 0 e) _ (expr_code size.marks locals line e) _ (expr_as_many _ 0 size.marks locals line e)
     stmt_as_many returns level opened locals taken line (AssignElement x i e) at fine =
-        both_as_many (expr_shapes _ 0 i) _ (expr_code size.marks locals line i) _ (expr_as_many _ 0 size.marks locals line i) (last_one (expr_shapes _ 1 e) _ (expr_code size.marks locals line e) _ (expr_as_many _ 1 size.marks locals line e))
+        both_as_many (expr_shapes _ 0 i) _ (expr_code size.marks locals line i) _ (expr_as_many _ 0 size.marks locals line i)
+        (last_one (expr_shapes _ 1 e) _ (expr_code size.marks locals line e) _ (expr_as_many _ 1 size.marks locals line e))
     stmt_as_many returns level opened locals taken line (Assign x e) at fine = last_one (expr_shapes _ 0 e) _ (expr_code size.marks locals line e) _ (expr_as_many _ 0 size.marks locals line e)
     stmt_as_many returns level opened locals taken line (Reduce how s e) at fine = last_one (expr_shapes _ 0 e) _ (expr_code size.marks locals line e) _ (expr_as_many _ 0 size.marks locals line e)
     stmt_as_many returns level opened locals taken line (Print e) at fine = last_one (expr_shapes _ 0 e) _ (expr_code size.marks locals line e) _ (expr_as_many _ 0 size.marks locals line e)
@@ -187,28 +201,38 @@ module _ (fs : List Function) (lists : Lists) (tables : Tables) (size : Room) wh
         let r = emit.returns (slotted_block lists locals b) in
         let other = block_code first size.marks lists locals c in
         both_as_many (expr_shapes _ 0 e) _ (expr_code size.marks locals line e) _ (expr_as_many _ 0 size.marks locals line e)
-        (both_as_many (Some (shape_at size opened locals taken 1) ∷ (block_shapes fs size opened locals taken b ++ reached (block_returns b) (end_shape fs size opened locals taken b) ∷ [])) (block_shapes fs size opened locals taken c) (emitted_over (block_code first size.marks lists locals b ++ instr.Skip (past r (length other)) ∷ [])) other
-        (ap suc (last_one (block_shapes fs size opened locals taken b) _ (block_code first size.marks lists locals b) _ (block_as_many returns level opened locals taken b at fine.1.0))) (block_as_many returns level opened locals taken c at fine.2.0))
+        (both_as_many (Some (shape_at size opened locals taken 1) ∷ (block_shapes fs size opened locals taken b
+        ++ reached (block_returns b) (end_shape fs size opened locals taken b) ∷ [])) (block_shapes fs size opened locals taken c)
+        (emitted_over (block_code first size.marks lists locals b ++ instr.Skip (past r (length other)) ∷ [])) other
+        (ap suc (last_one (block_shapes fs size opened locals taken b) _ (block_code first size.marks lists locals b) _
+        (block_as_many returns level opened locals taken b at fine.1.0))) (block_as_many returns level opened locals taken c at fine.2.0))
     stmt_as_many returns level opened locals taken line (While e b) at fine =
         let all = held_after fs (depth_in opened) (While e b) taken in
-        let fine' : BlockFine fs lists tables size.marks size returns level locals all b = subst (λ n. BlockFine fs lists tables size.marks size returns level locals (held_after fs n (While e b) taken) b) at fine.1 in
+        let fine' : BlockFine fs lists tables size.marks size returns level locals all b =
+        subst (λ n. BlockFine fs lists tables size.marks size returns level locals (held_after fs n (While e b) taken) b) at fine.1 in
         both_as_many (expr_shapes _ 0 e) _ (expr_code size.marks locals line e) _ (expr_as_many _ 0 size.marks locals line e)
         (ap suc (last_one (block_shapes fs size opened locals all b) _ (block_code first size.marks lists locals b) _ (block_as_many returns level opened locals all b at fine')))
     stmt_as_many returns level opened locals taken line (Scope b) at fine =
-        ap suc (last_one (block_shapes fs size (None ∷ opened) locals taken b) _ (block_code first size.marks lists locals b) _ (block_as_many Nowhere (level + 1) (None ∷ opened) locals taken b (omega (arith, at)) fine.0))
+        ap suc (last_one (block_shapes fs size (None ∷ opened) locals taken b) _ (block_code first size.marks lists locals b) _
+        (block_as_many Nowhere (level + 1) (None ∷ opened) locals taken b (omega (arith, at)) fine.0))
     stmt_as_many returns level opened locals taken line (Cut a e l r b) at fine =
         let inner = with_array r (with_array l locals) in
         let inside = Some (halves_at locals a) ∷ opened in
         both_as_many (expr_shapes _ 0 e) _ (expr_code size.marks locals line e) _ (expr_as_many _ 0 size.marks locals line e)
-        (ap suc (last_one (block_shapes fs size inside inner ((a, CutOf) ∷ taken) b) _ (block_code first size.marks lists inner b) _ (block_as_many Nowhere (level + 1) inside inner ((a, CutOf) ∷ taken) b (omega (arith, at)) fine.3)))
+        (ap suc (last_one (block_shapes fs size inside inner ((a, CutOf) ∷ taken) b) _ (block_code first size.marks lists inner b) _
+        (block_as_many Nowhere (level + 1) inside inner ((a, CutOf) ∷ taken) b (omega (arith, at)) fine.3)))
     stmt_as_many returns level opened locals taken line (Region tag b) at fine =
-        ap suc (last_one (block_shapes fs size (None ∷ opened) locals taken b) _ (block_code first size.marks lists locals b) _ (block_as_many Nowhere (level + 1) (None ∷ opened) locals taken b (omega (arith, at)) fine.1))
+        ap suc (last_one (block_shapes fs size (None ∷ opened) locals taken b) _ (block_code first size.marks lists locals b) _
+        (block_as_many Nowhere (level + 1) (None ∷ opened) locals taken b (omega (arith, at)) fine.1))
     stmt_as_many returns level opened locals taken line (Return None) at fine = refl
     stmt_as_many returns level opened locals taken line (Return (Some e)) at fine = last_one (expr_shapes _ 0 e) _ (expr_code size.marks locals line e) _ (expr_as_many _ 0 size.marks locals line e)
     stmt_as_many returns level opened locals taken line _ at fine = absurd fine
 
-    pub block_as_many : (returns : Returns) (level : ℕ) (opened : Opened) (locals : Locals) (taken : Taken) (b : Block) → level ≡ depth_in opened → BlockFine fs lists tables size.marks size returns level locals taken b → length (block_shapes fs size opened locals taken b) ≡ length (block_code first size.marks lists locals b)
+    pub block_as_many : (returns : Returns) (level : ℕ) (opened : Opened) (locals : Locals) (taken : Taken) (b : Block) → level ≡ depth_in opened
+        → BlockFine fs lists tables size.marks size returns level locals taken b
+        → length (block_shapes fs size opened locals taken b) ≡ length (block_code first size.marks lists locals b)
     block_as_many returns level opened locals taken End at fine = refl
     block_as_many returns level opened locals taken (Then line s b) at fine =
         both_as_many (stmt_shapes fs size opened locals taken s) _ (stmt_code first size.marks lists locals line s) _ (stmt_as_many returns level opened locals taken line s at fine.0)
-        (block_as_many returns level opened (locals_after locals s) (held_after fs (depth_in opened) s taken) b at (subst (λ n. BlockFine fs lists tables size.marks size returns level (locals_after locals s) (held_after fs n s taken) b) at fine.1))
+        (block_as_many returns level opened (locals_after locals s) (held_after fs (depth_in opened) s taken) b at
+        (subst (λ n. BlockFine fs lists tables size.marks size returns level (locals_after locals s) (held_after fs n s taken) b) at fine.1))

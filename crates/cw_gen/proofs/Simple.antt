@@ -36,15 +36,18 @@ module _ (code : Code) (marks : Marks) (depth : ℕ) where
   -- from a place on, with these names, the rest is what comes next
   abbrev pub Onwards : List Around → Locals → Taken → ℕ → Outside → (size : Room) (left : ℕ) → (Completion → ℕ → Trace → RunOutcome) → Type 0
   Onwards around locals taken' pc outer size left next =
-      (frame : Frame) (store : Store) (l : ℕ) (u : Trace) → Agrees locals taken' frame store outer → Fills marks store size → l ≤ left → steps code l (at around pc [] store u) ≡ next (Normal frame) l u
+      (frame : Frame) (store : Store) (l : ℕ) (u : Trace) → Agrees locals taken' frame store outer → Fills marks store size → l ≤ left
+      → steps code l (at around pc [] store u) ≡ next (Normal frame) l u
 
   -- where the call returns, its caller goes on
   abbrev pub Backs : Returns → Room → List Around → (left : ℕ) → (Completion → ℕ → Trace → RunOutcome) → Type 0
   Backs returns size around left next =
-      (v : Option ℤ) (frame : Frame) (arrays : Slots (List ℤ)) (l : ℕ) (u : Trace) → MayGive returns v → GivesBack marks size.given frame arrays → l ≤ left → go_on (back around v arrays u) l (λ s. steps code l s) ≡ next (ByReturn v frame) l u
+      (v : Option ℤ) (frame : Frame) (arrays : Slots (List ℤ)) (l : ℕ) (u : Trace) → MayGive returns v → GivesBack marks size.given frame arrays
+      → l ≤ left → go_on (back around v arrays u) l (λ s. steps code l s) ≡ next (ByReturn v frame) l u
 
   -- an expression and a store
-  pub store_runs : (around : List Around) (locals locals' : Locals) (taken' : Taken) (e : Expr) (line pc a : ℕ) (size : Room) (store : Store) (outer : Outside) (frame : Frame) (made : ℤ → Frame) (t : Trace) (left : ℕ) (next : Completion → ℕ → Trace → RunOutcome) →
+  pub store_runs : (around : List Around) (locals locals' : Locals) (taken' : Taken) (e : Expr) (line pc a : ℕ) (size : Room) (store : Store)
+      (outer : Outside) (frame : Frame) (made : ℤ → Frame) (t : Trace) (left : ℕ) (next : Completion → ℕ → Trace → RunOutcome) →
       HasAt code.instrs pc (expr_code marks locals line e ++ instr.Store a ∷ []) → ExprFine locals taken' e → Agrees locals taken' frame store outer → Fills marks store size →
       is_full (slice_get store.slots a) ≡ true →
       ((v : ℤ) → Agrees locals' taken' (made v) (with_slot a (Some v) store) outer) →
@@ -64,11 +67,13 @@ module _ (code : Code) (marks : Marks) (depth : ℕ) where
       ∙ sym (resume_then t (pay_for (evaluate e frame) line left) (λ v left'. then_do (pay 1 left') (λ _. going (made v))) next)
 
   -- an expression and what is told of its value
-  pub tells_runs : (around : List Around) (locals : Locals) (taken' : Taken) (e : Expr) (line pc : ℕ) (size : Room) (i : Instr) (store : Store) (outer : Outside) (frame : Frame) (told : ℤ → Trace) (t : Trace) (left : ℕ) (next : Completion → ℕ → Trace → RunOutcome) →
+  pub tells_runs : (around : List Around) (locals : Locals) (taken' : Taken) (e : Expr) (line pc : ℕ) (size : Room) (i : Instr) (store : Store)
+      (outer : Outside) (frame : Frame) (told : ℤ → Trace) (t : Trace) (left : ℕ) (next : Completion → ℕ → Trace → RunOutcome) →
       HasAt code.instrs pc (expr_code marks locals line e ++ i ∷ []) → ExprFine locals taken' e → Agrees locals taken' frame store outer → Fills marks store size →
       ((v : ℤ) (place : ℕ) (u : Trace) → act code (at around place (v ∷ []) store u) (Some i) ≡ On (at around (place + 1) [] store (joined (ticked u) (told v)))) →
       Onwards around locals taken' (pc + length (expr_code marks locals line e ++ i ∷ [])) outer size left next →
-      steps code left (at around pc [] store t) ≡ resume t (then_do (pay_for (evaluate e frame) line left) (λ v left'. then_do (pay 1 left') (λ _ l. then_do (show (told v) l) (λ _. going frame)))) next
+      steps code left (at around pc [] store t) ≡ resume t (then_do (pay_for (evaluate e frame) line left)
+      (λ v left'. then_do (pay 1 left') (λ _ l. then_do (show (told v) l) (λ _. going frame)))) next
   tells_runs around locals taken' e line pc size i store outer frame told t left next has fine agrees n acts on =
       let ce = expr_code marks locals line e in
       let place : pc + length ce + 1 ≡ pc + length (ce ++ i ∷ []) = omega (arith, length-append ce (i ∷ [])) in
@@ -94,7 +99,9 @@ module _ (code : Code) (marks : Marks) (depth : ℕ) where
       ∙ ap (λ l. On (record (at around pc [] store t) { arrays = owned marks (slice_set store.arrays a (Some xs)); readers = l })) (sym (set_read marks a (Some xs) store.arrays own))
 
   -- an expression, and an array made with its value
-  pub value_runs : (around : List Around) (locals locals' : Locals) (taken' : Taken) (e : Expr) (line pc a : ℕ) (ops : List ℤ) (size : Room) (i : Instr) (store : Store) (outer : Outside) (frame : Frame) (make : ℤ → List ℤ) (op : ℤ → Result) (made : ℤ → Frame) (t : Trace) (left : ℕ) (next : Completion → ℕ → Trace → RunOutcome) →
+  pub value_runs : (around : List Around) (locals locals' : Locals) (taken' : Taken) (e : Expr) (line pc a : ℕ) (ops : List ℤ) (size : Room)
+      (i : Instr) (store : Store) (outer : Outside) (frame : Frame) (make : ℤ → List ℤ) (op : ℤ → Result) (made : ℤ → Frame) (t : Trace) (left : ℕ)
+      (next : Completion → ℕ → Trace → RunOutcome) →
       HasAt code.instrs pc (expr_code marks locals line e ++ i ∷ []) → ExprFine locals taken' e → Agrees locals taken' frame store outer → Fills marks store size →
       IsOwn marks a → ((v : ℤ) (place : ℕ) (u : Trace) → act code (at around place (v ∷ ops) store u) (Some i) ≡ set_array (at around place (v ∷ ops) store u) (array_at marks a) line [] make (op v)) →
       ((v : ℤ) → Agrees locals' taken' (made v) (with_array_slot a (Some (make v)) store) outer) →
@@ -128,9 +135,12 @@ module _ (code : Code) (marks : Marks) (depth : ℕ) where
   either around false far near store zero_way other_way l u next h k = k
 
   -- an expression and a test
-  pub test_runs : (around : List Around) (locals : Locals) (taken' : Taken) (e : Expr) (line pc n : ℕ) (store : Store) (outer : Outside) (frame : Frame) (go : ℤ → ℕ → Outcome Completion) (t : Trace) (left : ℕ) (next : Completion → ℕ → Trace → RunOutcome) →
+  pub test_runs : (around : List Around) (locals : Locals) (taken' : Taken) (e : Expr) (line pc n : ℕ) (store : Store) (outer : Outside)
+      (frame : Frame) (go : ℤ → ℕ → Outcome Completion) (t : Trace) (left : ℕ) (next : Completion → ℕ → Trace → RunOutcome) →
       HasAt code.instrs pc (expr_code marks locals line e ++ instr.SkipIfZero n ∷ []) → ExprFine locals taken' e → Agrees locals taken' frame store outer →
-      ((v : ℤ) (l : ℕ) (u : Trace) → l ≤ left → steps code l (at around (if is_zero v then pc + length (expr_code marks locals line e) + 1 + n else pc + length (expr_code marks locals line e) + 1) [] store u) ≡ resume u (go v l) next) →
+      ((v : ℤ) (l : ℕ) (u : Trace) → l ≤ left → steps code l (at around
+      (if is_zero v then pc + length (expr_code marks locals line e) + 1 + n else pc + length (expr_code marks locals line e) + 1) [] store u)
+      ≡ resume u (go v l) next) →
       steps code left (at around pc [] store t) ≡ resume t (then_do (pay_for (evaluate e frame) line left) (λ v left'. then_do (pay 1 left') (λ _ l. go v l))) next
   test_runs around locals taken' e line pc n store outer frame go t left next has fine a k =
       let ce = expr_code marks locals line e in

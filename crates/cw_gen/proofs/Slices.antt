@@ -36,7 +36,8 @@ arrays_alone (p ∷ ps) h =
     test (wants_array p) (first_true (wants_array p) (list_all (λ (q : Param). (wants_array q)) ps) h) rest (arrays_alone ps rest).1
   where
     test : (b : Bool) → b ≡ true → list_all (λ (q : Param). (wants_array q)) ps ≡ true → length (locals_of ps).ints ≡ 0 →
-        ((if b then list_all (λ (q : Param). (wants_array q)) ps else ints_first ps) ≡ true) × (length (map (λ (q : Param). q.name) (cond (not b) (p ∷ filter (λ q. not (wants_array q)) ps) (filter (λ q. not (wants_array q)) ps))) ≡ 0)
+        ((if b then list_all (λ (q : Param). (wants_array q)) ps else ints_first ps) ≡ true)
+        × (length (map (λ (q : Param). q.name) (cond (not b) (p ∷ filter (λ q. not (wants_array q)) ps) (filter (λ q. not (wants_array q)) ps))) ≡ 0)
     test true e rest none = (rest, none)
     test false e rest none = cc
 
@@ -50,26 +51,32 @@ more_arrays ps p b = length (map (λ (q : Param). q.name) (cond b (p ∷ filter 
 -- these parameters are bound by a loop's function
 abbrev LoopBound : List Param → Type 0
 LoopBound ps =
-    (vs : List ℤ) (xss : List (List ℤ)) (g : Frame) → ints_first ps ≡ true → length vs ≡ length (locals_of ps).ints → length xss ≡ length (locals_of ps).arrays → Bound ps vs xss g (loop_frame ps vs xss g)
+    (vs : List ℤ) (xss : List (List ℤ)) (g : Frame) → ints_first ps ≡ true → length vs ≡ length (locals_of ps).ints
+    → length xss ≡ length (locals_of ps).arrays → Bound ps vs xss g (loop_frame ps vs xss g)
 
 -- the frame of a loop's function
-pub bound_loop : (ps : List Param) (vs : List ℤ) (xss : List (List ℤ)) (g : Frame) → ints_first ps ≡ true → length vs ≡ length (locals_of ps).ints → length xss ≡ length (locals_of ps).arrays → Bound ps vs xss g (loop_frame ps vs xss g)
+pub bound_loop : (ps : List Param) (vs : List ℤ) (xss : List (List ℤ)) (g : Frame) → ints_first ps ≡ true → length vs ≡ length (locals_of ps).ints
+    → length xss ≡ length (locals_of ps).arrays → Bound ps vs xss g (loop_frame ps vs xss g)
 bound_loop [] [] [] g order n m = bound_none g
 bound_loop [] [] (xs ∷ xss) g order n m = absurd (omega (arith, m))
 bound_loop [] (v ∷ vs) xss g order n m = absurd (omega (arith, n))
 bound_loop (p ∷ ps) vs xss g order n m = test (λ vs' xss' g' order' n' m'. bound_loop ps vs' xss' g' order' n' m') (wants_array p) refl order n m
   where
-    an_array : LoopBound ps → (wants_array p) ≡ true → (ints_first ps ≡ true) × (length (locals_of ps).ints ≡ 0) → (vs : List ℤ) (xss : List (List ℤ)) → length vs ≡ 0 → length xss ≡ suc (length (locals_of ps).arrays) → Bound (p ∷ ps) vs xss g (loop_frame (p ∷ ps) vs xss g)
+    an_array : LoopBound ps → (wants_array p) ≡ true → (ints_first ps ≡ true) × (length (locals_of ps).ints ≡ 0)
+        → (vs : List ℤ) (xss : List (List ℤ)) → length vs ≡ 0 → length xss ≡ suc (length (locals_of ps).arrays)
+        → Bound (p ∷ ps) vs xss g (loop_frame (p ∷ ps) vs xss g)
     an_array more is alone (v ∷ vs) xss n m = absurd (omega (arith, n))
     an_array more is alone [] [] n m = absurd (omega (arith, m))
     an_array more is alone [] (xs ∷ xss) n m =
         bound_array p ps xs [] xss g (loop_frame ps [] xss (new_array p.name xs g)) is (more [] xss (new_array p.name xs g) alone.0 (sym alone.1) (omega (arith, m)))
 
-    an_int : LoopBound ps → (wants_array p) ≡ false → ints_first ps ≡ true → (vs : List ℤ) → length vs ≡ suc (length (locals_of ps).ints) → length xss ≡ length (locals_of ps).arrays → Bound (p ∷ ps) vs xss g (loop_frame (p ∷ ps) vs xss g)
+    an_int : LoopBound ps → (wants_array p) ≡ false → ints_first ps ≡ true → (vs : List ℤ) → length vs ≡ suc (length (locals_of ps).ints)
+        → length xss ≡ length (locals_of ps).arrays → Bound (p ∷ ps) vs xss g (loop_frame (p ∷ ps) vs xss g)
     an_int more is rest [] n m = absurd (omega (arith, n))
     an_int more is rest (v ∷ vs) n m = bound_int p ps v vs xss g (loop_frame ps vs xss (new_int p.name v g)) is (more vs xss (new_int p.name v g) rest (omega (arith, n)) m)
 
-    test : LoopBound ps → (b : Bool) → (wants_array p) ≡ b → (if b then list_all (λ (q : Param). (wants_array q)) ps else ints_first ps) ≡ true → length vs ≡ more_ints ps p b → length xss ≡ more_arrays ps p b → Bound (p ∷ ps) vs xss g (loop_frame (p ∷ ps) vs xss g)
+    test : LoopBound ps → (b : Bool) → (wants_array p) ≡ b → (if b then list_all (λ (q : Param). (wants_array q)) ps else ints_first ps) ≡ true
+        → length vs ≡ more_ints ps p b → length xss ≡ more_arrays ps p b → Bound (p ∷ ps) vs xss g (loop_frame (p ∷ ps) vs xss g)
     test more true is rest n m = an_array more is (arrays_alone ps rest) vs xss (n ∙ (arrays_alone ps rest).1) m
     test more false is rest n m = an_int more is rest vs n m
 
@@ -88,7 +95,8 @@ slices_are from n frame [] = refl
 slices_are from n frame (a ∷ over) = ap (λ l. take n (drop from (array_of frame a)) ∷ l) (slices_are from n frame over)
 
 -- what the slots of a loop's function that ends hold stands in its arrays again
-pub slices_found : (names over more : List Name) (from : ℕ) (frame g : Frame) (entries : Entries (List ℤ)) (rest : List (List ℤ)) → holding.names_in entries ≡ over ++ more → differ over ≡ true → ((q : Name) → is_among q over ≡ true → array_of g q ≡ find [] q entries) →
+pub slices_found : (names over more : List Name) (from : ℕ) (frame g : Frame) (entries : Entries (List ℤ)) (rest : List (List ℤ))
+    → holding.names_in entries ≡ over ++ more → differ over ≡ true → ((q : Name) → is_among q over ≡ true → array_of g q ≡ find [] q entries) →
     given_back (parts_of from (slots_for names over) (map (λ a. array_of frame a) over)) (full (values_in entries ++ rest)) ≡ Some (backs names over (sliced_back frame from g over))
 slices_found names [] more from frame g entries rest named apart same = refl
 slices_found names (q ∷ qs) more from frame g [] rest named apart same = cc
@@ -97,7 +105,8 @@ slices_found names (q ∷ qs) more from frame g (e ∷ entries) rest named apart
     let head : e.0 ≡ q = cc named in
     let tail : holding.names_in entries ≡ qs ++ more = cc named in
     let whole = array_of frame q in
-    let here : array_of g q ≡ e.1 = same q (ap (λ b. if b then true else is_among q qs) ((bytes_eq-Decides q q).1 refl)) ∙ ap (λ b. if b then e.1 else find [] q entries) ((bytes_eq-Decides q e.0).1 (sym head)) in
+    let here : array_of g q ≡ e.1 = same q (ap (λ b. if b then true else is_among q qs) ((bytes_eq-Decides q q).1 refl))
+    ∙ ap (λ b. if b then e.1 else find [] q entries) ((bytes_eq-Decides q e.0).1 (sym head)) in
     ap (λ o. and_result (Part (slot_of q names) from whole) (Some e.1) o)
     (slices_found names qs more from frame g entries rest tail (second_true (not (is_among q qs)) (differ qs) apart)
     (λ z h. same z (later_among z q qs h) ∙ ap (λ b. if b then e.1 else find [] z entries) (ap (same_name z) head ∙ other_than z q qs other h)))
@@ -108,7 +117,8 @@ find_other : {A : Type 0} (none : A) (b a : Name) (v : A) (es : Entries A) → s
 find_other none b a v [] apart = refl
 find_other none b a v (e ∷ es) apart = test (find_other none b a v es apart) (same_name a e.0) refl (same_name b e.0) refl
   where
-    test : find none b (put a v es) ≡ find none b es → (c : Bool) → same_name a e.0 ≡ c → (d : Bool) → same_name b e.0 ≡ d → find none b (if c then (e.0, v) ∷ es else e ∷ put a v es) ≡ (if d then e.1 else find none b es)
+    test : find none b (put a v es) ≡ find none b es → (c : Bool) → same_name a e.0 ≡ c → (d : Bool) → same_name b e.0 ≡ d
+        → find none b (if c then (e.0, v) ∷ es else e ∷ put a v es) ≡ (if d then e.1 else find none b es)
     test more true at true is = absurd (true≢false (sym ((bytes_eq-Decides a b).1 ((bytes_eq-Decides a e.0).0 at ∙ sym ((bytes_eq-Decides b e.0).0 is))) ∙ apart))
     test more true at false is = ap (λ q. if q then v else find none b es) is
     test more false at true is = ap (λ q. if q then e.1 else find none b (put a v es)) is
@@ -132,7 +142,8 @@ slices_put (a ∷ over) from g frame apart =
     ∙ ap (λ vs. with_arrays frame (put_backs over vs (put a v frame.arrays))) (sliced_other frame g from a v over other)
 
 -- what a loop hands to its function: so many turns from a number on
-unfoldable pub hands_of_loop : (code : Code) (fs : List Function) (lists : Lists) (marks : Marks) (locals : Locals) (taken' : Taken) (frame : Frame) (f : Function) (fn : Func) (captured over : List Name) (low turns : ℤ) →
+unfoldable pub hands_of_loop : (code : Code) (fs : List Function) (lists : Lists) (marks : Marks) (locals : Locals) (taken' : Taken) (frame : Frame)
+    (f : Function) (fn : Func) (captured over : List Name) (low turns : ℤ) →
     Compiled code fs lists f fn → TakesRange f captured over → AllWritable marks locals.arrays taken' over → differ over ≡ true → Hands marks locals taken' frame f fn
 hands_of_loop code fs lists marks locals taken' frame f fn captured over low turns compiled takes us apart =
     let from = natural low in

@@ -70,13 +70,17 @@ second_passed true false h = least_line (1 ∷ []) 1 refl
 second_passed false false h = least_line (1 ∷ 1 ∷ []) 1 refl
 
 -- a tree whose names are looked up right has as many sites as call statements
-pub as_many_as_told : (tree : source.Tree) → is_resolved (resolved_of tree) ≡ true → (sites : List Site) → map site_view sites ≡ emitted_sites_of (resolved_of tree).functions → length sites ≡ call_count (program_of tree)
+pub as_many_as_told : (tree : source.Tree) → is_resolved (resolved_of tree) ≡ true → (sites : List Site)
+    → map site_view sites ≡ emitted_sites_of (resolved_of tree).functions → length sites ≡ call_count (program_of tree)
 as_many_as_told tree slots sites is =
     let same : resolved_of tree ≡ resolved (program_of tree) = slots_are_right (resolved_of tree) slots in
     sym (length-map sites site_view) ∙ ap length is ∙ ap (λ t. length (emitted_sites_of t.functions)) same ∙ as_many_sites (program_of tree)
 
 -- a source that is lowered, its code, and the laws
-module _ (least : WhilesAreLeast) (lowerable : OwnedIsLowerable) (answers : LoweringKeepsAnswers) (sizes : LoweringKeepsSize) (tree : source.Tree) (bodies : Tree) (slots : is_resolved (resolved_of tree) ≡ true) (typed : type_faults (program_of tree) ≡ []) (owned : ownership_faults (program_of tree) ≡ []) (limits : limit_faults (program_of tree) ≡ []) (few : loop_faults (program_of tree) ≡ []) (lowers : IsLowered tree bodies) (source_like : is_source_like (program_of tree) ≡ true) (numbered : are_numbered 0 (call_sites (program_of tree)) ≡ true) where
+module _ (least : WhilesAreLeast) (lowerable : OwnedIsLowerable) (answers : LoweringKeepsAnswers) (sizes : LoweringKeepsSize) (tree : source.Tree)
+    (bodies : Tree) (slots : is_resolved (resolved_of tree) ≡ true) (typed : type_faults (program_of tree) ≡ [])
+    (owned : ownership_faults (program_of tree) ≡ []) (limits : limit_faults (program_of tree) ≡ []) (few : loop_faults (program_of tree) ≡ [])
+    (lowers : IsLowered tree bodies) (source_like : is_source_like (program_of tree) ≡ true) (numbered : are_numbered 0 (call_sites (program_of tree)) ≡ true) where
   abbrev program : Program
   program = program_of tree
 
@@ -95,9 +99,11 @@ module _ (least : WhilesAreLeast) (lowerable : OwnedIsLowerable) (answers : Lowe
   pub too_many_sites : (sites : List Site) → map site_view sites ≡ emitted_sites_of (resolved_of tree).functions → MOST_CALL_STATEMENTS < length sites → IsLeastLine (program_faults program) 1
   too_many_sites sites is h =
       let count = site_count sites is in
-      second_passed (nat_le (static_size program) MOST_INSTRUCTIONS) (nat_le (call_count program) MOST_CALL_STATEMENTS) (not_at_most (call_count program) MOST_CALL_STATEMENTS (omega (arith, count, h)))
+      second_passed (nat_le (static_size program) MOST_INSTRUCTIONS) (nat_le (call_count program) MOST_CALL_STATEMENTS)
+      (not_at_most (call_count program) MOST_CALL_STATEMENTS (omega (arith, count, h)))
 
-  module _ (sites : List Site) (sites_are : map site_view sites ≡ emitted_sites_of (resolved_of tree).functions) (few_sites : length sites ≤ MOST_CALL_STATEMENTS) (made : declared.Code) (is : code_view made ≡ emitted (resolved_of tree) (functions_of tree bodies)) where
+  module _ (sites : List Site) (sites_are : map site_view sites ≡ emitted_sites_of (resolved_of tree).functions)
+      (few_sites : length sites ≤ MOST_CALL_STATEMENTS) (made : declared.Code) (is : code_view made ≡ emitted (resolved_of tree) (functions_of tree bodies)) where
     few_calls : length (call_sites program) ≤ MOST_CALL_STATEMENTS
     few_calls = omega (arith, site_count sites sites_are, few_sites)
 
@@ -120,7 +126,8 @@ module _ (least : WhilesAreLeast) (lowerable : OwnedIsLowerable) (answers : Lowe
 
     -- it has more instructions than the limit
     pub too_long : MOST_INSTRUCTIONS < length made.instrs.items → IsLeastLine (program_faults program) 1
-    too_long h = first_passed (nat_le (static_size program) MOST_INSTRUCTIONS) (nat_le (call_count program) MOST_CALL_STATEMENTS) (not_at_most (static_size program) MOST_INSTRUCTIONS (omega (arith, size, h)))
+    too_long h = first_passed (nat_le (static_size program) MOST_INSTRUCTIONS) (nat_le (call_count program) MOST_CALL_STATEMENTS)
+        (not_at_most (static_size program) MOST_INSTRUCTIONS (omega (arith, size, h)))
 
     -- the code is what the generator promises
     pub generated : length made.instrs.items ≤ MOST_INSTRUCTIONS → Generates program (code_view made)
@@ -138,7 +145,8 @@ module _ (least : WhilesAreLeast) (lowerable : OwnedIsLowerable) (answers : Lowe
           main_line = head_is (lists_of program) program.functions main_name (source_main program typed);
           reducers = refl;
           tags = tags_are_told program;
-          small = none_passed (nat_le (static_size program) MOST_INSTRUCTIONS) (nat_le (call_count program) MOST_CALL_STATEMENTS) (at_most (static_size program) MOST_INSTRUCTIONS (omega (arith, size, h))) (at_most (call_count program) MOST_CALL_STATEMENTS few_calls);
+          small = none_passed (nat_le (static_size program) MOST_INSTRUCTIONS) (nat_le (call_count program) MOST_CALL_STATEMENTS)
+              (at_most (static_size program) MOST_INSTRUCTIONS (omega (arith, size, h))) (at_most (call_count program) MOST_CALL_STATEMENTS few_calls);
         })
 
 -- the sites of the same functions

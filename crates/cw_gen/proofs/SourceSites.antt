@@ -5,7 +5,8 @@ use Rattle.std.proofs.Math.Seq.{get_or-append_seam}
 use Rattle.std.proofs.lemmas.List.{length-map, map-append}
 use Rattle.std.proofs.lemmas.Option.{slice_get-get_or}
 use Rattle.cw_facts.specs.Tests.{first_true, second_true, eq_of}
-use Rattle.cw_model.specs.Syntax.{Stmt, Declare, DeclareArray, Assign, AssignElement, Reduce, Call, Start, Begin, Sync, If, IfElse, While, For, Scope, Cut, Region, Print, Return, Block, End, Then, Function, Program}
+use Rattle.cw_model.specs.Syntax.{Stmt, Declare, DeclareArray, Assign, AssignElement, Reduce, Call, Start, Begin, Sync, If, IfElse}
+use Rattle.cw_model.specs.Syntax.{While, For, Scope, Cut, Region, Print, Return, Block, End, Then, Function, Program}
 use Rattle.cw_model.specs.Sites.{sites_in, sites_in_block, call_sites, are_numbered}
 use Rattle.cw_tree.specs.Resolved.{Lists, Locals, with_int, with_array, locals_after, locals_of, lists_of, resolved_stmt, resolved_block, resolved_function, resolved}
 use Rattle.cw_code.specs.Code.{CodeSite, told_sites}

@@ -62,25 +62,32 @@ pub record Fills (marks : Marks) (store : Store) (room : Room) : Type 0 where
   pub own : AllOwn marks store.arrived
 
 -- an integer that is not taken
-pub loads : (locals : Locals) (taken : Taken) (x : Name) (frame : Frame) (store : Store) (outer : Outside) → IsUsable locals.ints taken x → Agrees locals taken frame store outer → slice_get store.slots (slot_of x locals.ints) ≡ Some (Some (int_of frame x))
+pub loads : (locals : Locals) (taken : Taken) (x : Name) (frame : Frame) (store : Store) (outer : Outside) → IsUsable locals.ints taken x
+    → Agrees locals taken frame store outer → slice_get store.slots (slot_of x locals.ints) ≡ Some (Some (int_of frame x))
 loads locals taken x frame store outer u a = names.loads false (pos 0) locals.ints taken x frame.ints store.slots (store.results ∷ int_waits outer) u a.ints
 
 -- an array that is not taken
-pub finds : (locals : Locals) (taken : Taken) (x : Name) (frame : Frame) (store : Store) (outer : Outside) → IsUsable locals.arrays taken x → Agrees locals taken frame store outer → slice_get store.arrays (slot_of x locals.arrays) ≡ Some (Some (array_of frame x))
+pub finds : (locals : Locals) (taken : Taken) (x : Name) (frame : Frame) (store : Store) (outer : Outside) → IsUsable locals.arrays taken x
+    → Agrees locals taken frame store outer → slice_get store.arrays (slot_of x locals.arrays) ≡ Some (Some (array_of frame x))
 finds locals taken x frame store outer u a = names.loads true [] locals.arrays taken x frame.arrays store.arrays (store.arrived ∷ array_waits outer) u a.arrays
 
 -- the slot of an integer can be written
-pub writes : (locals : Locals) (taken : Taken) (x : Name) (frame : Frame) (store : Store) (outer : Outside) → IsUsable locals.ints taken x → Agrees locals taken frame store outer → is_full (slice_get store.slots (slot_of x locals.ints)) ≡ true
+pub writes : (locals : Locals) (taken : Taken) (x : Name) (frame : Frame) (store : Store) (outer : Outside) → IsUsable locals.ints taken x
+    → Agrees locals taken frame store outer → is_full (slice_get store.slots (slot_of x locals.ints)) ≡ true
 writes locals taken x frame store outer u a = ap is_full (loads locals taken x frame store outer u a)
 
 -- so can the next one
-pub new_is_there : (locals : Locals) (taken : Taken) (frame : Frame) (store : Store) (outer : Outside) → length locals.ints < length store.slots → Agrees locals taken frame store outer → is_full (slice_get store.slots (length locals.ints)) ≡ true
+pub new_is_there : (locals : Locals) (taken : Taken) (frame : Frame) (store : Store) (outer : Outside) → length locals.ints < length store.slots
+    → Agrees locals taken frame store outer → is_full (slice_get store.slots (length locals.ints)) ≡ true
 new_is_there locals taken frame store outer within a =
-    names.is_there false locals.ints taken (length locals.ints) frame.ints store.slots (store.results ∷ int_waits outer) (is_later false locals.ints taken (length locals.ints) (store.results ∷ int_waits outer) (omega arith) a.ints.levels) within a.ints
+    names.is_there false locals.ints taken (length locals.ints) frame.ints store.slots (store.results ∷ int_waits outer)
+    (is_later false locals.ints taken (length locals.ints) (store.results ∷ int_waits outer) (omega arith) a.ints.levels) within a.ints
 
-pub new_array_is_there : (locals : Locals) (taken : Taken) (frame : Frame) (store : Store) (outer : Outside) (n : ℕ) → length locals.arrays ≤ n → n < length store.arrays → Agrees locals taken frame store outer → is_full (slice_get store.arrays n) ≡ true
+pub new_array_is_there : (locals : Locals) (taken : Taken) (frame : Frame) (store : Store) (outer : Outside) (n : ℕ) → length locals.arrays ≤ n
+    → n < length store.arrays → Agrees locals taken frame store outer → is_full (slice_get store.arrays n) ≡ true
 new_array_is_there locals taken frame store outer n le within a =
-    names.is_there true locals.arrays taken n frame.arrays store.arrays (store.arrived ∷ array_waits outer) (is_later true locals.arrays taken n (store.arrived ∷ array_waits outer) le a.arrays.levels) within a.arrays
+    names.is_there true locals.arrays taken n frame.arrays store.arrays (store.arrived ∷ array_waits outer)
+    (is_later true locals.arrays taken n (store.arrived ∷ array_waits outer) le a.arrays.levels) within a.arrays
 
 -- the slots of integers, with one of them written
 abbrev pub with_slot : ℕ → Option ℤ → Store → Store
@@ -108,18 +115,21 @@ pub replaces : (locals : Locals) (taken : Taken) (x : Name) (v : List ℤ) (fram
 replaces locals taken x v frame store outer u a =
     record { ints = a.ints; arrays = names.assigns true locals.arrays taken x v frame.arrays store.arrays (store.arrived ∷ array_waits outer) u a.arrays; whole = a.whole }
 
-pub declares : (locals : Locals) (taken : Taken) (x : Name) (v : ℤ) (frame : Frame) (store : Store) (outer : Outside) → length locals.ints < length store.slots → Agrees locals taken frame store outer →
+pub declares : (locals : Locals) (taken : Taken) (x : Name) (v : ℤ) (frame : Frame) (store : Store) (outer : Outside)
+    → length locals.ints < length store.slots → Agrees locals taken frame store outer →
     Agrees (with_int x locals) taken (new_int x v frame) (with_slot (length locals.ints) (Some v) store) outer
 declares locals taken x v frame store outer room a =
     record { ints = names.declares false locals.ints taken x v frame.ints store.slots (store.results ∷ int_waits outer) room a.ints; arrays = a.arrays; whole = a.whole }
 
-pub declares_array : (locals : Locals) (taken : Taken) (x : Name) (v : List ℤ) (frame : Frame) (store : Store) (outer : Outside) → length locals.arrays < length store.arrays → Agrees locals taken frame store outer →
+pub declares_array : (locals : Locals) (taken : Taken) (x : Name) (v : List ℤ) (frame : Frame) (store : Store) (outer : Outside)
+    → length locals.arrays < length store.arrays → Agrees locals taken frame store outer →
     Agrees (with_array x locals) taken (new_array x v frame) (with_array_slot (length locals.arrays) (Some v) store) outer
 declares_array locals taken x v frame store outer room a =
     record { ints = a.ints; arrays = names.declares true locals.arrays taken x v frame.arrays store.arrays (store.arrived ∷ array_waits outer) room a.arrays; whole = a.whole }
 
 -- more is taken
-pub takes : (locals : Locals) (taken taken' : Taken) (frame : Frame) (store : Store) (outer : Outside) → ((cuts : Bool) (d : ℕ) (x : Name) → holds cuts d x taken ≡ true → holds cuts d x taken' ≡ true) → Agrees locals taken frame store outer →
+pub takes : (locals : Locals) (taken taken' : Taken) (frame : Frame) (store : Store) (outer : Outside)
+    → ((cuts : Bool) (d : ℕ) (x : Name) → holds cuts d x taken ≡ true → holds cuts d x taken' ≡ true) → Agrees locals taken frame store outer →
     Agrees locals taken' frame store outer
 takes locals taken taken' frame store outer more a = record {
   ints = names.takes false locals.ints taken taken' frame.ints store.slots (store.results ∷ int_waits outer) (more false) a.ints;
@@ -131,13 +141,16 @@ takes locals taken taken' frame store outer more a = record {
 pub joins : (locals : Locals) (taken : Taken) (frame : Frame) (store : Store) (outer : Outside) → Agrees locals taken frame store outer →
     Agrees locals (freed (suc (length outer)) taken) frame (joined_with store (record { ints = []; arrays = [] })) outer
 joins locals taken frame store outer a = record {
-  ints = subst (λ n. AgreesOf false locals.ints (freed (suc n) taken) frame.ints (settled store.results store.slots) ([] ∷ int_waits outer)) (length-map outer (λ w. w.ints)) (names.joins false locals.ints taken frame.ints store.slots store.results (int_waits outer) a.ints);
-  arrays = subst (λ n. AgreesOf true locals.arrays (freed (suc n) taken) frame.arrays (settled store.arrived store.arrays) ([] ∷ array_waits outer)) (length-map outer (λ w. w.arrays)) (names.joins true locals.arrays taken frame.arrays store.arrays store.arrived (array_waits outer) a.arrays);
+  ints = subst (λ n. AgreesOf false locals.ints (freed (suc n) taken) frame.ints (settled store.results store.slots) ([] ∷ int_waits outer))
+      (length-map outer (λ w. w.ints)) (names.joins false locals.ints taken frame.ints store.slots store.results (int_waits outer) a.ints);
+  arrays = subst (λ n. AgreesOf true locals.arrays (freed (suc n) taken) frame.arrays (settled store.arrived store.arrays) ([] ∷ array_waits outer))
+      (length-map outer (λ w. w.arrays)) (names.joins true locals.arrays taken frame.arrays store.arrays store.arrived (array_waits outer) a.arrays);
   whole = a.whole;
 }
 
 -- a further sync block begins
-pub enters : (locals : Locals) (taken : Taken) (frame : Frame) (store : Store) (outer : Outside) → Agrees locals taken frame store outer → Agrees locals taken frame (inner_of store) (waits_of store ∷ outer)
+pub enters : (locals : Locals) (taken : Taken) (frame : Frame) (store : Store) (outer : Outside) → Agrees locals taken frame store outer
+    → Agrees locals taken frame (inner_of store) (waits_of store ∷ outer)
 enters locals taken frame store outer a = record {
   ints = names.enters false locals.ints taken frame.ints store.slots (store.results ∷ int_waits outer) a.ints;
   arrays = names.enters true locals.arrays taken frame.arrays store.arrays (store.arrived ∷ array_waits outer) a.arrays;
@@ -145,7 +158,8 @@ enters locals taken frame store outer a = record {
 }
 
 -- it joins and ends
-pub exits : (locals : Locals) (taken : Taken) (frame : Frame) (store : Store) (w : Waits) (outer : Outside) → Agrees locals taken frame store (w ∷ outer) → Agrees locals (freed (suc (suc (length outer))) taken) frame (joined_with store w) outer
+pub exits : (locals : Locals) (taken : Taken) (frame : Frame) (store : Store) (w : Waits) (outer : Outside)
+    → Agrees locals taken frame store (w ∷ outer) → Agrees locals (freed (suc (suc (length outer))) taken) frame (joined_with store w) outer
 exits locals taken frame store w outer a =
     let b = joins locals taken frame store (w ∷ outer) a in
     let t = freed (suc (suc (length outer))) taken in
@@ -156,8 +170,10 @@ exits locals taken frame store w outer a =
     }
 
 -- the names of a block are gone at its end
-pub leaves_block : (locals : Locals) (more more_arrays own : List Name) (taken : Taken) (before frame : Frame) (store : Store) (outer : Outside) → names_in before.ints ≡ locals.ints → names_in before.arrays ≡ locals.arrays → before.sliced ≡ [] →
-    ((x : Name) → is_among x more ≡ true → is_among x own ≡ true) → ((x : Name) → is_among x more_arrays ≡ true → is_among x own ≡ true) → ((x : Name) → is_among x own ≡ true → is_taken taken x ≡ false) →
+pub leaves_block : (locals : Locals) (more more_arrays own : List Name) (taken : Taken) (before frame : Frame) (store : Store) (outer : Outside)
+    → names_in before.ints ≡ locals.ints → names_in before.arrays ≡ locals.arrays → before.sliced ≡ [] →
+    ((x : Name) → is_among x more ≡ true → is_among x own ≡ true) → ((x : Name) → is_among x more_arrays ≡ true → is_among x own ≡ true)
+    → ((x : Name) → is_among x own ≡ true → is_taken taken x ≡ false) →
     Agrees (record { ints = locals.ints ++ more; arrays = locals.arrays ++ more_arrays }) taken frame store outer → Agrees locals (without own taken) (leave before frame) store outer
 leaves_block locals more more_arrays own taken before frame store outer named named_arrays whole covers covers_arrays free a = record {
   ints = names.leaves_block false locals.ints more own taken before.ints frame.ints store.slots (store.results ∷ int_waits outer) named covers free a.ints;

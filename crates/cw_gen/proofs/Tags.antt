@@ -3,7 +3,8 @@ use Rattle.std.proofs.Common.{◌≡◌, ℕ, suc, List, [], ◌∷◌, ◌++◌
 use Rattle.std.proofs.lemmas.Slice.Eq.{bytes_eq-Decides}
 use Rattle.std.proofs.lemmas.List.{map-append}
 use Rattle.std.specs.Prelude.{map, flat_map, slice_get}
-use Rattle.cw_model.specs.Syntax.{Name, Stmt, Declare, DeclareArray, Assign, AssignElement, Reduce, Call, Start, Begin, Sync, If, IfElse, While, For, Scope, Cut, Region, Print, Return, Block, End, Then, Function, Program}
+use Rattle.cw_model.specs.Syntax.{Name, Stmt, Declare, DeclareArray, Assign, AssignElement, Reduce, Call, Start, Begin, Sync, If, IfElse}
+use Rattle.cw_model.specs.Syntax.{While, For, Scope, Cut, Region, Print, Return, Block, End, Then, Function, Program}
 use Rattle.cw_model.specs.Names.{same_name, is_among, new_names}
 use Rattle.cw_model.specs.Meaning.{function_named}
 use Rattle.cw_model.specs.Report.{tags_in, tags_in_block}
@@ -26,11 +27,13 @@ known_is_none (y ∷ xs) known x h = test (known_is_none xs known x h) (λ k. kn
         inner true = refl
         inner false = h
 
-    other : (is_among x (y ∷ known) ≡ true → fits.is_among x (new_names xs (y ∷ known)) ≡ false) → is_among y known ≡ false → (b : Bool) → same_name x y ≡ b → (same_name x y || fits.is_among x (new_names xs (y ∷ known))) ≡ false
+    other : (is_among x (y ∷ known) ≡ true → fits.is_among x (new_names xs (y ∷ known)) ≡ false) → is_among y known ≡ false → (b : Bool)
+        → same_name x y ≡ b → (same_name x y || fits.is_among x (new_names xs (y ∷ known))) ≡ false
     other more new true e = absurd (true≢false (sym h ∙ ap (λ z. is_among z known) ((bytes_eq-Decides x y).0 e) ∙ new))
     other more new false e = ap (λ b. b || fits.is_among x (new_names xs (y ∷ known))) e ∙ more further
 
-    test : fits.is_among x (new_names xs known) ≡ false → (is_among x (y ∷ known) ≡ true → fits.is_among x (new_names xs (y ∷ known)) ≡ false) → (b : Bool) → is_among y known ≡ b → fits.is_among x (if b then new_names xs known else y ∷ new_names xs (y ∷ known)) ≡ false
+    test : fits.is_among x (new_names xs known) ≡ false → (is_among x (y ∷ known) ≡ true → fits.is_among x (new_names xs (y ∷ known)) ≡ false)
+        → (b : Bool) → is_among y known ≡ b → fits.is_among x (if b then new_names xs known else y ∷ new_names xs (y ∷ known)) ≡ false
     test rest more true e = rest
     test rest more false e = other more e (same_name x y) refl
 
@@ -39,7 +42,8 @@ new_are_apart : (xs known : List Name) → fits.are_apart (new_names xs known) �
 new_are_apart [] known = refl
 new_are_apart (x ∷ xs) known = test (new_are_apart xs known) (new_are_apart xs (x ∷ known)) (is_among x known)
   where
-    test : fits.are_apart (new_names xs known) ≡ true → fits.are_apart (new_names xs (x ∷ known)) ≡ true → (b : Bool) → fits.are_apart (if b then new_names xs known else x ∷ new_names xs (x ∷ known)) ≡ true
+    test : fits.are_apart (new_names xs known) ≡ true → fits.are_apart (new_names xs (x ∷ known)) ≡ true → (b : Bool)
+        → fits.are_apart (if b then new_names xs known else x ∷ new_names xs (x ∷ known)) ≡ true
     test rest more true = rest
     test rest more false =
         ap (λ b. not b && fits.are_apart (new_names xs (x ∷ known))) (known_is_none xs (x ∷ known) x (ap (λ b. if b then true else is_among x known) ((bytes_eq-Decides x x).1 refl)))
@@ -50,8 +54,10 @@ names_first : (ds : List (Name × ℕ)) (known : List Name) → map (λ d. d.0) 
 names_first [] known = refl
 names_first (d ∷ ds) known = test (names_first ds known) (names_first ds (d.0 ∷ known)) (is_among d.0 known)
   where
-    test : map (λ (e : Name × ℕ). e.0) (first_places ds known) ≡ new_names (map (λ e. e.0) ds) known → map (λ (e : Name × ℕ). e.0) (first_places ds (d.0 ∷ known)) ≡ new_names (map (λ e. e.0) ds) (d.0 ∷ known) → (b : Bool) →
-        map (λ (e : Name × ℕ). e.0) (if b then first_places ds known else d ∷ first_places ds (d.0 ∷ known)) ≡ (if b then new_names (map (λ e. e.0) ds) known else d.0 ∷ new_names (map (λ e. e.0) ds) (d.0 ∷ known))
+    test : map (λ (e : Name × ℕ). e.0) (first_places ds known) ≡ new_names (map (λ e. e.0) ds) known
+        → map (λ (e : Name × ℕ). e.0) (first_places ds (d.0 ∷ known)) ≡ new_names (map (λ e. e.0) ds) (d.0 ∷ known) → (b : Bool) →
+        map (λ (e : Name × ℕ). e.0) (if b then first_places ds known else d ∷ first_places ds (d.0 ∷ known))
+        ≡ (if b then new_names (map (λ e. e.0) ds) known else d.0 ∷ new_names (map (λ e. e.0) ds) (d.0 ∷ known))
     test rest more true = rest
     test rest more false = ap (λ l. d.0 ∷ l) more
 
@@ -100,11 +106,13 @@ tags_are_apart program =
     ∙ new_are_apart (map (λ d. d.0) (flat_map (λ f. regions_in_block f.body) program.functions)) []
 
 -- the line of the head of a function that is there
-pub head_is : (lists : Lists) (fs : List Function) (name : Name) → is_function name fs ≡ true → head_line (slice_get (map (resolved_function lists) fs) (slot_of name (function_names fs))) ≡ (function_named name fs).line
+pub head_is : (lists : Lists) (fs : List Function) (name : Name) → is_function name fs ≡ true
+    → head_line (slice_get (map (resolved_function lists) fs) (slot_of name (function_names fs))) ≡ (function_named name fs).line
 head_is lists [] name h = cc
 head_is lists (f ∷ fs) name h = test (λ h'. head_is lists fs name h') (same_name name f.name) h
   where
-    test : (is_function name fs ≡ true → head_line (slice_get (map (resolved_function lists) fs) (slot_of name (function_names fs))) ≡ (function_named name fs).line) → (b : Bool) → (if b then true else is_function name fs) ≡ true →
+    test : (is_function name fs ≡ true → head_line (slice_get (map (resolved_function lists) fs) (slot_of name (function_names fs)))
+        ≡ (function_named name fs).line) → (b : Bool) → (if b then true else is_function name fs) ≡ true →
         head_line (slice_get (map (resolved_function lists) (f ∷ fs)) (if b then 0 else suc (slot_of name (function_names fs)))) ≡ (if b then f else function_named name fs).line
     test more true h' = refl
     test more false h' = more h'

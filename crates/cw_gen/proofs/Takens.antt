@@ -1,5 +1,6 @@
 -- Which names the spawns of one sync block hold.
-use Rattle.std.proofs.Common.{◌≡◌, ◌≢◌, ℕ, zero, suc, ◌<◌, ◌==◌, List, [], ◌∷◌, ◌++◌, Bool, true, false, not, ◌&&◌, if◌then◌else◌, cond, refl, sym, ap, ◌∙◌, arith, filter, Contains, ◌⊎◌, inl, inr, ⊎_elim, zero-lt-suc, true≢false, get_or}
+use Rattle.std.proofs.Common.{◌≡◌, ◌≢◌, ℕ, zero, suc, ◌<◌, ◌==◌, List, [], ◌∷◌, ◌++◌, Bool, true, false, not, ◌&&◌, if◌then◌else◌, cond, refl}
+use Rattle.std.proofs.Common.{sym, ap, ◌∙◌, arith, filter, Contains, ◌⊎◌, inl, inr, ⊎_elim, zero-lt-suc, true≢false, get_or}
 use Rattle.std.specs.Prelude.{map}
 use Rattle.std.proofs.lemmas.Bool.{eqb-true, eq-eqb}
 use Rattle.std.proofs.lemmas.List.Elements.{Contains-append_right, Contains-append_cases}
@@ -8,7 +9,8 @@ use Rattle.cw_facts.specs.Tests.{first_true, second_true, not_true}
 use Rattle.cw_model.specs.Syntax.{Name, Stmt, Declare, DeclareArray, Block, End, Then, Function}
 use Rattle.cw_model.specs.Names.{same_name, is_among}
 use Rattle.cw_model.specs.Lines.{unless}
-use Rattle.cw_model.specs.Ownership.{Holder, SpawnIn, ReaderIn, CutOf, Taken, is_taken, is_held, is_spawn_in, is_cut_of, cut_ended, freed, without, taken_by, own_names, taken_after, taken_after_all, IsLeastClosed, Around, Declared, left_taken, declared_by, known_after, Closing, at_end, owner_faults, owner_faults_in}
+use Rattle.cw_model.specs.Ownership.{Holder, SpawnIn, ReaderIn, CutOf, Taken, is_taken, is_held, is_spawn_in, is_cut_of, cut_ended, freed, without, taken_by, own_names, taken_after}
+use Rattle.cw_model.specs.Ownership.{taken_after_all, IsLeastClosed, Around, Declared, left_taken, declared_by, known_after, Closing, at_end, owner_faults, owner_faults_in}
 use Rattle.cw_model.specs.lemmas.Kept.{right_none}
 
 -- whether a holder is a spawn of the sync block at a depth, or, where cuts count, a cut
@@ -102,7 +104,8 @@ module _ (cuts : Bool) where
       both (ReaderIn d) e = refl
       both CutOf e = cc
 
-      test : (holds other x taken ≡ true → holds other x (freed depth taken) ≡ true) → (b c : Bool) → is_spawn_in depth t.1 ≡ b → has other x t ≡ c → (if c then true else holds other x taken) ≡ true → holds other x (cond (not b) (t ∷ freed depth taken) (freed depth taken)) ≡ true
+      test : (holds other x taken ≡ true → holds other x (freed depth taken) ≡ true) → (b c : Bool) → is_spawn_in depth t.1 ≡ b → has other x t ≡ c
+          → (if c then true else holds other x taken) ≡ true → holds other x (cond (not b) (t ∷ freed depth taken) (freed depth taken)) ≡ true
       test more true true e e' h' = absurd (true≢false (sym (second_true (same_name x t.0) (is_held_in other t.1) e') ∙ both t.1 e))
       test more true false e e' h' = more h'
       test more false true e e' h' = ap (λ c. if c then true else holds other x (freed depth taken)) e'
@@ -116,7 +119,8 @@ module _ (cuts : Bool) where
   held_without depth x own [] apart h = cc
   held_without depth x own (t ∷ taken) apart h = test (held_without depth x own taken apart) (is_among t.0 own) (has depth x t) refl refl h
     where
-      test : (holds depth x taken ≡ true → holds depth x (without own taken) ≡ true) → (b c : Bool) → is_among t.0 own ≡ b → has depth x t ≡ c → (if c then true else holds depth x taken) ≡ true → holds depth x (cond (not b) (t ∷ without own taken) (without own taken)) ≡ true
+      test : (holds depth x taken ≡ true → holds depth x (without own taken) ≡ true) → (b c : Bool) → is_among t.0 own ≡ b → has depth x t ≡ c
+          → (if c then true else holds depth x taken) ≡ true → holds depth x (cond (not b) (t ∷ without own taken) (without own taken)) ≡ true
       test more true true e e' h' = absurd (true≢false (sym (same_among x t.0 own (first_true (same_name x t.0) (is_held_in depth t.1) e') e) ∙ apart))
       test more true false e e' h' = more h'
       test more false true e e' h' = ap (λ c. if c then true else holds depth x (without own taken)) e'
@@ -127,7 +131,8 @@ module _ (cuts : Bool) where
   held_by_spawn depth x [] taken h = cc
   held_by_spawn depth x (y ∷ xs) taken h = test (held_by_spawn depth x xs taken) (same_name x y) h
     where
-      test : (is_among x xs ≡ true → holds depth x (taken_by depth xs taken) ≡ true) → (b : Bool) → (if b then true else is_among x xs) ≡ true → (if b && (depth == depth) then true else holds depth x (taken_by depth xs taken)) ≡ true
+      test : (is_among x xs ≡ true → holds depth x (taken_by depth xs taken) ≡ true) → (b : Bool) → (if b then true else is_among x xs) ≡ true
+          → (if b && (depth == depth) then true else holds depth x (taken_by depth xs taken)) ≡ true
       test more true h' = ap (λ b. if b then true else holds depth x (taken_by depth xs taken)) (eq-eqb depth depth refl)
       test more false h' = more h'
 
@@ -135,7 +140,8 @@ module _ (cuts : Bool) where
   contains_held depth x [] h = cc
   contains_held depth x (t ∷ taken) h = test (contains_held depth x taken) (has depth x t) refl h
     where
-      test : (holds depth x taken ≡ true → (k : Holder) × (is_held_in depth k ≡ true) × Contains taken (x, k)) → (b : Bool) → has depth x t ≡ b → (if b then true else holds depth x taken) ≡ true → (k : Holder) × (is_held_in depth k ≡ true) × Contains (t ∷ taken) (x, k)
+      test : (holds depth x taken ≡ true → (k : Holder) × (is_held_in depth k ≡ true) × Contains taken (x, k)) → (b : Bool) → has depth x t ≡ b
+          → (if b then true else holds depth x taken) ≡ true → (k : Holder) × (is_held_in depth k ≡ true) × Contains (t ∷ taken) (x, k)
       test more true e h' =
           let n : t.0 ≡ x = sym ((bytes_eq-Decides x t.0).0 (first_true (same_name x t.0) (is_held_in depth t.1) e)) in
           (t.1, second_true (same_name x t.0) (is_held_in depth t.1) e, (0, zero-lt-suc _, ap (λ m. (m, t.1)) n))
@@ -145,7 +151,8 @@ module _ (cuts : Bool) where
 
   held_contained : (depth : ℕ) (x : Name) (k : Holder) → is_held_in depth k ≡ true → (taken : Taken) → Contains taken (x, k) → holds depth x taken ≡ true
   held_contained depth x k is [] c = absurd (omega (arith, c.1))
-  held_contained depth x k is (t ∷ taken) c = ⊎_elim (λ here. first here) (λ later. holds_behind depth x (t ∷ []) taken (held_contained depth x k is taken later)) (Contains-append_cases (t ∷ []) taken (x, k) c)
+  held_contained depth x k is (t ∷ taken) c = ⊎_elim (λ here. first here)
+      (λ later. holds_behind depth x (t ∷ []) taken (held_contained depth x k is taken later)) (Contains-append_cases (t ∷ []) taken (x, k) c)
     where
       only : (n : ℕ) → n < 1 → get_or (t ∷ []) n (x, k) ≡ (x, k) → t ≡ (x, k)
       only zero l e = e
@@ -176,7 +183,8 @@ module _ (cuts : Bool) where
           let same : x ≡ y = (bytes_eq-Decides x y).0 (first_true (same_name x y) cuts e') in
           sym (ap (same_name a) same ∙ e) ∙ apart
 
-      test : (holds depth x taken ≡ true → holds depth x (cut_ended a taken) ≡ true) → (b c : Bool) → is_cut_of a t ≡ b → has depth x t ≡ c → (if c then true else holds depth x taken) ≡ true → holds depth x (cond (not b) (t ∷ cut_ended a taken) (cut_ended a taken)) ≡ true
+      test : (holds depth x taken ≡ true → holds depth x (cut_ended a taken) ≡ true) → (b c : Bool) → is_cut_of a t ≡ b → has depth x t ≡ c
+          → (if c then true else holds depth x taken) ≡ true → holds depth x (cond (not b) (t ∷ cut_ended a taken) (cut_ended a taken)) ≡ true
       test more true true e e' h' = absurd (true≢false (other t e e'))
       test more true false e e' h' = more h'
       test more false true e e' h' = ap (λ c. if c then true else holds depth x (cut_ended a taken)) e'
@@ -192,7 +200,9 @@ spawn_past_cut depth a x (t ∷ taken) h = test (spawn_past_cut depth a x taken)
     other (y, ReaderIn d) e e' = cc
     other (y, CutOf) e e' = sym (second_true (same_name x y) false e')
 
-    test : (holds false depth x taken ≡ true → holds false depth x (cut_ended a taken) ≡ true) → (b c : Bool) → is_cut_of a t ≡ b → has false depth x t ≡ c → (if c then true else holds false depth x taken) ≡ true → holds false depth x (cond (not b) (t ∷ cut_ended a taken) (cut_ended a taken)) ≡ true
+    test : (holds false depth x taken ≡ true → holds false depth x (cut_ended a taken) ≡ true) → (b c : Bool) → is_cut_of a t ≡ b
+        → has false depth x t ≡ c → (if c then true else holds false depth x taken) ≡ true
+        → holds false depth x (cond (not b) (t ∷ cut_ended a taken) (cut_ended a taken)) ≡ true
     test more true true e e' h' = absurd (true≢false (other t e e'))
     test more true false e e' h' = more h'
     test more false true e e' h' = ap (λ c. if c then true else holds false depth x (cut_ended a taken)) e'
@@ -214,26 +224,32 @@ left_free (d ∷ declared) taken x h among = test (left_free declared taken x (m
     free : is_held taken d.0 ≡ false
     free = not_true (is_held taken d.0) (none_left (not (is_held taken d.0)) d.1 (left_taken declared taken) h)
 
-    test : (is_among x (map (λ d'. d'.0) declared) ≡ true → is_held taken x ≡ false) → (b : Bool) → same_name x d.0 ≡ b → (if b then true else is_among x (map (λ d'. d'.0) declared)) ≡ true → is_held taken x ≡ false
+    test : (is_among x (map (λ d'. d'.0) declared) ≡ true → is_held taken x ≡ false) → (b : Bool) → same_name x d.0 ≡ b
+        → (if b then true else is_among x (map (λ d'. d'.0) declared)) ≡ true → is_held taken x ≡ false
     test more true e h' = ap (is_held taken) ((bytes_eq-Decides x d.0).0 e) ∙ free
     test more false e h' = more h'
 
 -- at the end of a block none of the names that it declared is held
-pub ends_free : (fs : List Function) (around : Around) (known : List Name) (depth : ℕ) (closing : Closing) (taken : Taken) (declared : Declared) (b : Block) → owner_faults_in fs around known depth closing taken declared b ≡ [] → (x : Name) →
+pub ends_free : (fs : List Function) (around : Around) (known : List Name) (depth : ℕ) (closing : Closing) (taken : Taken) (declared : Declared)
+    (b : Block) → owner_faults_in fs around known depth closing taken declared b ≡ [] → (x : Name) →
     is_among x (map (λ d. d.0) declared) ≡ true ⊎ is_among x (own_names b) ≡ true → is_held (at_end closing depth (taken_after_all fs depth b taken)) x ≡ false
 ends_free fs around known depth closing taken declared End h x (inl among) = left_free declared (at_end closing depth taken) x h among
 ends_free fs around known depth closing taken declared End h x (inr among) = cc
 ends_free fs around known depth closing taken declared (Then line s b) h x among =
-    ends_free fs around (known_after known s) depth closing (taken_after fs depth s taken) (declared_by line s declared) b (right_none (owner_faults fs around known depth taken line s) _ h) x (moved s among)
+    ends_free fs around (known_after known s) depth closing (taken_after fs depth s taken) (declared_by line s declared) b
+    (right_none (owner_faults fs around known depth taken line s) _ h) x (moved s among)
   where
-    one : (y : Name) → is_among x (map (λ d. d.0) declared) ≡ true ⊎ (if same_name x y then true else is_among x (own_names b)) ≡ true → (if same_name x y then true else is_among x (map (λ d. d.0) declared)) ≡ true ⊎ is_among x (own_names b) ≡ true
+    one : (y : Name) → is_among x (map (λ d. d.0) declared) ≡ true ⊎ (if same_name x y then true else is_among x (own_names b)) ≡ true
+        → (if same_name x y then true else is_among x (map (λ d. d.0) declared)) ≡ true ⊎ is_among x (own_names b) ≡ true
     one y a = test (same_name x y) a
       where
-        test : (c : Bool) → is_among x (map (λ d. d.0) declared) ≡ true ⊎ (if c then true else is_among x (own_names b)) ≡ true → (if c then true else is_among x (map (λ d. d.0) declared)) ≡ true ⊎ is_among x (own_names b) ≡ true
+        test : (c : Bool) → is_among x (map (λ d. d.0) declared) ≡ true ⊎ (if c then true else is_among x (own_names b)) ≡ true
+            → (if c then true else is_among x (map (λ d. d.0) declared)) ≡ true ⊎ is_among x (own_names b) ≡ true
         test true a' = inl refl
         test false a' = a'
 
-    moved : (s : Stmt) → is_among x (map (λ d. d.0) declared) ≡ true ⊎ is_among x (own_names (Then line s b)) ≡ true → is_among x (map (λ d. d.0) (declared_by line s declared)) ≡ true ⊎ is_among x (own_names b) ≡ true
+    moved : (s : Stmt) → is_among x (map (λ d. d.0) declared) ≡ true ⊎ is_among x (own_names (Then line s b)) ≡ true
+        → is_among x (map (λ d. d.0) (declared_by line s declared)) ≡ true ⊎ is_among x (own_names b) ≡ true
     moved (Declare y e) a = one y a
     moved (DeclareArray y e) a = one y a
     moved _ a = a
@@ -244,7 +260,8 @@ filters_swap p q [] = refl
 filters_swap {X} p q (x ∷ xs) = test (filters_swap p q xs) (p x) (q x) refl refl
   where
     test : filter p (filter q xs) ≡ filter q (filter p xs) → (b c : Bool) → p x ≡ b → q x ≡ c → filter p (cond c (x ∷ filter q xs) (filter q xs)) ≡ filter q (cond b (x ∷ filter p xs) (filter p xs))
-    test more true true e e' = ap (λ z. cond z (x ∷ filter p (filter q xs)) (filter p (filter q xs))) e ∙ ap (λ l. x ∷ l) more ∙ sym (ap (λ z. cond z (x ∷ filter q (filter p xs)) (filter q (filter p xs))) e')
+    test more true true e e' = ap (λ z. cond z (x ∷ filter p (filter q xs)) (filter p (filter q xs))) e ∙ ap (λ l. x ∷ l) more
+        ∙ sym (ap (λ z. cond z (x ∷ filter q (filter p xs)) (filter q (filter p xs))) e')
     test more true false e e' = more ∙ sym (ap (λ z. cond z (x ∷ filter q (filter p xs)) (filter q (filter p xs))) e')
     test more false true e e' = ap (λ z. cond z (x ∷ filter p (filter q xs)) (filter p (filter q xs))) e ∙ more
     test more false false e e' = more

@@ -1,7 +1,8 @@
 -- Functions whose names are known and free, and whose slots, lists and sites are told, are what their code relies on.
 use Rattle.std.proofs.Common.{◌≡◌, ℕ, ◌+◌, List, [], ◌∷◌, Bool, true, false, not, ◌||◌, if◌then◌else◌, Option, Some, None, refl, ap, subst}
 use Rattle.std.specs.List.{list_any}
-use Rattle.cw_model.specs.Syntax.{is_array_kind, is_written_kind, Name, Expr, Number, Variable, Element, Length, Negative, Not, Binary, Stmt, Declare, DeclareArray, Assign, AssignElement, Reduce, Call, Start, Begin, Sync, If, IfElse, While, For, Scope, Cut, Region, Print, Return, Block, End, Then, Param, Function}
+use Rattle.cw_model.specs.Syntax.{is_array_kind, is_written_kind, Name, Expr, Number, Variable, Element, Length, Negative, Not, Binary, Stmt, Declare, DeclareArray, Assign}
+use Rattle.cw_model.specs.Syntax.{AssignElement, Reduce, Call, Start, Begin, Sync, If, IfElse, While, For, Scope, Cut, Region, Print, Return, Block, End, Then, Param, Function}
 use Rattle.cw_model.specs.Meaning.{function_named}
 use Rattle.cw_model.specs.Typing.{Returns, Nowhere, WithInt, Alone}
 use Rattle.cw_model.specs.Ownership.{Taken, CutOf, is_taken, is_held, names_in, target_names, arrays_given, given, are_free}
@@ -18,8 +19,10 @@ use Rattle.cw_model.specs.declared.syntax.NameKind.{NameKind}
 use Rattle.cw_model.specs.declared.syntax.NameKind.TheVariants as name_kind
 use Rattle.cw_model.specs.Names.{is_among}
 use Rattle.cw_gen.proofs.Held.{held_after}
-use Rattle.cw_gen.proofs.Fine.{marks_for, IsWritable, AllWritable, IsPassed, ExprFine, ArgFine, ArgsFine, TargetFine, ReturnFine, AllUsable, Room, room_of, StmtFine, BlockFine, FunctionFine, FunctionsFine}
-use Rattle.cw_gen.proofs.Kept.{ExprKnown, ArgKnown, ArgsKnown, TargetKnown, ReturnKnown, AllKnown, StmtKnown, BlockKnown, FunctionKnown, AllFunctionsKnown, ExprsFree, ReturnFree, StmtFree, BlockFree, AllFree}
+use Rattle.cw_gen.proofs.Fine.{marks_for, IsWritable, AllWritable, IsPassed, ExprFine, ArgFine, ArgsFine, TargetFine, ReturnFine}
+use Rattle.cw_gen.proofs.Fine.{AllUsable, Room, room_of, StmtFine, BlockFine, FunctionFine, FunctionsFine}
+use Rattle.cw_gen.proofs.Kept.{ExprKnown, ArgKnown, ArgsKnown, TargetKnown, ReturnKnown, AllKnown, StmtKnown, BlockKnown}
+use Rattle.cw_gen.proofs.Kept.{FunctionKnown, AllFunctionsKnown, ExprsFree, ReturnFree, StmtFree, BlockFree, AllFree}
 use Rattle.cw_gen.proofs.Told.{PassesStmt, PassesBlock, AllPass, RoomStmt, RoomBlock, HasRooms, AllHaveRooms, ListedStmt, ListedBlock, AllListed}
 
 free_one : (taken : Taken) (x : Name) (xs : List Name) → are_free taken (x ∷ xs) ≡ true → is_taken taken x ≡ false
@@ -41,14 +44,17 @@ module _ (locals : Locals) (taken : Taken) where
   expr_fine (Binary operator d e) known free =
       (expr_fine d known.0 (free_first taken (names_in d) (names_in e) free), expr_fine e known.1 (free_second taken (names_in d) (names_in e) free))
 
-  arg_fine : (marks : Marks) (k : NameKind) (e : Expr) → ArgKnown (is_array_kind k) locals e → are_free taken (names_in e) ≡ true → OwnArg k marks locals e → ((x : Name) → is_among x (if is_written_kind k then names_in e else []) ≡ true → is_held taken x ≡ false) → ArgFine k marks locals taken e
+  arg_fine : (marks : Marks) (k : NameKind) (e : Expr) → ArgKnown (is_array_kind k) locals e → are_free taken (names_in e) ≡ true
+      → OwnArg k marks locals e → ((x : Name) → is_among x (if is_written_kind k then names_in e else []) ≡ true → is_held taken x ≡ false)
+      → ArgFine k marks locals taken e
   arg_fine marks name_kind.Integer e known free own loose = (expr_fine e known.0 free, known.1)
   arg_fine marks name_kind.Array (Variable a) known free own loose = record { usable = record { declared = known; free = free_one taken a [] free }; loose = loose a (front_among a []); own = own }
   arg_fine marks name_kind.Array _ known free own loose = absurd known
   arg_fine marks name_kind.Const (Variable a) known free own loose = record { declared = known; free = free_one taken a [] free }
   arg_fine marks name_kind.Const _ known free own loose = absurd known
 
-  args_fine : (marks : Marks) (ps : List Param) (es : List Expr) → ArgsKnown locals ps es → ExprsFree taken es → OwnArgs marks locals ps es → ((x : Name) → is_among x (arrays_given ps es) ≡ true → is_held taken x ≡ false) → ArgsFine marks locals taken ps es
+  args_fine : (marks : Marks) (ps : List Param) (es : List Expr) → ArgsKnown locals ps es → ExprsFree taken es → OwnArgs marks locals ps es
+      → ((x : Name) → is_among x (arrays_given ps es) ≡ true → is_held taken x ≡ false) → ArgsFine marks locals taken ps es
   args_fine marks [] [] known free own loose = tt
   args_fine marks [] (e ∷ es) known free own loose = absurd known
   args_fine marks (p ∷ ps) [] known free own loose = absurd known
@@ -60,7 +66,8 @@ module _ (locals : Locals) (taken : Taken) where
   writable : (marks : Marks) (a : Name) → is_among a locals.arrays ≡ true → is_held taken a ≡ false → OwnName marks locals a → IsWritable marks locals.arrays taken a
   writable marks a known loose own = record { usable = record { declared = known; free = loose_free a taken loose }; loose = loose; own = own }
 
-  all_writable : (marks : Marks) (xs : List Name) → AllKnown locals.arrays xs → OwnAll marks locals xs → ((x : Name) → is_among x xs ≡ true → is_held taken x ≡ false) → AllWritable marks locals.arrays taken xs
+  all_writable : (marks : Marks) (xs : List Name) → AllKnown locals.arrays xs → OwnAll marks locals xs
+      → ((x : Name) → is_among x xs ≡ true → is_held taken x ≡ false) → AllWritable marks locals.arrays taken xs
   all_writable marks [] known own loose = tt
   all_writable marks (x ∷ xs) known own loose = (writable marks x known.0 (loose x (front_among x xs)) own.0, all_writable marks xs known.1 own.1 (λ y h. loose y (later_among y x xs h)))
 
@@ -87,7 +94,9 @@ module _ (fs : List Function) (lists : Lists) (callees_are : lists.callees ≡ f
   callee f = ap (λ l. (function_named f l).params) callees_are
 
   mutual
-    stmt_fine : (returns : Returns) (depth : ℕ) (locals : Locals) (taken : Taken) (s : Stmt) → StmtKnown fs room.given returns locals s → StmtFree fs depth taken s → OwnStmt fs marks locals s → PassesStmt lists tables marks locals s → RoomStmt room locals s → ListedStmt lists tables s → StmtFine fs lists tables marks room returns depth locals taken s
+    stmt_fine : (returns : Returns) (depth : ℕ) (locals : Locals) (taken : Taken) (s : Stmt) → StmtKnown fs room.given returns locals s
+        → StmtFree fs depth taken s → OwnStmt fs marks locals s → PassesStmt lists tables marks locals s → RoomStmt room locals s
+        → ListedStmt lists tables s → StmtFine fs lists tables marks room returns depth locals taken s
     stmt_fine returns depth locals taken (Declare x e) known free own passes there listed = (there, expr_fine locals taken e known free)
     stmt_fine returns depth locals taken (DeclareArray a e) known free own passes there listed = (there, expr_fine locals taken e known.0 free, known.1, own)
     stmt_fine returns depth locals taken (AssignElement a i e) known free own passes there listed =
@@ -150,7 +159,9 @@ module _ (fs : List Function) (lists : Lists) (callees_are : lists.callees ≡ f
     stmt_fine returns depth locals taken (Return e) known free own passes there listed = (return_fine locals taken returns e known.0 free, known.1)
     stmt_fine returns depth locals taken (For x y z from to grain over b) known free own passes there listed = absurd known
 
-    block_fine : (returns : Returns) (depth : ℕ) (locals : Locals) (taken : Taken) (b : Block) → BlockKnown fs room.given returns locals b → BlockFree fs depth taken b → OwnBlock fs marks locals b → PassesBlock lists tables marks locals b → RoomBlock room locals b → ListedBlock lists tables b → BlockFine fs lists tables marks room returns depth locals taken b
+    block_fine : (returns : Returns) (depth : ℕ) (locals : Locals) (taken : Taken) (b : Block) → BlockKnown fs room.given returns locals b
+        → BlockFree fs depth taken b → OwnBlock fs marks locals b → PassesBlock lists tables marks locals b → RoomBlock room locals b
+        → ListedBlock lists tables b → BlockFine fs lists tables marks room returns depth locals taken b
     block_fine returns depth locals taken End known free own passes there listed = tt
     block_fine returns depth locals taken (Then line s b) known free own passes there listed = (
       stmt_fine returns depth locals taken s known.0 free.0 own.0 passes.0 there.0 listed.0,
@@ -158,17 +169,21 @@ module _ (fs : List Function) (lists : Lists) (callees_are : lists.callees ≡ f
     )
 
 -- a function
-function_fine : (fs : List Function) (lists : Lists) → lists.callees ≡ fs → (tables : Tables) (f : Function) → FunctionKnown fs f → BlockFree fs 1 [] f.body → OwnBlock fs (marks_for f.params) (locals_of f.params) f.body → PassesBlock lists tables (marks_for f.params) (locals_of f.params) f.body → HasRooms lists f → ListedBlock lists tables f.body → FunctionFine fs lists tables f
+function_fine : (fs : List Function) (lists : Lists) → lists.callees ≡ fs → (tables : Tables) (f : Function) → FunctionKnown fs f
+    → BlockFree fs 1 [] f.body → OwnBlock fs (marks_for f.params) (locals_of f.params) f.body
+    → PassesBlock lists tables (marks_for f.params) (locals_of f.params) f.body → HasRooms lists f → ListedBlock lists tables f.body → FunctionFine fs lists tables f
 function_fine fs lists callees_are tables f known free own passes there listed = record {
   apart = known.apart;
   room = there.ints;
   array_room = there.arrays;
-  body = block_fine fs lists callees_are tables (marks_for f.params) (room_of lists f) (if f.gives_int then WithInt else Alone) 1 (locals_of f.params) [] f.body known.body free own passes there.body listed;
+  body = block_fine fs lists callees_are tables (marks_for f.params) (room_of lists f) (if f.gives_int then WithInt else Alone) 1
+      (locals_of f.params) [] f.body known.body free own passes there.body listed;
   returns = known.returns;
 }
 
 -- functions in a row
-pub functions_fine : (fs : List Function) (lists : Lists) → lists.callees ≡ fs → (tables : Tables) (gs : List Function) → AllFunctionsKnown fs gs → AllFree fs gs → AllOwnNames fs gs → AllPass lists tables gs → AllHaveRooms lists gs → AllListed lists tables gs → FunctionsFine fs lists tables gs
+pub functions_fine : (fs : List Function) (lists : Lists) → lists.callees ≡ fs → (tables : Tables) (gs : List Function) → AllFunctionsKnown fs gs
+    → AllFree fs gs → AllOwnNames fs gs → AllPass lists tables gs → AllHaveRooms lists gs → AllListed lists tables gs → FunctionsFine fs lists tables gs
 functions_fine fs lists callees_are tables [] known free own passes there listed = tt
 functions_fine fs lists callees_are tables (f ∷ gs) known free own passes there listed =
     (function_fine fs lists callees_are tables f known.0 free.0 own.0 passes.0 there.0 listed.0, functions_fine fs lists callees_are tables gs known.1 free.1 own.1 passes.1 there.1 listed.1)

@@ -24,7 +24,8 @@ resume_then t (Trapped trap line lines) go next = refl
 resume_then t Over go next = refl
 
 -- a piece whose events stand as one
-pub resume_one : {A : Type 0} (part : Tree → Event) (t : Trace) (o : Outcome A) (next : A → ℕ → Trace → RunOutcome) → resume t (joined_up part o) next ≡ resume (inside t) o (λ a l u. next a l (rejoined part t.events u))
+pub resume_one : {A : Type 0} (part : Tree → Event) (t : Trace) (o : Outcome A) (next : A → ℕ → Trace → RunOutcome)
+    → resume t (joined_up part o) next ≡ resume (inside t) o (λ a l u. next a l (rejoined part t.events u))
 resume_one part t (Done a left u) next = refl
 resume_one part t (Trapped trap line lines) next = refl
 resume_one part t Over next = refl

@@ -67,7 +67,8 @@ module _ (code : Code) (marks : Marks) (depth : ℕ) where
       test false e = ap w (place_own marks s e) ∙ ap (λ o. on_slot o go) (get_owned marks s store.arrays e ∙ is)
 
   -- the code of an expression gives its value, or traps as it does
-  pub expr_runs : (around : List Around) (locals : Locals) (taken' : Taken) (e : Expr) (line pc : ℕ) (ops : List ℤ) (store : Store) (outer : Outside) (frame : Frame) (t : Trace) (left : ℕ) (next : ℤ → ℕ → Trace → RunOutcome) →
+  pub expr_runs : (around : List Around) (locals : Locals) (taken' : Taken) (e : Expr) (line pc : ℕ) (ops : List ℤ) (store : Store) (outer : Outside)
+      (frame : Frame) (t : Trace) (left : ℕ) (next : ℤ → ℕ → Trace → RunOutcome) →
       HasAt code.instrs pc (expr_code marks locals line e) → ExprFine locals taken' e → Agrees locals taken' frame store outer →
       ((v : ℤ) (l : ℕ) (u : Trace) → l ≤ left → steps code l (at around (pc + length (expr_code marks locals line e)) (v ∷ ops) store u) ≡ next v l u) →
       steps code left (at around pc ops store t) ≡ resume t (pay_for (evaluate e frame) line left) next
@@ -126,7 +127,8 @@ module _ (code : Code) (marks : Marks) (depth : ℕ) where
       let at_e = has_back code.instrs pc cd (ce ++ i ∷ []) has in
       let at_i = (has_back code.instrs (pc + length cd) ce (i ∷ []) at_e).0 in
       let place : pc + length cd + length ce + 1 ≡ pc + length (cd ++ (ce ++ i ∷ [])) = omega (arith, length-append cd (ce ++ i ∷ []), length-append ce (i ∷ [])) in
-      expr_runs around locals taken' d line pc ops store outer frame t left (λ v l u. resume u (then_do (pay_for (evaluate e frame) line l) (λ w l'. pay_for (done_at 1 (apply operator v w)) line l')) next)
+      expr_runs around locals taken' d line pc ops store outer frame t left
+      (λ v l u. resume u (then_do (pay_for (evaluate e frame) line l) (λ w l'. pay_for (done_at 1 (apply operator v w)) line l')) next)
       (has_front code.instrs pc cd (ce ++ i ∷ []) has) fine.0 a
       (λ v l u le.
       expr_runs around locals taken' e line (pc + length cd) (v ∷ ops) store outer frame u l (λ w l' u'. resume u' (pay_for (done_at 1 (apply operator v w)) line l') next)
@@ -146,7 +148,8 @@ module _ (code : Code) (marks : Marks) (depth : ℕ) where
       steps code left (at around pc ops store t) ≡ resume t (arguments ps es frame line given left) next
 
   -- the code of arguments gives the frame of a call, its integers among the operands
-  pub args_run : (around : List Around) (locals : Locals) (taken' : Taken) (ps : List Param) (es : List Expr) (line pc : ℕ) (ops : List ℤ) (store : Store) (outer : Outside) (frame given : Frame) (t : Trace) (left : ℕ) (next : Frame → ℕ → Trace → RunOutcome) →
+  pub args_run : (around : List Around) (locals : Locals) (taken' : Taken) (ps : List Param) (es : List Expr) (line pc : ℕ) (ops : List ℤ)
+      (store : Store) (outer : Outside) (frame given : Frame) (t : Trace) (left : ℕ) (next : Frame → ℕ → Trace → RunOutcome) →
       HasAt code.instrs pc (args_code marks locals line ps es) → ArgsFine marks locals taken' ps es → Agrees locals taken' frame store outer →
       ((vs : List ℤ) (after_it : Frame) (l : ℕ) (u : Trace) → length vs ≡ length (locals_of ps).ints → Bound ps vs (map (λ a. array_of frame a) (arrays_named ps es)) given after_it → l ≤ left →
       steps code l (at around (pc + length (args_code marks locals line ps es)) (reverse_aux vs ops) store u) ≡ next after_it l u) →
@@ -156,7 +159,9 @@ module _ (code : Code) (marks : Marks) (depth : ℕ) where
       ap (λ n. steps code left (at around n ops store t)) e ∙ k [] given left t refl (bound_none given) (omega arith) ∙ ap (next given left) (sym (joined_quiet t))
   args_run around locals taken' [] (e ∷ es) line pc ops store outer frame given t left next has fine a k = absurd fine
   args_run around locals taken' (p ∷ ps) [] line pc ops store outer frame given t left next has fine a k = absurd fine
-  args_run around locals taken' (p ∷ ps) (e ∷ es) line pc ops store outer frame given t left next has fine a k = cases (λ pc' ops' given' t' left' next' has' k'. args_run around locals taken' ps es line pc' ops' store outer frame given' t' left' next' has' fine.1 a k') (wants_array p) refl (arg_kept p.kind marks locals taken' e fine.0)
+  args_run around locals taken' (p ∷ ps) (e ∷ es) line pc ops store outer frame given t left next has fine a k =
+      cases (λ pc' ops' given' t' left' next' has' k'. args_run around locals taken' ps es line pc' ops' store outer frame given' t' left' next' has'
+      fine.1 a k') (wants_array p) refl (arg_kept p.kind marks locals taken' e fine.0)
     where
       ces : List Instr
       ces = args_code marks locals line ps es
@@ -166,7 +171,8 @@ module _ (code : Code) (marks : Marks) (depth : ℕ) where
       array_now _ h = absurd h
 
       go : ℕ → Outcome Frame
-      go l = (if (wants_array p) then arguments ps es frame line (new_array p.name (given_array e frame) given) else (λ left'. then_do (pay_for (evaluate e frame) line left') (λ v. arguments ps es frame line (new_int p.name v given)))) l
+      go l = (if (wants_array p) then arguments ps es frame line (new_array p.name (given_array e frame) given)
+          else (λ left'. then_do (pay_for (evaluate e frame) line left') (λ v. arguments ps es frame line (new_int p.name v given)))) l
 
       cases : ArgsRun around locals ps es line store frame → (b : Bool) → (wants_array p) ≡ b → ArgKept b locals taken' e → steps code left (at around pc ops store t) ≡ resume t (go left) next
       cases again true is fine' =
@@ -177,14 +183,18 @@ module _ (code : Code) (marks : Marks) (depth : ℕ) where
           (λ vs g l u n b le.
           ap (λ m. steps code l (at around (pc + m) (reverse_aux vs ops) store u)) (sym place)
           ∙ k vs g l u (n ∙ sym (no_int (not (wants_array p)) (ap not is)))
-          (subst (λ xss. Bound (p ∷ ps) vs xss given g) (sym (ap (λ c. map (λ x. array_of frame x) ((if c then ownership.names_in e else []) ++ arrays_named ps es)) is ∙ one_more (array_now e fine'))) (bound_array p ps (given_array e frame) vs (map (λ x. array_of frame x) (arrays_named ps es)) given g is b)) le)
-          ∙ sym (ap (λ c. resume t ((if c then arguments ps es frame line (new_array p.name (given_array e frame) given) else (λ left'. then_do (pay_for (evaluate e frame) line left') (λ v. arguments ps es frame line (new_int p.name v given)))) left) next) is)
+          (subst (λ xss. Bound (p ∷ ps) vs xss given g) (sym (ap (λ c. map (λ x. array_of frame x)
+          ((if c then ownership.names_in e else []) ++ arrays_named ps es)) is ∙ one_more (array_now e fine')))
+          (bound_array p ps (given_array e frame) vs (map (λ x. array_of frame x) (arrays_named ps es)) given g is b)) le)
+          ∙ sym (ap (λ c. resume t ((if c then arguments ps es frame line (new_array p.name (given_array e frame) given)
+          else (λ left'. then_do (pay_for (evaluate e frame) line left') (λ v. arguments ps es frame line (new_int p.name v given)))) left) next) is)
         where
           no_int : (c : Bool) → c ≡ false → length (map (λ (q : Param). q.name) (cond c (p ∷ filter (λ q. not (wants_array q)) ps) (filter (λ q. not (wants_array q)) ps))) ≡ length (locals_of ps).ints
           no_int true e' = cc
           no_int false e' = refl
 
-          one_more : map (λ x. array_of frame x) (ownership.names_in e) ≡ given_array e frame ∷ [] → map (λ x. array_of frame x) (ownership.names_in e ++ arrays_named ps es) ≡ given_array e frame ∷ map (λ x. array_of frame x) (arrays_named ps es)
+          one_more : map (λ x. array_of frame x) (ownership.names_in e) ≡ given_array e frame ∷ []
+              → map (λ x. array_of frame x) (ownership.names_in e ++ arrays_named ps es) ≡ given_array e frame ∷ map (λ x. array_of frame x) (arrays_named ps es)
           one_more h = map-append (λ x. array_of frame x) (ownership.names_in e) (arrays_named ps es) ∙ ap (λ l. l ++ map (λ x. array_of frame x) (arrays_named ps es)) h
       cases again false is fine' =
           let ce = expr_code marks locals line e in
@@ -195,13 +205,18 @@ module _ (code : Code) (marks : Marks) (depth : ℕ) where
           (λ v l u le. again (pc + length ce) (v ∷ ops) (new_int p.name v given) u l next
           (has_back code.instrs pc ce ces has')
           (λ vs g l' u' n b le'.
-          let place : pc + length ce + length ces ≡ pc + length (emitted_arg marks line (slotted_argument locals (p ∷ ps) e) ++ ces) = omega (arith, length-append (emitted_arg marks line (slotted_argument locals (p ∷ ps) e)) ces, ap length same) in
+          let place : pc + length ce + length ces ≡ pc + length (emitted_arg marks line (slotted_argument locals (p ∷ ps) e) ++ ces) =
+          omega (arith, length-append (emitted_arg marks line (slotted_argument locals (p ∷ ps) e)) ces, ap length same) in
           ap (λ m. steps code l' (at around m (reverse_aux vs (v ∷ ops)) store u')) place
           ∙ k (v ∷ vs) g l' u' (ap suc n ∙ sym (one_int (not (wants_array p)) (ap not is)))
-          (subst (λ xss. Bound (p ∷ ps) (v ∷ vs) xss given g) (sym (ap (λ c. map (λ x. array_of frame x) ((if c then ownership.names_in e else []) ++ arrays_named ps es)) is)) (bound_int p ps v vs (map (λ x. array_of frame x) (arrays_named ps es)) given g is b)) (omega arith)))
+          (subst (λ xss. Bound (p ∷ ps) (v ∷ vs) xss given g) (sym (ap (λ c. map (λ x. array_of frame x)
+          ((if c then ownership.names_in e else []) ++ arrays_named ps es)) is))
+          (bound_int p ps v vs (map (λ x. array_of frame x) (arrays_named ps es)) given g is b)) (omega arith)))
           ∙ sym (resume_then t (pay_for (evaluate e frame) line left) (λ v. arguments ps es frame line (new_int p.name v given)) next)
-          ∙ sym (ap (λ c. resume t ((if c then arguments ps es frame line (new_array p.name (given_array e frame) given) else (λ left'. then_do (pay_for (evaluate e frame) line left') (λ v. arguments ps es frame line (new_int p.name v given)))) left) next) is)
+          ∙ sym (ap (λ c. resume t ((if c then arguments ps es frame line (new_array p.name (given_array e frame) given)
+          else (λ left'. then_do (pay_for (evaluate e frame) line left') (λ v. arguments ps es frame line (new_int p.name v given)))) left) next) is)
         where
-          one_int : (c : Bool) → c ≡ true → length (map (λ (q : Param). q.name) (cond c (p ∷ filter (λ q. not (wants_array q)) ps) (filter (λ q. not (wants_array q)) ps))) ≡ suc (length (locals_of ps).ints)
+          one_int : (c : Bool) → c ≡ true → length (map (λ (q : Param). q.name)
+              (cond c (p ∷ filter (λ q. not (wants_array q)) ps) (filter (λ q. not (wants_array q)) ps))) ≡ suc (length (locals_of ps).ints)
           one_int true e' = refl
           one_int false e' = cc

@@ -64,7 +64,8 @@ empty_get zero a xs e = cc
 empty_get (suc n) zero xs e = (omega arith, same_Some [] xs (same_Some (Some []) (Some xs) e))
 empty_get (suc n) (suc a) xs e = let r = empty_get n a xs e in (omega (arith, r.0), r.1)
 
-module _ (v : Verified) (f : Func) (args : List ℤ) (r : Rest) (ok : Ok v) (found : slice_get (code_view v.code).funcs v.code.main ≡ Some f) (count : length args ≡ f.params) (first : IsFirst f args r) where
+module _ (v : Verified) (f : Func) (args : List ℤ) (r : Rest) (ok : Ok v) (found : slice_get (code_view v.code).funcs v.code.main ≡ Some f)
+    (count : length args ≡ f.params) (first : IsFirst f args r) where
   none_taken : f.array_params ≡ 0
   none_taken = sym (ap array_params_of found) ∙ ok.fits.of_integers
 
@@ -133,7 +134,8 @@ module _ (v : Verified) (f : Func) (args : List ℤ) (r : Rest) (ok : Ok v) (fou
   }
 
 -- the parts of the job of a whole run
-module _ (p : Parts) (f : Func) (args : List ℤ) (b : Burden) (found : slice_get (code_view (code_of p).code).funcs (code_of p).code.main ≡ Some f) (asked : is_asked f.params (length args) p.limit b ≡ true) (first : IsFirst f args p.rest) (whole : p.extent ≡ extent.WholeCall) (none : p.before ≡ 0) where
+module _ (p : Parts) (f : Func) (args : List ℤ) (b : Burden) (found : slice_get (code_view (code_of p).code).funcs (code_of p).code.main ≡ Some f)
+    (asked : is_asked f.params (length args) p.limit b ≡ true) (first : IsFirst f args p.rest) (whole : p.extent ≡ extent.WholeCall) (none : p.before ≡ 0) where
   within : InRange f.params (length args) p.limit b
   within = in_range f.params (length args) p.limit b asked
 

@@ -25,7 +25,8 @@ module _ (bs : List ℕ) (len : ℕ) (some : 0 < length bs) (letter : is_letter 
       let spelled : IsSpelled (word_kind (take len bs)) (take len bs) = word (rw is w.1) (λ e. let l = short e in omega (arith, length-take len bs)) in
       (rw is w.2, rw is w.0, rw k-is spelled)
 
-pub token_number : (bs : List ℕ) (len n : ℕ) → 0 < len → IsLongest bs len → is_number (take len bs) ≡ true → n ≡ decimal_value (take len bs) → n ≤ MOST_NUMBER → IsFront bs (front.Token (kind.Number n) len)
+pub token_number : (bs : List ℕ) (len n : ℕ) → 0 < len → IsLongest bs len → is_number (take len bs) ≡ true → n ≡ decimal_value (take len bs)
+    → n ≤ MOST_NUMBER → IsFront bs (front.Token (kind.Number n) len)
 token_number bs len n some longest h n-is small =
     let spelled : IsSpelled (kind.Number (decimal_value (take len bs))) (take len bs) = number h (omega arith) in
     (some, longest, rw n-is spelled)
@@ -58,7 +59,8 @@ no_comment_at bs h =
     let both = and_parts (eqb (get_or bs 0 0) 47) (eqb (get_or bs 1 0) 47) e in
     h (eqb-true (get_or bs 0 0) 47 both.0) (eqb-true (get_or bs 1 0) 47 both.1))
 
-module _ (bs : List ℕ) (second : ℕ) (some : 0 < length bs) (plain : is_word_byte (get_or bs 0 0) ≡ false) (is : second ≡ get_or bs 1 0) (nc : ((get_or bs 0 0 ≡ 47) × (second ≡ 47 → ⊥)) ⊎ (get_or bs 0 0 ≡ 47 → ⊥)) where
+module _ (bs : List ℕ) (second : ℕ) (some : 0 < length bs) (plain : is_word_byte (get_or bs 0 0) ≡ false) (is : second ≡ get_or bs 1 0)
+    (nc : ((get_or bs 0 0 ≡ 47) × (second ≡ 47 → ⊥)) ⊎ (get_or bs 0 0 ≡ 47 → ⊥)) where
   none_here : NoComment bs
   none_here = no_comment_at bs (λ a b. elim nc [ inl h ↦ h.1 (is ∙ b) | inr h ↦ h a ])
 
@@ -71,5 +73,6 @@ module _ (bs : List ℕ) (second : ℕ) (some : 0 < length bs) (plain : is_word_
   pub one_front : (o p : Option Kind) (k : Kind) → o ≡ two_bytes (get_or bs 0 0) second → o ≡ None → p ≡ one_byte (get_or bs 0 0) → p ≡ Some k → IsFront bs (front.Token k 1)
   one_front o p k e f g h = let w = one_longest bs k some plain none_here (no_two o e f) (sym g ∙ h) in (omega arith, w.0, mark w.1)
 
-  pub none_front : (o p : Option Kind) → o ≡ two_bytes (get_or bs 0 0) second → o ≡ None → p ≡ one_byte (get_or bs 0 0) → p ≡ None → is_separator (get_or bs 0 0) ≡ false → IsFront bs (front.Uncut (reason.NoToken (get_or bs 0 0)))
+  pub none_front : (o p : Option Kind) → o ≡ two_bytes (get_or bs 0 0) second → o ≡ None → p ≡ one_byte (get_or bs 0 0) → p ≡ None
+      → is_separator (get_or bs 0 0) ≡ false → IsFront bs (front.Uncut (reason.NoToken (get_or bs 0 0)))
   none_front o p e f g h sep = (starts_nothing bs some sep plain none_here (no_two o e f) (sym g ∙ h), refl)

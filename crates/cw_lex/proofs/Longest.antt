@@ -97,7 +97,8 @@ mark_piece b bs h =
 
 -- ---- words
 
-pub word_longest : (bs : List ℕ) → 0 < length bs → is_letter (get_or bs 0 0) ≡ true → IsLongest bs (prefix_len is_word_byte bs) × (is_word (take (prefix_len is_word_byte bs) bs) ≡ true) × (0 < prefix_len is_word_byte bs)
+pub word_longest : (bs : List ℕ) → 0 < length bs → is_letter (get_or bs 0 0) ≡ true
+    → IsLongest bs (prefix_len is_word_byte bs) × (is_word (take (prefix_len is_word_byte bs) bs) ≡ true) × (0 < prefix_len is_word_byte bs)
 word_longest [] some h = absurd (omega arith)
 word_longest (b ∷ bs) some h =
     let wb : is_word_byte b ≡ true = or_left (is_letter b) (is_digit b) h in
@@ -130,7 +131,8 @@ zero_longest (b ∷ bs) some h =
     longest [] (suc (suc n)) le p = absurd (omega arith)
     longest (c ∷ cs) (suc (suc n)) le p = absurd (let e = number_piece 48 (c ∷ take n cs) refl in let clash : true ≡ false = sym p ∙ e in cc)
 
-pub digits_longest : (bs : List ℕ) → 0 < length bs → is_digit (get_or bs 0 0) ≡ true → (get_or bs 0 0 ≡ 48 → ⊥) → IsLongest bs (prefix_len is_digit bs) × (is_number (take (prefix_len is_digit bs) bs) ≡ true) × (0 < prefix_len is_digit bs)
+pub digits_longest : (bs : List ℕ) → 0 < length bs → is_digit (get_or bs 0 0) ≡ true → (get_or bs 0 0 ≡ 48 → ⊥)
+    → IsLongest bs (prefix_len is_digit bs) × (is_number (take (prefix_len is_digit bs) bs) ≡ true) × (0 < prefix_len is_digit bs)
 digits_longest [] some h z = absurd (omega arith)
 digits_longest (b ∷ bs) some h z =
     let nz : eqb b 48 ≡ false = false_from_ne_true (eqb b 48) (λ e. z (eqb-true b 48 e)) in
@@ -149,7 +151,8 @@ digits_longest (b ∷ bs) some h z =
     longest : eqb b 48 ≡ false → (n : ℕ) → n ≤ length (b ∷ bs) → is_piece (take n (b ∷ bs)) ≡ true → n ≤ suc (prefix_len is_digit bs)
     longest nz zero le p = omega arith
     longest nz (suc n) le p =
-        let by_digits : cond (eqb b 48) (is_empty (take n bs)) (list_all is_digit (take n bs)) ≡ list_all is_digit (take n bs) = ap (λ t. cond t (is_empty (take n bs)) (list_all is_digit (take n bs))) nz in
+        let by_digits : cond (eqb b 48) (is_empty (take n bs)) (list_all is_digit (take n bs)) ≡ list_all is_digit (take n bs) =
+        ap (λ t. cond t (is_empty (take n bs)) (list_all is_digit (take n bs))) nz in
         let all : list_all is_digit (take n bs) ≡ true = sym by_digits ∙ sym (number_piece b (take n bs) h) ∙ p in
         omega (arith, run_longest is_digit bs n (omega arith) all)
 
@@ -159,7 +162,8 @@ slashes_piece : (bs : List ℕ) → is_piece (47 ∷ 47 ∷ bs) ≡ list_all is_
 slashes_piece [] = refl
 slashes_piece (d ∷ bs) = refl
 
-comment_at : (bs : List ℕ) → IsLongest (47 ∷ 47 ∷ bs) (prefix_len is_inner (47 ∷ 47 ∷ bs)) × (is_comment (take (prefix_len is_inner (47 ∷ 47 ∷ bs)) (47 ∷ 47 ∷ bs)) ≡ true) × (0 < prefix_len is_inner (47 ∷ 47 ∷ bs))
+comment_at : (bs : List ℕ) → IsLongest (47 ∷ 47 ∷ bs) (prefix_len is_inner (47 ∷ 47 ∷ bs))
+    × (is_comment (take (prefix_len is_inner (47 ∷ 47 ∷ bs)) (47 ∷ 47 ∷ bs)) ≡ true) × (0 < prefix_len is_inner (47 ∷ 47 ∷ bs))
 comment_at bs =
     let len : prefix_len is_inner (47 ∷ 47 ∷ bs) ≡ suc (suc (prefix_len is_inner bs)) = omega arith in
     let passes = run_passes is_inner bs in
@@ -178,7 +182,8 @@ comment_at bs =
     longest (suc zero) le p = omega arith
     longest (suc (suc n)) le p = omega (arith, run_longest is_inner bs n (omega arith) (sym (slashes_piece (take n bs)) ∙ p))
 
-pub comment_longest : (bs : List ℕ) → get_or bs 0 0 ≡ 47 → get_or bs 1 0 ≡ 47 → IsLongest bs (prefix_len is_inner bs) × (is_comment (take (prefix_len is_inner bs) bs) ≡ true) × (0 < prefix_len is_inner bs)
+pub comment_longest : (bs : List ℕ) → get_or bs 0 0 ≡ 47 → get_or bs 1 0 ≡ 47
+    → IsLongest bs (prefix_len is_inner bs) × (is_comment (take (prefix_len is_inner bs) bs) ≡ true) × (0 < prefix_len is_inner bs)
 comment_longest [] h k = absurd cc
 comment_longest (b ∷ []) h k = absurd cc
 comment_longest (b ∷ c ∷ bs) h k = rw (h, k) (comment_at bs)
@@ -225,11 +230,13 @@ at_most_one bs (suc zero) mark nc e le p = omega arith
 at_most_one [] (suc (suc n)) mark nc e le p = absurd (omega arith)
 at_most_one (b ∷ []) (suc (suc n)) mark nc e le p = absurd (omega arith)
 at_most_one (b ∷ c ∷ bs) (suc (suc zero)) mark nc e le p =
-    absurd (let none : is_some (symbol (b ∷ c ∷ [])) ≡ false = ap is_some e in let no = no_comment b c [] nc in let clash : true ≡ false = sym p ∙ mark_piece b (c ∷ []) mark ∙ (rw (none, no) refl) in cc)
+    absurd (let none : is_some (symbol (b ∷ c ∷ [])) ≡ false = ap is_some e in let no = no_comment b c [] nc in let clash : true ≡ false = sym p
+    ∙ mark_piece b (c ∷ []) mark ∙ (rw (none, no) refl) in cc)
 at_most_one (b ∷ c ∷ []) (suc (suc (suc n))) mark nc e le p = absurd (omega arith)
 at_most_one (b ∷ c ∷ d ∷ bs) (suc (suc (suc n))) mark nc e le p = absurd (let e = three b c d (take n bs) mark nc in let clash : true ≡ false = sym p ∙ e in cc)
 
-pub one_longest : (bs : List ℕ) (k : Kind) → 0 < length bs → is_word_byte (get_or bs 0 0) ≡ false → NoComment bs → two_bytes (get_or bs 0 0) (get_or bs 1 0) ≡ None → one_byte (get_or bs 0 0) ≡ Some k → IsLongest bs 1 × (symbol (take 1 bs) ≡ Some k)
+pub one_longest : (bs : List ℕ) (k : Kind) → 0 < length bs → is_word_byte (get_or bs 0 0) ≡ false → NoComment bs
+    → two_bytes (get_or bs 0 0) (get_or bs 1 0) ≡ None → one_byte (get_or bs 0 0) ≡ Some k → IsLongest bs 1 × (symbol (take 1 bs) ≡ Some k)
 one_longest [] k some mark nc none e = absurd (omega arith)
 one_longest (b ∷ bs) k some mark nc none e = (
   record {
@@ -240,10 +247,12 @@ one_longest (b ∷ bs) k some mark nc none e = (
   e,
 )
 
-pub starts_nothing : (bs : List ℕ) → 0 < length bs → is_separator (get_or bs 0 0) ≡ false → is_word_byte (get_or bs 0 0) ≡ false → NoComment bs → two_bytes (get_or bs 0 0) (get_or bs 1 0) ≡ None → one_byte (get_or bs 0 0) ≡ None → StartsNothing bs
+pub starts_nothing : (bs : List ℕ) → 0 < length bs → is_separator (get_or bs 0 0) ≡ false → is_word_byte (get_or bs 0 0) ≡ false → NoComment bs
+    → two_bytes (get_or bs 0 0) (get_or bs 1 0) ≡ None → one_byte (get_or bs 0 0) ≡ None → StartsNothing bs
 starts_nothing bs some sep mark nc none e = record { some = some; separates = sep; starts = starts bs some mark nc none e }
   where
-    starts : (bs : List ℕ) → 0 < length bs → is_word_byte (get_or bs 0 0) ≡ false → NoComment bs → two_bytes (get_or bs 0 0) (get_or bs 1 0) ≡ None → one_byte (get_or bs 0 0) ≡ None → (n : ℕ) → is_piece (take n bs) ≡ false
+    starts : (bs : List ℕ) → 0 < length bs → is_word_byte (get_or bs 0 0) ≡ false → NoComment bs → two_bytes (get_or bs 0 0) (get_or bs 1 0) ≡ None
+        → one_byte (get_or bs 0 0) ≡ None → (n : ℕ) → is_piece (take n bs) ≡ false
     starts [] some mark nc none e n = absurd (omega arith)
     starts (b ∷ bs) some mark nc none e zero = refl
     starts (b ∷ []) some mark nc none e (suc zero) = mark_piece b [] mark ∙ rw (ap is_some e) refl

@@ -38,7 +38,8 @@ past_comment text from at line len r f = record {
   gap = gap_gap text r.gap (comment len f.1 f.2 none);
 }
 
-pub past_separator : (text : List ℕ) (from at line line' : ℕ) → IsAcross text from at line → at < length text → IsFront (drop at text) front.Separator → line' ≡ line_at text (at + 1) → IsAcross text from (at + 1) line'
+pub past_separator : (text : List ℕ) (from at line line' : ℕ) → IsAcross text from at line → at < length text
+    → IsFront (drop at text) front.Separator → line' ≡ line_at text (at + 1) → IsAcross text from (at + 1) line'
 past_separator text from at line line' r lt f l = record {
   within = omega arith;
   same_line = l;
@@ -46,7 +47,8 @@ past_separator text from at line line' r lt f l = record {
   gap = gap_gap text r.gap (separator lt (rw (get_or-drop, add-zero) at f) none);
 }
 
-pub token_next : (text : List ℕ) (from at line len : ℕ) (k : Kind) → IsAcross text from at line → IsFront (drop at text) (front.Token k len) → IsNextToken text from (record { kind = k; start = at; end = at + len; line = line })
+pub token_next : (text : List ℕ) (from at line len : ℕ) (k : Kind) → IsAcross text from at line → IsFront (drop at text) (front.Token k len)
+    → IsNextToken text from (record { kind = k; start = at; end = at + len; line = line })
 token_next text from at line len k r f =
     let len-is : at + len - at ≡ len = omega arith in
     let is : IsToken text (record { kind = k; start = at; end = at + len; line = line }) = record {

@@ -1,5 +1,6 @@
 -- A walk over a text takes one step after another, and at each place one step at most is possible.
-use Rattle.std.proofs.Common.{◌≡◌, ℕ, zero, suc, ◌+◌, ◌-◌, ◌<◌, true, List, [], ◌∷◌, length, get_or, take, drop, Option, Some, None, refl, sym, ap, subst, ◌∙◌, arith, inl, inr, ◌⊎◌, length-drop, add-zero}
+use Rattle.std.proofs.Common.{◌≡◌, ℕ, zero, suc, ◌+◌, ◌-◌, ◌<◌, true, List, [], ◌∷◌, length, get_or, take, drop, Option, Some}
+use Rattle.std.proofs.Common.{None, refl, sym, ap, subst, ◌∙◌, arith, inl, inr, ◌⊎◌, length-drop, add-zero}
 use Rattle.std.proofs.lemmas.List.{get_or-drop, length-take}
 use Rattle.cw_model.specs.declared.token.Token.{Token}
 use Rattle.cw_model.specs.declared.token.Kind.{Kind}
@@ -32,7 +33,8 @@ at_front : (text : List ℕ) (at : ℕ) → is_separator (get_or text at 0) ≡ 
 at_front text at h = rw (get_or-drop, add-zero) h
 
 -- a token, from the place that it starts in
-pub token_here : (text : List ℕ) (at : ℕ) (t : Token) → t.start ≡ at → IsToken text t → IsLongest (drop at text) (t.end - at) × IsSpelled t.kind (take (t.end - at) (drop at text)) × (t.line ≡ line_at text at) × (at < t.end)
+pub token_here : (text : List ℕ) (at : ℕ) (t : Token) → t.start ≡ at → IsToken text t
+    → IsLongest (drop at text) (t.end - at) × IsSpelled t.kind (take (t.end - at) (drop at text)) × (t.line ≡ line_at text at) × (at < t.end)
 token_here text at t e h =
     let P : ℕ → Type 0 = λ s. IsLongest (drop s text) (t.end - s) × IsSpelled t.kind (take (t.end - s) (drop s text)) × (t.line ≡ line_at text s) × (s < t.end) in
     subst P e (h.longest, h.spelled, h.line, h.rises)
@@ -138,7 +140,8 @@ no_step_long {text = text} {at = at} f (past_comment len l c) = let same = same_
 no_step_long {text = text} {at = at} f (past_token t e h) =
     let a = token_here text at t e h in
     let same = same_longest (drop at text) (t.end - at) f.len a.0 f.longest in
-    spelled_no_long (take f.len (drop at text)) (let P : ℕ → Type 0 = λ n. IsSpelled t.kind (take n (drop at text)) in subst P same a.1) f.word f.name (omega (arith, f.long, f.longest.within, length-take f.len (drop at text)))
+    spelled_no_long (take f.len (drop at text)) (let P : ℕ → Type 0 = λ n. IsSpelled t.kind (take n (drop at text)) in subst P same a.1) f.word
+    f.name (omega (arith, f.long, f.longest.within, length-take f.len (drop at text)))
 
 pub stops_at_lexical : (text : List ℕ) (at : ℕ) → StartsNothing (drop at text) ⊎ HasLargeNumber (drop at text) → Stops text at
 stops_at_lexical text at (inl f) o m st = no_step_nothing f st

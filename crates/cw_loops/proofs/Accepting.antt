@@ -30,7 +30,8 @@ arrays_differ (p ∷ ps) h = let d = others_differ p ps h in go (wants_array p) 
     go false alone more = more
 
 -- at the head of a function
-pub begins : (fs : List Function) (ps : List Param) (returns : Returns) → differ (names_of ps) ≡ true → Agree (nothing_around fs) (integers_of ps) (arrays_of ps) (known_of ps) (names_of ps) NoLoop returns
+pub begins : (fs : List Function) (ps : List Param) (returns : Returns) → differ (names_of ps) ≡ true
+    → Agree (nothing_around fs) (integers_of ps) (arrays_of ps) (known_of ps) (names_of ps) NoLoop returns
 begins fs ps returns h = record {
   ints_are = int_kind ps h;
   arrays_are = array_kind ps h;
@@ -50,13 +51,15 @@ module _ (program : Program) where
       let head = head_of program f types in
       let s = and_parts (is_plain f.name) (is_source_block f.body) source in
       both_true (is_plain f.name) _ s.0 (both_true (differ (arrays_of f.params)) _ (arrays_differ f.params head.params)
-      (block_can program program.functions refl f.body (nothing_around program.functions) (integers_of f.params) (arrays_of f.params) (known_of f.params) (names_of f.params) NoLoop (if f.gives_int then WithInt else Alone) refl
+      (block_can program program.functions refl f.body (nothing_around program.functions) (integers_of f.params) (arrays_of f.params)
+      (known_of f.params) (names_of f.params) NoLoop (if f.gives_int then WithInt else Alone) refl
       (begins program.functions f.params (if f.gives_int then WithInt else Alone) head.params) 1 Joins [] [] s.1 (right_none (unless (is_head program f) f.line) _ types) owns (λ x o. well x)))
     where
       well : (x : Name) → (is_among x [] || not (is_among x [])) ≡ true
       well x = refl
 
-  all_can : (gs : List Function) → flat_map (faults_of program) gs ≡ [] → flat_map (owner_faults_of program.functions) gs ≡ [] → list_all is_source_function gs ≡ true → list_all (can_lower_function program.functions) gs ≡ true
+  all_can : (gs : List Function) → flat_map (faults_of program) gs ≡ [] → flat_map (owner_faults_of program.functions) gs ≡ []
+      → list_all is_source_function gs ≡ true → list_all (can_lower_function program.functions) gs ≡ true
   all_can [] types owns source = refl
   all_can (g ∷ gs) types owns source =
       let s = and_parts (is_source_function g) (list_all is_source_function gs) source in
@@ -71,15 +74,20 @@ module _ (program : Program) where
       let n = or_parts (wants_array p) (list_any (λ p. wants_array p) ps) (not_true _ h) in
       both_true (not (wants_array p)) _ (ap not n.0) (no_array ps (ap not n.1))
 
-  main_among : (gs : List Function) → flat_map (faults_of program) gs ≡ [] → is_among main_name (map (λ f. f.name) gs) ≡ true → list_all (λ p. not (wants_array p)) (function_named main_name gs).params ≡ true
+  main_among : (gs : List Function) → flat_map (faults_of program) gs ≡ [] → is_among main_name (map (λ f. f.name) gs) ≡ true
+      → list_all (λ p. not (wants_array p)) (function_named main_name gs).params ≡ true
   main_among [] types there = absurd cc
   main_among (g ∷ gs) types there = go (same_name main_name g.name) refl there (head_of program g (left_none _ _ types)).main (λ o. main_among gs (right_none _ _ types) o)
     where
-      here : same_name main_name g.name ≡ true → (not (same_name g.name main_name) || (g.gives_int && not (list_any (λ p. wants_array p) g.params))) ≡ true → list_all (λ p. not (wants_array p)) g.params ≡ true
-      here e h = no_array g.params (and_parts g.gives_int (not (list_any (λ p. wants_array p) g.params)) (ap (λ s. not s || (g.gives_int && not (list_any (λ p. wants_array p) g.params))) (sym (turned g.name main_name ∙ e)) ∙ h)).1
+      here : same_name main_name g.name ≡ true → (not (same_name g.name main_name) || (g.gives_int && not (list_any (λ p. wants_array p) g.params)))
+          ≡ true → list_all (λ p. not (wants_array p)) g.params ≡ true
+      here e h = no_array g.params (and_parts g.gives_int (not (list_any (λ p. wants_array p) g.params))
+          (ap (λ s. not s || (g.gives_int && not (list_any (λ p. wants_array p) g.params))) (sym (turned g.name main_name ∙ e)) ∙ h)).1
 
-      go : (s : Bool) → same_name main_name g.name ≡ s → (if s then true else is_among main_name (map (λ f. f.name) gs)) ≡ true → (not (same_name g.name main_name) || (g.gives_int && not (list_any (λ p. wants_array p) g.params))) ≡ true →
-          (is_among main_name (map (λ f. f.name) gs) ≡ true → list_all (λ p. not (wants_array p)) (function_named main_name gs).params ≡ true) → list_all (λ p. not (wants_array p)) (if s then g else function_named main_name gs).params ≡ true
+      go : (s : Bool) → same_name main_name g.name ≡ s → (if s then true else is_among main_name (map (λ f. f.name) gs)) ≡ true
+          → (not (same_name g.name main_name) || (g.gives_int && not (list_any (λ p. wants_array p) g.params))) ≡ true →
+          (is_among main_name (map (λ f. f.name) gs) ≡ true → list_all (λ p. not (wants_array p)) (function_named main_name gs).params ≡ true)
+          → list_all (λ p. not (wants_array p)) (if s then g else function_named main_name gs).params ≡ true
       go true e o h more = here e h
       go false e o h more = more o
 

@@ -49,7 +49,8 @@ pub data Alike {A B : Type 0} (R : A → B → Type 0) (given : ℕ) : Outcome A
 
 -- the same, where only the trees of the wholes are compared
 pub data Whole {A B : Type 0} (R : A → B → Type 0) (given : ℕ) : Outcome A → Outcome B → Type 0 where
-  whole_done : {a : A} {b : B} {left : ℕ} {t u : Trace} → R a b → left ≤ given → t.lines ≡ u.lines → t.updates ≡ u.updates → Regrouped (tree_of t.events) (tree_of u.events) → Whole R given (Done a left t) (Done b left u)
+  whole_done : {a : A} {b : B} {left : ℕ} {t u : Trace} → R a b → left ≤ given → t.lines ≡ u.lines → t.updates ≡ u.updates
+      → Regrouped (tree_of t.events) (tree_of u.events) → Whole R given (Done a left t) (Done b left u)
   whole_trapped : {trap : Trap} {line : ℕ} {lines lines' : List ℤ} → lines ≡ lines' → Whole R given (Trapped trap line lines) (Trapped trap line lines')
   whole_over : Whole R given Over Over
 
@@ -92,7 +93,8 @@ pub alike_pay : {C D : Type 0} {S : C → D → Type 0} (cost left : ℕ) (go : 
     (cost ≤ left → Alike S (left - cost) (go tt (left - cost)) (go' tt (left - cost))) → Alike S left (then_do (pay cost left) go) (then_do (pay cost left) go')
 alike_pay {C = C} {D = D} {S = S} cost left go go' f = by_test (nat_lt left cost) refl
   where
-    by_test : (b : Bool) → nat_lt left cost ≡ b → Alike S left (then_do (if b then Over else Done tt (left - cost) (shows (works cost))) go) (then_do (if b then Over else Done tt (left - cost) (shows (works cost))) go')
+    by_test : (b : Bool) → nat_lt left cost ≡ b → Alike S left (then_do (if b then Over else Done tt (left - cost) (shows (works cost))) go)
+        (then_do (if b then Over else Done tt (left - cost) (shows (works cost))) go')
     by_test true e = both_over
     by_test false e = alike_after {t = shows (works cost)} {u = shows (works cost)} (omega arith) refl refl (same_events (works cost)) (f (ltb-false left cost e))
 
@@ -126,7 +128,8 @@ same_trace t l a e p q r = rw (p, q, r) refl
 
 pub after_after : {A : Type 0} (t u : Trace) (o : Outcome A) → after t (after u o) ≡ after (joined t u) o
 after_after t u (Done a left v) =
-    ap (Done a left) (same_trace (joined (joined t u) v) _ _ _ (sym (append_assoc t.lines u.lines v.lines)) (sym (append_assoc t.updates u.updates v.updates)) (sym (append_assoc t.events u.events v.events)))
+    ap (Done a left) (same_trace (joined (joined t u) v) _ _ _ (sym (append_assoc t.lines u.lines v.lines))
+    (sym (append_assoc t.updates u.updates v.updates)) (sym (append_assoc t.events u.events v.events)))
 after_after t u (Trapped trap line lines) = ap (Trapped trap line) (sym (append_assoc t.lines u.lines lines))
 after_after t u Over = refl
 

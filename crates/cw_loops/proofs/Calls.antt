@@ -106,16 +106,31 @@ module _ (c : Surroundings) (fo go : List (Name × ℤ)) (Slot : (fa ga : List (
 
   args_alike : (ps : List Param) (es : List Expr) → length es ≡ length ps → can_pass_all c es ≡ true → (start : Frame) → Good start → Fresh (keys start.arrays) (arrays_of ps) → (line left : ℕ) →
       Alike (SameGiven ps es f0 start) left (arguments ps es f0 line start left) (arguments ps (lower_exprs c.over es) g0 line start left)
-  args_alike [] es as_many can start g fresh line left = alike_done left (record { same = refl; good = g; more = []; is = sym (append-nil start.arrays); matches = tt; sliced_is = refl; ints_are = sym (append-nil (keys start.ints)); arrays_are = sym (append-nil (keys start.arrays)) })
+  args_alike [] es as_many can start g fresh line left = alike_done left
+      (record {
+        same = refl;
+        good = g;
+        more = [];
+        is = sym (append-nil start.arrays);
+        matches = tt;
+        sliced_is = refl;
+        ints_are = sym (append-nil (keys start.ints));
+        arrays_are = sym (append-nil (keys start.arrays));
+      })
   args_alike (p ∷ ps) [] as_many can start g fresh line left = absurd (omega arith)
   args_alike (p ∷ ps) (e ∷ es) as_many can start g fresh line left =
-      by_kind (wants_array p) refl (and_parts (can_pass c e) (can_pass_all c es) can) (λ start g f l. args_alike ps es (omega arith) (and_parts (can_pass c e) (can_pass_all c es) can).1 start g f line l)
+      by_kind (wants_array p) refl (and_parts (can_pass c e) (can_pass_all c es) can)
+      (λ start g f l. args_alike ps es (omega arith) (and_parts (can_pass c e) (can_pass_all c es) can).1 start g f line l)
     where
       by_kind : (b : Bool) → wants_array p ≡ b → (can_pass c e ≡ true) × (can_pass_all c es ≡ true) →
-          ((start : Frame) → Good start → Fresh (keys start.arrays) (arrays_of ps) → (l : ℕ) → Alike (SameGiven ps es f0 start) l (arguments ps es f0 line start l) (arguments ps (lower_exprs c.over es) g0 line start l)) →
+          ((start : Frame) → Good start → Fresh (keys start.arrays) (arrays_of ps) → (l : ℕ)
+          → Alike (SameGiven ps es f0 start) l (arguments ps es f0 line start l) (arguments ps (lower_exprs c.over es) g0 line start l)) →
           Alike (SameGiven (p ∷ ps) (e ∷ es) f0 start) left
-          ((if b then arguments ps es f0 line (new_array p.name (given_array e f0) start) else (λ left. then_do (pay_for (evaluate e f0) line left) (λ v l. arguments ps es f0 line (new_int p.name v start) l))) left)
-          ((if b then arguments ps (lower_exprs c.over es) g0 line (new_array p.name (given_array (lower_expr c.over e) g0) start) else (λ left. then_do (pay_for (evaluate (lower_expr c.over e) g0) line left) (λ v l. arguments ps (lower_exprs c.over es) g0 line (new_int p.name v start) l))) left)
+          ((if b then arguments ps es f0 line (new_array p.name (given_array e f0) start)
+          else (λ left. then_do (pay_for (evaluate e f0) line left) (λ v l. arguments ps es f0 line (new_int p.name v start) l))) left)
+          ((if b then arguments ps (lower_exprs c.over es) g0 line (new_array p.name (given_array (lower_expr c.over e) g0) start)
+          else (λ left. then_do (pay_for (evaluate (lower_expr c.over e) g0) line left)
+          (λ v l. arguments ps (lower_exprs c.over es) g0 line (new_int p.name v start) l))) left)
       by_kind true k cans more =
           let xs : List ℤ = given_array e f0 in
           let f = fresh_if true p ps (keys start.arrays) k fresh in
@@ -135,11 +150,15 @@ module _ (c : Surroundings) (fo go : List (Name × ℤ)) (Slot : (fa ga : List (
             );
             sliced_is = r.sliced_is;
             ints_are = r.ints_are ∙ ap (λ t. keys start.ints ++ t) (ints_if true p ps k);
-            arrays_are = r.arrays_are ∙ ap (λ t. t ++ arrays_of ps) (keys-append start.arrays ((p.name, xs) ∷ [])) ∙ append_assoc (keys start.arrays) (p.name ∷ []) (arrays_of ps) ∙ ap (λ t. keys start.arrays ++ t) (arrays_if true p ps k);
+            arrays_are = r.arrays_are ∙ ap (λ t. t ++ arrays_of ps) (keys-append start.arrays ((p.name, xs) ∷ []))
+                ∙ append_assoc (keys start.arrays) (p.name ∷ []) (arrays_of ps) ∙ ap (λ t. keys start.arrays ++ t) (arrays_if true p ps k);
           }) (omega arith)
-          (more start' (record { ints = g.ints; arrays = fine-append start.arrays ((p.name, xs) ∷ []) g.arrays (given_fine e f0 good, tt) }) (rw (keys-append start.arrays ((p.name, xs) ∷ [])) f.1) left))
+          (more start' (record { ints = g.ints; arrays = fine-append start.arrays ((p.name, xs) ∷ []) g.arrays (given_fine e f0 good, tt) })
+          (rw (keys-append start.arrays ((p.name, xs) ∷ [])) f.1) left))
       by_kind false k cans more =
-          value_then (evaluate e f0) (evaluate (lower_expr c.over e) g0) line left (evaluate_same c fo go Slot w e (pass_evaluates c e cans.0) loc fa ga la slot) (evaluate_fits e f0 good (can_fit c e (pass_evaluates c e cans.0))) _ _ (λ v l fit le.
+          value_then (evaluate e f0) (evaluate (lower_expr c.over e) g0) line left
+          (evaluate_same c fo go Slot w e (pass_evaluates c e cans.0) loc fa ga la slot)
+          (evaluate_fits e f0 good (can_fit c e (pass_evaluates c e cans.0))) _ _ (λ v l fit le.
           alike_weaken (λ a b r. record {
             same = r.same;
             good = r.good;
@@ -147,7 +166,8 @@ module _ (c : Surroundings) (fo go : List (Name × ℤ)) (Slot : (fa ga : List (
             is = r.is;
             matches = (λ q. let z : false ≡ true = sym k ∙ q in absurd cc, r.matches);
             sliced_is = r.sliced_is;
-            ints_are = r.ints_are ∙ ap (λ t. t ++ integers_of ps) (keys-append start.ints ((p.name, v) ∷ [])) ∙ append_assoc (keys start.ints) (p.name ∷ []) (integers_of ps) ∙ ap (λ t. keys start.ints ++ t) (ints_if false p ps k);
+            ints_are = r.ints_are ∙ ap (λ t. t ++ integers_of ps) (keys-append start.ints ((p.name, v) ∷ []))
+                ∙ append_assoc (keys start.ints) (p.name ∷ []) (integers_of ps) ∙ ap (λ t. keys start.ints ++ t) (ints_if false p ps k);
             arrays_are = r.arrays_are ∙ ap (λ t. keys start.arrays ++ t) (arrays_if false p ps k);
           }) (omega arith)
           (more (new_int p.name v start) (record { ints = fit-append start.ints ((p.name, v) ∷ []) g.ints (fit, tt); arrays = g.arrays }) (fresh_if false p ps (keys start.arrays) k fresh) l))
@@ -168,14 +188,17 @@ module _ (c : Surroundings) (fo go : List (Name × ℤ)) (Slot : (fa ga : List (
       one_back (Variable a) h n = by_kind (takes_array p) refl f g rel s
         where
           by_kind : (b : Bool) → takes_array p ≡ b → (f g : Frame) → Rel c fo go Slot ints arrays f g → sizes f.arrays ≡ sizes f0.arrays →
-              Rel c fo go Slot ints arrays (if b then set_array a (array_of callee p.name) f else f) (if b then set_array a (array_of callee p.name) g else g) × (sizes (if b then set_array a (array_of callee p.name) f else f).arrays ≡ sizes f0.arrays)
+              Rel c fo go Slot ints arrays (if b then set_array a (array_of callee p.name) f else f)
+              (if b then set_array a (array_of callee p.name) g else g) × (sizes (if b then set_array a (array_of callee p.name) f else f).arrays
+              ≡ sizes f0.arrays)
           by_kind false q f g rel s = (rel, s)
           by_kind true q f g (related loc' fa' ga' la' slot' ki' ka' good') s =
               let here : is_local c a ≡ true = (and_parts (can_read c a) (is_local c a) h).1 in
               let m = n (written_is_array p.kind q) in
               let there : is_among p.name (keys (sizes t)) ≡ true = ap (λ ks. is_among p.name ks) (keys-sizes t) ∙ m.0 in
               let same : length (array_of callee p.name) ≡ length (find [] a (fa' ++ la')) =
-              find-sizes p.name callee.arrays ∙ ap (λ u. find 0 p.name u) k.is ∙ find_in 0 p.name (sizes t) k.more there ∙ sym (find-sizes p.name t) ∙ m.1 ∙ find-sizes a (fa ++ la) ∙ ap (λ u. find 0 a u) (sym s) ∙ sym (find-sizes a (fa' ++ la')) in (
+              find-sizes p.name callee.arrays ∙ ap (λ u. find 0 p.name u) k.is ∙ find_in 0 p.name (sizes t) k.more there ∙ sym (find-sizes p.name t)
+              ∙ m.1 ∙ find-sizes a (fa ++ la) ∙ ap (λ u. find 0 a u) (sym s) ∙ sym (find-sizes a (fa' ++ la')) in (
                 rel_set_array c fo go Slot w ints arrays loc' fa' ga' la' slot' ki' ka' good' a (array_of callee p.name) here (find_fine p.name callee.arrays gc.arrays),
                 sizes-put a (array_of callee p.name) (fa' ++ la') same ∙ s,
               )
@@ -194,9 +217,13 @@ module _ (c : Surroundings) (fo go : List (Name × ℤ)) (Slot : (fa ga : List (
       goes (rel_set_int c fo go Slot w ints arrays loc' fa' ga' la' slot' ki' ka' good' x v can fit) (kept_same (fa ++ la) (fa' ++ la') s)
 
   pub call_alike : (kind : CallKind) (site : ℕ) (target' : Option Name) (callee : Name) (es : List Expr) → can_target c target' ≡ true → can_pass_all c es ≡ true →
-      (fs fs' : List Function) (calls calls' : Calls) (limit : ℕ) → length es ≡ length (function_named callee fs).params → (function_named callee fs').params ≡ (function_named callee fs).params → Fresh [] (arrays_of (function_named callee fs).params) →
-      ((given : Frame) (line left : ℕ) → left < limit → Good given → given.sliced ≡ [] → keys given.ints ≡ integers_of (function_named callee fs).params → keys given.arrays ≡ arrays_of (function_named callee fs).params → Whole (CallSame given) left (calls Deeper (function_named callee fs) given line left) (calls' Deeper (function_named callee fs') given line left)) →
-      (line left : ℕ) → left ≤ limit → Alike (Out c fo go Slot ints arrays f0) left (run (Call kind site target' callee es) line fs calls f0 left) (run (Call kind site target' callee (lower_exprs c.over es)) line fs' calls' g0 left)
+      (fs fs' : List Function) (calls calls' : Calls) (limit : ℕ) → length es ≡ length (function_named callee fs).params
+      → (function_named callee fs').params ≡ (function_named callee fs).params → Fresh [] (arrays_of (function_named callee fs).params) →
+      ((given : Frame) (line left : ℕ) → left < limit → Good given → given.sliced ≡ []
+      → keys given.ints ≡ integers_of (function_named callee fs).params → keys given.arrays ≡ arrays_of (function_named callee fs).params
+      → Whole (CallSame given) left (calls Deeper (function_named callee fs) given line left) (calls' Deeper (function_named callee fs') given line left)) →
+      (line left : ℕ) → left ≤ limit → Alike (Out c fo go Slot ints arrays f0) left (run (Call kind site target' callee es) line fs calls f0 left)
+      (run (Call kind site target' callee (lower_exprs c.over es)) line fs' calls' g0 left)
   call_alike kind site target' callee es can_t can_e fs fs' calls calls' limit as_many same_params once deeper line left le =
       alike_right (ap (λ ps. lowered_call ps) same_params)
       (alike_then (args_alike ps0 es as_many can_e no_frame (record { ints = tt; arrays = tt }) once line left) (λ given given' l r le'. rw r.same
@@ -207,11 +234,13 @@ module _ (c : Surroundings) (fo go : List (Name × ℤ)) (Slot : (fa ga : List (
       ps0 = (function_named callee fs).params
 
       lowered_call : List Param → Outcome Completion
-      lowered_call ps = then_do (arguments ps (lower_exprs c.over es) g0 line no_frame left) (λ given l. then_do (pay 1 l) (λ _ l. then_do (joined_up (call_event kind site) (calls' Deeper (function_named callee fs') given line l))
+      lowered_call ps = then_do (arguments ps (lower_exprs c.over es) g0 line no_frame left)
+          (λ given l. then_do (pay 1 l) (λ _ l. then_do (joined_up (call_event kind site) (calls' Deeper (function_named callee fs') given line l))
           (λ returned l. Done (Normal (set_result target' returned.0 (returned_arrays ps (lower_exprs c.over es) returned.1 g0))) l quiet)))
 
       after_call : (given : Frame) → Matches ps0 es f0 given.arrays → {ret ret' : Returned} → CallSame given ret ret' →
-          Out c fo go Slot ints arrays f0 (Normal (set_result target' ret.0 (returned_arrays ps0 es ret.1 f0))) (Normal (set_result target' ret'.0 (returned_arrays ps0 (lower_exprs c.over es) ret'.1 g0)))
+          Out c fo go Slot ints arrays f0 (Normal (set_result target' ret.0 (returned_arrays ps0 es ret.1 f0)))
+          (Normal (set_result target' ret'.0 (returned_arrays ps0 (lower_exprs c.over es) ret'.1 g0)))
       after_call given m (same_call {v = v} {f = f} fit gf kept) =
           let back = back_rel ps0 es can_e given.arrays m f gf kept f0 g0 (related loc fa ga la slot ki ka good) refl in
           result_rel target' v can_t fit (returned_arrays ps0 es f f0) (returned_arrays ps0 (lower_exprs c.over es) f g0) back.0 back.1

@@ -32,8 +32,10 @@ module _ (c : Surroundings) (fo go : List (Name × ℤ)) (Slot : (fa ga : List (
   in_scope limit piece piece' h f g (related loc fa ga la slot ki ka good) left le =
       scoped_alike c fo go Slot w ints arrays loc fa ga la slot ki ka good (piece f) (piece' g) left (h f g (related loc fa ga la slot ki ka good) left le)
 
-  pub test_then : {S : Completion → Completion → Type 0} (e : Expr) → can_evaluate c e ≡ true → (f g : Frame) → Rel c fo go Slot ints arrays f g → (line left : ℕ) (go1 go2 : ℤ → ℕ → Outcome Completion) →
-      ((v : ℤ) (l : ℕ) → fits v ≡ true → l ≤ left → Alike S l (go1 v l) (go2 v l)) → Alike S left (then_do (pay_for (evaluate e f) line left) go1) (then_do (pay_for (evaluate (lower_expr c.over e) g) line left) go2)
+  pub test_then : {S : Completion → Completion → Type 0} (e : Expr) → can_evaluate c e ≡ true → (f g : Frame) → Rel c fo go Slot ints arrays f g
+      → (line left : ℕ) (go1 go2 : ℤ → ℕ → Outcome Completion) →
+      ((v : ℤ) (l : ℕ) → fits v ≡ true → l ≤ left → Alike S l (go1 v l) (go2 v l))
+      → Alike S left (then_do (pay_for (evaluate e f) line left) go1) (then_do (pay_for (evaluate (lower_expr c.over e) g) line left) go2)
   test_then e can f g (related loc fa ga la slot ki ka good) line left go1 go2 h =
       value_then (evaluate e f) (evaluate (lower_expr c.over e) g) line left (evaluate_same c fo go Slot w e can loc fa ga la slot) (evaluate_fits e f good (can_fit c e can)) go1 go2 h
 
@@ -45,7 +47,8 @@ module _ (c : Surroundings) (fo go : List (Name × ℤ)) (Slot : (fa ga : List (
       Alike (Out' f) left (run (If e b) line fs calls f left) (run (If (lower_expr c.over e) b') line fs' calls' g left)
   if_alike e b b' limit line fs fs' calls calls' can h f g rel left le =
       test_then e can f g rel line left _ _ (λ v l fit le'. alike_pay 1 l _ _ (λ enough.
-      alike_if (is_zero v) (going f) (scoped f (run_all b fs calls f)) (going g) (scoped g (run_all b' fs' calls' g)) (l - 1) (alike_done (l - 1) (stays f g rel)) (in_scope limit (run_all b fs calls) (run_all b' fs' calls') h f g rel (l - 1) (omega arith))))
+      alike_if (is_zero v) (going f) (scoped f (run_all b fs calls f)) (going g) (scoped g (run_all b' fs' calls' g)) (l - 1)
+      (alike_done (l - 1) (stays f g rel)) (in_scope limit (run_all b fs calls) (run_all b' fs' calls') h f g rel (l - 1) (omega arith))))
 
   -- one instruction more, where it goes on
   pub and_pay : (f : Frame) {way way' : Completion} (l : ℕ) → Out' f way way' →
@@ -54,7 +57,8 @@ module _ (c : Surroundings) (fo go : List (Name × ℤ)) (Slot : (fa ga : List (
       (λ f' g' rel kept. alike_pay 1 l _ _ (λ enough. alike_done (l - 1) (goes rel kept)))
 
   pub if_else_alike : (e : Expr) (b b' d d' : Block) (limit line : ℕ) (fs fs' : List Function) (calls calls' : Calls) → can_evaluate c e ≡ true →
-      BlockAlike limit (run_all b fs calls) (run_all b' fs' calls') → BlockAlike limit (run_all d fs calls) (run_all d' fs' calls') → (f g : Frame) → Rel c fo go Slot ints arrays f g → (left : ℕ) → left ≤ limit →
+      BlockAlike limit (run_all b fs calls) (run_all b' fs' calls') → BlockAlike limit (run_all d fs calls) (run_all d' fs' calls') → (f g : Frame)
+      → Rel c fo go Slot ints arrays f g → (left : ℕ) → left ≤ limit →
       Alike (Out' f) left (run (IfElse e b d) line fs calls f left) (run (IfElse (lower_expr c.over e) b' d') line fs' calls' g left)
   if_else_alike e b b' d d' limit line fs fs' calls calls' can h k f g rel left le =
       test_then e can f g rel line left _ _ (λ v l fit le'. alike_pay 1 l _ _ (λ enough.
@@ -73,9 +77,11 @@ module _ (c : Surroundings) (fo go : List (Name × ℤ)) (Slot : (fa ga : List (
       (going g) (◌>>=◌ (scoped g (piece' g)) (λ way. onward way (λ frame'. ◌>>=◌ (pay 1) (λ _. turns bound (evaluate (lower_expr c.over e)) line (λ x. scoped x (piece' x)) frame')))) (l - 1)
       (alike_done (l - 1) (stays f g rel))
       (alike_then (in_scope limit piece piece' h f g rel (l - 1) (omega arith)) (λ way way' l' out le''.
-      onward_then (Out' f) l' out (λ frame'. ◌>>=◌ (pay 1) (λ _. turns bound (evaluate e) line (λ x. scoped x (piece x)) frame')) (λ frame'. ◌>>=◌ (pay 1) (λ _. turns bound (evaluate (lower_expr c.over e)) line (λ x. scoped x (piece' x)) frame'))
+      onward_then (Out' f) l' out (λ frame'. ◌>>=◌ (pay 1) (λ _. turns bound (evaluate e) line (λ x. scoped x (piece x)) frame'))
+      (λ frame'. ◌>>=◌ (pay 1) (λ _. turns bound (evaluate (lower_expr c.over e)) line (λ x. scoped x (piece' x)) frame'))
       (λ v' f' r fit' good kept. returns r fit' good kept)
-      (λ f' g' rel' kept. alike_pay 1 l' _ _ (λ enough'. alike_weaken (λ a b out'. out_before f f' kept out') (omega arith) (turns_alike bound e limit line piece piece' can h f' g' rel' (l' - 1) (omega arith))))))))
+      (λ f' g' rel' kept. alike_pay 1 l' _ _ (λ enough'. alike_weaken (λ a b out'. out_before f f' kept out') (omega arith)
+      (turns_alike bound e limit line piece piece' can h f' g' rel' (l' - 1) (omega arith))))))))
 
   pub while_alike : (e : Expr) (b b' : Block) (limit line : ℕ) (fs fs' : List Function) (calls calls' : Calls) → can_evaluate c e ≡ true →
       BlockAlike limit (run_all b fs calls) (run_all b' fs' calls') → (f g : Frame) → Rel c fo go Slot ints arrays f g → (left : ℕ) → left ≤ limit →
@@ -86,10 +92,12 @@ module _ (c : Surroundings) (fo go : List (Name × ℤ)) (Slot : (fa ga : List (
       BlockAlike limit (run_all b fs calls) (run_all b' fs' calls') → (f g : Frame) → Rel c fo go Slot ints arrays f g → (left : ℕ) → left ≤ limit →
       Alike (Out' f) left (run (Scope b) line fs calls f left) (run (Scope b') line fs' calls' g left)
   scope_alike b b' limit line fs fs' calls calls' h f g rel left le =
-      alike_pay 1 left _ _ (λ enough. alike_then (alike_one Series series_keeps (as_whole (in_scope limit (run_all b fs calls) (run_all b' fs' calls') h f g rel (left - 1) (omega arith)))) (λ way way' l' out le''. and_pay f l' out))
+      alike_pay 1 left _ _ (λ enough. alike_then (alike_one Series series_keeps
+      (as_whole (in_scope limit (run_all b fs calls) (run_all b' fs' calls') h f g rel (left - 1) (omega arith)))) (λ way way' l' out le''. and_pay f l' out))
 
   pub region_alike : (tag : Name) (b b' : Block) (limit line : ℕ) (fs fs' : List Function) (calls calls' : Calls) →
       BlockAlike limit (run_all b fs calls) (run_all b' fs' calls') → (f g : Frame) → Rel c fo go Slot ints arrays f g → (left : ℕ) → left ≤ limit →
       Alike (Out' f) left (run (Region tag b) line fs calls f left) (run (Region tag b') line fs' calls' g left)
   region_alike tag b b' limit line fs fs' calls calls' h f g rel left le =
-      alike_pay 1 left _ _ (λ enough. alike_then (alike_one (λ t. Series (Marked (Execution tag) t)) (region_keeps tag) (as_whole (in_scope limit (run_all b fs calls) (run_all b' fs' calls') h f g rel (left - 1) (omega arith)))) (λ way way' l' out le''. and_pay f l' out))
+      alike_pay 1 left _ _ (λ enough. alike_then (alike_one (λ t. Series (Marked (Execution tag) t)) (region_keeps tag)
+      (as_whole (in_scope limit (run_all b fs calls) (run_all b' fs' calls') h f g rel (left - 1) (omega arith)))) (λ way way' l' out le''. and_pay f l' out))

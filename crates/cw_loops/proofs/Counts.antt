@@ -3,11 +3,13 @@ use Rattle.std.proofs.Common.{◌≡◌, ℕ, ◌+◌, List, [], ◌∷◌, ◌+
 use Rattle.std.specs.Prelude.{flat_map}
 use Rattle.std.proofs.lemmas.Grind.{flat_map-append}
 use Rattle.std.proofs.lemmas.List.{nil_from_length}
-use Rattle.cw_model.specs.Syntax.{Name, Stmt, Declare, DeclareArray, Assign, AssignElement, Reduce, Call, Start, Begin, Sync, If, IfElse, While, For, Scope, Cut, Region, Print, Return, Block, End, Then, Function, Program}
+use Rattle.cw_model.specs.Syntax.{Name, Stmt, Declare, DeclareArray, Assign, AssignElement, Reduce, Call, Start, Begin, Sync, If, IfElse}
+use Rattle.cw_model.specs.Syntax.{While, For, Scope, Cut, Region, Print, Return, Block, End, Then, Function, Program}
 use Rattle.cw_model.specs.Captured.{captured}
 use Rattle.cw_model.specs.Sites.{CallSite, sites_in, sites_in_block}
 use Rattle.cw_model.specs.Sizes.{loops_in, loops_in_block, call_count}
-use Rattle.cw_loops.specs.Lowered.{in_cuts, both_halves, left_arguments, right_arguments, loop_name, loop_function, loop_count, loop_count_in, lower_stmt, lower_block, made_by, made_in, lower_functions, made_of, lowered}
+use Rattle.cw_loops.specs.Lowered.{in_cuts, both_halves, left_arguments, right_arguments, loop_name, loop_function, loop_count}
+use Rattle.cw_loops.specs.Lowered.{loop_count_in, lower_stmt, lower_block, made_by, made_in, lower_functions, made_of, lowered}
 
 -- the loops of some functions
 abbrev loops_of : List Function → List ℕ
@@ -41,7 +43,9 @@ mutual
       let f = loop_function (loop_name (k + loop_count_in b)) line x grain (captured x b) arrays (lower_block arrays k b) in (
         refl,
         flat_map-append (λ (f : Function). loops_in_block f.body) (made_in k b) (f ∷ [])
-            ∙ none_of_both (loops_of (made_in k b)) (loops_in_block f.body ++ []) h.1 (none_of_both (loops_in_block f.body) [] (function_no_loop (loop_name (k + loop_count_in b)) line x grain (captured x b) arrays (lower_block arrays k b) h.0) refl),
+            ∙ none_of_both (loops_of (made_in k b)) (loops_in_block f.body ++ []) h.1
+            (none_of_both (loops_in_block f.body) [] (function_no_loop (loop_name (k + loop_count_in b)) line x grain (captured x b) arrays
+            (lower_block arrays k b) h.0) refl),
       )
   stmt_no_loop (Scope b) over k line = block_no_loop b over k
   stmt_no_loop (Cut a e l r b) over k line = block_no_loop b over k
@@ -83,7 +87,8 @@ cuts_sites : (line : ℕ) (over : List Name) (b : Block) → length (sites_in_bl
 cuts_sites line [] b = refl
 cuts_sites line (a ∷ over) b = length-append (sites_in_block (in_cuts line over b)) [] ∙ omega (arith, cuts_sites line over b)
 
-function_sites : (name : Name) (line : ℕ) (x : Name) (grain : ℕ) (ints over : List Name) (b : Block) → length (sites_in_block (loop_function name line x grain ints over b).body) ≡ length (sites_in_block b)
+function_sites : (name : Name) (line : ℕ) (x : Name) (grain : ℕ) (ints over : List Name) (b : Block)
+    → length (sites_in_block (loop_function name line x grain ints over b).body) ≡ length (sites_in_block b)
 function_sites name line x grain ints over b =
     let c = cuts_sites line over (both_halves line name (left_arguments ints over) (right_arguments ints over)) in
     let n : sites_in_block (in_cuts line over (both_halves line name (left_arguments ints over) (right_arguments ints over))) ≡ [] = nil_from_length _ c in
@@ -107,7 +112,13 @@ mutual
   stmt_sites (While e b) over k line = block_sites b over k
   stmt_sites (For x y z from to grain arrays b) over k line =
       let f = loop_function (loop_name (k + loop_count_in b)) line x grain (captured x b) arrays (lower_block arrays k b) in
-      omega (arith, block_sites b arrays k, sites_both (made_in k b) (f ∷ []), function_sites (loop_name (k + loop_count_in b)) line x grain (captured x b) arrays (lower_block arrays k b), length-append (sites_in_block f.body) [])
+      omega (
+        arith,
+        block_sites b arrays k,
+        sites_both (made_in k b) (f ∷ []),
+        function_sites (loop_name (k + loop_count_in b)) line x grain (captured x b) arrays (lower_block arrays k b),
+        length-append (sites_in_block f.body) [],
+      )
   stmt_sites (Scope b) over k line = block_sites b over k
   stmt_sites (Cut a e l r b) over k line = block_sites b over k
   stmt_sites (Region tag b) over k line = block_sites b over k

@@ -1,5 +1,6 @@
 -- The halves of an inner node, in the cuts of the arrays.
-use Rattle.std.proofs.Common.{◌≡◌, ℕ, suc, ◌+◌, ◌-◌, ◌*◌, ◌≤◌, ◌<◌, ◌^◌, false, ℤ, pos, ◌-ℤ◌, List, [], ◌∷◌, ◌++◌, length, take, drop, arith, refl, sym, ◌∙◌, ap, append_assoc, append-nil, subst, length-append}
+use Rattle.std.proofs.Common.{◌≡◌, ℕ, suc, ◌+◌, ◌-◌, ◌*◌, ◌≤◌, ◌<◌, ◌^◌, false, ℤ, pos, ◌-ℤ◌, List, [], ◌∷◌, ◌++◌, length, take}
+use Rattle.std.proofs.Common.{drop, arith, refl, sym, ◌∙◌, ap, append_assoc, append-nil, subst, length-append}
 use Rattle.std.specs.Prelude.{nat_lt, if◌then◌else◌, map, None}
 use Rattle.std.proofs.lemmas.Bool.{le-ltb}
 use Rattle.std.proofs.Math.Seq.{take-length, take-append_seam}
@@ -14,14 +15,16 @@ use Rattle.cw_model.specs.Names.{is_among, find, put}
 use Rattle.cw_model.specs.Frames.{Frame, no_frame, new_int, new_array, int_of, array_of, set_array, leave}
 use Rattle.cw_model.specs.Expressions.{Gives, evaluate, also, and_then, done_at, apply}
 use Rattle.cw_model.specs.Outcome.{Outcome, Done, then_do, ◌>>=◌, quiet, pay, pay_for, joined_up}
-use Rattle.cw_model.specs.Meaning.{Completion, Normal, onward, going, frame_of, scoped, Returned, SameDepth, Calls, function_named, arguments, returned_arrays, start_event, cut_place, uncut, run, run_all}
+use Rattle.cw_model.specs.Meaning.{Completion, Normal, onward, going, frame_of, scoped, Returned, SameDepth, Calls, function_named}
+use Rattle.cw_model.specs.Meaning.{arguments, returned_arrays, start_event, cut_place, uncut, run, run_all}
 use Rattle.cw_loops.specs.Lowered.{low, high, middle, left_part, right_part, int_params, array_params, variables, left_arguments, right_arguments, both_halves, in_cuts}
 use Rattle.cw_loops.proofs.Alike.{Alike, Whole, fork_keeps, series_keeps, alike_one, alike_pay, alike_then, both_done, as_whole, then_then, then_gives, after_quiet, value_pays, pay_pay, same_events}
 use Rattle.cw_loops.proofs.Lags.{Lags, lag_none, lag_pay, lag_one, lag_map, lag_left, lag_right}
 use Rattle.cw_loops.proofs.Runs.{one_line}
 use Rattle.cw_loops.proofs.Numbers.{tested}
 use Rattle.cw_loops.proofs.Tables.{keys, find_last}
-use Rattle.cw_loops.proofs.Arguments.{Fresh, table, pairs, pair_names, keys-append, keys-table, keys-pairs, find_at, put_at, right_past, arg_int, args_ints, args_arrays, FreshPairs, lefts_found, rights_found, back_ints, lefts_back, rights_back}
+use Rattle.cw_loops.proofs.Arguments.{Fresh, table, pairs, pair_names, keys-append, keys-table, keys-pairs, find_at, put_at, right_past, arg_int}
+use Rattle.cw_loops.proofs.Arguments.{args_ints, args_arrays, FreshPairs, lefts_found, rights_found, back_ints, lefts_back, rights_back}
 use Rattle.cw_loops.proofs.Leaf.{entry}
 use Rattle.cw_loops.specs.lemmas.Outcomes.{then_same}
 
@@ -31,14 +34,16 @@ alike_right {R = R} {given = given} {o = o} e h = subst (λ x. Alike R given o x
 pub alike_left : {A B : Type 0} {R : A → B → Type 0} {given : ℕ} {o p : Outcome A} {o' : Outcome B} → o ≡ p → Alike R given p o' → Alike R given o o'
 alike_left {R = R} {given = given} {o' = o'} e h = subst (λ x. Alike R given x o') (sym e) h
 
-pub alike_first_right : {A B C : Type 0} {R : A → B → Type 0} {given : ℕ} {o : Outcome A} {o' p : Outcome C} → o' ≡ p → (go : C → ℕ → Outcome B) → Alike R given o (then_do p go) → Alike R given o (then_do o' go)
+pub alike_first_right : {A B C : Type 0} {R : A → B → Type 0} {given : ℕ} {o : Outcome A} {o' p : Outcome C} → o' ≡ p → (go : C → ℕ → Outcome B)
+    → Alike R given o (then_do p go) → Alike R given o (then_do o' go)
 alike_first_right {R = R} {given = given} {o = o} e go h = subst (λ x. Alike R given o (then_do x go)) (sym e) h
 
 -- a start: its arguments, and the call
 start_runs : (kind : _) (name : Name) (es : List Expr) (line : ℕ) (fs : List Function) (calls : Calls) (frame given : Frame) (f : Function) (cost left : ℕ) →
     function_named name fs ≡ f → arguments f.params es frame line no_frame left ≡ then_do (pay cost left) (λ _ l. Done given l quiet) →
     run (Start kind name es) line fs calls frame left
-    ≡ then_do (pay (cost + 1) left) (λ _ l. then_do (joined_up (start_event kind) (calls SameDepth f given line l)) (λ returned l. Done (Normal (returned_arrays f.params es returned.1 frame)) l quiet))
+    ≡ then_do (pay (cost + 1) left) (λ _ l. then_do (joined_up (start_event kind) (calls SameDepth f given line l))
+    (λ returned l. Done (Normal (returned_arrays f.params es returned.1 frame)) l quiet))
 start_runs kind name es line fs calls frame given f cost left found paid = rw found (rw paid
     (then_then (pay cost left) (λ _ l. Done given l quiet) _ ∙ then_same (pay cost left) _ _ (λ _ l. after_quiet _)
     ∙ pay_pay cost 1 left _))
@@ -54,7 +59,8 @@ pub record Half (ints : List (Name × ℤ)) (over : List Name) (Ok : Frame → (
   pub ok : Ok frame slices
 
 -- what both halves leave in their cuts
-pub record Both (at : List (Name × List ℤ) → Frame) (arrays : (l r : Name → List ℤ) → List (Name × List ℤ)) (Ok : Frame → (l r : Name → List ℤ) → Type 0) (frame : Frame) (way : Completion) : Type 0 where
+pub record Both (at : List (Name × List ℤ) → Frame) (arrays : (l r : Name → List ℤ) → List (Name × List ℤ))
+    (Ok : Frame → (l r : Name → List ℤ) → Type 0) (frame : Frame) (way : Completion) : Type 0 where
   pub lefts : Name → List ℤ
   pub rights : Name → List ℤ
   pub goes_on : way ≡ Normal (at (arrays lefts rights))
@@ -115,14 +121,16 @@ shape_in : (done rest : List Name) (a : Name) (s j l r : Name → List ℤ) →
 shape_in done rest a s j l r =
     append_assoc (table done s ++ (a, s a) ∷ (table rest j ++ pairs done l r)) ((left_part a, l a) ∷ []) ((right_part a, r a) ∷ [])
     ∙ append_assoc (table done s) ((a, s a) ∷ (table rest j ++ pairs done l r)) ((left_part a, l a) ∷ (right_part a, r a) ∷ [])
-    ∙ ap (λ u. table done s ++ (a, s a) ∷ u) (append_assoc (table rest j) (pairs done l r) ((left_part a, l a) ∷ (right_part a, r a) ∷ []) ∙ ap (λ u. table rest j ++ u) (sym (pairs-append done (a ∷ []) l r)))
+    ∙ ap (λ u. table done s ++ (a, s a) ∷ u) (append_assoc (table rest j) (pairs done l r) ((left_part a, l a) ∷ (right_part a, r a) ∷ [])
+    ∙ ap (λ u. table rest j ++ u) (sym (pairs-append done (a ∷ []) l r)))
     ∙ sym (append_assoc (table done s) ((a, s a) ∷ []) (table rest j ++ pairs (done ++ a ∷ []) l r))
     ∙ ap (λ u. u ++ (table rest j ++ pairs (done ++ a ∷ []) l r)) (sym (table-append done (a ∷ []) s))
 
 -- the parts of arrays that are still to be cut have new names
 abbrev pub Cutting : List Name → List Name → Type 0
 Cutting done [] = Unit {0}
-Cutting done (a ∷ rest) = (is_among (left_part a) (done ++ a ∷ (rest ++ pair_names done)) ≡ false) × (is_among (right_part a) (done ++ a ∷ (rest ++ pair_names done)) ≡ false) × Cutting (done ++ a ∷ []) rest
+Cutting done (a ∷ rest) = (is_among (left_part a) (done ++ a ∷ (rest ++ pair_names done)) ≡ false)
+    × (is_among (right_part a) (done ++ a ∷ (rest ++ pair_names done)) ≡ false) × Cutting (done ++ a ∷ []) rest
 
 -- arrays that are at least so long
 abbrev pub Long : ℕ → (Name → List ℤ) → List Name → Type 0
@@ -148,10 +156,13 @@ module _ (name : Name) (line : ℕ) (f : Function) (over : List Name) (fs' : Lis
       ≡ then_do (pay (2 + length cs) left) (λ _ l. Done (record { ints = (low, int_of frame u) ∷ (high, int_of frame v) ∷ cs; arrays = table over (λ a. array_of frame (g a)); sliced = [] }) l quiet)
   args_half u v g frame e left =
       ap (λ ps. arguments ps (Variable u ∷ Variable v ∷ (variables (keys cs) ++ variables (map g over))) frame line no_frame left) params
-      ∙ arg_int low u (record { name = high; kind = name_kind.Integer } ∷ (int_params (keys cs) ++ array_params over)) (Variable v ∷ (variables (keys cs) ++ variables (map g over))) frame line no_frame left
-      ∙ then_same (pay 1 left) _ _ (λ _ l. arg_int high v (int_params (keys cs) ++ array_params over) (variables (keys cs) ++ variables (map g over)) frame line (new_int low (int_of frame u) no_frame) l)
+      ∙ arg_int low u (record { name = high; kind = name_kind.Integer } ∷ (int_params (keys cs) ++ array_params over))
+      (Variable v ∷ (variables (keys cs) ++ variables (map g over))) frame line no_frame left
+      ∙ then_same (pay 1 left) _ _ (λ _ l. arg_int high v (int_params (keys cs) ++ array_params over)
+      (variables (keys cs) ++ variables (map g over)) frame line (new_int low (int_of frame u) no_frame) l)
       ∙ pay_pay 1 1 left _
-      ∙ then_same (pay 2 left) _ _ (λ _ l. args_ints cs ((low, lo) ∷ (high, hi) ∷ []) ((middle, m) ∷ []) frame e fresh_ints (array_params over) (variables (map g over)) line (new_int high (int_of frame v) (new_int low (int_of frame u) no_frame)) l
+      ∙ then_same (pay 2 left) _ _ (λ _ l. args_ints cs ((low, lo) ∷ (high, hi) ∷ []) ((middle, m) ∷ []) frame e fresh_ints (array_params over)
+      (variables (map g over)) line (new_int high (int_of frame v) (new_int low (int_of frame u) no_frame)) l
       ∙ then_same (pay (length cs) l) _ _ (λ _ l. args_arrays over g frame line (record { ints = (low, int_of frame u) ∷ (high, int_of frame v) ∷ cs; arrays = []; sliced = [] }) l))
       ∙ pay_pay 2 (length cs) left _
 
@@ -206,14 +217,20 @@ module _ (name : Name) (line : ℕ) (f : Function) (over : List Name) (fs' : Lis
         alike_left (ap (λ c. then_do (pay c l) (λ _ l. joined_up Series (second frame1 l))) cost)
         (alike_right (after_quiet _)
         (alike_right (one_line line (Start Plain name (right_arguments (keys cs) over)) fs' calls (returned_arrays f.params (left_arguments (keys cs) over) r.1 (at_node (t ++ pairs over sl sr))) l)
-        (alike_right (ap (λ g. run (Start Plain name (right_arguments (keys cs) over)) line fs' calls g l) (back_left t sl sr half.slices r.1 (ap (λ (x : Returned). x.1.arrays) half.gives) fresh once))
+        (alike_right (ap (λ g. run (Start Plain name (right_arguments (keys cs) over)) line fs' calls g l)
+        (back_left t sl sr half.slices r.1 (ap (λ (x : Returned). x.1.arrays) half.gives) fresh once))
         (alike_right (start_runs Plain name (right_arguments (keys cs) over) line fs' calls (at_node (t ++ pairs over half.slices sr)) (entry m hi cs (table over sr)) f (2 + length cs) l found
         (args_right (t ++ pairs over half.slices sr) sr (rights_found over half.slices sr t fresh) l))
         (alike_pay (2 + length cs + 1) l _ _ (λ enough'.
         alike_left (sym (then_gives (joined_up Series (second frame1 (l - (2 + length cs + 1))))))
         (alike_then (alike_one Series series_keeps (second_ok frame1 half.slices half.ok (l - (2 + length cs + 1)) (omega arith)))
         (λ frame2 r2 l2 half2 le2.
-        both_done (record { lefts = half.slices; rights = half2.slices; goes_on = ap Normal (back_right t half.slices sr half2.slices r2.1 (ap (λ (x : Returned). x.1.arrays) half2.gives) fresh once); ok = half2.ok }) (omega arith) refl refl (same_events [])))))))))))))))
+        both_done (record {
+          lefts = half.slices;
+          rights = half2.slices;
+          goes_on = ap Normal (back_right t half.slices sr half2.slices r2.1 (ap (λ (x : Returned). x.1.arrays) half2.gives) fresh once);
+          ok = half2.ok;
+        }) (omega arith) refl refl (same_events [])))))))))))))))
 
   module _ (first : ℕ → Outcome Frame) (second : Frame → ℕ → Outcome Frame) (s : Name → List ℤ) (Ok1 : Frame → (Name → List ℤ) → Type 0) (Ok2 : Frame → (l r : Name → List ℤ) → Type 0) (limit : ℕ)
       (first_ok : (left : ℕ) → left ≤ limit → Whole (Half ((low, lo) ∷ (high, m) ∷ cs) over Ok1) left (first left) (calls SameDepth f (entry lo m cs (table over (λ a. take h (s a)))) line left))
@@ -233,7 +250,8 @@ module _ (name : Name) (line : ℕ) (f : Function) (over : List Name) (fs' : Lis
         and_then (evaluate (Binary Minus (Variable middle) (Variable low)) (at_node arrays)) (cut_place (array_of (at_node arrays) a)) ≡ Gives (pos h) 4
     cut_gives a arrays e long =
         let ev : evaluate (Binary Minus (Variable middle) (Variable low)) (at_node arrays) ≡ Gives (pos h) 3 =
-        ap (λ v. also (Gives v 1) (Gives lo 1) (apply Minus)) (middle_is arrays) ∙ ap (λ z. done_at 3 (exact z)) halfway ∙ ap (λ b. done_at 3 (if b then Value (pos h) else Fails trap.Overflow)) (tested h small) in
+        ap (λ v. also (Gives v 1) (Gives lo 1) (apply Minus)) (middle_is arrays) ∙ ap (λ z. done_at 3 (exact z)) halfway
+        ∙ ap (λ b. done_at 3 (if b then Value (pos h) else Fails trap.Overflow)) (tested h small) in
         let fits' : nat_lt (length (find [] a arrays)) h ≡ false = le-ltb (length (find [] a arrays)) h (rw e long) in
         ap (λ ev. and_then ev (cut_place (find [] a arrays))) ev ∙ ap (λ b. done_at 4 (if b then Fails trap.OutOfBounds else Value (pos h))) fits'
 
@@ -249,7 +267,8 @@ module _ (name : Name) (line : ℕ) (f : Function) (over : List Name) (fs' : Lis
         ∙ ap (λ ys. then_do (pay 4 left) (λ _ l. after_cut (at_node ys) l)) shape
       where
         after_cut : Frame → ℕ → Outcome Completion
-        after_cut inside l = then_do (joined_up Series (scoped inside (run_all inner fs' calls inside) l)) (λ way l. onward way (λ g. ◌>>=◌ (pay 1) (λ _. going (uncut a (left_part a) (right_part a) (at_node arrays) g))) l)
+        after_cut inside l = then_do (joined_up Series (scoped inside (run_all inner fs' calls inside) l))
+            (λ way l. onward way (λ g. ◌>>=◌ (pay 1) (λ _. going (uncut a (left_part a) (right_part a) (at_node arrays) g))) l)
 
         body : List ℤ → ℤ → ℕ → Outcome Completion
         body xs v l = after_cut (new_array (right_part a) (drop (natural v) xs) (new_array (left_part a) (take (natural v) xs) (at_node arrays))) l
@@ -287,14 +306,17 @@ module _ (name : Name) (line : ℕ) (f : Function) (over : List Name) (fs' : Lis
     length_cut done rest a j l r =
         let e : length (table rest s ++ pairs done sl sr) ≡ length (table rest j ++ pairs done l r) =
         rw (length-append (table rest s) (pairs done sl sr), length-append (table rest j) (pairs done l r), length-table rest s j, length-pairs done sl sr l r) refl in
-        length-append (table done s) ((a, s a) ∷ (table rest s ++ pairs done sl sr)) ∙ ap (λ n. length (table done s) + suc n) e ∙ sym (length-append (table done s) ((a, s a) ∷ (table rest j ++ pairs done l r)))
+        length-append (table done s) ((a, s a) ∷ (table rest s ++ pairs done sl sr)) ∙ ap (λ n. length (table done s) + suc n) e
+        ∙ sym (length-append (table done s) ((a, s a) ∷ (table rest j ++ pairs done l r)))
 
     -- what the cuts leave
     abbrev Left : (done todo : List Name) → Frame → Completion → Type 0
     Left done todo = Both at_node (λ l r. table done s ++ (table todo (λ a. l a ++ r a) ++ pairs done l r)) Ok2
 
-    uncut_is : (done rest : List Name) (a : Name) (l r : Name → List ℤ) → is_among a done ≡ false → is_among (left_part a) (done ++ a ∷ (rest ++ pair_names done)) ≡ false → is_among (right_part a) (done ++ a ∷ (rest ++ pair_names done)) ≡ false →
-        uncut a (left_part a) (right_part a) (at_node (table done s ++ (table (a ∷ rest) s ++ pairs done sl sr))) (at_node (table (done ++ a ∷ []) s ++ (table rest (λ a. l a ++ r a) ++ pairs (done ++ a ∷ []) l r)))
+    uncut_is : (done rest : List Name) (a : Name) (l r : Name → List ℤ) → is_among a done ≡ false
+        → is_among (left_part a) (done ++ a ∷ (rest ++ pair_names done)) ≡ false → is_among (right_part a) (done ++ a ∷ (rest ++ pair_names done)) ≡ false →
+        uncut a (left_part a) (right_part a) (at_node (table done s ++ (table (a ∷ rest) s ++ pairs done sl sr)))
+        (at_node (table (done ++ a ∷ []) s ++ (table rest (λ a. l a ++ r a) ++ pairs (done ++ a ∷ []) l r)))
         ≡ at_node (table done s ++ (table (a ∷ rest) (λ a. l a ++ r a) ++ pairs done l r))
     uncut_is done rest a l r new new_left new_right =
         let j : Name → List ℤ = λ a. l a ++ r a in
@@ -307,8 +329,10 @@ module _ (name : Name) (line : ℕ) (f : Function) (over : List Name) (fs' : Lis
         let nr : is_among (right_part a) (keys y) ≡ false = rw (keys_in done rest a j l r) new_right in
         let fl : find [] (left_part a) z ≡ l a = ap (λ u. find [] (left_part a) u) (sym two) ∙ find_at [] (left_part a) (l a) y ((right_part a, r a) ∷ []) nl in
         let fr : find [] (right_part a) z ≡ r a = ap (λ u. find [] (right_part a) u) (sym shape) ∙ find_at [] (right_part a) (r a) (y ++ (left_part a, l a) ∷ []) [] (right_past a (l a) y nr) in
-        let lv : leave (at_node x) (at_node z) ≡ at_node y = ap (λ u. leave (at_node x) (at_node u)) (sym two) ∙ leave_longer x y ((left_part a, l a) ∷ (right_part a, r a) ∷ []) (length_cut done rest a j l r) in
-        let at_done : put a (l a ++ r a) y ≡ table done s ++ (a, l a ++ r a) ∷ (table rest j ++ pairs done l r) = put_at a (s a) (l a ++ r a) (table done s) (table rest j ++ pairs done l r) (rw (keys-table done s) new) in
+        let lv : leave (at_node x) (at_node z) ≡ at_node y = ap (λ u. leave (at_node x) (at_node u)) (sym two)
+        ∙ leave_longer x y ((left_part a, l a) ∷ (right_part a, r a) ∷ []) (length_cut done rest a j l r) in
+        let at_done : put a (l a ++ r a) y ≡ table done s ++ (a, l a ++ r a) ∷ (table rest j ++ pairs done l r) =
+        put_at a (s a) (l a ++ r a) (table done s) (table rest j ++ pairs done l r) (rw (keys-table done s) new) in
         ap (λ g. set_array a (find [] (left_part a) z ++ find [] (right_part a) z) g) lv
         ∙ ap (λ v. set_array a (v ++ find [] (right_part a) z) (at_node y)) fl
         ∙ ap (λ v. set_array a (l a ++ v) (at_node y)) fr
@@ -337,12 +361,24 @@ module _ (name : Name) (line : ℕ) (f : Function) (over : List Name) (fs' : Lis
         (lag_pay (suc (length rest)) 4 left _ _ (λ enough.
         lag_one (length rest) (left - 4) _ (λ way. Normal (uncut a (left_part a) (right_part a) (at_node x) (frame_of way)))
         (λ frame way (b : Left (done ++ a ∷ []) rest frame way). (
-          record { lefts = b.lefts; rights = b.rights; goes_on = ap (λ w. Normal (uncut a (left_part a) (right_part a) (at_node x) (frame_of w))) b.goes_on ∙ ap Normal (uncut_is done rest a b.lefts b.rights fresh.0 cutting.0 cutting.1); ok = b.ok },
+          record {
+            lefts = b.lefts;
+            rights = b.rights;
+            goes_on = ap (λ w. Normal (uncut a (left_part a) (right_part a) (at_node x) (frame_of w)))
+                b.goes_on ∙ ap Normal (uncut_is done rest a b.lefts b.rights fresh.0 cutting.0 cutting.1);
+            ok = b.ok;
+          },
           λ l. rw b.goes_on refl,
         ))
         (lag_map (length rest) (left - 4) _ (λ way. Normal (leave (at_node z) (frame_of way)))
         (λ frame way (b : Left (done ++ a ∷ []) rest frame way). (
-          record { lefts = b.lefts; rights = b.rights; goes_on = ap (λ w. Normal (leave (at_node z) (frame_of w))) b.goes_on ∙ ap Normal (leave_same z _ (length_in (done ++ a ∷ []) rest (done ++ a ∷ []) s (j b.lefts b.rights) sl sr b.lefts b.rights)); ok = b.ok },
+          record {
+            lefts = b.lefts;
+            rights = b.rights;
+            goes_on = ap (λ w. Normal (leave (at_node z) (frame_of w))) b.goes_on
+                ∙ ap Normal (leave_same z _ (length_in (done ++ a ∷ []) rest (done ++ a ∷ []) s (j b.lefts b.rights) sl sr b.lefts b.rights));
+            ok = b.ok;
+          },
           λ l. rw b.goes_on refl,
         ))
         (more (done ++ a ∷ []) whole' fresh.1 cutting.2 long.1 (left - 4) (omega arith))))))

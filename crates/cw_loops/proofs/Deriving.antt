@@ -13,7 +13,9 @@ use Rattle.cw_model.specs.Tokens as tokens
 use Rattle.cw_model.specs.Syntax.{Name, Expr, Stmt, Block, Function, Reducer, Program}
 use Rattle.cw_model.specs.Syntax as tree
 use Rattle.cw_model.specs.Grammar as grammar
-use Rattle.cw_model.specs.Grammar.{name_of, Part, level, chain, ReadsExpr, operand, operators, end, infixed, ReadsOperand, negative, negation, number, variable, element, length_of, parentheses, ReadsMoreArguments, ReadsArguments, ReadsCall, ReadsMoreNames, ReadsGrain, ReadsOver, Head, ReadsHead, ReadsAssigned, ReadsNamed, ReadsDeclared, ReadsReturned, ReadsStmt, begins, ReadsStmtBy, ReadsBlock, braces, ReadsStmts, ReadsParam, ReadsMoreParams, ReadsParams, ReadsFunction, ReadsItems, Derives}
+use Rattle.cw_model.specs.Grammar.{name_of, Part, level, chain, ReadsExpr, operand, operators, end, infixed, ReadsOperand, negative, negation, number, variable, element, length_of, parentheses}
+use Rattle.cw_model.specs.Grammar.{ReadsMoreArguments, ReadsArguments, ReadsCall, ReadsMoreNames, ReadsGrain, ReadsOver, Head, ReadsHead, ReadsAssigned, ReadsNamed, ReadsDeclared, ReadsReturned}
+use Rattle.cw_model.specs.Grammar.{ReadsStmt, begins, ReadsStmtBy, ReadsBlock, braces, ReadsStmts, ReadsParam, ReadsMoreParams, ReadsParams, ReadsFunction, ReadsItems, Derives}
 use Rattle.cw_loops.specs.Lowered.{is_plain}
 use Rattle.cw_loops.specs.SourceLike.{is_source_expr, is_source_return, is_source_stmt, is_source_block, is_source_function, is_source_like}
 use Rattle.cw_loops.proofs.Numbers.{tested}
@@ -152,7 +154,8 @@ module _ (text : List ℕ) where
       let h = call_from plain.1.1 read in
       (both_true (is_plain x) _ known (both_true (is_plain (name_of text f)) (list_all is_source_expr es) plain.1.0 h.0), h.1)
 
-  named_from : {n m : ℕ} {k : Kind} {t : Token} {ts rest : List Token} {s : Stmt} → is_plain (name_of text t) ≡ true → Plain text ts → ReadsNamed text n k t ts s m rest → Sourced text (is_source_stmt s) rest
+  named_from : {n m : ℕ} {k : Kind} {t : Token} {ts rest : List Token} {s : Stmt} → is_plain (name_of text t) ≡ true → Plain text ts
+      → ReadsNamed text n k t ts s m rest → Sourced text (is_source_stmt s) rest
   named_from known plain (grammar.ReadsNamed.assign read) = assigned_from known plain read
   named_from {t = t} known plain (grammar.ReadsNamed.assign_element {i = i} {e = e} index u v value w) =
       let h = expr_from plain tt index in
@@ -160,7 +163,8 @@ module _ (text : List ℕ) where
       (both_true (is_plain (name_of text t)) _ known (both_true (is_source_expr i) (is_source_expr e) h.0 k.0), k.1.1)
   named_from {t = t} known plain (grammar.ReadsNamed.add {e = e} read is) = let h = expr_from plain tt read in (both_true (is_plain (name_of text t)) (is_source_expr e) known h.0, h.1.1)
   named_from {t = t} known plain (grammar.ReadsNamed.raise {e = e} equals read is) = let h = expr_from plain.1 tt read in (both_true (is_plain (name_of text t)) (is_source_expr e) known h.0, h.1.1)
-  named_from {t = t} known plain (grammar.ReadsNamed.call {es = es} read is) = let h = arguments_from plain read in (both_true (is_plain (name_of text t)) (list_all is_source_expr es) known h.0, h.1.1)
+  named_from {t = t} known plain (grammar.ReadsNamed.call {es = es} read is) = let h = arguments_from plain read in
+      (both_true (is_plain (name_of text t)) (list_all is_source_expr es) known h.0, h.1.1)
 
   declared_from : {x : Name} {ts rest : List Token} {s : Stmt} → is_plain x ≡ true → Plain text ts → ReadsDeclared text x ts s rest → Sourced text (is_source_stmt s) rest
   declared_from {x = x} known plain (grammar.ReadsDeclared.integer {e = e} is read u) = let h = expr_from plain.1 tt read in (both_true (is_plain x) (is_source_expr e) known h.0, h.1.1)
@@ -196,13 +200,19 @@ module _ (text : List ℕ) where
         (both_true (is_source_expr e) (is_source_block b) h.0 k.0, k.1)
     kind_from plain (grammar.loop {h = heading} {b = b} read body) =
         let h = head_from plain.1 read in
-        let k = block_from h.rest' body in
-        (both_true (is_plain heading.variable) _ h.variable' (both_true (is_source_expr heading.from) _ h.from (both_true (is_source_expr heading.to) _ h.to (both_true (list_all is_plain heading.over) (is_source_block b) h.over k.0))), k.1)
+        let k = block_from h.rest' body in (
+          both_true (is_plain heading.variable) _ h.variable' (both_true (is_source_expr heading.from) _ h.from
+              (both_true (is_source_expr heading.to) _ h.to (both_true (list_all is_plain heading.over) (is_source_block b) h.over k.0))),
+          k.1,
+        )
     kind_from plain (grammar.scope body) = block_from plain.1 body
     kind_from plain (grammar.cut {a = a} {l = l} {r = r} {e = e} {b = b} array at read is left comma right body) =
         let h = expr_from plain.1.1.1 tt read in
-        let k = block_from h.1.1.1.1.1 body in
-        (both_true (is_plain (name_of text a)) _ plain.1.0 (both_true (is_source_expr e) _ h.0 (both_true (is_plain (name_of text l)) _ h.1.1.0 (both_true (is_plain (name_of text r)) (is_source_block b) h.1.1.1.1.0 k.0))), k.1)
+        let k = block_from h.1.1.1.1.1 body in (
+          both_true (is_plain (name_of text a)) _ plain.1.0 (both_true (is_source_expr e) _ h.0
+              (both_true (is_plain (name_of text l)) _ h.1.1.0 (both_true (is_plain (name_of text r)) (is_source_block b) h.1.1.1.1.0 k.0))),
+          k.1,
+        )
     kind_from plain (grammar.region tag body) = block_from plain.1.1 body
     kind_from plain (grammar.print left read right end') = let h = expr_from plain.1.1 tt read in (h.0, h.1.1.1)
     kind_from plain (grammar.give read) = returned_from plain.1 read

@@ -8,10 +8,12 @@ use Rattle.cw_model.specs.declared.syntax.Operator.TheVariants as operator
 use Rattle.cw_model.specs.declared.syntax.Reduction.{Reduction}
 use Rattle.cw_model.specs.declared.syntax.Reduction.TheVariants.{Sum, Max}
 use Rattle.cw_model.specs.Typing.{same_reduction}
-use Rattle.cw_loops.specs.Slotted.{Expr, Number, Variable, Element, Length, Negative, Not, Binary, Argument, Int, Array, Stmt, Declare, DeclareArray, Assign, AssignElement, Reduce, Call, Start, Begin, Sync, If, IfElse, While, Scope, Cut, Region, Print, Return, Block, End, Then, Shared}
+use Rattle.cw_loops.specs.Slotted.{Expr, Number, Variable, Element, Length, Negative, Not, Binary, Argument, Int, Array, Stmt, Declare, DeclareArray, Assign, AssignElement}
+use Rattle.cw_loops.specs.Slotted.{Reduce, Call, Start, Begin, Sync, If, IfElse, While, Scope, Cut, Region, Print, Return, Block, End, Then, Shared}
 use Rattle.cw_loops.specs.Moved.{Loop}
 use Rattle.cw_loops.specs.Lowers.{Bodies}
-use Rattle.cw_loops.specs.Same.{number_of, same_kind, same_int, same_slots, same_target, same_expr, same_argument, same_arguments, same_return, same_stmt, same_block, same_loop, same_loops, same_blocks, same_bodies}
+use Rattle.cw_loops.specs.Same.{number_of, same_kind, same_int, same_slots, same_target, same_expr, same_argument, same_arguments}
+use Rattle.cw_loops.specs.Same.{same_return, same_stmt, same_block, same_loop, same_loops, same_blocks, same_bodies}
 
 operator_equal : (o p : Operator) → (number_of o == number_of p) ≡ true → o ≡ p
 operator_equal operator.Equal operator.Equal h = refl

@@ -35,14 +35,16 @@ use Rattle.cw_loops.proofs.Turn.{turn_scope, BodyAlike, each_turn, table_at}
 use Rattle.cw_loops.proofs.Fresh.{AllPlain, not_plain, fresh_from, pairs_fresh, cutting_from, taken_of, keys-taken, find-taken, frame_is}
 use Rattle.cw_loops.specs.lemmas.Capturing.{each_captured, each_sliced}
 
-mapped_past : (as' : List Name) (f : Name → List ℤ → List ℤ) (t u : List (Name × List ℤ)) → ((a : Name) → is_among a as' ≡ true → is_among a (keys t) ≡ false) → mapped as' f (t ++ u) ≡ t ++ mapped as' f u
+mapped_past : (as' : List Name) (f : Name → List ℤ → List ℤ) (t u : List (Name × List ℤ))
+    → ((a : Name) → is_among a as' ≡ true → is_among a (keys t) ≡ false) → mapped as' f (t ++ u) ≡ t ++ mapped as' f u
 mapped_past [] f t u h = refl
 mapped_past (a ∷ as') f t u h =
     let n : is_among a (keys t) ≡ false = h a (front_among a as') in
     ap (λ x. mapped as' f (put a (f a x) (t ++ u))) (find_past [] a t u n) ∙ ap (λ x. mapped as' f x) (put_past a (f a (find [] a u)) t u n)
     ∙ mapped_past as' f t (put a (f a (find [] a u)) u) (λ b o. h b (later_among b a as' o))
 
-sizes_mapped : (as' : List Name) (f : Name → List ℤ → List ℤ) (t : List (Name × List ℤ)) → Distinct as' → ((a : Name) → is_among a as' ≡ true → length (f a (find [] a t)) ≡ length (find [] a t)) → sizes (mapped as' f t) ≡ sizes t
+sizes_mapped : (as' : List Name) (f : Name → List ℤ → List ℤ) (t : List (Name × List ℤ)) → Distinct as'
+    → ((a : Name) → is_among a as' ≡ true → length (f a (find [] a t)) ≡ length (find [] a t)) → sizes (mapped as' f t) ≡ sizes t
 sizes_mapped [] f t d h = refl
 sizes_mapped (a ∷ as') f t d h =
     let v : List ℤ = f a (find [] a t) in
@@ -52,7 +54,8 @@ sizes_mapped (a ∷ as') f t d h =
     ∙ sizes-put a v t (h a (front_among a as'))
 
 -- the range lies in each array
-lies_each : (lo hi : ℤ) (over : List Name) (g : Name → List ℤ) → lies_within lo hi (map g over) ≡ true → (a : Name) → is_among a over ≡ true → (int_le (pos 0) lo ≡ true) × (int_le hi (pos (length (g a))) ≡ true)
+lies_each : (lo hi : ℤ) (over : List Name) (g : Name → List ℤ) → lies_within lo hi (map g over) ≡ true → (a : Name) → is_among a over ≡ true
+    → (int_le (pos 0) lo ≡ true) × (int_le hi (pos (length (g a))) ≡ true)
 lies_each lo hi [] g h a o = absurd cc
 lies_each lo hi (b ∷ over) g h a o =
     let p = and_parts (int_le (pos 0) lo && int_le hi (pos (length (g b)))) (lies_within lo hi (map g over)) h in
@@ -168,7 +171,8 @@ module _ (c : Surroundings) (fo go : List (Name × ℤ)) (Slot : (fa ga : List (
 
   module _ (body : Body) where
     -- the slices at the start
-    starts : (lo : ℤ) (n : ℕ) → (1 ≤ n → lies_within lo (lo +ℤ pos n) (map (λ a. find [] a (fa ++ la)) over) ≡ true) → Agrees over i0 arrays0 c.sliced lo n f0 (λ a. take n (drop (natural lo) (find [] a (ga ++ la))))
+    starts : (lo : ℤ) (n : ℕ) → (1 ≤ n → lies_within lo (lo +ℤ pos n) (map (λ a. find [] a (fa ++ la)) over) ≡ true)
+        → Agrees over i0 arrays0 c.sliced lo n f0 (λ a. take n (drop (natural lo) (find [] a (ga ++ la))))
     starts lo n lies = record {
       ints = refl;
       names = names_are;
@@ -191,7 +195,8 @@ module _ (c : Surroundings) (fo go : List (Name × ℤ)) (Slot : (fa ga : List (
             length-take-le n (drop (natural lo) (find [] a (ga ++ la))) (omega (arith, length-drop (natural lo) (find [] a (ga ++ la))))
 
     -- what the loop leaves
-    ends : (lo : ℤ) (n : ℕ) → Agrees over i0 arrays0 c.sliced lo n f0 (λ a. take n (drop (natural lo) (find [] a (ga ++ la)))) → (f : Frame) (r : Returned) → Half ((low, lo) ∷ (high, lo +ℤ pos n) ∷ cs) over (Put over lo n f0) f r →
+    ends : (lo : ℤ) (n : ℕ) → Agrees over i0 arrays0 c.sliced lo n f0 (λ a. take n (drop (natural lo) (find [] a (ga ++ la))))
+        → (f : Frame) (r : Returned) → Half ((low, lo) ∷ (high, lo +ℤ pos n) ∷ cs) over (Put over lo n f0) f r →
         Out c fo go Slot ints arrays f0 (Normal f) (Normal (slices_back over (natural lo) r.1 g0))
     ends lo n agrees f r half =
         let s : Name → List ℤ = half.slices in
@@ -199,11 +204,14 @@ module _ (c : Surroundings) (fo go : List (Name × ℤ)) (Slot : (fa ga : List (
         let la' : List (Name × List ℤ) = mapped over put' la in
         let f_arrays : f.arrays ≡ fa ++ la' = half.ok.arrays ∙ mapped_past over put' fa la (λ a o. local_outer c fo go Slot w fa ga slot a (tests.slices a o).1) in
         let f_is : f ≡ source c fo loc fa la' =
-        ap (λ t. record { ints = t; arrays = f.arrays; sliced = f.sliced }) half.ok.ints ∙ ap (λ t. record { ints = i0; arrays = t; sliced = f.sliced }) f_arrays ∙ ap (λ t. record { ints = i0; arrays = fa ++ la'; sliced = t }) half.ok.sliced in
+        ap (λ t. record { ints = t; arrays = f.arrays; sliced = f.sliced }) half.ok.ints
+        ∙ ap (λ t. record { ints = i0; arrays = t; sliced = f.sliced }) f_arrays ∙ ap (λ t. record { ints = i0; arrays = fa ++ la'; sliced = t }) half.ok.sliced in
         let callee_is : (a : Name) → is_among a over ≡ true → array_of r.1 a ≡ s a = λ a o. ap (λ (t : Returned). find [] a t.1.arrays) half.gives ∙ table_at over s a o in
         let g_is : slices_back over (natural lo) r.1 g0 ≡ target go loc ga la' =
         back_is over (natural lo) r.1 g0
-        ∙ ap (λ t. record { ints = go ++ loc; arrays = t; sliced = [] }) (mapped_alike over (λ a xs. with_slice xs (natural lo) (array_of r.1 a)) put' (ga ++ la) tests.over_once (λ a o. ap (λ t. with_slice (find [] a (ga ++ la)) (natural lo) t) (callee_is a o))
+        ∙ ap (λ t. record { ints = go ++ loc; arrays = t; sliced = [] })
+        (mapped_alike over (λ a xs. with_slice xs (natural lo) (array_of r.1 a)) put' (ga ++ la) tests.over_once
+        (λ a o. ap (λ t. with_slice (find [] a (ga ++ la)) (natural lo) t) (callee_is a o))
         ∙ mapped_past over put' ga la (λ a o. local_given c fo go Slot w fa ga slot a (tests.slices a o).1)) in
         let g : Good (source c fo loc fa la') = subst Good f_is half.ok.good in
         let rel : Rel c fo go Slot ints arrays f (slices_back over (natural lo) r.1 g0) =
@@ -216,10 +224,13 @@ module _ (c : Surroundings) (fo go : List (Name × ℤ)) (Slot : (fa ga : List (
         by_count a o (suc m) e = slice_length (find [] a (fa ++ la)) (half.slices a) (natural lo) (omega (arith, half.ok.lengths a o, agrees.within a o (omega arith)))
 
     -- the loop from its start on
-    pub begun : (lo : ℤ) (n : ℕ) → n < 2 ^ 63 → fits lo ≡ true → fits (lo +ℤ pos n) ≡ true → (1 ≤ n → lies_within lo (lo +ℤ pos n) (map (λ a. find [] a (fa ++ la)) over) ≡ true) → (l bound : ℕ) → l ≤ limit → l < bound →
+    pub begun : (lo : ℤ) (n : ℕ) → n < 2 ^ 63 → fits lo ≡ true → fits (lo +ℤ pos n) ≡ true
+        → (1 ≤ n → lies_within lo (lo +ℤ pos n) (map (λ a. find [] a (fa ++ la)) over) ≡ true) → (l bound : ℕ) → l ≤ limit → l < bound →
         Alike (Out c fo go Slot ints arrays f0) l
         (then_do (joined_up Series (halves (suc n) grain (length taken) (length over) n lo (for_body x over b fs calls) f0 l)) (λ f l. Done (Normal f) l quiet))
-        (then_do (joined_up Series (call bound depth fs' SameDepth (function_named name fs') (loop_frame (function_named name fs').params (lo ∷ (lo +ℤ pos n) ∷ map (int_of g0) taken) (map (λ a. take n (drop (natural lo) (array_of g0 a))) over) no_frame) line l))
+        (then_do (joined_up Series (call bound depth fs' SameDepth (function_named name fs')
+        (loop_frame (function_named name fs').params (lo ∷ (lo +ℤ pos n) ∷ map (int_of g0) taken)
+        (map (λ a. take n (drop (natural lo) (array_of g0 a))) over) no_frame) line l))
         (λ r l. Done (Normal (slices_back over (natural lo) r.1 g0)) l quiet))
     begun lo n small lo_fits hi_fits lies l bound h1 h2 =
         let s : Name → List ℤ = λ a. take n (drop (natural lo) (find [] a (ga ++ la))) in
@@ -227,13 +238,19 @@ module _ (c : Surroundings) (fo go : List (Name × ℤ)) (Slot : (fa ga : List (
         let found' : function_named name fs' ≡ loop_function name line x grain (keys cs) over b' = found ∙ ap (λ t. loop_function name line x grain t over b') (sym cs_names) in
         let same_length : length taken ≡ length cs = taken_length taken in
         alike_left (ap (λ k. then_do (joined_up Series (halves (suc n) grain k (length over) n lo (for_body x over b fs calls) f0 l)) (λ f l. Done (Normal f) l quiet)) same_length)
-        (alike_right (ap (λ fn. then_do (joined_up Series (call bound depth fs' SameDepth fn (loop_frame fn.params (lo ∷ (lo +ℤ pos n) ∷ map (int_of g0) taken) (map (λ a. take n (drop (natural lo) (array_of g0 a))) over) no_frame) line l)) (λ r l. Done (Normal (slices_back over (natural lo) r.1 g0)) l quiet)) found)
-        (alike_right (ap (λ fr. then_do (joined_up Series (call bound depth fs' SameDepth (loop_function name line x grain taken over b') fr line l)) (λ r l. Done (Normal (slices_back over (natural lo) r.1 g0)) l quiet)) (frame_is lo (lo +ℤ pos n) taken over (int_of g0) s))
-        (alike_right (ap (λ t. then_do (joined_up Series (call bound depth fs' SameDepth (loop_function name line x grain t over b') (entry lo (lo +ℤ pos n) cs (table over s)) line l)) (λ r l. Done (Normal (slices_back over (natural lo) r.1 g0)) l quiet)) (sym cs_names))
-        (alike_then (alike_one Series series_keeps (halves_call name line x grain cs over b b' fs fs' calls depth tests.plain shallow away some_grain found' fresh_ints (not_plain (109 ∷ []) (keys cs) taken_plain)
+        (alike_right (ap (λ fn. then_do (joined_up Series (call bound depth fs' SameDepth fn
+        (loop_frame fn.params (lo ∷ (lo +ℤ pos n) ∷ map (int_of g0) taken) (map (λ a. take n (drop (natural lo) (array_of g0 a))) over) no_frame)
+        line l)) (λ r l. Done (Normal (slices_back over (natural lo) r.1 g0)) l quiet)) found)
+        (alike_right (ap (λ fr. then_do (joined_up Series (call bound depth fs' SameDepth (loop_function name line x grain taken over b') fr line l))
+        (λ r l. Done (Normal (slices_back over (natural lo) r.1 g0)) l quiet)) (frame_is lo (lo +ℤ pos n) taken over (int_of g0) s))
+        (alike_right (ap (λ t. then_do (joined_up Series (call bound depth fs' SameDepth (loop_function name line x grain t over b')
+        (entry lo (lo +ℤ pos n) cs (table over s)) line l)) (λ r l. Done (Normal (slices_back over (natural lo) r.1 g0)) l quiet)) (sym cs_names))
+        (alike_then (alike_one Series series_keeps (halves_call name line x grain cs over b b' fs fs' calls depth tests.plain shallow away some_grain
+        found' fresh_ints (not_plain (109 ∷ []) (keys cs) taken_plain)
         (pairs_fresh over over tests.over_once (λ a o. (not_plain (60 ∷ a) over over_plain, not_plain (62 ∷ a) over over_plain))) once (cutting_from over [] once over_plain (λ a o. absurd cc))
         limit (Agrees over i0 arrays0 c.sliced) (Put over) (ranges over i0 arrays0 c.sliced tests.over_once known)
-        (λ lo n lo_fits hi_fits small frame s agrees. each_turn c.functions i0 outer0 arrays0 c.sliced ints_are x over cs tests.plain tests.is_new away taken_same tests.over_once known line b b' fs fs' calls depth limit body lo n lo_fits hi_fits small frame s agrees)
+        (λ lo n lo_fits hi_fits small frame s agrees. each_turn c.functions i0 outer0 arrays0 c.sliced ints_are x over cs tests.plain tests.is_new
+        away taken_same tests.over_once known line b b' fs fs' calls depth limit body lo n lo_fits hi_fits small frame s agrees)
         (suc n) lo n (omega arith) small lo_fits hi_fits f0 s agrees l bound line h1 h2))
         (λ f r l' half le. alike_done l' (ends lo n agrees f r half))))))
       where

@@ -1,5 +1,6 @@
 -- A call of the generated function does what the loop by halves does.
-use Rattle.std.proofs.Common.{◌≡◌, ℕ, zero, suc, ◌+◌, ◌-◌, ◌*◌, ◌/◌, ◌≤◌, ◌<◌, ◌^◌, Bool, true, false, ℤ, pos, ◌+ℤ◌, List, [], ◌∷◌, ◌++◌, length, take, drop, arith, refl, sym, ◌∙◌, ap, append-nil, subst}
+use Rattle.std.proofs.Common.{◌≡◌, ℕ, zero, suc, ◌+◌, ◌-◌, ◌*◌, ◌/◌, ◌≤◌, ◌<◌, ◌^◌, Bool, true, false, ℤ, pos, ◌+ℤ◌, List, []}
+use Rattle.std.proofs.Common.{◌∷◌, ◌++◌, length, take, drop, arith, refl, sym, ◌∙◌, ap, append-nil, subst}
 use Rattle.std.specs.Prelude.{nat_lt, nat_le, if◌then◌else◌, None}
 use Rattle.std.proofs.Math.Seq.{take-append_seam}
 use Rattle.std.proofs.lemmas.Bool.{leb-false}
@@ -57,7 +58,9 @@ counted over Put frame arrays r = ap length r.is ∙ length_of_table over r.slic
 end_after : (k c : ℕ) (first : ℕ → Outcome Frame) (second : Frame → ℕ → Outcome Frame) (last : Frame → ℕ → Outcome Frame) (left : ℕ) →
     then_do (pay c left) (λ _ l. then_do (joined_up Fork (first l)) (λ frame1 l. then_do (pay (3 + k) l) (λ _ l. then_do (joined_up Series (second frame1 l)) last)))
     ≡ then_do (halves_piece k first second c left) last
-end_after k c first second last left = sym (then_then (pay c left) _ _ ∙ then_same (pay c left) _ _ (λ _ l. then_then (joined_up Fork (first l)) _ _ ∙ then_same (joined_up Fork (first l)) _ _ (λ frame1 l. then_then (pay (3 + k) l) _ _)))
+end_after k c first second last left = sym (then_then (pay c left) _ _
+    ∙ then_same (pay c left) _ _ (λ _ l. then_then (joined_up Fork (first l)) _ _
+    ∙ then_same (joined_up Fork (first l)) _ _ (λ frame1 l. then_then (pay (3 + k) l) _ _)))
 
 -- the instructions before both halves, in two parts
 split : (k a c : ℕ) (first : ℕ → Outcome Frame) (second : Frame → ℕ → Outcome Frame) (last : Frame → ℕ → Outcome Frame) (left : ℕ) →
@@ -90,7 +93,8 @@ module _ (name : Name) (line : ℕ) (x : Name) (grain : ℕ) (cs : List (Name ×
   abbrev pub CallsAsHalves : ℕ → Type 0
   CallsAsHalves d = (lo : ℤ) (n : ℕ) → n < d → n < 2 ^ 63 → fits lo ≡ true → fits (lo +ℤ pos n) ≡ true → (frame : Frame) (s : Name → List ℤ) → Agrees lo n frame s →
       (left bound line' : ℕ) → left ≤ limit → left < bound →
-      Whole (Half ((low, lo) ∷ (high, lo +ℤ pos n) ∷ cs) over (Put lo n frame)) left (halves_of d n lo frame left) (call bound depth fs' SameDepth loop (entry lo (lo +ℤ pos n) cs (table over s)) line' left)
+      Whole (Half ((low, lo) ∷ (high, lo +ℤ pos n) ∷ cs) over (Put lo n frame)) left (halves_of d n lo frame left)
+      (call bound depth fs' SameDepth loop (entry lo (lo +ℤ pos n) cs (table over s)) line' left)
 
   left_node : (lo m hi : ℤ) (s j : Name → List ℤ) →
       leave (entry lo hi cs (table over s)) (record { ints = ((low, lo) ∷ (high, hi) ∷ cs) ++ (middle, m) ∷ []; arrays = table over j ++ []; sliced = [] }) ≡ entry lo hi cs (table over j)
@@ -103,17 +107,21 @@ module _ (name : Name) (line : ℕ) (x : Name) (grain : ℕ) (cs : List (Name ×
 
   as_leaf : (d : ℕ) (lo : ℤ) (n : ℕ) → n < 2 ^ 63 → fits lo ≡ true → fits (lo +ℤ pos n) ≡ true → nat_le n grain ≡ true → (frame : Frame) (s : Name → List ℤ) → Agrees lo n frame s →
       (left bound line' : ℕ) → left ≤ limit → left < bound →
-      Whole (Half ((low, lo) ∷ (high, lo +ℤ pos n) ∷ cs) over (Put lo n frame)) left (halves_of (suc d) n lo frame left) (call bound depth fs' SameDepth loop (entry lo (lo +ℤ pos n) cs (table over s)) line' left)
+      Whole (Half ((low, lo) ∷ (high, lo +ℤ pos n) ∷ cs) over (Put lo n frame)) left (halves_of (suc d) n lo frame left)
+      (call bound depth fs' SameDepth loop (entry lo (lo +ℤ pos n) cs (table over s)) line' left)
   as_leaf d lo n small lo_fits hi_fits few frame s agrees left bound line' h1 h2 =
       whole_left (at_leaf d grain (length cs) (length over) n lo (for_body x over b fs calls) frame left few)
       (whole_weaken (λ frame' returned (g : Gone (Reached over (Put lo n frame)) (λ arrays. entry lo (lo +ℤ pos n) cs arrays) frame' returned).
       record { slices = g.near.slices; gives = g.gives ∙ ap (λ t. (None, entry lo (lo +ℤ pos n) cs t)) g.near.is; ok = g.near.put }) (omega arith)
-      (leaf_call name line x grain (keys cs) over b b' fs fs' calls depth plain shallow cs away limit lo n lo_fits hi_fits small (Reached over (Put lo n frame)) (length over) (counted over (Put lo n frame))
+      (leaf_call name line x grain (keys cs) over b b' fs fs' calls depth plain shallow cs away limit lo n lo_fits hi_fits small
+      (Reached over (Put lo n frame)) (length over) (counted over (Put lo n frame))
       (each lo n lo_fits hi_fits small frame s agrees) few frame (table over s) left bound line' h1 h2 (record { slices = s; is = refl; put = slicing.start lo n frame s agrees })))
 
-  as_node : (d : ℕ) → CallsAsHalves d → (lo : ℤ) (n : ℕ) → n < suc d → n < 2 ^ 63 → fits lo ≡ true → fits (lo +ℤ pos n) ≡ true → nat_le n grain ≡ false → (frame : Frame) (s : Name → List ℤ) → Agrees lo n frame s →
+  as_node : (d : ℕ) → CallsAsHalves d → (lo : ℤ) (n : ℕ) → n < suc d → n < 2 ^ 63 → fits lo ≡ true → fits (lo +ℤ pos n) ≡ true
+      → nat_le n grain ≡ false → (frame : Frame) (s : Name → List ℤ) → Agrees lo n frame s →
       (left bound line' : ℕ) → left ≤ limit → left < bound →
-      Whole (Half ((low, lo) ∷ (high, lo +ℤ pos n) ∷ cs) over (Put lo n frame)) left (halves_of (suc d) n lo frame left) (call bound depth fs' SameDepth loop (entry lo (lo +ℤ pos n) cs (table over s)) line' left)
+      Whole (Half ((low, lo) ∷ (high, lo +ℤ pos n) ∷ cs) over (Put lo n frame)) left (halves_of (suc d) n lo frame left)
+      (call bound depth fs' SameDepth loop (entry lo (lo +ℤ pos n) cs (table over s)) line' left)
   as_node d more lo n deep small lo_fits hi_fits many frame s agrees left zero line' h1 h2 = absurd (omega arith)
   as_node d more lo n deep small lo_fits hi_fits many frame s agrees left (suc bound) line' h1 h2 =
       let h : ℕ = n / 2 in
@@ -142,20 +150,34 @@ module _ (name : Name) (line : ℕ) (x : Name) (grain : ℕ) (cs : List (Name ×
       (whole_pay 6 left _ _ (λ enough.
       whole_right (then_then (run_all (node_block line name (keys cs) over) fs' (call bound depth fs') start (left - 6)) _ _)
       (first_right (and_rest line (Declare middle (Binary Plus (Variable low) (Binary Divide range (Number (pos 2))))) cuts fs' (call bound depth fs') start (new_int middle m start) 8 (left - 6)
-      (declare_runs middle (Binary Plus (Variable low) (Binary Divide range (Number (pos 2)))) m 7 line (left - 6) fs' (call bound depth fs') start (middle_gives lo n cs (table over s) small m_fits))) _
+      (declare_runs middle (Binary Plus (Variable low) (Binary Divide range (Number (pos 2)))) m 7 line (left - 6) fs' (call bound depth fs') start
+      (middle_gives lo n cs (table over s) small m_fits))) _
       (whole_right (then_then (pay 8 (left - 6)) _ _)
       (whole_left (split k 8 (4 * q + (3 + k)) first second last (left - 6))
       (whole_pay 8 (left - 6) _ _ (λ enough'.
-      first_right (ap (λ t. run_all cuts fs' (call bound depth fs') (record { ints = ((low, lo) ∷ (high, hi) ∷ cs) ++ (middle, m) ∷ []; arrays = t; sliced = [] }) (left - 6 - 8)) (sym (append-nil (table over s)))) _
+      first_right (ap (λ t. run_all cuts fs' (call bound depth fs') (record
+      { ints = ((low, lo) ∷ (high, hi) ∷ cs) ++ (middle, m) ∷ []; arrays = t; sliced = [] }) (left - 6 - 8)) (sym (append-nil (table over s)))) _
       (lag_end q (left - 6 - 8) _ (λ frame2. frame2) (λ way. (None, leave start (frame_of way)))
-      (λ frame2 way (b : Both (λ arrays. record { ints = ((low, lo) ∷ (high, hi) ∷ cs) ++ (middle, m) ∷ []; arrays = arrays; sliced = [] }) (λ l r. table [] s ++ (table over (λ a. l a ++ r a) ++ pairs [] l r)) (λ frame2 s1 s2. Put lo n frame frame2 (λ a. s1 a ++ s2 a)) frame2 way).
-      (record { slices = λ a. b.lefts a ++ b.rights a; gives = ap (λ (w : Completion). (None, leave start (frame_of w))) b.goes_on ∙ ap (λ g. (None, g)) (left_node lo m hi s (λ a. b.lefts a ++ b.rights a)); ok = b.ok }, λ l. rw b.goes_on (after_quiet _)))
-      (cuts_lag name line loop over fs' cs refl found (call bound depth fs') lo m hi (n / 2) fresh_ints no_middle first second s (λ frame1 s1. Put lo (n / 2) frame frame1 s1) (λ frame2 s1 s2. Put lo n frame frame2 (λ a. s1 a ++ s2 a)) (left - 6 - 8)
+      (λ frame2 way (b : Both (λ arrays. record { ints = ((low, lo) ∷ (high, hi) ∷ cs) ++ (middle, m) ∷ []; arrays = arrays; sliced = [] })
+      (λ l r. table [] s ++ (table over (λ a. l a ++ r a) ++ pairs [] l r))
+      (λ frame2 s1 s2. Put lo n frame frame2 (λ a. s1 a ++ s2 a)) frame2 way). (
+        record {
+          slices = λ a. b.lefts a ++ b.rights a;
+          gives = ap (λ (w : Completion). (None, leave start (frame_of w))) b.goes_on
+              ∙ ap (λ g. (None, g)) (left_node lo m hi s (λ a. b.lefts a ++ b.rights a));
+          ok = b.ok;
+        },
+        λ l. rw b.goes_on (after_quiet _),
+      ))
+      (cuts_lag name line loop over fs' cs refl found (call bound depth fs') lo m hi (n / 2) fresh_ints no_middle first second s
+      (λ frame1 s1. Put lo (n / 2) frame frame1 s1) (λ frame2 s1 s2. Put lo n frame frame2 (λ a. s1 a ++ s2 a)) (left - 6 - 8)
       (λ l e. more lo (n / 2) (omega arith) (omega arith) lo_fits m_fits frame (λ a. take (n / 2) (s a)) (slicing.left lo n (n / 2) frame s half agrees) l bound line (omega arith) (omega arith))
-      (λ frame1 s1 put l e. subst (λ hi. Whole (Half ((low, m) ∷ (high, hi) ∷ cs) over (λ frame2 s2. Put lo n frame frame2 (λ a. s1 a ++ s2 a))) l (second frame1 l) (call bound depth fs' SameDepth loop (entry m hi cs (table over (λ a. drop (n / 2) (s a)))) line l)) hi_is
+      (λ frame1 s1 put l e. subst (λ hi. Whole (Half ((low, m) ∷ (high, hi) ∷ cs) over (λ frame2 s2. Put lo n frame frame2 (λ a. s1 a ++ s2 a))) l
+      (second frame1 l) (call bound depth fs' SameDepth loop (entry m hi cs (table over (λ a. drop (n / 2) (s a)))) line l)) hi_is
       (whole_weaken (λ frame2 returned (g : Half ((low, m) ∷ (high, m +ℤ pos (n - n / 2)) ∷ cs) over (Put m (n - n / 2) frame1) frame2 returned).
       record { slices = g.slices; gives = g.gives; ok = slicing.both lo n (n / 2) frame frame1 frame2 s s1 g.slices half agrees put g.ok }) (omega arith)
-      (more m (n - n / 2) (omega arith) (omega arith) m_fits (rw hi_is hi_fits) frame1 (λ a. drop (n / 2) (s a)) (slicing.right lo n (n / 2) frame frame1 s s1 half agrees put) l bound line (omega arith) (omega arith))))
+      (more m (n - n / 2) (omega arith) (omega arith) m_fits (rw hi_is hi_fits) frame1 (λ a. drop (n / 2) (s a))
+      (slicing.right lo n (n / 2) frame frame1 s s1 half agrees put) l bound line (omega arith) (omega arith))))
       (range_is lo (n / 2)) (omega arith) fresh_pairs once over [] refl once cutting (slicing.long lo n (n / 2) frame s half agrees) (left - 6 - 8) (omega arith))))))))))))))
 
   pub halves_call : (d : ℕ) → CallsAsHalves d
@@ -164,6 +186,7 @@ module _ (name : Name) (line : ℕ) (x : Name) (grain : ℕ) (cs : List (Name ×
       by_grain (nat_le n grain) refl (halves_call d)
     where
       by_grain : (few : Bool) → nat_le n grain ≡ few → CallsAsHalves d →
-          Whole (Half ((low, lo) ∷ (high, lo +ℤ pos n) ∷ cs) over (Put lo n frame)) left (halves_of (suc d) n lo frame left) (call bound depth fs' SameDepth loop (entry lo (lo +ℤ pos n) cs (table over s)) line' left)
+          Whole (Half ((low, lo) ∷ (high, lo +ℤ pos n) ∷ cs) over (Put lo n frame)) left (halves_of (suc d) n lo frame left)
+          (call bound depth fs' SameDepth loop (entry lo (lo +ℤ pos n) cs (table over s)) line' left)
       by_grain true e more = as_leaf d lo n small lo_fits hi_fits e frame s agrees left bound line' h1 h2
       by_grain false e more = as_node d more lo n deep small lo_fits hi_fits e frame s agrees left bound line' h1 h2

@@ -50,7 +50,8 @@ module _ (x : Name) (plain : is_plain x ≡ true) (lo hi : ℤ) (cs : List (Name
   pub next_variable : (arrays : List (Name × List ℤ)) (i j : ℤ) → set_int x j (at_turn lo hi cs arrays x i) ≡ at_turn lo hi cs arrays x j
   next_variable arrays i j = ap (λ t. record { ints = t; arrays = arrays; sliced = [] }) (put_last x i j ((low, lo) ∷ (high, hi) ∷ cs) variable_away)
 
-  pub leave_turn : (arrays arrays' : List (Name × List ℤ)) (i j : ℤ) → length arrays ≡ length arrays' → leave (at_turn lo hi cs arrays x i) (at_turn lo hi cs arrays' x j) ≡ at_turn lo hi cs arrays' x j
+  pub leave_turn : (arrays arrays' : List (Name × List ℤ)) (i j : ℤ) → length arrays ≡ length arrays'
+      → leave (at_turn lo hi cs arrays x i) (at_turn lo hi cs arrays' x j) ≡ at_turn lo hi cs arrays' x j
   leave_turn arrays arrays' i j e =
       let is : List (Name × ℤ) = (low, lo) ∷ (high, hi) ∷ cs in
       let p : take (length (is ++ (x, i) ∷ [])) (is ++ (x, j) ∷ []) ≡ is ++ (x, j) ∷ [] =
@@ -85,7 +86,8 @@ module _ (line : ℕ) (x : Name) (over : List Name) (b b' : Block) (fs fs' : Lis
   -- a turn does the same in the source and in the function
   abbrev pub Turns : Type 0
   Turns = (j : ℕ) → j < n → (frame : Frame) (arrays : List (Name × List ℤ)) (given bound : ℕ) → given ≤ limit → given < bound → Near frame arrays →
-      Alike (Next Near (turn_of j) frame) given (run_all b fs calls (inside_loop over (new_int x (lo +ℤ pos j) frame)) given) (scoped (turn_of j arrays) (run_all b' fs' (call bound depth fs') (turn_of j arrays)) given)
+      Alike (Next Near (turn_of j) frame) given (run_all b fs calls (inside_loop over (new_int x (lo +ℤ pos j) frame)) given)
+      (scoped (turn_of j arrays) (run_all b' fs' (call bound depth fs') (turn_of j arrays)) given)
 
   module _ (each : Turns) where
     abbrev pub leaf_body : ℕ → Frame → Piece Completion
@@ -131,14 +133,16 @@ module _ (line : ℕ) (x : Name) (over : List Name) (b b' : Block) (fs fs' : Lis
         (from_right (ap (λ o. then_do o (λ way l. then_do (onward way (λ frame'. going (leave (turn_of j arrays) frame')) l)
         (λ way l. onward way (λ frame' l. then_do (pay 1 l) (λ _ l. turns wb (evaluate (leaf_test x)) line (leaf_body bound) frame' l)) l)))
         (one_line line (Assign x (Binary Plus (Variable x) (Number (pos 1)))) fs' (call bound depth fs') (turn_of j r.arrays) (l - 1)
-        ∙ assign_runs x (Binary Plus (Variable x) (Number (pos 1))) (lo +ℤ pos j +ℤ pos 1) 3 line (l - 1) fs' (call bound depth fs') (turn_of j r.arrays) (step_gives x plain lo (lo +ℤ pos n) cs away r.arrays (lo +ℤ pos j) next_fits)))
+        ∙ assign_runs x (Binary Plus (Variable x) (Number (pos 1))) (lo +ℤ pos j +ℤ pos 1) 3 line (l - 1) fs' (call bound depth fs')
+        (turn_of j r.arrays) (step_gives x plain lo (lo +ℤ pos n) cs away r.arrays (lo +ℤ pos j) next_fits)))
         (from_right (then_then (pay 4 (l - 1)) _ _)
         (chained_pay 4 (l - 1) _ _ (λ enough'.
         from_right (after_quiet _)
         (from_right (after_quiet _)
         (chained_pay 1 (l - 1 - 4) _ _ (λ enough''.
         from_left (ap (λ i. then_do (leaf_turns t i (for_body x over b fs calls) (leave frame (frame_of way)) (l - 1 - 4 - 1)) (λ frame' l. then_do (pay 4 l) (λ _ l. Done frame' l quiet))) next)
-        (from_right (ap (λ g. turns wb (evaluate (leaf_test x)) line (leaf_body bound) g (l - 1 - 4 - 1)) (left_turn j arrays r.arrays (counted frame arrays near ∙ sym (counted (leave frame (frame_of way)) r.arrays r.near)) next))
+        (from_right (ap (λ g. turns wb (evaluate (leaf_test x)) line (leaf_body bound) g (l - 1 - 4 - 1))
+        (left_turn j arrays r.arrays (counted frame arrays near ∙ sym (counted (leave frame (frame_of way)) r.arrays r.near)) next))
         (more (suc j) (omega arith) (leave frame (frame_of way)) r.arrays (l - 1 - 4 - 1) wb bound (omega arith) (omega arith) (omega arith) r.near))))))))))))))))))))
 
     pub leaf_chained : (t : ℕ) → LeafRuns t
@@ -147,7 +151,8 @@ module _ (line : ℕ) (x : Name) (over : List Name) (b b' : Block) (fs fs' : Lis
         let same : j ≡ n = omega arith in
         let last : int_lt (lo +ℤ pos j) (lo +ℤ pos n) ≡ false = rw same (lt_same (lo +ℤ pos n)) in
         from_left (after_quiet _)
-        (from_right (no_more_turn wb (evaluate (leaf_test x)) line (leaf_body bound) (turn_of j arrays) left 3 (pos 0) (test_gives x plain lo (lo +ℤ pos n) cs away arrays (lo +ℤ pos j) ∙ rw last refl) refl)
+        (from_right (no_more_turn wb (evaluate (leaf_test x)) line (leaf_body bound) (turn_of j arrays) left 3 (pos 0)
+        (test_gives x plain lo (lo +ℤ pos n) cs away arrays (lo +ℤ pos j) ∙ rw last refl) refl)
         (chained_pay 4 left _ _ (λ enough. chained_gives (record { arrays = arrays; goes_on = ap (λ m. Normal (turn_of m arrays)) same; near = near }))))
     leaf_chained (suc t) j e frame arrays left (suc wb) bound h1 h2 h3 near =
         let more : int_lt (lo +ℤ pos j) (lo +ℤ pos n) ≡ true =
@@ -156,7 +161,8 @@ module _ (line : ℕ) (x : Name) (over : List Name) (b b' : Block) (fs fs' : Lis
         let next_fits : fits (lo +ℤ pos j +ℤ pos 1) ≡ true = rw next (between lo n (suc j) lo_fits hi_fits (omega arith)) in
         from_left (then_then (pay 5 left) _ _)
         (from_left (sym (pay_pay 4 1 left _))
-        (from_right (one_more_turn wb (evaluate (leaf_test x)) line (leaf_body bound) (turn_of j arrays) left 3 (pos 1) (test_gives x plain lo (lo +ℤ pos n) cs away arrays (lo +ℤ pos j) ∙ rw more refl) refl)
+        (from_right (one_more_turn wb (evaluate (leaf_test x)) line (leaf_body bound) (turn_of j arrays) left 3 (pos 1)
+        (test_gives x plain lo (lo +ℤ pos n) cs away arrays (lo +ℤ pos j) ∙ rw more refl) refl)
         (chained_pay 4 left _ _ (λ enough.
         from_right (then_then (run_all (leaf_turn line x b') fs' (call bound depth fs') (turn_of j arrays) (left - 4)) _ _)
         (from_right (then_then (run (Scope b') line fs' (call bound depth fs') (turn_of j arrays) (left - 4)) _ _)

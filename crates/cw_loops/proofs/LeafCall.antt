@@ -34,7 +34,8 @@ pub whole_right : {A B : Type 0} {R : A → B → Type 0} {given : ℕ} {o : Out
 whole_right {R = R} {given = given} {o = o} e h = subst (λ x. Whole R given o x) (sym e) h
 
 -- the first of two pieces, by an equation
-pub first_right : {A B C : Type 0} {R : A → B → Type 0} {given : ℕ} {o : Outcome A} {o' p : Outcome C} → o' ≡ p → (go : C → ℕ → Outcome B) → Whole R given o (then_do p go) → Whole R given o (then_do o' go)
+pub first_right : {A B C : Type 0} {R : A → B → Type 0} {given : ℕ} {o : Outcome A} {o' p : Outcome C} → o' ≡ p → (go : C → ℕ → Outcome B)
+    → Whole R given o (then_do p go) → Whole R given o (then_do o' go)
 first_right {R = R} {given = given} {o = o} e go h = subst (λ x. Whole R given o (then_do x go)) (sym e) h
 
 -- six instructions at the end as four and two
@@ -56,7 +57,8 @@ pub record Gone (Near : Frame → List (Name × List ℤ) → Type 0) (last : Li
   pub gives : returned ≡ (None, last arrays)
   pub near : Near frame arrays
 
-module _ (name : Name) (line : ℕ) (x : Name) (grain : ℕ) (ints over : List Name) (b b' : Block) (fs fs' : List Function) (calls : Calls) (depth : ℕ) (plain : is_plain x ≡ true) (shallow : nat_lt MOST_DEPTH depth ≡ false)
+module _ (name : Name) (line : ℕ) (x : Name) (grain : ℕ) (ints over : List Name) (b b' : Block) (fs fs' : List Function) (calls : Calls) (depth : ℕ)
+    (plain : is_plain x ≡ true) (shallow : nat_lt MOST_DEPTH depth ≡ false)
     (cs : List (Name × ℤ)) (away : is_among x (keys cs) ≡ false) (limit : ℕ) where
   module _ (lo : ℤ) (n : ℕ) (lo_fits : fits lo ≡ true) (hi_fits : fits (lo +ℤ pos n) ≡ true) (small : n < 2 ^ 63)
       (Near : Frame → List (Name × List ℤ) → Type 0) (q : ℕ) (counted : (frame : Frame) (arrays : List (Name × List ℤ)) → Near frame arrays → length arrays ≡ q)
@@ -74,7 +76,8 @@ module _ (name : Name) (line : ℕ) (x : Name) (grain : ℕ) (ints over : List N
     -- the while and what follows it
     turns_call : (i : ℤ) → i ≡ lo +ℤ pos 0 → (frame : Frame) (arrays : List (Name × List ℤ)) (left wb bound : ℕ) → left ≤ limit → left < wb → left < bound → Near frame arrays →
         Whole (Gone Near last_of) left
-        (then_do (then_do (leaf_turns n i (for_body x over b fs calls) frame left) (λ frame' l. then_do (pay 4 l) (λ _ l. Done frame' l quiet))) (λ frame' l. then_do (pay 2 l) (λ _ l. Done frame' l quiet)))
+        (then_do (then_do (leaf_turns n i (for_body x over b fs calls) frame left) (λ frame' l. then_do (pay 4 l) (λ _ l. Done frame' l quiet)))
+        (λ frame' l. then_do (pay 2 l) (λ _ l. Done frame' l quiet)))
         (then_do (turns wb (evaluate (leaf_test x)) line (λ g. scoped g (run_all (leaf_turn line x b') fs' (call bound depth fs') g)) (new_int x i (last_of arrays)) left)
         (λ way l. then_do (onward way (λ frame'. going (leave (last_of arrays) frame')) l)
         (λ way l. then_do (onward way (λ frame' l. then_do (pay 1 l) (λ _ l. Done (Normal frame') l quiet)) l) end_of_call)))
@@ -89,10 +92,17 @@ module _ (name : Name) (line : ℕ) (x : Name) (grain : ℕ) (ints over : List N
         (whole_left (sym (after_quiet _))
         (whole_after {t = quiet} {u = shows (Join ∷ [])} (omega arith) refl refl (further (nothing_after (Leaf 0)) (back (further (nothing_before _) (nothing_after (Leaf 0))))) chain_nil chain_join
         (whole_pay 1 (l - 1) _ _ (λ enough'.
-        whole_done (record { arrays = r.arrays; gives = ap (λ g. (None, g)) (left_leaf arrays r.arrays (lo +ℤ pos n) (counted frame arrays near ∙ sym (counted frame' r.arrays r.near))); near = r.near }) (omega arith) refl refl (same (tree_of [])))))))))))))
+        whole_done (record {
+          arrays = r.arrays;
+          gives = ap (λ g. (None, g))
+              (left_leaf arrays r.arrays (lo +ℤ pos n) (counted frame arrays near ∙ sym (counted frame' r.arrays r.near)));
+          near = r.near;
+        })
+        (omega arith) refl refl (same (tree_of [])))))))))))))
 
     pub leaf_call : nat_le n grain ≡ true → (frame : Frame) (arrays : List (Name × List ℤ)) (left bound line' : ℕ) → left ≤ limit → left < bound → Near frame arrays →
-        Whole (Gone Near last_of) left (leaf_piece n lo (for_body x over b fs calls) frame left) (call bound depth fs' SameDepth (loop_function name line x grain ints over b') (last_of arrays) line' left)
+        Whole (Gone Near last_of) left (leaf_piece n lo (for_body x over b fs calls) frame left)
+        (call bound depth fs' SameDepth (loop_function name line x grain ints over b') (last_of arrays) line' left)
     leaf_call few frame arrays left zero line' h1 h2 near = absurd (omega arith)
     leaf_call few frame arrays left (suc bound) line' h1 h2 near =
         whole_right (call_runs bound depth fs' (loop_function name line x grain ints over b') (last_of arrays) line' left shallow)
@@ -104,7 +114,8 @@ module _ (name : Name) (line : ℕ) (x : Name) (grain : ℕ) (ints over : List N
         (whole_pay 6 left _ _ (λ enough.
         whole_right (then_then (scoped (last_of arrays) (run_all (leaf_block line x b') fs' (call bound depth fs') (last_of arrays)) (left - 6)) _ _)
         (whole_right (then_then (run_all (leaf_block line x b') fs' (call bound depth fs') (last_of arrays) (left - 6)) _ _)
-        (first_right (and_rest line (Declare x (Variable low)) (on_line line (While (leaf_test x) (leaf_turn line x b'))) fs' (call bound depth fs') (last_of arrays) (new_int x lo (last_of arrays)) 2 (left - 6)
+        (first_right (and_rest line (Declare x (Variable low)) (on_line line (While (leaf_test x) (leaf_turn line x b'))) fs' (call bound depth fs')
+        (last_of arrays) (new_int x lo (last_of arrays)) 2 (left - 6)
         (declare_runs x (Variable low) lo 1 line (left - 6) fs' (call bound depth fs') (last_of arrays) refl)) _
         (whole_right (then_then (pay 2 (left - 6)) _ _)
         (whole_pay 2 (left - 6) _ _ (λ enough'.

@@ -22,7 +22,8 @@ GivesSuch P (Traps trap k) = Unit {0}
 pub such_then : {C D : Type 0} {S : C → D → Type 0} (P : ℤ → Type 0) (ev ev' : Evaluated) (line left : ℕ) → ev' ≡ ev → GivesSuch P ev → (go : ℤ → ℕ → Outcome C) (go' : ℤ → ℕ → Outcome D) →
     ((v : ℤ) (l : ℕ) → P v → l ≤ left → Alike S l (go v l) (go' v l)) → Alike S left (then_do (pay_for ev line left) go) (then_do (pay_for ev' line left) go')
 such_then {C = C} {D = D} {S = S} P (Gives v k) ev' line left e f go go' h =
-    alike_left (value_pays v k line left go) (alike_right (ap (λ ev. then_do (pay_for ev line left) go') e ∙ value_pays v k line left go') (alike_pay k left _ _ (λ enough. h v (left - k) f (omega arith))))
+    alike_left (value_pays v k line left go) (alike_right (ap (λ ev. then_do (pay_for ev line left) go') e ∙ value_pays v k line left go')
+    (alike_pay k left _ _ (λ enough. h v (left - k) f (omega arith))))
 such_then {C = C} {D = D} {S = S} P (Traps trap k) ev' line left e f go go' h = alike_right (ap (λ ev. then_do (pay_for ev line left) go') e) (both_stop left trap line go go' (nat_lt left k))
 
 -- the count of a loop's turns
@@ -64,8 +65,10 @@ turns_counted lo hi arrays f g = go (int_le hi lo) (int_lt (pos MOST_TURNS) (hi 
         difference (negsuc n) h = absurd (omega (arith, ints))
 
 -- one instruction that gives a value with some property, or traps
-pub such_paid : {C D : Type 0} {S : C → D → Type 0} (P : ℤ → Type 0) (r : Result) (ev' : Evaluated) (line left : ℕ) → ev' ≡ done_at 1 r → ResultSuch P r → (go : ℤ → ℕ → Outcome C) (go' : ℤ → ℕ → Outcome D) →
+pub such_paid : {C D : Type 0} {S : C → D → Type 0} (P : ℤ → Type 0) (r : Result) (ev' : Evaluated) (line left : ℕ) → ev' ≡ done_at 1 r
+    → ResultSuch P r → (go : ℤ → ℕ → Outcome C) (go' : ℤ → ℕ → Outcome D) →
     ((v : ℤ) (l : ℕ) → P v → l + 1 ≤ left → Alike S l (go v l) (go' v l)) → Alike S left (then_do (pay_for (done_at 1 r) line left) go) (then_do (pay_for ev' line left) go')
 such_paid {C = C} {D = D} {S = S} P (Value v) ev' line left e f go go' h =
-    alike_left (value_pays v 1 line left go) (alike_right (ap (λ ev. then_do (pay_for ev line left) go') e ∙ value_pays v 1 line left go') (alike_pay 1 left _ _ (λ enough. h v (left - 1) f (omega arith))))
+    alike_left (value_pays v 1 line left go) (alike_right (ap (λ ev. then_do (pay_for ev line left) go') e ∙ value_pays v 1 line left go')
+    (alike_pay 1 left _ _ (λ enough. h v (left - 1) f (omega arith))))
 such_paid {C = C} {D = D} {S = S} P (Fails trap) ev' line left e f go go' h = alike_right (ap (λ ev. then_do (pay_for ev line left) go') e) (both_stop left trap line go go' (nat_lt left 1))

@@ -15,8 +15,10 @@ use Rattle.cw_model.specs.lemmas.Names.{same_itself, same_are}
 use Rattle.cw_tree.specs.Resolved.{Lists, Locals, slot_of, params_of}
 use Rattle.cw_tree.specs.lemmas.NamedSlots.{slot_stays}
 use Rattle.cw_tree.specs.lemmas.Names.{among_append, front_among, later_among}
-use Rattle.cw_loops.specs.Lowered.{is_plain, low, high, middle, left_part, right_part, int_params, array_params, variables, loop_function, leaf_block, node_block, both_halves, in_cuts, left_arguments, right_arguments}
-use Rattle.cw_loops.specs.Slotted.{Expr, Number, Variable, Binary, Int, Array, Declare, Assign, Start, IfElse, While, Scope, Cut, Block, End, Then, Function, slotted_name, slotted_argument, slotted_block, slotted_function, slotted_arguments}
+use Rattle.cw_loops.specs.Lowered.{is_plain, low, high, middle, left_part, right_part, int_params, array_params, variables}
+use Rattle.cw_loops.specs.Lowered.{loop_function, leaf_block, node_block, both_halves, in_cuts, left_arguments, right_arguments}
+use Rattle.cw_loops.specs.Slotted.{Expr, Number, Variable, Binary, Int, Array, Declare, Assign, Start, IfElse, While, Scope, Cut, Block, End, Then}
+use Rattle.cw_loops.specs.Slotted.{Function, slotted_name, slotted_argument, slotted_block, slotted_function, slotted_arguments}
 use Rattle.cw_loops.specs.Expanded.{turn_slot, left_slot, right_slot, numbers, half, loop_text}
 use Rattle.cw_loops.specs.Expanded as by_slot
 use Rattle.cw_loops.specs.Moved.{Loop}
@@ -36,7 +38,8 @@ not_before : (v : Name) (done rest : List Name) → differ (done ++ v ∷ rest) 
 not_before v [] rest h = refl
 not_before v (y ∷ done) rest h =
     let two = and_parts (not (is_among y (done ++ v ∷ rest))) (differ (done ++ v ∷ rest)) h in
-    let other : same_name v y ≡ false = refuted (same_name v y) (λ e. never (is_among y (done ++ v ∷ rest)) (among_right y done (v ∷ rest) (ap (λ w. is_among w (v ∷ rest)) (sym (same_are v y e)) ∙ front_among v rest)) (not_true _ two.0)) in
+    let other : same_name v y ≡ false = refuted (same_name v y) (λ e. never (is_among y (done ++ v ∷ rest))
+    (among_right y done (v ∷ rest) (ap (λ w. is_among w (v ∷ rest)) (sym (same_are v y e)) ∙ front_among v rest)) (not_true _ two.0)) in
     ap (λ b. if b then true else is_among v done) other ∙ not_before v done rest two.1
 
 at_place : (v : Name) (done rest : List Name) → differ (done ++ v ∷ rest) ≡ true → slot_of v (done ++ v ∷ rest) ≡ length done
@@ -87,7 +90,8 @@ left_place a (y ∷ xs) h =
     ∙ ap (λ b. if same_name a y then 0 else suc (if b then 0 else suc (slot_of (left_part a) (parts xs)))) (left_right a y)
     ∙ go (same_name a y) h (left_place a xs)
   where
-    go : (b : Bool) → (if b then true else is_among a xs) ≡ true → (is_among a xs ≡ true → slot_of (left_part a) (parts xs) ≡ 2 * slot_of a xs) → (if b then 0 else suc (suc (slot_of (left_part a) (parts xs)))) ≡ 2 * (if b then 0 else suc (slot_of a xs))
+    go : (b : Bool) → (if b then true else is_among a xs) ≡ true → (is_among a xs ≡ true → slot_of (left_part a) (parts xs) ≡ 2 * slot_of a xs)
+        → (if b then 0 else suc (suc (slot_of (left_part a) (parts xs)))) ≡ 2 * (if b then 0 else suc (slot_of a xs))
     go true g more = omega arith
     go false g more = let e = more g in omega (arith, e)
 
@@ -98,7 +102,9 @@ right_place a (y ∷ xs) h =
     ∙ ap (λ b. suc (if b then 0 else suc (slot_of (right_part a) (parts xs)))) (right_right a y)
     ∙ go (same_name a y) h (right_place a xs)
   where
-    go : (b : Bool) → (if b then true else is_among a xs) ≡ true → (is_among a xs ≡ true → slot_of (right_part a) (parts xs) ≡ suc (2 * slot_of a xs)) → suc (if b then 0 else suc (slot_of (right_part a) (parts xs))) ≡ suc (2 * (if b then 0 else suc (slot_of a xs)))
+    go : (b : Bool) → (if b then true else is_among a xs) ≡ true → (is_among a xs ≡ true
+        → slot_of (right_part a) (parts xs) ≡ suc (2 * slot_of a xs)) → suc (if b then 0 else suc (slot_of (right_part a) (parts xs)))
+        ≡ suc (2 * (if b then 0 else suc (slot_of a xs)))
     go true g more = omega arith
     go false g more = let e = more g in omega (arith, e)
 
@@ -115,7 +121,8 @@ right_among a [] h = absurd cc
 right_among a (y ∷ xs) h = go (placed a y xs h) (right_among a xs)
   where
     go : Placed a y xs → (is_among a xs ≡ true → is_among (right_part a) (parts xs) ≡ true) → is_among (right_part a) (left_part y ∷ right_part y ∷ parts xs) ≡ true
-    go (at_front same) more = later_among (right_part a) (left_part y) (right_part y ∷ parts xs) (ap (λ w. is_among (right_part w) (right_part y ∷ parts xs)) same ∙ front_among (right_part y) (parts xs))
+    go (at_front same) more = later_among (right_part a) (left_part y) (right_part y ∷ parts xs)
+        (ap (λ w. is_among (right_part w) (right_part y ∷ parts xs)) same ∙ front_among (right_part y) (parts xs))
     go (after_it other p) more = later_among (right_part a) (left_part y) (right_part y ∷ parts xs) (later_among (right_part a) (right_part y) (parts xs) (more p))
 
 -- a name of another form is no part
@@ -204,13 +211,16 @@ module _ (lists : Lists) (line : ℕ) (name x : Name) (grain : ℕ) (taken over 
 
   -- what is no array
   low_no_array : is_among low all ≡ false
-  low_no_array = among_append low over (parts over) ∙ ap (λ b. b || is_among low (parts over)) (generated_free low over over_plain (λ a p. apart_plain a (108 ∷ []) p)) ∙ no_part low over (λ b. refl) (λ b. refl)
+  low_no_array = among_append low over (parts over) ∙ ap (λ b. b || is_among low (parts over))
+      (generated_free low over over_plain (λ a p. apart_plain a (108 ∷ []) p)) ∙ no_part low over (λ b. refl) (λ b. refl)
 
   high_no_array : is_among high all ≡ false
-  high_no_array = among_append high over (parts over) ∙ ap (λ b. b || is_among high (parts over)) (generated_free high over over_plain (λ a p. apart_plain a (104 ∷ []) p)) ∙ no_part high over (λ b. refl) (λ b. refl)
+  high_no_array = among_append high over (parts over) ∙ ap (λ b. b || is_among high (parts over))
+      (generated_free high over over_plain (λ a p. apart_plain a (104 ∷ []) p)) ∙ no_part high over (λ b. refl) (λ b. refl)
 
   middle_no_array : is_among middle all ≡ false
-  middle_no_array = among_append middle over (parts over) ∙ ap (λ b. b || is_among middle (parts over)) (generated_free middle over over_plain (λ a p. apart_plain a (109 ∷ []) p)) ∙ no_part middle over (λ b. refl) (λ b. refl)
+  middle_no_array = among_append middle over (parts over) ∙ ap (λ b. b || is_among middle (parts over))
+      (generated_free middle over over_plain (λ a p. apart_plain a (109 ∷ []) p)) ∙ no_part middle over (λ b. refl) (λ b. refl)
 
   taken_no_array : (v : Name) → is_among v taken ≡ true → is_among v all ≡ false
   taken_no_array v o =
@@ -227,7 +237,8 @@ module _ (lists : Lists) (line : ℕ) (name x : Name) (grain : ℕ) (taken over 
   taken_given : map (slotted_argument (joined [] [] node_ints all) []) (variables taken) ≡ map (λ s. Int (Variable s)) (numbers 2 (length taken))
   taken_given =
       names_are (joined [] [] node_ints all) taken
-      ∙ map_same (slotted_name (joined [] [] node_ints all) []) (λ v. Int (Variable (2 + slot_of v taken))) taken (λ v o. as_int v node_ints all (2 + slot_of v taken) (taken_no_array v o) (given_slot v (middle ∷ []) o))
+      ∙ map_same (slotted_name (joined [] [] node_ints all) []) (λ v. Int (Variable (2 + slot_of v taken))) taken
+      (λ v o. as_int v node_ints all (2 + slot_of v taken) (taken_no_array v o) (given_slot v (middle ∷ []) o))
       ∙ in_turn (λ n. Int (Variable (2 + n))) taken [] taken refl taken_differ ∙ shifted (λ n. Int (Variable n)) 0 (length taken)
 
   lefts_given : map (slotted_argument (joined [] [] node_ints all) []) (variables (map left_part over)) ≡ map Array (map (left_slot (length over)) (numbers 0 (length over)))
@@ -250,7 +261,8 @@ module _ (lists : Lists) (line : ℕ) (name x : Name) (grain : ℕ) (taken over 
       map (slotted_argument (joined [] [] node_ints all) []) (variables ends) ≡ map Array slots →
       map (slotted_argument (joined [] [] node_ints all) []) (model.Variable from ∷ model.Variable to ∷ (variables taken ++ variables ends)) ≡ half f t (numbers 2 (length taken)) slots
   arguments_given from to f t ends slots from_int to_int from_is to_is ends_are =
-      ap (λ y. y ∷ slotted_name (joined [] [] node_ints all) [] to ∷ map (slotted_argument (joined [] [] node_ints all) []) (variables taken ++ variables ends)) (as_int from node_ints all f from_int from_is)
+      ap (λ y. y ∷ slotted_name (joined [] [] node_ints all) [] to ∷ map (slotted_argument (joined [] [] node_ints all) [])
+      (variables taken ++ variables ends)) (as_int from node_ints all f from_int from_is)
       ∙ ap (λ y. Int (Variable f) ∷ y ∷ map (slotted_argument (joined [] [] node_ints all) []) (variables taken ++ variables ends)) (as_int to node_ints all t to_int to_is)
       ∙ ap (λ r. Int (Variable f) ∷ Int (Variable t) ∷ r) (map-append (slotted_argument (joined [] [] node_ints all) []) (variables taken) (variables ends)
       ∙ ap (λ r. r ++ map (slotted_argument (joined [] [] node_ints all) []) (variables ends)) taken_given
@@ -261,10 +273,13 @@ module _ (lists : Lists) (line : ℕ) (name x : Name) (grain : ℕ) (taken over 
       ap (λ i. Then line (Start Spawned i (slotted_arguments here callee lefts)) (Then line (Start Plain i (slotted_arguments here callee rights)) End)) index_is
       ∙ ap (λ es. Then line (Start Spawned index es) (Then line (Start Plain index (slotted_arguments here callee rights)) End))
       (all_taken here callee lefts taken_only
-      ∙ arguments_given low middle 0 (turn_slot (length taken)) (map left_part over) (map (left_slot (length over)) (numbers 0 (length over))) low_no_array middle_no_array refl middle_slot lefts_given)
-      ∙ ap (λ es. Then line (Start Spawned index (half 0 (turn_slot (length taken)) (numbers 2 (length taken)) (map (left_slot (length over)) (numbers 0 (length over))))) (Then line (Start Plain index es) End))
+      ∙ arguments_given low middle 0 (turn_slot (length taken)) (map left_part over)
+      (map (left_slot (length over)) (numbers 0 (length over))) low_no_array middle_no_array refl middle_slot lefts_given)
+      ∙ ap (λ es. Then line (Start Spawned index (half 0 (turn_slot (length taken)) (numbers 2 (length taken))
+      (map (left_slot (length over)) (numbers 0 (length over))))) (Then line (Start Plain index es) End))
       (all_taken here callee rights taken_only
-      ∙ arguments_given middle high (turn_slot (length taken)) 1 (map right_part over) (map (right_slot (length over)) (numbers 0 (length over))) middle_no_array high_no_array middle_slot refl rights_given)
+      ∙ arguments_given middle high (turn_slot (length taken)) 1 (map right_part over)
+      (map (right_slot (length over)) (numbers 0 (length over))) middle_no_array high_no_array middle_slot refl rights_given)
     where
       here : Locals
       here = joined [] [] node_ints all
@@ -294,7 +309,8 @@ module _ (lists : Lists) (line : ℕ) (name x : Name) (grain : ℕ) (taken over 
       ap (λ n. Then line (Cut n (Binary Minus (Variable (slot_of middle node_ints)) (Variable 0)) (length arrays) (suc (length arrays)) within) End) array_is
       ∙ ap (λ n. Then line (Cut (length done) (Binary Minus (Variable n) (Variable 0)) (length arrays) (suc (length arrays)) within) End) middle_slot
       ∙ ap (λ n. Then line (Cut (length done) (Binary Minus (Variable (turn_slot (length taken))) (Variable 0)) n (suc n) within) End) (spot done)
-      ∙ ap (λ b. Then line (Cut (length done) (Binary Minus (Variable (turn_slot (length taken))) (Variable 0)) (left_slot (length over) (length done)) (suc (left_slot (length over) (length done))) b) End)
+      ∙ ap (λ b. Then line (Cut (length done) (Binary Minus (Variable (turn_slot (length taken))) (Variable 0))
+      (left_slot (length over) (length done)) (suc (left_slot (length over) (length done))) b) End)
       (more (cuts_are (done ++ a ∷ []) rest (e ∙ sym (append_assoc done (a ∷ []) rest)) inside made h))
     where
       arrays : List Name
@@ -309,7 +325,8 @@ module _ (lists : Lists) (line : ℕ) (name x : Name) (grain : ℕ) (taken over 
           ∙ ap (slot_of a) e ∙ at_place a done rest (ap differ (sym e) ∙ over_differ)
 
       more : slotted_block lists (joined [] [] node_ints (over ++ parts (done ++ a ∷ []))) (in_cuts line rest inside) ≡ by_slot.in_cuts loop (numbers (length (done ++ a ∷ [])) (length rest)) made →
-          slotted_block lists (joined [] [] node_ints (((over ++ parts done) ++ left_part a ∷ []) ++ right_part a ∷ [])) (in_cuts line rest inside) ≡ by_slot.in_cuts loop (numbers (suc (length done)) (length rest)) made
+          slotted_block lists (joined [] [] node_ints (((over ++ parts done) ++ left_part a ∷ []) ++ right_part a ∷ [])) (in_cuts line rest inside)
+          ≡ by_slot.in_cuts loop (numbers (suc (length done)) (length rest)) made
       more next =
           ap (λ r. slotted_block lists (joined [] [] node_ints r) (in_cuts line rest inside)) (parts_are done a)
           ∙ next ∙ ap (λ n. by_slot.in_cuts loop (numbers n (length rest)) made) (one_more done a)
@@ -319,7 +336,8 @@ module _ (lists : Lists) (line : ℕ) (name x : Name) (grain : ℕ) (taken over 
   node_is =
       ap (λ n. Then line (Declare n halved) (slotted_block lists (joined [] [] node_ints over) cuts)) two_less
       ∙ ap (λ r. Then line (Declare (turn_slot (length taken)) halved) (slotted_block lists (joined [] [] node_ints r) cuts)) (sym (append-nil over))
-      ∙ ap (λ b. Then line (Declare (turn_slot (length taken)) halved) b) (cuts_are [] over refl (both_halves line name (left_arguments taken over) (right_arguments taken over)) (by_slot.both_halves index loop) halves_are)
+      ∙ ap (λ b. Then line (Declare (turn_slot (length taken)) halved) b)
+      (cuts_are [] over refl (both_halves line name (left_arguments taken over) (right_arguments taken over)) (by_slot.both_halves index loop) halves_are)
     where
       halved : Expr
       halved = Binary Plus (Variable 0) (Binary Divide by_slot.range (Number (pos 2)))
@@ -356,4 +374,6 @@ module _ (lists : Lists) (line : ℕ) (name x : Name) (grain : ℕ) (taken over 
       ∙ ap (λ b. whole (name_kind.Integer ∷ name_kind.Integer ∷ map (λ (p : Param). p.kind) (int_params taken ++ array_params over)) b)
       (ap (λ b. choice b (by_slot.node index loop)) (sym leaf_is) ∙ ap (choice (slotted_block lists (joined [] [] given over) (leaf_block line x body))) (sym node_is)
       ∙ ap (λ vs. slotted_block lists (joined [] [] (low ∷ high ∷ vs) over) (loop_function name line x grain taken over body).body) (sym (ints_are taken over))
-      ∙ ap (λ r. slotted_block lists (joined [] [] (low ∷ high ∷ map (λ (p : Param). p.name) (filter (λ p. not (wants_array p)) (int_params taken ++ array_params over))) r) (loop_function name line x grain taken over body).body) (sym (arrays_are taken over)))
+      ∙ ap (λ r. slotted_block lists (joined [] [] (low ∷ high ∷ map (λ (p : Param). p.name)
+      (filter (λ p. not (wants_array p)) (int_params taken ++ array_params over))) r) (loop_function name line x grain taken over body).body)
+      (sym (arrays_are taken over)))

@@ -8,27 +8,34 @@ use Rattle.cw_model.specs.lemmas.Fits.{fits_kind, fit_kinds, arguments_fit}
 use Rattle.cw_model.specs.declared.syntax.CallKind.{CallKind}
 use Rattle.cw_model.specs.Lines.{unless}
 use Rattle.cw_model.specs.declared.syntax.NameKind.TheVariants as name_kind
-use Rattle.cw_model.specs.Syntax.{Name, Expr, Number, Variable, Element, Length, Negative, Not, Binary, Stmt, Declare, DeclareArray, Assign, AssignElement, Reduce, Call, Start, Begin, Sync, If, IfElse, While, For, Scope, Cut, Region, Print, Return, Block, End, Then, Param, Function, Program, wants_array}
+use Rattle.cw_model.specs.Syntax.{Name, Expr, Number, Variable, Element, Length, Negative, Not, Binary, Stmt, Declare, DeclareArray, Assign, AssignElement, Reduce, Call, Start}
+use Rattle.cw_model.specs.Syntax.{Begin, Sync, If, IfElse, While, For, Scope, Cut, Region, Print, Return, Block, End, Then, Param, Function, Program, wants_array}
 use Rattle.cw_model.specs.Names.{same_name, is_among, differ}
 use Rattle.cw_model.specs.Meaning.{function_named}
 use Rattle.cw_model.specs.Captured.{captured, read_by, read_by_all, read_in, read_in_block, declared_in_block}
-use Rattle.cw_model.specs.Typing.{Known, is_int, is_array, is_fine, is_new, is_argument, are_arguments, is_call, is_head_of_loop, called, may_return, ends_block, surely_returns, faults_in, faults_in_block, declares, Returns, Nowhere}
-use Rattle.cw_model.specs.Ownership.{Around, InLoop, for_head, is_outer, may_index, keeps_loop, may_read, may_write, are_free, are_inner, names_in, target_names, known_after, Taken, Declared, Closing, Leaves, Joins, CutOf, taken_after, declared_by, owner_faults, owner_faults_in, are_loose}
+use Rattle.cw_model.specs.Typing.{Known, is_int, is_array, is_fine, is_new, is_argument, are_arguments, is_call, is_head_of_loop, called}
+use Rattle.cw_model.specs.Typing.{may_return, ends_block, surely_returns, faults_in, faults_in_block, declares, Returns, Nowhere}
+use Rattle.cw_model.specs.Ownership.{Around, InLoop, for_head, is_outer, may_index, keeps_loop, may_read, may_write, are_free, are_inner, names_in, target_names, known_after}
+use Rattle.cw_model.specs.Ownership.{Taken, Declared, Closing, Leaves, Joins, CutOf, taken_after, declared_by, owner_faults, owner_faults_in, are_loose}
 use Rattle.cw_model.specs.lemmas.Kept.{left_none, right_none, kept}
 use Rattle.cw_model.specs.lemmas.Names.{turned}
 use Rattle.cw_tree.specs.lemmas.Names.{front_among, later_among}
 use Rattle.cw_loops.specs.Lowered.{is_plain, low, high}
-use Rattle.cw_loops.specs.Lowerable.{Surroundings, can_write, can_read, is_local, is_variable, can_evaluate, can_pass, can_pass_all, can_target, new_integers, new_arrays, can_capture, can_slice, can_loop, inside, can_lower, can_lower_all}
+use Rattle.cw_loops.specs.Lowerable.{Surroundings, can_write, can_read, is_local, is_variable, can_evaluate, can_pass, can_pass_all, can_target}
+use Rattle.cw_loops.specs.Lowerable.{new_integers, new_arrays, can_capture, can_slice, can_loop, inside, can_lower, can_lower_all}
 use Rattle.cw_loops.specs.SourceLike.{is_source_expr, is_source_stmt, is_source_block, is_source_target}
-use Rattle.cw_loops.specs.lemmas.Naming.{Placed, at_front, after_it, placed, Side, in_first, in_second, side, each_of, among_left, among_right, neither_among, new_are_there, new_are_all, new_differ, pushed, passed}
+use Rattle.cw_loops.specs.lemmas.Naming.{Placed, at_front, after_it, placed, Side, in_first, in_second, side, each_of, among_left}
+use Rattle.cw_loops.specs.lemmas.Naming.{among_right, neither_among, new_are_there, new_are_all, new_differ, pushed, passed}
 use Rattle.cw_loops.specs.lemmas.Knowing.{Unknown, new_unknown, Adds, an_int, an_array, nothing, adds, known_more}
 use Rattle.cw_loops.specs.lemmas.Declaring.{HeadKept, head_kept, CutKept, cut_kept, block_new}
 use Rattle.cw_loops.specs.lemmas.Seeing.{CallKept, call_kept, GivenKept, given_kept, AllInner, inner_names, Seen, Home, declared_there, known_before, home, block_seen, arrays_passed, passed_kept}
-use Rattle.cw_loops.proofs.Agreeing.{Agree, reads_well, AllReadWell, first_well, second_well, outside, local_from, write_from, read_from, int_local, expr_can, head_keeps, with_int, with_array, with_returns}
+use Rattle.cw_loops.proofs.Agreeing.{Agree, reads_well, AllReadWell, first_well, second_well, outside, local_from, write_from}
+use Rattle.cw_loops.proofs.Agreeing.{read_from, int_local, expr_can, head_keeps, with_int, with_array, with_returns}
 
 -- lists that are tested name by name
 
-capture_all : (c : Surroundings) (ints xs : List Name) → ((y : Name) → is_among y xs ≡ true → (is_plain y ≡ true) × (can_read c y ≡ true) × (is_among y (c.outer ++ ints) ≡ true)) → can_capture c ints xs ≡ true
+capture_all : (c : Surroundings) (ints xs : List Name) → ((y : Name) → is_among y xs ≡ true
+    → (is_plain y ≡ true) × (can_read c y ≡ true) × (is_among y (c.outer ++ ints) ≡ true)) → can_capture c ints xs ≡ true
 capture_all c ints [] h = refl
 capture_all c ints (x ∷ xs) h =
     let here = h x (front_among x xs) in
@@ -68,11 +75,13 @@ module _ {c : Surroundings} {ints arrays : List Name} {known : Known} {owners : 
       let n = neither_among a c.arrays arrays (sym (agree.arrays_are a) ∙ u.no_array) in
       (local_from agree a n.0, n.1)
 
-  variable_pass : (array : Bool) (x : Name) → is_plain x ≡ true → fits_kind known array (Variable x) ≡ true → AllInner around (if array then x ∷ [] else []) → reads_well c x ≡ true → can_pass c (Variable x) ≡ true
+  variable_pass : (array : Bool) (x : Name) → is_plain x ≡ true → fits_kind known array (Variable x) ≡ true
+      → AllInner around (if array then x ∷ [] else []) → reads_well c x ≡ true → can_pass c (Variable x) ≡ true
   variable_pass false x plain fine inner well = both_true (can_read c x) (is_local c x) (read_from agree x plain well) (int_local agree x fine)
   variable_pass true x plain fine inner well = both_true (can_read c x) (is_local c x) (read_from agree x plain well) (local_from agree x (outside agree x (inner x (front_among x []))).1)
 
-  argument_can : (array : Bool) (e : Expr) → is_source_expr e ≡ true → fits_kind known array e ≡ true → keeps_loop around e ≡ true → AllInner around (if array then names_in e else []) → AllReadWell c (read_by e) → can_pass c e ≡ true
+  argument_can : (array : Bool) (e : Expr) → is_source_expr e ≡ true → fits_kind known array e ≡ true → keeps_loop around e ≡ true
+      → AllInner around (if array then names_in e else []) → AllReadWell c (read_by e) → can_pass c e ≡ true
   argument_can array (Variable x) source fine keeps inner well = variable_pass array x source fine inner (well x (front_among x []))
   argument_can array (Number n) source fine keeps inner well = expr_can agree (Number n) source keeps well
   argument_can array (Element a e) source fine keeps inner well = expr_can agree (Element a e) source keeps well
@@ -81,7 +90,8 @@ module _ {c : Surroundings} {ints arrays : List Name} {known : Known} {owners : 
   argument_can array (Not e) source fine keeps inner well = expr_can agree (Not e) source keeps well
   argument_can array (Binary operator d e) source fine keeps inner well = expr_can agree (Binary operator d e) source keeps well
 
-  arguments_can : (taken : Taken) (ps : List Param) (es : List Expr) → list_all is_source_expr es ≡ true → fit_kinds known ps es ≡ true → list_all (λ e. may_read around taken e) es ≡ true → AllInner around (arrays_passed ps es) → AllReadWell c (read_by_all es) → can_pass_all c es ≡ true
+  arguments_can : (taken : Taken) (ps : List Param) (es : List Expr) → list_all is_source_expr es ≡ true → fit_kinds known ps es ≡ true
+      → list_all (λ e. may_read around taken e) es ≡ true → AllInner around (arrays_passed ps es) → AllReadWell c (read_by_all es) → can_pass_all c es ≡ true
   arguments_can taken [] [] source fine reads inner well = refl
   arguments_can taken [] (e ∷ es) source fine reads inner well = absurd cc
   arguments_can taken (p ∷ ps) [] source fine reads inner well = refl
@@ -90,7 +100,8 @@ module _ {c : Surroundings} {ints arrays : List Name} {known : Known} {owners : 
       let f = and_parts (fits_kind known (wants_array p) e) (fit_kinds known ps es) fine in
       let r = and_parts (may_read around taken e) (list_all (λ e. may_read around taken e) es) reads in
       both_true (can_pass c e) (can_pass_all c es)
-      (argument_can (wants_array p) e s.0 f.0 (read_keeps around taken e r.0) (λ v q. inner v (among_left v (if wants_array p then names_in e else []) (arrays_passed ps es) q)) (first_well c (read_by e) (read_by_all es) well))
+      (argument_can (wants_array p) e s.0 f.0 (read_keeps around taken e r.0)
+      (λ v q. inner v (among_left v (if wants_array p then names_in e else []) (arrays_passed ps es) q)) (first_well c (read_by e) (read_by_all es) well))
       (arguments_can taken ps es s.1 f.1 r.1 (λ v q. inner v (among_right v (if wants_array p then names_in e else []) (arrays_passed ps es) q)) (second_well c (read_by e) (read_by_all es) well))
 
   target_can : (target : Option Name) → is_source_target target ≡ true → AllInner around (target_names target) → can_target c target ≡ true
@@ -98,7 +109,8 @@ module _ {c : Surroundings} {ints arrays : List Name} {known : Known} {owners : 
   target_can (Some x) source inner = write_from agree x source (outside agree x (inner x (front_among x []))).0
 
   -- an element of an array that is written
-  spot_can : (a : Name) (i : Expr) → is_source_expr i ≡ true → may_index around a i ≡ true → keeps_loop around i ≡ true → AllReadWell c (read_by i) → (if is_among a c.over then is_variable c i else (is_local c a && can_evaluate c i)) ≡ true
+  spot_can : (a : Name) (i : Expr) → is_source_expr i ≡ true → may_index around a i ≡ true → keeps_loop around i ≡ true → AllReadWell c (read_by i)
+      → (if is_among a c.over then is_variable c i else (is_local c a && can_evaluate c i)) ≡ true
   spot_can a i source may keeps well = go (is_among a c.over) refl
     where
       go : (b : Bool) → is_among a c.over ≡ b → (if b then is_variable c i else (is_local c a && can_evaluate c i)) ≡ true
@@ -106,13 +118,15 @@ module _ {c : Surroundings} {ints arrays : List Name} {known : Known} {owners : 
       go false o = both_true (is_local c a) (can_evaluate c i) (local_from agree a (outside agree a (agree.not_indexed a i may o)).1) (expr_can agree i source keeps well)
 
   -- inside a loop
-  inside_agrees : (x : Name) (taken over : List Name) → Unknown known x → ((a : Name) → is_among a over ≡ true → is_array known a ≡ true) → ((y : Name) → is_among y taken ≡ true → is_among y (c.outer ++ ints) ≡ true) →
+  inside_agrees : (x : Name) (taken over : List Name) → Unknown known x → ((a : Name) → is_among a over ≡ true → is_array known a ≡ true)
+      → ((y : Name) → is_among y taken ≡ true → is_among y (c.outer ++ ints) ≡ true) →
       Agree (inside c ints arrays x taken over) [] [] ((x, name_kind.Integer) ∷ known) (x ∷ owners) (InLoop (x ∷ owners) x over) Nowhere
   inside_agrees x taken over fresh over_arrays taken_known = record {
     ints_are = λ y. int_is y ∙ ap (is_among y) (sym (append-nil ((c.outer ++ ints) ++ x ∷ [])));
     arrays_are = λ y. array_is y ∙ ap (is_among y) (sym (append-nil (c.arrays ++ arrays)));
     owners_are = λ y. known_more y x owners (is_int known y) (is_array known y) (agree.owners_are y);
-    outer_is = λ y. known_more y x owners (is_int known y) (is_array known y) (agree.owners_are y) ∙ ap (λ b. b || (if same_name y x then false else is_array known y)) (int_is y) ∙ ap (λ b. is_among y ((c.outer ++ ints) ++ x ∷ []) || b) (array_is y);
+    outer_is = λ y. known_more y x owners (is_int known y) (is_array known y) (agree.owners_are y)
+        ∙ ap (λ b. b || (if same_name y x then false else is_array known y)) (int_is y) ∙ ap (λ b. is_among y ((c.outer ++ ints) ++ x ∷ []) || b) (array_is y);
     sliced_known = λ y o. by_slice y (side y over c.sliced o);
     over_known = λ y o. over_there y o;
     given_known = λ y plain o. by_given y plain (side y (low ∷ high ∷ taken) (x ∷ []) o);
@@ -158,7 +172,8 @@ module _ {c : Surroundings} {ints arrays : List Name} {known : Known} {owners : 
       indexes true false i j e h = absurd cc
       indexes false there i j e h = absurd cc
 
-      index : (a : Name) (e : Expr) → may_index (InLoop (x ∷ owners) x over) a e ≡ true → is_among a over ≡ true → is_among a (x ∷ owners) ≡ true → is_variable (inside c ints arrays x taken over) e ≡ true
+      index : (a : Name) (e : Expr) → may_index (InLoop (x ∷ owners) x over) a e ≡ true → is_among a over ≡ true → is_among a (x ∷ owners) ≡ true
+          → is_variable (inside c ints arrays x taken over) e ≡ true
       index a (Variable j) may o out = indexes (is_among a (x ∷ owners)) (is_among a over) x j out may
       index a (Number n) may o out = never (is_among a (x ∷ owners)) out (not_true _ may)
       index a (Element b e) may o out = never (is_among a (x ∷ owners)) out (not_true _ may)
@@ -191,12 +206,15 @@ no_returns c known (Some e) h = absurd cc
 
 module _ (program : Program) (fs : List Function) (fs_is : program.functions ≡ fs) where
   abbrev StmtCan : Stmt → Type 0
-  StmtCan s = (c : Surroundings) (ints arrays : List Name) (known : Known) (owners : List Name) (around : Around) (returns : Returns) → c.functions ≡ fs → Agree c ints arrays known owners around returns → (depth line : ℕ) (taken : Taken) →
+  StmtCan s = (c : Surroundings) (ints arrays : List Name) (known : Known) (owners : List Name) (around : Around) (returns : Returns)
+      → c.functions ≡ fs → Agree c ints arrays known owners around returns → (depth line : ℕ) (taken : Taken) →
       is_source_stmt s ≡ true → faults_in program returns known line s ≡ [] → owner_faults fs around owners depth taken line s ≡ [] → AllReadWell c (read_in s) → can_lower c ints arrays s ≡ true
 
   abbrev BlockCan : Block → Type 0
-  BlockCan b = (c : Surroundings) (ints arrays : List Name) (known : Known) (owners : List Name) (around : Around) (returns : Returns) → c.functions ≡ fs → Agree c ints arrays known owners around returns → (depth : ℕ) (closing : Closing) (taken : Taken) (declared : Declared) →
-      is_source_block b ≡ true → faults_in_block program returns known b ≡ [] → owner_faults_in fs around owners depth closing taken declared b ≡ [] → AllReadWell c (read_in_block b) → can_lower_all c ints arrays b ≡ true
+  BlockCan b = (c : Surroundings) (ints arrays : List Name) (known : Known) (owners : List Name) (around : Around) (returns : Returns)
+      → c.functions ≡ fs → Agree c ints arrays known owners around returns → (depth : ℕ) (closing : Closing) (taken : Taken) (declared : Declared) →
+      is_source_block b ≡ true → faults_in_block program returns known b ≡ [] → owner_faults_in fs around owners depth closing taken declared b ≡ []
+      → AllReadWell c (read_in_block b) → can_lower_all c ints arrays b ≡ true
 
   call_can : (kind : CallKind) (site : ℕ) (target : Option Name) (f : Name) (es : List Expr) → StmtCan (Call kind site target f es)
   call_can kind site target f es c ints arrays known owners around returns here agree depth line taken source types owns well =
@@ -204,9 +222,12 @@ module _ (program : Program) (fs : List Function) (fs_is : program.functions ≡
       let t = and_parts (is_plain f) (list_all is_source_expr es) s.1 in
       let k : CallKept fs known target f es = call_kept fs known target f es (ap (λ w. is_call known target (called f w) es) (sym fs_is) ∙ kept _ line types) in
       let g : GivenKept around taken fs target f es = given_kept around taken fs target f es (kept _ line owns) in
-      let count : (length es == length (function_named f c.functions).params) ≡ true = equal _ _ (one_each known (function_named f fs).params es k.arguments ∙ ap (λ w. length (function_named f w).params) (sym here)) in
+      let count : (length es == length (function_named f c.functions).params) ≡ true =
+      equal _ _ (one_each known (function_named f fs).params es k.arguments ∙ ap (λ w. length (function_named f w).params) (sym here)) in
       both_true (is_plain f) _ t.0 (both_true (length es == length (function_named f c.functions).params) _ count
-      (both_true (can_target c target) _ (target_can agree target s.0 g.targets) (arguments_can agree taken (function_named f fs).params es t.1 (arguments_fit known (function_named f fs).params es k.arguments) g.reads (passed_kept around taken fs target f es g) well)))
+      (both_true (can_target c target) _ (target_can agree target s.0 g.targets)
+      (arguments_can agree taken (function_named f fs).params es t.1 (arguments_fit known (function_named f fs).params es k.arguments) g.reads
+      (passed_kept around taken fs target f es g) well)))
 
   for_can : (x y z : Name) (from to : Expr) (grain : ℕ) (over : List Name) (b : Block) → BlockCan b → StmtCan (For x y z from to grain over b)
   for_can x y z from to grain over b more c ints arrays known owners around returns here agree depth line taken source types owns well =
@@ -214,7 +235,8 @@ module _ (program : Program) (fs : List Function) (fs_is : program.functions ≡
       (both_true (can_evaluate c to) _ (expr_can agree to s3.0 (head_keeps around to (read_keeps (for_head around) taken to o3.1)) (first_well c (read_by to) _ rest_well))
       (both_true (nat_le 1 grain) _ head.some
       (both_true (can_loop c ints arrays x (captured x b) over) _ loop_can
-      (more (inside c ints arrays x (captured x b) over) [] [] ((x, name_kind.Integer) ∷ known) (x ∷ owners) (InLoop (x ∷ owners) x over) Nowhere here within (depth + 1) Joins taken [] s4.1 types' owns' body_well))))
+      (more (inside c ints arrays x (captured x b) over) [] [] ((x, name_kind.Integer) ∷ known) (x ∷ owners)
+      (InLoop (x ∷ owners) x over) Nowhere here within (depth + 1) Joins taken [] s4.1 types' owns' body_well))))
     where
       head : HeadKept program known x from to grain over
       head = head_kept program known x y z from to grain over (kept _ line (left_none (unless (is_head_of_loop program known x y z from to grain over) line) _ types))
@@ -262,7 +284,8 @@ module _ (program : Program) (fs : List Function) (fs_is : program.functions ≡
       there v o = new_are_there v (read_in_block b) (x ∷ declared_in_block b) o
 
       seen : (v : Name) → is_among v (captured x b) ≡ true → Seen (InLoop (x ∷ owners) x over) ((x, name_kind.Integer) ∷ known) (declared_in_block b) v
-      seen v o = block_seen program fs fs_is b Nowhere ((x, name_kind.Integer) ∷ known) (x ∷ owners) (InLoop (x ∷ owners) x over) (λ w. known_more w x owners (is_int known w) (is_array known w) (agree.owners_are w)) (depth + 1) Joins taken [] s4.1 types' owns' v (there v o).0
+      seen v o = block_seen program fs fs_is b Nowhere ((x, name_kind.Integer) ∷ known) (x ∷ owners) (InLoop (x ∷ owners) x over)
+          (λ w. known_more w x owners (is_int known w) (is_array known w) (agree.owners_are w)) (depth + 1) Joins taken [] s4.1 types' owns' v (there v o).0
 
       captured_known : (v : Name) → is_among v (captured x b) ≡ true → is_among v (c.outer ++ ints) ≡ true
       captured_known v o = go (home x known owners agree.owners_are over (declared_in_block b) v (seen v o).place)
@@ -285,7 +308,8 @@ module _ (program : Program) (fs : List Function) (fs_is : program.functions ≡
 
       loop_can : can_loop c ints arrays x (captured x b) over ≡ true
       loop_can =
-          both_true (is_plain x) _ s1.0 (both_true (not (is_among x (c.outer ++ ints))) _ (ap not (sym (agree.ints_are x) ∙ fresh.no_int)) (both_true (not (is_among x (captured x b))) _ (ap not not_taken)
+          both_true (is_plain x) _ s1.0 (both_true (not (is_among x (c.outer ++ ints))) _ (ap not (sym (agree.ints_are x) ∙ fresh.no_int))
+          (both_true (not (is_among x (captured x b))) _ (ap not not_taken)
           (both_true (differ (captured x b)) _ (new_differ (read_in_block b) (x ∷ declared_in_block b)) (both_true (differ over) _ o1.1
           (both_true (can_capture c ints (captured x b)) _
           (capture_all c ints (captured x b) (λ v o. ((seen v o).plain, read_from agree v (seen v o).plain (block_well v (there v o).0), captured_known v o)))
@@ -320,16 +344,23 @@ module _ (program : Program) (fs : List Function) (fs_is : program.functions ≡
       let left = new_unknown program known l k.left in
       let right = new_unknown program known r k.right in
       let apart : same_name r l ≡ false = turned r l ∙ k.two in
-      let right' : Unknown ((l, name_kind.Array) ∷ known) r = record { no_int = ap (λ w. if w then false else is_int known r) apart ∙ right.no_int; no_array = ap (λ w. if w then true else is_array known r) apart ∙ right.no_array } in
+      let right' : Unknown ((l, name_kind.Array) ∷ known) r = record {
+        no_int = ap (λ w. if w then false else is_int known r) apart
+            ∙ right.no_int;
+        no_array = ap (λ w. if w then true else is_array known r) apart ∙ right.no_array;
+      } in
       let inner = with_returns (with_array (with_array agree l left) r right') Nowhere (no_returns c) in
       both_true (can_evaluate c e) _ (expr_can agree e s2.0 (read_keeps around taken e o.0) (first_well c (read_by e) (read_in_block b) well))
       (both_true (is_local c a) _ (local_from agree a (outside agree a (write_inner around taken (a ∷ []) o.1 a (front_among a []))).1)
       (both_true (is_local c l) _ (new_local agree l left).0 (both_true (is_local c r) _ (new_local agree r right).0
-      (both_true (not (is_among l arrays)) _ (ap not (new_local agree l left).1) (both_true (not (is_among r arrays)) _ (ap not (new_local agree r right).1) (both_true (not (same_name r l)) _ (ap not apart)
-      (more c ints ((arrays ++ l ∷ []) ++ r ∷ []) ((r, name_kind.Array) ∷ (l, name_kind.Array) ∷ known) (r ∷ l ∷ owners) around Nowhere here inner (depth + 1) Joins ((a, CutOf) ∷ taken) [] s3.1 (right_none _ _ types) (right_none _ _ owns) (second_well c (read_by e) (read_in_block b) well))))))))
+      (both_true (not (is_among l arrays)) _ (ap not (new_local agree l left).1)
+      (both_true (not (is_among r arrays)) _ (ap not (new_local agree r right).1) (both_true (not (same_name r l)) _ (ap not apart)
+      (more c ints ((arrays ++ l ∷ []) ++ r ∷ []) ((r, name_kind.Array) ∷ (l, name_kind.Array) ∷ known) (r ∷ l ∷ owners) around Nowhere here inner
+      (depth + 1) Joins ((a, CutOf) ∷ taken) [] s3.1 (right_none _ _ types) (right_none _ _ owns) (second_well c (read_by e) (read_in_block b) well))))))))
 
   -- what is known after a statement
-  after_agrees : (s : Stmt) (c : Surroundings) (ints arrays : List Name) (known : Known) (owners : List Name) (around : Around) (returns : Returns) (line : ℕ) → Agree c ints arrays known owners around returns → faults_in program returns known line s ≡ [] →
+  after_agrees : (s : Stmt) (c : Surroundings) (ints arrays : List Name) (known : Known) (owners : List Name) (around : Around) (returns : Returns)
+      (line : ℕ) → Agree c ints arrays known owners around returns → faults_in program returns known line s ≡ [] →
       Agree c (ints ++ new_integers s) (arrays ++ new_arrays s) (declares s known) (known_after owners s) around returns
   after_agrees s c ints arrays known owners around returns line agree types = go (adds s)
     where
@@ -343,8 +374,10 @@ module _ (program : Program) (fs : List Function) (fs_is : program.functions ≡
       array_types x e same = (and_parts (is_fine known e) (is_new program known x) (kept _ line (subst (λ t. faults_in program returns known line t ≡ []) same types))).1
 
       go : Adds s → Agree c (ints ++ new_integers s) (arrays ++ new_arrays s) (declares s known) (known_after owners s) around returns
-      go (an_int x e same) = subst After (sym same) (subst (λ w. Agree c (ints ++ x ∷ []) w ((x, name_kind.Integer) ∷ known) (x ∷ owners) around returns) (sym (append-nil arrays)) (with_int agree x (new_unknown program known x (int_types x e same))))
-      go (an_array x e same) = subst After (sym same) (subst (λ w. Agree c w (arrays ++ x ∷ []) ((x, name_kind.Array) ∷ known) (x ∷ owners) around returns) (sym (append-nil ints)) (with_array agree x (new_unknown program known x (array_types x e same))))
+      go (an_int x e same) = subst After (sym same) (subst (λ w. Agree c (ints ++ x ∷ []) w ((x, name_kind.Integer) ∷ known)
+          (x ∷ owners) around returns) (sym (append-nil arrays)) (with_int agree x (new_unknown program known x (int_types x e same))))
+      go (an_array x e same) = subst After (sym same) (subst (λ w. Agree c w (arrays ++ x ∷ []) ((x, name_kind.Array) ∷ known)
+          (x ∷ owners) around returns) (sym (append-nil ints)) (with_array agree x (new_unknown program known x (array_types x e same))))
       go (nothing same no_ints no_arrays owners_same) =
           rw (no_ints, no_arrays, append-nil ints, append-nil arrays, same known, owners_same owners) agree
 
@@ -353,8 +386,10 @@ module _ (program : Program) (fs : List Function) (fs_is : program.functions ≡
       let p = and_parts (is_source_stmt s) (is_source_block b) source in
       let t = left_none (faults_in program returns known line s) _ types in
       both_true (can_lower c ints arrays s) _ (first c ints arrays known owners around returns here agree depth line taken p.0 t (left_none _ _ owns) (first_well c (read_in s) (read_in_block b) well))
-      (more c (ints ++ new_integers s) (arrays ++ new_arrays s) (declares s known) (known_after owners s) around returns here (after_agrees s c ints arrays known owners around returns line agree t) depth closing (taken_after fs depth s taken) (declared_by line s declared) p.1
-      (right_none (unless (not (surely_returns s) || ends_block b) line) _ (right_none (faults_in program returns known line s) _ types)) (right_none _ _ owns) (second_well c (read_in s) (read_in_block b) well))
+      (more c (ints ++ new_integers s) (arrays ++ new_arrays s) (declares s known) (known_after owners s) around returns here
+      (after_agrees s c ints arrays known owners around returns line agree t) depth closing (taken_after fs depth s taken) (declared_by line s declared) p.1
+      (right_none (unless (not (surely_returns s) || ends_block b) line) _ (right_none (faults_in program returns known line s) _ types))
+      (right_none _ _ owns) (second_well c (read_in s) (read_in_block b) well))
 
   mutual
     pub stmt_can : (s : Stmt) → StmtCan s
@@ -365,14 +400,16 @@ module _ (program : Program) (fs : List Function) (fs_is : program.functions ≡
     stmt_can (Assign y e) c ints arrays known owners around returns here agree depth line taken source types owns well =
         let s = and_parts (is_plain y) (is_source_expr e) source in
         let o = and_parts (may_read around taken e) (may_write around taken (y ∷ [])) (kept _ line owns) in
-        both_true (can_write c y) _ (write_from agree y s.0 (outside agree y (write_inner around taken (y ∷ []) o.1 y (front_among y []))).0) (expr_can agree e s.1 (read_keeps around taken e o.0) well)
+        both_true (can_write c y) _ (write_from agree y s.0 (outside agree y (write_inner around taken (y ∷ []) o.1 y (front_among y []))).0)
+        (expr_can agree e s.1 (read_keeps around taken e o.0) well)
     stmt_can (AssignElement a i e) c ints arrays known owners around returns here agree depth line taken source types owns well =
         let s = and_parts (is_source_expr i) (is_source_expr e) (and_parts (is_plain a) _ source).1 in
         let o1 = and_parts _ (may_index around a i) (kept _ line owns) in
         let o2 = and_parts _ (are_loose taken (a ∷ [])) o1.0 in
         let o3 = and_parts (may_read around taken i) (may_read around taken e) o2.0 in
         both_true (if is_among a c.over then is_variable c i else (is_local c a && can_evaluate c i)) _
-        (spot_can agree a i s.0 o1.1 (read_keeps around taken i o3.0) (first_well c (read_by i) (read_by e) well)) (expr_can agree e s.1 (read_keeps around taken e o3.1) (second_well c (read_by i) (read_by e) well))
+        (spot_can agree a i s.0 o1.1 (read_keeps around taken i o3.0) (first_well c (read_by i) (read_by e) well))
+        (expr_can agree e s.1 (read_keeps around taken e o3.1) (second_well c (read_by i) (read_by e) well))
     stmt_can (Reduce how r e) c ints arrays known owners around returns here agree depth line taken source types owns well =
         expr_can agree e (and_parts (is_plain r) (is_source_expr e) source).1 (read_keeps around taken e (kept _ line owns)) well
     stmt_can (Call kind site target f es) c ints arrays known owners around returns here agree depth line taken source types owns well =
@@ -391,12 +428,15 @@ module _ (program : Program) (fs : List Function) (fs_is : program.functions ≡
         let o = right_none (unless (may_read around taken e) line) (owner_faults_in fs around owners depth Leaves taken [] b ++ owner_faults_in fs around owners depth Leaves taken [] d) owns in
         let w = second_well c (read_by e) (read_in_block b ++ read_in_block d) well in
         both_true (can_evaluate c e) _ (expr_can agree e s.0 (read_keeps around taken e (kept _ line (left_none _ _ owns))) (first_well c (read_by e) (read_in_block b ++ read_in_block d) well))
-        (both_true (can_lower_all c ints arrays b) _ (block_can b c ints arrays known owners around returns here agree depth Leaves taken [] s'.0 (left_none _ _ t) (left_none _ _ o) (first_well c (read_in_block b) (read_in_block d) w))
+        (both_true (can_lower_all c ints arrays b) _ (block_can b c ints arrays known owners around returns here agree depth Leaves taken [] s'.0
+        (left_none _ _ t) (left_none _ _ o) (first_well c (read_in_block b) (read_in_block d) w))
         (block_can d c ints arrays known owners around returns here agree depth Leaves taken [] s'.1 (right_none _ _ t) (right_none _ _ o) (second_well c (read_in_block b) (read_in_block d) w)))
     stmt_can (While e b) c ints arrays known owners around returns here agree depth line taken source types owns well =
         let s = and_parts (is_source_expr e) (is_source_block b) source in
-        both_true (can_evaluate c e) _ (expr_can agree e s.0 (read_keeps around (taken_after fs depth (While e b) taken) e (kept _ line (left_none _ _ owns))) (first_well c (read_by e) (read_in_block b) well))
-        (block_can b c ints arrays known owners around returns here agree depth Leaves (taken_after fs depth (While e b) taken) [] s.1 (right_none _ _ types) (right_none _ _ owns) (second_well c (read_by e) (read_in_block b) well))
+        both_true (can_evaluate c e) _ (expr_can agree e s.0 (read_keeps around (taken_after fs depth (While e b) taken) e
+        (kept _ line (left_none _ _ owns))) (first_well c (read_by e) (read_in_block b) well))
+        (block_can b c ints arrays known owners around returns here agree depth Leaves (taken_after fs depth (While e b) taken) [] s.1
+        (right_none _ _ types) (right_none _ _ owns) (second_well c (read_by e) (read_in_block b) well))
     stmt_can (For x y z from to grain over b) c ints arrays known owners around returns here agree depth line taken source types owns well =
         for_can x y z from to grain over b (block_can b) c ints arrays known owners around returns here agree depth line taken source types owns well
     stmt_can (Scope b) c ints arrays known owners around returns here agree depth line taken source types owns well =

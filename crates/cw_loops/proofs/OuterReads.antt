@@ -3,17 +3,20 @@ use Rattle.std.proofs.Common.{◌≡◌, ℕ, nat_lt, Bool, true, false, List, [
 use Rattle.std.specs.Prelude.{if◌then◌else◌, nat_le, ◌==◌, not, ◌&&◌, ◌||◌, Some, None}
 use Rattle.std.proofs.lemmas.Bool.{and_parts}
 use Rattle.cw_facts.specs.Tests.{not_below, not_true, Told, yes_is, no_is, told, never}
-use Rattle.cw_model.specs.Syntax.{Name, Expr, Number, Variable, Element, Length, Negative, Not, Binary, Stmt, Declare, DeclareArray, Assign, AssignElement, Reduce, Call, Start, Begin, Sync, If, IfElse, While, For, Scope, Cut, Region, Print, Return, Block, End, Then, Param}
+use Rattle.cw_model.specs.Syntax.{Name, Expr, Number, Variable, Element, Length, Negative, Not, Binary, Stmt, Declare, DeclareArray, Assign, AssignElement, Reduce}
+use Rattle.cw_model.specs.Syntax.{Call, Start, Begin, Sync, If, IfElse, While, For, Scope, Cut, Region, Print, Return, Block, End, Then, Param}
 use Rattle.cw_model.specs.Names.{same_name, is_among, new_names}
 use Rattle.cw_model.specs.Meaning.{function_named}
 use Rattle.cw_loops.specs.Lowered.{is_plain}
 use Rattle.cw_model.specs.Captured.{captured, read_by, read_by_all, read_in, read_in_block, declared_in, declared_in_block}
 use Rattle.cw_model.specs.lemmas.Names.{same_are}
-use Rattle.cw_tree.specs.Resolved.{Lists, Locals, Use, slot_of, use_of, resolved_expr, resolved_argument, resolved_stmt, resolved_block, with_int, with_array, reads, argument_reads, arguments_read, reads_in, reads_in_block, captured_in, resolved_arguments}
+use Rattle.cw_tree.specs.Resolved.{Lists, Locals, Use, slot_of, use_of, resolved_expr, resolved_argument, resolved_stmt, resolved_block, with_int}
+use Rattle.cw_tree.specs.Resolved.{with_array, reads, argument_reads, arguments_read, reads_in, reads_in_block, captured_in, resolved_arguments}
 use Rattle.cw_tree.specs.Resolved as spec
 use Rattle.cw_tree.specs.lemmas.NamedSlots.{slot_stays}
 use Rattle.cw_tree.specs.lemmas.Names.{front_among, later_among}
-use Rattle.cw_loops.specs.Lowerable.{Surroundings, can_write, can_read, is_local, is_variable, can_evaluate, can_pass, can_pass_all, can_target, new_integers, new_arrays, can_loop, inside, can_lower, can_lower_all}
+use Rattle.cw_loops.specs.Lowerable.{Surroundings, can_write, can_read, is_local, is_variable, can_evaluate, can_pass, can_pass_all}
+use Rattle.cw_loops.specs.Lowerable.{can_target, new_integers, new_arrays, can_loop, inside, can_lower, can_lower_all}
 use Rattle.cw_loops.specs.lemmas.Naming.{Side, in_first, in_second, side, among_left, among_right, neither_among, new_are_there, new_are_all}
 use Rattle.cw_loops.proofs.Shifting.{slot_past}
 use Rattle.cw_loops.proofs.Taken.{Matches, both_match, kept_match, own_match, dropped_match, fewer_match, each_match, matched}
@@ -113,7 +116,8 @@ module _ (c : Surroundings) (ints0 arrays0 : List Name) (x : Name) (total declar
       (expr_in d ints arrays g.0 (first_among (read_by d) (read_by e) total all)) (expr_in e ints arrays g.1 (second_among (read_by d) (read_by e) total all))
 
   -- a name alone is an integer that is read, or an array of the turn
-  alone_in : (y : Name) (ps : List Param) (ints arrays : List Name) → can_pass turn (Variable y) ≡ true → is_among y total ≡ true → AllAmong arrays (x ∷ declared) → In (argument_reads (resolved_argument (at turn ints arrays) ps (Variable y))) (y ∷ [])
+  alone_in : (y : Name) (ps : List Param) (ints arrays : List Name) → can_pass turn (Variable y) ≡ true → is_among y total ≡ true
+      → AllAmong arrays (x ∷ declared) → In (argument_reads (resolved_argument (at turn ints arrays) ps (Variable y))) (y ∷ [])
   alone_in y ps ints arrays h there own = go (is_among y (turn.arrays ++ arrays)) refl
     where
       g : (can_read turn y ≡ true) × (is_local turn y ≡ true)
@@ -123,7 +127,8 @@ module _ (c : Surroundings) (ints0 arrays0 : List Name) (x : Name) (total declar
       passed true d = d
       passed false d = d
 
-      go : (b : Bool) → is_among y (turn.arrays ++ arrays) ≡ b → In (argument_reads (if b then spec.passed_to ps (use_of (turn.arrays ++ arrays) y) else spec.Int (spec.Variable (use_of (turn.outer ++ ints) y)))) (y ∷ [])
+      go : (b : Bool) → is_among y (turn.arrays ++ arrays) ≡ b → In (argument_reads
+          (if b then spec.passed_to ps (use_of (turn.arrays ++ arrays) y) else spec.Int (spec.Variable (use_of (turn.outer ++ ints) y)))) (y ∷ [])
       go true e = passed (spec.is_reader ps) (dropped_match before (x ∷ declared) y (own y (by (side y turn.arrays arrays e))))
         where
           by : Side y turn.arrays arrays → is_among y arrays ≡ true
@@ -131,7 +136,8 @@ module _ (c : Surroundings) (ints0 arrays0 : List Name) (x : Name) (total declar
           by (in_second p) = p
       go false e = name_in y ints g.0 there
 
-  argument_in : (e : Expr) (ps : List Param) (ints arrays : List Name) → can_pass turn e ≡ true → AllAmong (read_by e) total → AllAmong arrays (x ∷ declared) → In (argument_reads (resolved_argument (at turn ints arrays) ps e)) (read_by e)
+  argument_in : (e : Expr) (ps : List Param) (ints arrays : List Name) → can_pass turn e ≡ true → AllAmong (read_by e) total
+      → AllAmong arrays (x ∷ declared) → In (argument_reads (resolved_argument (at turn ints arrays) ps e)) (read_by e)
   argument_in (Number n) ps ints arrays h all own = λ found. refl
   argument_in (Variable y) ps ints arrays h all own = alone_in y ps ints arrays h (all y (front_among y [])) own
   argument_in (Element a e) ps ints arrays h all own = expr_in (Element a e) ints arrays h all
@@ -145,7 +151,8 @@ module _ (c : Surroundings) (ints0 arrays0 : List Name) (x : Name) (total declar
   arguments_in [] ps ints arrays h all own = λ found. refl
   arguments_in (e ∷ es) ps ints arrays h all own =
       let g = and_parts (can_pass turn e) (can_pass_all turn es) h in
-      both_match before (x ∷ declared) (argument_reads (resolved_argument (at turn ints arrays) ps e)) (arguments_read (resolved_arguments (at turn ints arrays) (drop 1 ps) es)) (read_by e) (read_by_all es)
+      both_match before (x ∷ declared) (argument_reads (resolved_argument (at turn ints arrays) ps e))
+      (arguments_read (resolved_arguments (at turn ints arrays) (drop 1 ps) es)) (read_by e) (read_by_all es)
       (argument_in e ps ints arrays g.0 (first_among (read_by e) (read_by_all es) total all) own)
       (arguments_in es (drop 1 ps) ints arrays g.1 (second_among (read_by e) (read_by_all es) total all) own)
 
@@ -153,7 +160,8 @@ module _ (c : Surroundings) (ints0 arrays0 : List Name) (x : Name) (total declar
 abbrev ReadsIn : (Surroundings → List Name → List Name → Bool) → (names own : List Name) → (Lists → Locals → List Use) → Type 0
 ReadsIn can_be names own uses =
     (c : Surroundings) (ints0 arrays0 : List Name) (x : Name) (total declared over : List Name) → can_loop c ints0 arrays0 x (new_names total (x ∷ declared)) over ≡ true →
-    (lists : Lists) (ints arrays : List Name) → can_be (inside c ints0 arrays0 x (new_names total (x ∷ declared)) over) ints arrays ≡ true → AllAmong names total → AllAmong own (x ∷ declared) → AllAmong arrays (x ∷ declared) →
+    (lists : Lists) (ints arrays : List Name) → can_be (inside c ints0 arrays0 x (new_names total (x ∷ declared)) over) ints arrays ≡ true
+    → AllAmong names total → AllAmong own (x ∷ declared) → AllAmong arrays (x ∷ declared) →
     Matches (c.outer ++ ints0) (x ∷ declared) (uses lists (at (inside c ints0 arrays0 x (new_names total (x ∷ declared)) over) ints arrays)) names
 
 abbrev StmtReads : Stmt → Type 0
@@ -164,9 +172,12 @@ BlockReads b = ReadsIn (λ c ints arrays. can_lower_all c ints arrays b) (read_i
 
 -- what the body of a loop takes along, by slot and by name
 captured_of : (b : Block) → BlockReads b → (c : Surroundings) (ints arrays : List Name) (x : Name) (over : List Name) (lists : Lists) → can_loop c ints arrays x (captured x b) over ≡ true →
-    can_lower_all (inside c ints arrays x (captured x b) over) [] [] b ≡ true → captured_in (length (c.outer ++ ints)) (resolved_block lists (with_int x (at c ints arrays)) b) ≡ map (use_of (c.outer ++ ints)) (captured x b)
+    can_lower_all (inside c ints arrays x (captured x b) over) [] [] b ≡ true
+    → captured_in (length (c.outer ++ ints)) (resolved_block lists (with_int x (at c ints arrays)) b) ≡ map (use_of (c.outer ++ ints)) (captured x b)
 captured_of b more c ints arrays x over lists can inner =
-    ap (λ l. captured_in (length (c.outer ++ ints)) (resolved_block lists l b)) (two_lists ((c.outer ++ ints) ++ x ∷ []) (((c.outer ++ ints) ++ x ∷ []) ++ []) (c.arrays ++ arrays) ((c.arrays ++ arrays) ++ []) (sym (append-nil ((c.outer ++ ints) ++ x ∷ []))) (sym (append-nil (c.arrays ++ arrays))))
+    ap (λ l. captured_in (length (c.outer ++ ints)) (resolved_block lists l b))
+    (two_lists ((c.outer ++ ints) ++ x ∷ []) (((c.outer ++ ints) ++ x ∷ []) ++ []) (c.arrays ++ arrays) ((c.arrays ++ arrays) ++ [])
+    (sym (append-nil ((c.outer ++ ints) ++ x ∷ []))) (sym (append-nil (c.arrays ++ arrays))))
     ∙ matched (c.outer ++ ints) (x ∷ declared_in_block b) (reads_in_block (resolved_block lists (at (inside c ints arrays x (captured x b) over) [] []) b)) (read_in_block b)
     (more c ints arrays x (read_in_block b) (declared_in_block b) over can lists [] [] inner (λ v o. o) (λ v o. later_among v x (declared_in_block b) o) (λ v o. absurd cc))
 
@@ -184,7 +195,8 @@ for_reads y z w from to grain over' b more c ints0 arrays0 x total declared over
     turn' : Surroundings
     turn' = inside c ints0 arrays0 x (new_names total (x ∷ declared)) over
 
-    one : (can_evaluate turn' from ≡ true) × ((can_evaluate turn' to && (nat_le 1 grain && (can_loop turn' ints arrays y (captured y b) over' && can_lower_all (inside turn' ints arrays y (captured y b) over') [] [] b))) ≡ true)
+    one : (can_evaluate turn' from ≡ true) × ((can_evaluate turn' to && (nat_le 1 grain
+        && (can_loop turn' ints arrays y (captured y b) over' && can_lower_all (inside turn' ints arrays y (captured y b) over') [] [] b))) ≡ true)
     one = and_parts (can_evaluate turn' from) _ here
 
     two : (can_evaluate turn' to ≡ true) × ((nat_le 1 grain && (can_loop turn' ints arrays y (captured y b) over' && can_lower_all (inside turn' ints arrays y (captured y b) over') [] [] b)) ≡ true)
@@ -203,8 +215,10 @@ for_reads y z w from to grain over' b more c ints0 arrays0 x total declared over
     rest' = second_among (read_by to) (read_in_block b) total rest
 
 -- what stands before a block
-tested_reads : (e : Expr) (b : Block) (c : Surroundings) (ints0 arrays0 : List Name) (x : Name) (total declared over : List Name) (can : can_loop c ints0 arrays0 x (new_names total (x ∷ declared)) over ≡ true) (ints arrays : List Name) (us : List Use) →
-    can_evaluate (inside c ints0 arrays0 x (new_names total (x ∷ declared)) over) e ≡ true → AllAmong (read_by e ++ read_in_block b) total → (AllAmong (read_in_block b) total → Matches (c.outer ++ ints0) (x ∷ declared) us (read_in_block b)) →
+tested_reads : (e : Expr) (b : Block) (c : Surroundings) (ints0 arrays0 : List Name) (x : Name) (total declared over : List Name)
+    (can : can_loop c ints0 arrays0 x (new_names total (x ∷ declared)) over ≡ true) (ints arrays : List Name) (us : List Use) →
+    can_evaluate (inside c ints0 arrays0 x (new_names total (x ∷ declared)) over) e ≡ true → AllAmong (read_by e ++ read_in_block b) total
+    → (AllAmong (read_in_block b) total → Matches (c.outer ++ ints0) (x ∷ declared) us (read_in_block b)) →
     Matches (c.outer ++ ints0) (x ∷ declared) (reads (resolved_expr (at (inside c ints0 arrays0 x (new_names total (x ∷ declared)) over) ints arrays) e) ++ us) (read_by e ++ read_in_block b)
 tested_reads e b c ints0 arrays0 x total declared over can ints arrays us h all more =
     both_match (c.outer ++ ints0) (x ∷ declared) (reads (resolved_expr (at (inside c ints0 arrays0 x (new_names total (x ∷ declared)) over) ints arrays) e)) us (read_by e) (read_in_block b)
@@ -216,19 +230,24 @@ cut_reads a e l r b more c ints0 arrays0 x total declared over can lists ints ar
     tested_reads e b c ints0 arrays0 x total declared over can ints arrays (reads_in_block (resolved_block lists (with_array r (with_array l (at turn' ints arrays))) b)) one.0 all
     (λ rest. subst (λ k. Matches (c.outer ++ ints0) (x ∷ declared) (reads_in_block (resolved_block lists k b)) (read_in_block b))
     (sym (ap (with_array r) (after_array turn'.outer turn'.arrays ints arrays l) ∙ after_array turn'.outer turn'.arrays ints (arrays ++ l ∷ []) r))
-    (more c ints0 arrays0 x total declared over can lists ints ((arrays ++ l ∷ []) ++ r ∷ []) inner rest (λ v o. own v (later_among v l (r ∷ declared_in_block b) (later_among v r (declared_in_block b) o)))
+    (more c ints0 arrays0 x total declared over can lists ints ((arrays ++ l ∷ []) ++ r ∷ []) inner rest
+    (λ v o. own v (later_among v l (r ∷ declared_in_block b) (later_among v r (declared_in_block b) o)))
     (both_among (arrays ++ l ∷ []) (r ∷ []) (x ∷ declared) (both_among arrays (l ∷ []) (x ∷ declared) arrays_own (λ v o. own v (among_left v (l ∷ []) (r ∷ declared_in_block b) o)))
     (λ v o. own v (later_among v l (r ∷ declared_in_block b) (among_left v (r ∷ []) (declared_in_block b) o))))))
   where
     turn' : Surroundings
     turn' = inside c ints0 arrays0 x (new_names total (x ∷ declared)) over
 
-    one : (can_evaluate turn' e ≡ true) × ((is_local turn' a && (is_local turn' l && (is_local turn' r && (not (is_among l arrays) && (not (is_among r arrays) && (not (same_name r l) && can_lower_all turn' ints ((arrays ++ l ∷ []) ++ r ∷ []) b)))))) ≡ true)
+    one : (can_evaluate turn' e ≡ true) × ((is_local turn' a && (is_local turn' l
+        && (is_local turn' r && (not (is_among l arrays) && (not (is_among r arrays)
+        && (not (same_name r l) && can_lower_all turn' ints ((arrays ++ l ∷ []) ++ r ∷ []) b)))))) ≡ true)
     one = and_parts (can_evaluate turn' e) _ here
 
     inner : can_lower_all turn' ints ((arrays ++ l ∷ []) ++ r ∷ []) b ≡ true
     inner =
-        (and_parts (not (same_name r l)) _ (and_parts (not (is_among r arrays)) _ (and_parts (not (is_among l arrays)) _ (and_parts (is_local turn' r) _ (and_parts (is_local turn' l) _ (and_parts (is_local turn' a) _ one.1).1).1).1).1).1).1
+        (and_parts (not (same_name r l)) _ (and_parts (not (is_among r arrays)) _
+        (and_parts (not (is_among l arrays)) _ (and_parts (is_local turn' r) _
+        (and_parts (is_local turn' l) _ (and_parts (is_local turn' a) _ one.1).1).1).1).1).1).1
 
 declared_new : (s : Stmt) → AllAmong (new_arrays s) (declared_in s)
 declared_new (DeclareArray a e) v o = o
@@ -253,9 +272,11 @@ declared_new (Return e) v o = absurd cc
 then_reads : (line : ℕ) (s : Stmt) (b : Block) → StmtReads s → BlockReads b → BlockReads (Then line s b)
 then_reads line s b first more c ints0 arrays0 x total declared over can lists ints arrays here all own arrays_own =
     both_match (c.outer ++ ints0) (x ∷ declared) (reads_in (resolved_stmt lists (at turn' ints arrays) s)) _ (read_in s) (read_in_block b)
-    (first c ints0 arrays0 x total declared over can lists ints arrays one.0 (first_among (read_in s) (read_in_block b) total all) (first_among (declared_in s) (declared_in_block b) (x ∷ declared) own) arrays_own)
+    (first c ints0 arrays0 x total declared over can lists ints arrays one.0 (first_among (read_in s) (read_in_block b) total all)
+    (first_among (declared_in s) (declared_in_block b) (x ∷ declared) own) arrays_own)
     (subst (λ l. Matches (c.outer ++ ints0) (x ∷ declared) (reads_in_block (resolved_block lists l b)) (read_in_block b)) (sym (after_stmt turn'.outer turn'.arrays ints arrays s))
-    (more c ints0 arrays0 x total declared over can lists (ints ++ new_integers s) (arrays ++ new_arrays s) one.1 (second_among (read_in s) (read_in_block b) total all) (second_among (declared_in s) (declared_in_block b) (x ∷ declared) own)
+    (more c ints0 arrays0 x total declared over can lists (ints ++ new_integers s) (arrays ++ new_arrays s) one.1
+    (second_among (read_in s) (read_in_block b) total all) (second_among (declared_in s) (declared_in_block b) (x ∷ declared) own)
     (both_among arrays (new_arrays s) (x ∷ declared) arrays_own (λ v o. own v (among_left v (declared_in s) (declared_in_block b) (declared_new s v o))))))
   where
     turn' : Surroundings
@@ -298,11 +319,16 @@ mutual
       let g = and_parts (can_evaluate t e) _ here in
       let g2 = and_parts (can_lower_all t ints arrays b) (can_lower_all t ints arrays d) g.1 in
       let rest = second_among (read_by e) (read_in_block b ++ read_in_block d) total all in
-      both_match (c.outer ++ ints0) (x ∷ declared) (reads (resolved_expr (at t ints arrays) e)) (reads_in_block (resolved_block lists (at t ints arrays) b) ++ reads_in_block (resolved_block lists (at t ints arrays) d)) (read_by e) (read_in_block b ++ read_in_block d)
+      both_match (c.outer ++ ints0) (x ∷ declared) (reads (resolved_expr (at t ints arrays) e))
+      (reads_in_block (resolved_block lists (at t ints arrays) b) ++ reads_in_block (resolved_block lists (at t ints arrays) d)) (read_by e)
+      (read_in_block b ++ read_in_block d)
       (expr_in c ints0 arrays0 x total declared over can e ints arrays g.0 (first_among (read_by e) (read_in_block b ++ read_in_block d) total all))
-      (both_match (c.outer ++ ints0) (x ∷ declared) (reads_in_block (resolved_block lists (at t ints arrays) b)) (reads_in_block (resolved_block lists (at t ints arrays) d)) (read_in_block b) (read_in_block d)
-      (block_reads b c ints0 arrays0 x total declared over can lists ints arrays g2.0 (first_among (read_in_block b) (read_in_block d) total rest) (first_among (declared_in_block b) (declared_in_block d) (x ∷ declared) own) arrays_own)
-      (block_reads d c ints0 arrays0 x total declared over can lists ints arrays g2.1 (second_among (read_in_block b) (read_in_block d) total rest) (second_among (declared_in_block b) (declared_in_block d) (x ∷ declared) own) arrays_own))
+      (both_match (c.outer ++ ints0) (x ∷ declared) (reads_in_block (resolved_block lists (at t ints arrays) b))
+      (reads_in_block (resolved_block lists (at t ints arrays) d)) (read_in_block b) (read_in_block d)
+      (block_reads b c ints0 arrays0 x total declared over can lists ints arrays g2.0 (first_among (read_in_block b) (read_in_block d) total rest)
+      (first_among (declared_in_block b) (declared_in_block d) (x ∷ declared) own) arrays_own)
+      (block_reads d c ints0 arrays0 x total declared over can lists ints arrays g2.1 (second_among (read_in_block b) (read_in_block d) total rest)
+      (second_among (declared_in_block b) (declared_in_block d) (x ∷ declared) own) arrays_own))
   stmt_reads (While e b) c ints0 arrays0 x total declared over can lists ints arrays here all own arrays_own =
       let t = Inner c ints0 arrays0 x total declared over in
       let g = and_parts (can_evaluate t e) (can_lower_all t ints arrays b) here in
@@ -310,10 +336,12 @@ mutual
       (λ rest. block_reads b c ints0 arrays0 x total declared over can lists ints arrays g.1 rest own arrays_own)
   stmt_reads (For y z w from to grain over' b) c ints0 arrays0 x total declared over can lists ints arrays here all own arrays_own =
       for_reads y z w from to grain over' b (block_reads b) c ints0 arrays0 x total declared over can lists ints arrays here all own arrays_own
-  stmt_reads (Scope b) c ints0 arrays0 x total declared over can lists ints arrays here all own arrays_own = block_reads b c ints0 arrays0 x total declared over can lists ints arrays here all own arrays_own
+  stmt_reads (Scope b) c ints0 arrays0 x total declared over can lists ints arrays here all own arrays_own =
+      block_reads b c ints0 arrays0 x total declared over can lists ints arrays here all own arrays_own
   stmt_reads (Cut a e l r b) c ints0 arrays0 x total declared over can lists ints arrays here all own arrays_own =
       cut_reads a e l r b (block_reads b) c ints0 arrays0 x total declared over can lists ints arrays here all own arrays_own
-  stmt_reads (Region tag b) c ints0 arrays0 x total declared over can lists ints arrays here all own arrays_own = block_reads b c ints0 arrays0 x total declared over can lists ints arrays here all own arrays_own
+  stmt_reads (Region tag b) c ints0 arrays0 x total declared over can lists ints arrays here all own arrays_own =
+      block_reads b c ints0 arrays0 x total declared over can lists ints arrays here all own arrays_own
   stmt_reads (Print e) c ints0 arrays0 x total declared over can lists ints arrays here all own arrays_own = expr_in c ints0 arrays0 x total declared over can e ints arrays here all
   stmt_reads (Return None) c ints0 arrays0 x total declared over can lists ints arrays here all own arrays_own = λ found. refl
   stmt_reads (Return (Some e)) c ints0 arrays0 x total declared over can lists ints arrays here all own arrays_own = absurd cc
@@ -325,5 +353,6 @@ mutual
 
 -- what the body of a loop takes along, by slot and by name
 pub captured_in_order : (b : Block) (c : Surroundings) (ints arrays : List Name) (x : Name) (over : List Name) (lists : Lists) → can_loop c ints arrays x (captured x b) over ≡ true →
-    can_lower_all (inside c ints arrays x (captured x b) over) [] [] b ≡ true → captured_in (length (c.outer ++ ints)) (resolved_block lists (with_int x (at c ints arrays)) b) ≡ map (use_of (c.outer ++ ints)) (captured x b)
+    can_lower_all (inside c ints arrays x (captured x b) over) [] [] b ≡ true
+    → captured_in (length (c.outer ++ ints)) (resolved_block lists (with_int x (at c ints arrays)) b) ≡ map (use_of (c.outer ++ ints)) (captured x b)
 captured_in_order b = captured_of b (block_reads b)

@@ -6,10 +6,12 @@ use Rattle.cw_model.specs.declared.syntax.CallKind.TheVariants.{Plain, Spawned}
 use Rattle.cw_model.specs.declared.syntax.Reduction.{Reduction}
 use Rattle.cw_model.specs.declared.syntax.Reduction.TheVariants.{Sum, Max}
 use Rattle.cw_model.specs.Typing.{same_reduction}
-use Rattle.cw_loops.specs.Slotted.{Expr, Number, Variable, Element, Length, Negative, Not, Binary, Argument, Int, Array, Stmt, Declare, DeclareArray, Assign, AssignElement, Reduce, Call, Start, Begin, Sync, If, IfElse, While, Scope, Cut, Region, Print, Return, Block, End, Then, Shared}
+use Rattle.cw_loops.specs.Slotted.{Expr, Number, Variable, Element, Length, Negative, Not, Binary, Argument, Int, Array, Stmt, Declare, DeclareArray, Assign, AssignElement}
+use Rattle.cw_loops.specs.Slotted.{Reduce, Call, Start, Begin, Sync, If, IfElse, While, Scope, Cut, Region, Print, Return, Block, End, Then, Shared}
 use Rattle.cw_loops.specs.Moved.{Loop}
 use Rattle.cw_loops.specs.Lowers.{Bodies}
-use Rattle.cw_loops.specs.Same.{number_of, same_kind, same_int, same_slots, same_target, same_expr, same_argument, same_arguments, same_return, same_stmt, same_block, same_loop, same_loops, same_blocks, same_bodies}
+use Rattle.cw_loops.specs.Same.{number_of, same_kind, same_int, same_slots, same_target, same_expr, same_argument, same_arguments}
+use Rattle.cw_loops.specs.Same.{same_return, same_stmt, same_block, same_loop, same_loops, same_blocks, same_bodies}
 
 kind_itself : (k : CallKind) → same_kind k k ≡ true
 kind_itself Plain = refl
@@ -61,10 +63,12 @@ mutual
   stmt_itself (AssignElement u i e) = both_true (u == u) _ (equal u u refl) (both_true (same_expr i i) _ (expr_itself i) (expr_itself e))
   stmt_itself (Reduce how u e) = both_true (same_reduction how how) _ (reduction_itself how) (both_true (u == u) _ (equal u u refl) (expr_itself e))
   stmt_itself (Call k s t f es) =
-      both_true (same_kind k k) _ (kind_itself k) (both_true (s == s) _ (equal s s refl) (both_true (same_target t t) _ (target_itself t) (both_true (f == f) _ (equal f f refl) (arguments_itself es))))
+      both_true (same_kind k k) _ (kind_itself k) (both_true (s == s) _ (equal s s refl)
+      (both_true (same_target t t) _ (target_itself t) (both_true (f == f) _ (equal f f refl) (arguments_itself es))))
   stmt_itself (Start k f es) = both_true (same_kind k k) _ (kind_itself k) (both_true (f == f) _ (equal f f refl) (arguments_itself es))
   stmt_itself (Begin f a b ks os) =
-      both_true (f == f) _ (equal f f refl) (both_true (same_expr a a) _ (expr_itself a) (both_true (same_expr b b) _ (expr_itself b) (both_true (same_slots ks ks) _ (slots_itself ks) (slots_itself os))))
+      both_true (f == f) _ (equal f f refl) (both_true (same_expr a a) _ (expr_itself a)
+      (both_true (same_expr b b) _ (expr_itself b) (both_true (same_slots ks ks) _ (slots_itself ks) (slots_itself os))))
   stmt_itself Sync = refl
   stmt_itself (If e b) = both_true (same_expr e e) _ (expr_itself e) (block_itself b)
   stmt_itself (IfElse e b c) = both_true (same_expr e e) _ (expr_itself e) (both_true (same_block b b) _ (block_itself b) (block_itself c))
@@ -84,7 +88,8 @@ loops_itself : (ls : List Loop) → same_loops ls ls ≡ true
 loops_itself [] = refl
 loops_itself (l ∷ ls) =
     both_true (same_loop l l) _
-    (both_true (l.line == l.line) _ (equal l.line l.line refl) (both_true (l.grain == l.grain) _ (equal l.grain l.grain refl) (both_true (l.captured == l.captured) _ (equal l.captured l.captured refl) (both_true (l.over == l.over) _ (equal l.over l.over refl) (block_itself l.body)))))
+    (both_true (l.line == l.line) _ (equal l.line l.line refl) (both_true (l.grain == l.grain) _ (equal l.grain l.grain refl)
+    (both_true (l.captured == l.captured) _ (equal l.captured l.captured refl) (both_true (l.over == l.over) _ (equal l.over l.over refl) (block_itself l.body)))))
     (loops_itself ls)
 
 blocks_itself : (bs : List Block) → same_blocks bs bs ≡ true

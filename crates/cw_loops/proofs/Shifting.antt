@@ -27,7 +27,8 @@ slot_past x (y ∷ names) more h = first (same_name x y) (slot_past x names more
     first false f g = let e = f g in omega (arith, e)
 
 -- the place among names that are taken along, by their slots
-pub place_is : (n : ℕ) (x : Name) (before taken : List Name) → is_among x before ≡ true → n + length taken ≤ most_slot → place_from n (slot_of x before) (map (λ y. slot_of y before) taken) ≡ n + slot_of x taken
+pub place_is : (n : ℕ) (x : Name) (before taken : List Name) → is_among x before ≡ true → n + length taken ≤ most_slot
+    → place_from n (slot_of x before) (map (λ y. slot_of y before) taken) ≡ n + slot_of x taken
 place_is n x before [] h small = omega arith
 place_is n x before (y ∷ taken) h small =
     ap (λ b. if b then n else place_from (slot (n + 1)) (slot_of x before) (map (λ z. slot_of z before) taken)) (one_slot y x before h ∙ turned y x)
@@ -45,9 +46,11 @@ two_more n = omega arith
 behind_two : (b n k : ℕ) → b + n - b + (2 + k) ≡ suc (suc k) + n
 behind_two b n k = omega arith
 
-module _ (m : Moves) (before taken : List Name) (before_is : m.ints_before ≡ length before) (taken_is : m.captured ≡ map (λ y. slot_of y before) taken) (first_is : m.first_int ≡ 2 + length taken) where
+module _ (m : Moves) (before taken : List Name) (before_is : m.ints_before ≡ length before)
+    (taken_is : m.captured ≡ map (λ y. slot_of y before) taken) (first_is : m.first_int ≡ 2 + length taken) where
   -- an integer of the turn itself, or one that the loop takes along
-  pub int_moved : (x : Name) (own : List Name) → is_plain x ≡ true → is_among x before ≡ true → is_among x taken ≡ true → 2 + length taken ≤ most_slot → moved_int m (slot_of x (before ++ own)) ≡ slot_of x ((low ∷ high ∷ taken) ++ own)
+  pub int_moved : (x : Name) (own : List Name) → is_plain x ≡ true → is_among x before ≡ true → is_among x taken ≡ true
+      → 2 + length taken ≤ most_slot → moved_int m (slot_of x (before ++ own)) ≡ slot_of x ((low ∷ high ∷ taken) ++ own)
   int_moved x own plain known kept small =
       ap (λ s. moved_int m s) (slot_stays x before own known)
       ∙ ap (λ k. if nat_lt (slot_of x before) k then place_from 2 (slot_of x before) m.captured else slot (slot_of x before - k + m.first_int)) before_is
@@ -67,7 +70,8 @@ module _ (m : Moves) (before taken : List Name) (before_is : m.ints_before ≡ l
       ∙ small_slot (length before + n - length before + (2 + length taken)) (omega (arith, small))
       ∙ behind_two (length before) n (length taken)
 
-  pub own_int_moved : (x : Name) (own : List Name) → is_among x before ≡ false → is_among x (low ∷ high ∷ taken) ≡ false → 2 + length taken + slot_of x own ≤ most_slot → moved_int m (slot_of x (before ++ own)) ≡ slot_of x ((low ∷ high ∷ taken) ++ own)
+  pub own_int_moved : (x : Name) (own : List Name) → is_among x before ≡ false → is_among x (low ∷ high ∷ taken) ≡ false
+      → 2 + length taken + slot_of x own ≤ most_slot → moved_int m (slot_of x (before ++ own)) ≡ slot_of x ((low ∷ high ∷ taken) ++ own)
   own_int_moved x own unknown free small =
       ap (λ s. moved_int m s) (slot_past x before own unknown) ∙ past_int (slot_of x own) small
       ∙ sym (slot_past x (low ∷ high ∷ taken) own free)
@@ -92,6 +96,7 @@ module _ (m : Moves) (before over : List Name) (before_is : m.arrays_before ≡ 
       ∙ small_slot (length before + n - length before + length over) (omega (arith, small))
       ∙ omega arith
 
-  pub own_array_moved : (a : Name) (own : List Name) → is_among a before ≡ false → is_among a over ≡ false → length over + slot_of a own ≤ most_slot → moved_array m (slot_of a (before ++ own)) ≡ slot_of a (over ++ own)
+  pub own_array_moved : (a : Name) (own : List Name) → is_among a before ≡ false → is_among a over ≡ false → length over + slot_of a own ≤ most_slot
+      → moved_array m (slot_of a (before ++ own)) ≡ slot_of a (over ++ own)
   own_array_moved a own unknown free small =
       ap (λ s. moved_array m s) (slot_past a before own unknown) ∙ past_array (slot_of a own) small ∙ sym (slot_past a over own free)

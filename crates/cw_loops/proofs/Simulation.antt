@@ -4,7 +4,8 @@ use Rattle.std.specs.Prelude.{not, ◌&&◌, ◌==◌, nat_lt, nat_le, map, Some
 use Rattle.std.proofs.lemmas.Bool.{leb-true, eqb-true, and_parts}
 use Rattle.cw_facts.specs.Tests.{not_true}
 use Rattle.cw_model.specs.declared.limits.TheConstants.{MOST_DEPTH}
-use Rattle.cw_model.specs.Syntax.{Name, Expr, Stmt, Declare, DeclareArray, Assign, AssignElement, Reduce, Call, Start, Begin, Sync, If, IfElse, While, For, Scope, Cut, Region, Print, Return, Block, End, Then, Function}
+use Rattle.cw_model.specs.Syntax.{Name, Expr, Stmt, Declare, DeclareArray, Assign, AssignElement, Reduce, Call, Start, Begin, Sync, If}
+use Rattle.cw_model.specs.Syntax.{IfElse, While, For, Scope, Cut, Region, Print, Return, Block, End, Then, Function}
 use Rattle.cw_model.specs.Names.{same_name, is_among}
 use Rattle.cw_model.specs.Captured.{captured}
 use Rattle.cw_model.specs.Frames.{Frame, array_of, int_of}
@@ -37,16 +38,21 @@ no_more : {c : Surroundings} {fo go : List (Name × ℤ)} {Slot : (fa ga : List 
 no_more {ints = ints} {arrays = arrays} h = rw (append-nil ints, append-nil arrays) h
 
 module _ (fs fs' : List Function) (calls : Calls) (depth : ℕ) (shallow : nat_lt MOST_DEPTH depth ≡ false) (limit : ℕ)
-    (params_same : (g : Name) → is_plain g ≡ true → (function_named g fs').params ≡ (function_named g fs).params) (params_once : (g : Name) → is_plain g ≡ true → Fresh [] (arrays_of (function_named g fs).params))
-    (deeper : (g : Name) → is_plain g ≡ true → (given : Frame) (line left bound : ℕ) → left < limit → left < bound → Good given → given.sliced ≡ [] → keys given.ints ≡ integers_of (function_named g fs).params → keys given.arrays ≡ arrays_of (function_named g fs).params → Whole (CallSame given) left (calls Deeper (function_named g fs) given line left) (call bound depth fs' Deeper (function_named g fs') given line left)) where
+    (params_same : (g : Name) → is_plain g ≡ true → (function_named g fs').params ≡ (function_named g fs).params)
+    (params_once : (g : Name) → is_plain g ≡ true → Fresh [] (arrays_of (function_named g fs).params))
+    (deeper : (g : Name) → is_plain g ≡ true → (given : Frame) (line left bound : ℕ) → left < limit → left < bound → Good given → given.sliced ≡ []
+    → keys given.ints ≡ integers_of (function_named g fs).params → keys given.arrays ≡ arrays_of (function_named g fs).params
+    → Whole (CallSame given) left (calls Deeper (function_named g fs) given line left) (call bound depth fs' Deeper (function_named g fs') given line left)) where
   -- a statement, wherever it may stand
   abbrev StmtAlike : Stmt → Type 1
-  StmtAlike s = (c : Surroundings) (fo go : List (Name × ℤ)) (Slot : (fa ga : List (Name × List ℤ)) → Type 0) → World c fo go Slot → c.functions ≡ fs → (ints arrays : List Name) → can_lower c ints arrays s ≡ true → (k line : ℕ) → Found fs' (made_by line k s) →
+  StmtAlike s = (c : Surroundings) (fo go : List (Name × ℤ)) (Slot : (fa ga : List (Name × List ℤ)) → Type 0) → World c fo go Slot → c.functions ≡ fs
+      → (ints arrays : List Name) → can_lower c ints arrays s ≡ true → (k line : ℕ) → Found fs' (made_by line k s) →
       (f g : Frame) → Rel c fo go Slot ints arrays f g → (left bound : ℕ) → left ≤ limit → left ≤ bound →
       Alike (Out c fo go Slot (ints ++ new_integers s) (arrays ++ new_arrays s) f) left (run s line fs calls f left) (run (lower_stmt c.over k s) line fs' (call bound depth fs') g left)
 
   abbrev AllAlike : Block → Type 1
-  AllAlike b = (c : Surroundings) (fo go : List (Name × ℤ)) (Slot : (fa ga : List (Name × List ℤ)) → Type 0) → World c fo go Slot → c.functions ≡ fs → (ints arrays : List Name) → can_lower_all c ints arrays b ≡ true → (k : ℕ) → Found fs' (made_in k b) →
+  AllAlike b = (c : Surroundings) (fo go : List (Name × ℤ)) (Slot : (fa ga : List (Name × List ℤ)) → Type 0) → World c fo go Slot → c.functions ≡ fs
+      → (ints arrays : List Name) → can_lower_all c ints arrays b ≡ true → (k : ℕ) → Found fs' (made_in k b) →
       (f g : Frame) → Rel c fo go Slot ints arrays f g → (left bound : ℕ) → left ≤ limit → left ≤ bound →
       Alike (OutAll c fo go Slot ints arrays f) left (run_all b fs calls f left) (run_all (lower_block c.over k b) fs' (call bound depth fs') g left)
 
@@ -65,12 +71,16 @@ module _ (fs fs' : List Function) (calls : Calls) (depth : ℕ) (shallow : nat_l
       let names : keys (taken_of (int_of g0) taken) ≡ taken = keys-taken (int_of g0) taken in
       let scope : Surroundings = turn_scope c.functions (c.outer ++ ints) (c.arrays ++ arrays) c.sliced x (keys (taken_of (int_of g0) taken)) over in
       let can' : can_lower_all scope [] [] b ≡ true = ap (λ t. can_lower_all (turn_scope c.functions (c.outer ++ ints) (c.arrays ++ arrays) c.sliced x t over) [] [] b) names ∙ c4.1 in
-      let same_arrays : map (array_of g0) over ≡ map (array_of (source c fo loc fa la)) over = map_same (array_of g0) (array_of (source c fo loc fa la)) over (λ a o. local_same c fo go Slot w fa ga la slot a (tests.slices a o).1) in
+      let same_arrays : map (array_of g0) over ≡ map (array_of (source c fo loc fa la)) over =
+      map_same (array_of g0) (array_of (source c fo loc fa la)) over (λ a o. local_same c fo go Slot w fa ga la slot a (tests.slices a o).1) in
       no_more
-      (value_then (evaluate from f) (evaluate (lower_expr c.over from) g) line left (evaluate_same c fo go Slot w from c1.0 loc fa ga la slot) (evaluate_fits from f good (can_fit c from c1.0)) _ _ (λ lo l lo_fits le.
-      value_then (evaluate to f) (evaluate (lower_expr c.over to) g) line l (evaluate_same c fo go Slot w to c2.0 loc fa ga la slot) (evaluate_fits to f good (can_fit c to c2.0)) _ _ (λ hi l' hi_fits le'.
+      (value_then (evaluate from f) (evaluate (lower_expr c.over from) g) line left (evaluate_same c fo go Slot w from c1.0 loc fa ga la slot)
+      (evaluate_fits from f good (can_fit c from c1.0)) _ _ (λ lo l lo_fits le.
+      value_then (evaluate to f) (evaluate (lower_expr c.over to) g) line l (evaluate_same c fo go Slot w to c2.0 loc fa ga la slot)
+      (evaluate_fits to f good (can_fit c to c2.0)) _ _ (λ hi l' hi_fits le'.
       alike_pay (length taken) l' _ _ (λ enough.
-      such_paid (Counted lo hi (map (array_of (source c fo loc fa la)) over)) (loop_turns lo hi (map (array_of (source c fo loc fa la)) over)) (and_then (Gives (pos 0) 0) (λ v. loop_turns lo hi (map (array_of g0) over))) line (l' - length taken)
+      such_paid (Counted lo hi (map (array_of (source c fo loc fa la)) over)) (loop_turns lo hi (map (array_of (source c fo loc fa la)) over))
+      (and_then (Gives (pos 0) 0) (λ v. loop_turns lo hi (map (array_of g0) over))) line (l' - length taken)
       (ap (λ xs. and_then (Gives (pos 0) 0) (λ v. loop_turns lo hi xs)) same_arrays) (turns_counted lo hi (map (array_of (source c fo loc fa la)) over) lo_fits hi_fits) _ _ (λ v l'' counted le''.
       rw counted.is
       (begun c fo go Slot w ints arrays loc fa ga la slot ki ka good fs fs' calls depth shallow limit line x grain taken over b (lower_block over k b) (loop_name (k + loop_count_in b)) some tests here
@@ -93,9 +103,11 @@ module _ (fs fs' : List Function) (calls : Calls) (depth : ℕ) (shallow : nat_l
     stmt_alike (Call kind site target' callee es) c fo go Slot w fine ints arrays can k line found f g (related loc fa ga la slot ki ka good) left bound h1 h2 =
         let n = and_parts (is_plain callee) _ can in
         let n2 = and_parts (length es == length (function_named callee c.functions).params) (can_target c target' && can_pass_all c es) n.1 in
-        let as_many : length es ≡ length (function_named callee fs).params = eqb-true (length es) (length (function_named callee c.functions).params) n2.0 ∙ ap (λ t. length (function_named callee t).params) fine in
+        let as_many : length es ≡ length (function_named callee fs).params =
+        eqb-true (length es) (length (function_named callee c.functions).params) n2.0 ∙ ap (λ t. length (function_named callee t).params) fine in
         let p = and_parts (can_target c target') (can_pass_all c es) n2.1 in
-        no_more (call_alike c fo go Slot w ints arrays loc fa ga la slot ki ka good kind site target' callee es p.0 p.1 fs fs' calls (call bound depth fs') left as_many (params_same callee n.0) (params_once callee n.0)
+        no_more (call_alike c fo go Slot w ints arrays loc fa ga la slot ki ka good kind site target' callee es p.0 p.1 fs fs' calls
+        (call bound depth fs') left as_many (params_same callee n.0) (params_once callee n.0)
         (λ given line l e good' ks ki' ka'. deeper callee n.0 given line l bound (omega arith) (omega arith) good' ks ki' ka') line left (omega arith))
     stmt_alike (Start kind callee es) c fo go Slot w fine ints arrays can k line found f g rel left bound h1 h2 = absurd cc
     stmt_alike (Begin callee from to taken over) c fo go Slot w fine ints arrays can k line found f g rel left bound h1 h2 = absurd cc
@@ -110,7 +122,8 @@ module _ (fs fs' : List Function) (calls : Calls) (depth : ℕ) (shallow : nat_l
         let q = and_parts (can_lower_all c ints arrays b) (can_lower_all c ints arrays d) p.1 in
         no_more (if_else_alike c fo go Slot w ints arrays e b (lower_block c.over k b) d (lower_block c.over (k + loop_count_in b) d) left line fs fs' calls (call bound depth fs') p.0
         (λ f g rel l le. block_alike b c fo go Slot w fine ints arrays q.0 k (found_left fs' (made_in k b) (made_in (k + loop_count_in b) d) found) f g rel l bound (omega arith) (omega arith))
-        (λ f g rel l le. block_alike d c fo go Slot w fine ints arrays q.1 (k + loop_count_in b) (found_right fs' (made_in k b) (made_in (k + loop_count_in b) d) found) f g rel l bound (omega arith) (omega arith)) f g rel left (omega arith))
+        (λ f g rel l le. block_alike d c fo go Slot w fine ints arrays q.1 (k + loop_count_in b)
+        (found_right fs' (made_in k b) (made_in (k + loop_count_in b) d) found) f g rel l bound (omega arith) (omega arith)) f g rel left (omega arith))
     stmt_alike (While e b) c fo go Slot w fine ints arrays can k line found f g rel left bound h1 h2 =
         let p = and_parts (can_evaluate c e) (can_lower_all c ints arrays b) can in
         no_more (while_alike c fo go Slot w ints arrays e b (lower_block c.over k b) left line fs fs' calls (call bound depth fs') p.0
@@ -128,7 +141,8 @@ module _ (fs fs' : List Function) (calls : Calls) (depth : ℕ) (shallow : nat_l
         let p5 = and_parts (not (is_among l arrays)) _ p4.1 in
         let p6 = and_parts (not (is_among r arrays)) _ p5.1 in
         let p7 = and_parts (not (same_name r l)) (can_lower_all c ints ((arrays ++ l ∷ []) ++ r ∷ []) b) p6.1 in
-        no_more (cut_alike c fo go Slot w ints arrays loc fa ga la slot ki ka good a l r p2.0 p3.0 p4.0 (not_true (is_among l arrays) p5.0) (not_true (is_among r arrays) p6.0) (not_true (same_name r l) p7.0)
+        no_more (cut_alike c fo go Slot w ints arrays loc fa ga la slot ki ka good a l r p2.0 p3.0 p4.0 (not_true (is_among l arrays) p5.0)
+        (not_true (is_among r arrays) p6.0) (not_true (same_name r l) p7.0)
         e b (lower_block c.over k b) left line fs fs' calls (call bound depth fs') p1.0
         (λ f g rel l' le. block_alike b c fo go Slot w fine ints ((arrays ++ l ∷ []) ++ r ∷ []) p7.1 k found f g rel l' bound (omega arith) (omega arith)) left (omega arith))
     stmt_alike (Region tag b) c fo go Slot w fine ints arrays can k line found f g rel left bound h1 h2 =
@@ -147,11 +161,13 @@ module _ (fs fs' : List Function) (calls : Calls) (depth : ℕ) (shallow : nat_l
     block_alike (Then line s b) c fo go Slot w fine ints arrays can k found f g rel left bound h1 h2 =
         let p = and_parts (can_lower c ints arrays s) (can_lower_all c (ints ++ new_integers s) (arrays ++ new_arrays s) b) can in
         alike_then (stmt_alike s c fo go Slot w fine ints arrays p.0 k line (found_left fs' (made_by line k s) (made_in (k + loop_count s) b) found) f g rel left bound h1 h2)
-        (λ way way' l out le. onward_then (OutAll c fo go Slot ints arrays f) l out (λ f'. run_all b fs calls f') (λ g'. run_all (lower_block c.over (k + loop_count s) b) fs' (call bound depth fs') g')
+        (λ way way' l out le. onward_then (OutAll c fo go Slot ints arrays f) l out (λ f'. run_all b fs calls f')
+        (λ g'. run_all (lower_block c.over (k + loop_count s) b) fs' (call bound depth fs') g')
         (λ v f' r fit good kept. record { more_ints = []; more_arrays = []; out = returns r fit good kept })
         (λ f' g' rel' kept. alike_weaken (λ x y (o : OutAll c fo go Slot (ints ++ new_integers s) (arrays ++ new_arrays s) f' x y). record {
           more_ints = new_integers s ++ o.more_ints;
           more_arrays = new_arrays s ++ o.more_arrays;
           out = rw (← append_assoc ints (new_integers s) o.more_ints, ← append_assoc arrays (new_arrays s) o.more_arrays) (out_before f f' kept o.out);
         }) (omega arith)
-        (block_alike b c fo go Slot w fine (ints ++ new_integers s) (arrays ++ new_arrays s) p.1 (k + loop_count s) (found_right fs' (made_by line k s) (made_in (k + loop_count s) b) found) f' g' rel' l bound (omega arith) (omega arith))))
+        (block_alike b c fo go Slot w fine (ints ++ new_integers s) (arrays ++ new_arrays s) p.1 (k + loop_count s)
+        (found_right fs' (made_by line k s) (made_in (k + loop_count s) b) found) f' g' rel' l bound (omega arith) (omega arith))))

@@ -9,14 +9,18 @@ use Rattle.cw_model.specs.declared.syntax.NameKind.{NameKind}
 use Rattle.cw_model.specs.declared.limits.TheConstants.{MOST_FUNCTIONS, MOST_GRAIN, MOST_LOOPS}
 use Rattle.cw_model.specs.Lines.{unless}
 use Rattle.cw_model.specs.declared.syntax.NameKind.TheVariants as name_kind
-use Rattle.cw_model.specs.Syntax.{Name, Expr, Stmt, Declare, DeclareArray, Assign, AssignElement, Reduce, Call, Start, Begin, Sync, If, IfElse, While, For, Scope, Cut, Region, Print, Return, Block, End, Then, Param, Function, Program, is_array_kind}
+use Rattle.cw_model.specs.Syntax.{Name, Expr, Stmt, Declare, DeclareArray, Assign, AssignElement, Reduce, Call, Start, Begin, Sync, If, IfElse, While}
+use Rattle.cw_model.specs.Syntax.{For, Scope, Cut, Region, Print, Return, Block, End, Then, Param, Function, Program, is_array_kind}
 use Rattle.cw_model.specs.Names.{is_among, differ}
 use Rattle.cw_model.specs.Sizes.{limit_faults, loop_faults, function_limits}
-use Rattle.cw_model.specs.Typing.{Known, is_array, is_fine, is_head_of_loop, is_cut, is_head, declares, faults_in, faults_in_block, faults_of, known_of, Returns, Nowhere, WithInt, Alone, IsWellTyped, is_writable}
-use Rattle.cw_model.specs.Ownership.{Around, NoLoop, InLoop, Taken, CutOf, Declared, Closing, Joins, Leaves, for_head, may_read, may_write, taken_after, declared_by, known_after, owner_faults, owner_faults_in, owner_faults_of, KeepsOwnership}
+use Rattle.cw_model.specs.Typing.{Known, is_array, is_fine, is_head_of_loop, is_cut, is_head, declares, faults_in, faults_in_block}
+use Rattle.cw_model.specs.Typing.{faults_of, known_of, Returns, Nowhere, WithInt, Alone, IsWellTyped, is_writable}
+use Rattle.cw_model.specs.Ownership.{Around, NoLoop, InLoop, Taken, CutOf, Declared, Closing, Joins, Leaves, for_head, may_read, may_write}
+use Rattle.cw_model.specs.Ownership.{taken_after, declared_by, known_after, owner_faults, owner_faults_in, owner_faults_of, KeepsOwnership}
 use Rattle.cw_model.specs.lemmas.Kept.{left_none, right_none, kept}
 use Rattle.cw_tree.specs.Declares.{declares_in, declares_in_block}
-use Rattle.cw_tree.specs.Resolved.{Lists, Locals, Resolved, use_of, with_int, with_array, locals_after, locals_of, head_with, resolved_stmt, resolved_block, resolved_function, resolved, lists_of, plain}
+use Rattle.cw_tree.specs.Resolved.{Lists, Locals, Resolved, use_of, with_int, with_array, locals_after, locals_of, head_with}
+use Rattle.cw_tree.specs.Resolved.{resolved_stmt, resolved_block, resolved_function, resolved, lists_of, plain}
 use Rattle.cw_tree.specs.Resolved as source
 use Rattle.cw_tree.specs.Slots.{is_resolved}
 use Rattle.cw_tree.specs.lemmas.Few.{heads_small, small_head, functions_few}
@@ -103,7 +107,8 @@ grain_kept program known x y z from to grain over h =
     let b = and_parts _ (nat_le grain MOST_GRAIN) a.0 in
     le_of grain MOST_GRAIN b.1
 
-loop_small : (program : Program) (l : Locals) (known : Known) (line : ℕ) (x y z : Name) (from to : Expr) (grain : ℕ) (over : List Name) (body : source.Block) {b : slotted.Block} → length l.ints ≤ 256 → length known ≤ 256 →
+loop_small : (program : Program) (l : Locals) (known : Known) (line : ℕ) (x y z : Name) (from to : Expr) (grain : ℕ) (over : List Name)
+    (body : source.Block) {b : slotted.Block} → length l.ints ≤ 256 → length known ≤ 256 →
     is_head_of_loop program known x y z from to grain over ≡ true → differ over ≡ true → IsSmallLoop (loop_with line (head_with l x from to grain over body) b)
 loop_small program l known line x y z from to grain over body few_ints few_known head apart =
     let taken = few_captured (length l.ints) body in
@@ -129,16 +134,20 @@ module _ (program : Program) (lists : Lists) (n : ℕ) where
 
   abbrev SmallBlock : Block → Type 0
   SmallBlock b =
-      (m : Moves) (arrays : ℕ) (l : Locals) (known : Known) (returns : Returns) (around : Around) (owners : List Name) (depth : ℕ) (closing : Closing) (taken : Taken) (declared : Declared) (loops : List Loop) →
-      length l.ints + declares_in_block b ≤ 256 → length known + declares_in_block b ≤ 256 → faults_in_block program returns known b ≡ [] → owner_faults_in fs around owners depth closing taken declared b ≡ [] →
+      (m : Moves) (arrays : ℕ) (l : Locals) (known : Known) (returns : Returns) (around : Around) (owners : List Name) (depth : ℕ)
+      (closing : Closing) (taken : Taken) (declared : Declared) (loops : List Loop) →
+      length l.ints + declares_in_block b ≤ 256 → length known + declares_in_block b ≤ 256 → faults_in_block program returns known b ≡ []
+      → owner_faults_in fs around owners depth closing taken declared b ≡ [] →
       AreSmallLoops loops → AreSmallLoops (made_block n m arrays loops (resolved_block lists l b)).loops
 
   for_small : (x y z : Name) (from to : Expr) (grain : ℕ) (over : List Name) (b : Block) → SmallBlock b → SmallStmt (For x y z from to grain over b)
   for_small x y z from to grain over b inner m arrays line l known returns around owners depth taken loops few_ints few_known types owns h =
       small_last (made_block n (moves_of head arrays) arrays loops body).loops _
       (inner (moves_of head arrays) arrays (with_int x l) ((x, name_kind.Integer) ∷ known) Nowhere (InLoop (x ∷ owners) x over) (x ∷ owners) (depth + 1) Joins taken [] loops
-      (let p = length_push l.ints x in omega (arith, p, few_ints)) (omega (arith, few_known)) (right_none (unless (is_head_of_loop program known x y z from to grain over) line) _ types) (right_none (unless owner_rule line) _ owns) h)
-      (loop_small program l known line x y z from to grain over body (omega (arith, few_ints)) (omega (arith, few_known)) (kept _ line (left_none (unless (is_head_of_loop program known x y z from to grain over) line) _ types)) apart)
+      (let p = length_push l.ints x in omega (arith, p, few_ints)) (omega (arith, few_known))
+      (right_none (unless (is_head_of_loop program known x y z from to grain over) line) _ types) (right_none (unless owner_rule line) _ owns) h)
+      (loop_small program l known line x y z from to grain over body (omega (arith, few_ints)) (omega (arith, few_known))
+      (kept _ line (left_none (unless (is_head_of_loop program known x y z from to grain over) line) _ types)) apart)
     where
       body : source.Block
       body = resolved_block lists (with_int x l) b
@@ -170,16 +179,19 @@ module _ (program : Program) (lists : Lists) (n : ℕ) where
     stmt_small (IfElse e b c) m arrays line l known returns around owners depth taken loops few_ints few_known types owns h =
         let t = right_none (unless (is_fine known e) line) (faults_in_block program returns known b ++ faults_in_block program returns known c) types in
         let o = right_none (unless (may_read around taken e) line) (owner_faults_in fs around owners depth Leaves taken [] b ++ owner_faults_in fs around owners depth Leaves taken [] c) owns in
-        block_small c m arrays l known returns around owners depth Leaves taken [] (made_block n m arrays loops (resolved_block lists l b)).loops (omega (arith, few_ints)) (omega (arith, few_known)) (right_none _ _ t) (right_none _ _ o)
+        block_small c m arrays l known returns around owners depth Leaves taken [] (made_block n m arrays loops (resolved_block lists l b)).loops
+        (omega (arith, few_ints)) (omega (arith, few_known)) (right_none _ _ t) (right_none _ _ o)
         (block_small b m arrays l known returns around owners depth Leaves taken [] loops (omega (arith, few_ints)) (omega (arith, few_known)) (left_none _ _ t) (left_none _ _ o) h)
     stmt_small (While e b) m arrays line l known returns around owners depth taken loops few_ints few_known types owns h =
-        block_small b m arrays l known returns around owners depth Leaves (taken_after fs depth (While e b) taken) [] loops few_ints few_known (right_none (unless _ line) _ types) (right_none (unless _ line) _ owns) h
+        block_small b m arrays l known returns around owners depth Leaves (taken_after fs depth (While e b) taken) [] loops few_ints few_known
+        (right_none (unless _ line) _ types) (right_none (unless _ line) _ owns) h
     stmt_small (For x y z from to grain over b) m arrays line l known returns around owners depth taken loops few_ints few_known types owns h =
         for_small x y z from to grain over b (block_small b) m arrays line l known returns around owners depth taken loops few_ints few_known types owns h
     stmt_small (Scope b) m arrays line l known returns around owners depth taken loops few_ints few_known types owns h =
         block_small b m arrays l known Nowhere around owners (depth + 1) Joins taken [] loops few_ints few_known types owns h
     stmt_small (Cut a e left right b) m arrays line l known returns around owners depth taken loops few_ints few_known types owns h =
-        block_small b m _ (with_array right (with_array left l)) ((right, name_kind.Array) ∷ (left, name_kind.Array) ∷ known) Nowhere around (right ∷ left ∷ owners) (depth + 1) Joins ((a, CutOf) ∷ taken) [] loops (omega (arith, few_ints)) (omega (arith, few_known))
+        block_small b m _ (with_array right (with_array left l)) ((right, name_kind.Array) ∷ (left, name_kind.Array) ∷ known) Nowhere around
+        (right ∷ left ∷ owners) (depth + 1) Joins ((a, CutOf) ∷ taken) [] loops (omega (arith, few_ints)) (omega (arith, few_known))
         (right_none (unless (is_cut program known a e left right) line) _ types) (right_none (unless _ line) _ owns) h
     stmt_small (Region tag b) m arrays line l known returns around owners depth taken loops few_ints few_known types owns h =
         block_small b m arrays l known Nowhere around owners (depth + 1) Joins taken [] loops few_ints few_known types owns h
@@ -190,11 +202,13 @@ module _ (program : Program) (lists : Lists) (n : ℕ) where
     block_small End m arrays l known returns around owners depth closing taken declared loops few_ints few_known types owns h = h
     block_small (Then line s b) m arrays l known returns around owners depth closing taken declared loops few_ints few_known types owns h =
         let after = few_after l known s in
-        block_small b m (arrays_after arrays (resolved_stmt lists l s)) (locals_after l s) (declares s known) returns around (known_after owners s) depth closing (taken_after fs depth s taken) (declared_by line s declared)
+        block_small b m (arrays_after arrays (resolved_stmt lists l s)) (locals_after l s) (declares s known) returns around
+        (known_after owners s) depth closing (taken_after fs depth s taken) (declared_by line s declared)
         (made_stmt n m arrays loops line (resolved_stmt lists l s)).loops
         (let p = after.0 in omega (arith, p, few_ints)) (let p = after.1 in omega (arith, p, few_known))
         (right_none (unless _ line) _ (right_none (faults_in program returns known line s) _ types)) (right_none (owner_faults fs around owners depth taken line s) _ owns)
-        (stmt_small s m arrays line l known returns around owners depth taken loops (omega (arith, few_ints)) (omega (arith, few_known)) (left_none (faults_in program returns known line s) _ types) (left_none (owner_faults fs around owners depth taken line s) _ owns) h)
+        (stmt_small s m arrays line l known returns around owners depth taken loops (omega (arith, few_ints)) (omega (arith, few_known))
+        (left_none (faults_in program returns known line s) _ types) (left_none (owner_faults fs around owners depth taken line s) _ owns) h)
 
   mutual
     stmt_many : (s : Stmt) (m : Moves) (arrays line : ℕ) (l : Locals) (loops : List Loop) → length (made_stmt n m arrays loops line (resolved_stmt lists l s)).loops ≡ length loops + loop_count s
@@ -262,10 +276,12 @@ module _ (program : Program) (lists : Lists) (n : ℕ) where
       let few = small_head g limits in
       let ints = params_count g.params in
       let known = known_count g.params in
-      block_small g.body nothing_moved (arrays_from 0 g.params) (locals_of g.params) (known_of g.params) (if g.gives_int then WithInt else Alone) NoLoop (map (λ p. p.name) g.params) 1 Joins [] [] loops
+      block_small g.body nothing_moved (arrays_from 0 g.params) (locals_of g.params) (known_of g.params)
+      (if g.gives_int then WithInt else Alone) NoLoop (map (λ p. p.name) g.params) 1 Joins [] [] loops
       (omega (arith, few, ints)) (omega (arith, few, known)) (right_none (unless (is_head program g) g.line) _ types) owns h
 
-  bodies_small : (gs : List Function) → flat_map function_limits gs ≡ [] → flat_map (faults_of program) gs ≡ [] → flat_map (owner_faults_of fs) gs ≡ [] → (loops : List Loop) → AreSmallLoops loops → AreSmallLoops (made_with loops gs).loops
+  bodies_small : (gs : List Function) → flat_map function_limits gs ≡ [] → flat_map (faults_of program) gs ≡ []
+      → flat_map (owner_faults_of fs) gs ≡ [] → (loops : List Loop) → AreSmallLoops loops → AreSmallLoops (made_with loops gs).loops
   bodies_small [] limits types owns loops h = h
   bodies_small (g ∷ gs) limits types owns loops h =
       bodies_small gs (right_none (function_limits g) _ limits) (right_none (faults_of program g) _ types) (right_none (owner_faults_of fs g) _ owns) (after_one loops g)
@@ -278,7 +294,8 @@ pub record AreSmallBodies (tree : Resolved) (made : Bodies) : Type 0 where
   pub loops : length made.loops ≤ MOST_LOOPS
   pub each : AreSmallLoops made.loops
 
-program_small : (program : Program) → IsWellTyped program → KeepsOwnership program → limit_faults program ≡ [] → loop_faults program ≡ [] → AreSmallBodies (resolved program) (made_of_tree (resolved program))
+program_small : (program : Program) → IsWellTyped program → KeepsOwnership program → limit_faults program ≡ [] → loop_faults program ≡ []
+    → AreSmallBodies (resolved program) (made_of_tree (resolved program))
 program_small program types owns within few =
     let lists = lists_of program in
     let n = slot (length (resolved program).functions) in
@@ -296,7 +313,8 @@ program_small program types owns within few =
     }
 
 -- what lowering makes of a tree whose slots are right
-pub tree_small : (tree : Resolved) (made : Bodies) → is_resolved tree ≡ true → IsWellTyped (plain tree) → KeepsOwnership (plain tree) → limit_faults (plain tree) ≡ [] → loop_faults (plain tree) ≡ [] → made ≡ made_of_tree tree → AreSmallBodies tree made
+pub tree_small : (tree : Resolved) (made : Bodies) → is_resolved tree ≡ true → IsWellTyped (plain tree) → KeepsOwnership (plain tree)
+    → limit_faults (plain tree) ≡ [] → loop_faults (plain tree) ≡ [] → made ≡ made_of_tree tree → AreSmallBodies tree made
 tree_small tree made right types owns within few is =
     subst (AreSmallBodies tree) (sym is)
     (subst (λ r. AreSmallBodies r (made_of_tree r)) (sym (slots_are_right tree right)) (program_small (plain tree) types owns within few))

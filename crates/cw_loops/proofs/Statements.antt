@@ -20,7 +20,8 @@ use Rattle.cw_loops.proofs.Alike.{Alike, both_done, alike_pay, alike_after, same
 use Rattle.cw_loops.proofs.Cuts.{alike_right, alike_left}
 use Rattle.cw_loops.proofs.Tables.{keys, put_past}
 use Rattle.cw_loops.proofs.Arguments.{keys-append}
-use Rattle.cw_loops.proofs.Fitting.{Good, Fine, GivesFit, ValueFits, Kept, kept_same, sizes, sizes-append, fit-append, fit-put, fine-append, fine-put, elements-replicate, elements-set, then_fits, evaluate_fits}
+use Rattle.cw_loops.proofs.Fitting.{Good, Fine, GivesFit, ValueFits, Kept, kept_same, sizes, sizes-append, fit-append, fit-put}
+use Rattle.cw_loops.proofs.Fitting.{fine-append, fine-put, elements-replicate, elements-set, then_fits, evaluate_fits}
 use Rattle.cw_loops.proofs.Worlds.{World, Rel, related, source, target, writes_outer, writes_given, local_outer, local_given, evaluate_same, can_fit}
 
 -- a value that a call gives fits
@@ -46,7 +47,8 @@ alike_done left r = both_done r (omega arith) refl refl (same_events [])
 pub value_then : {C D : Type 0} {S : C → D → Type 0} (ev ev' : Evaluated) (line left : ℕ) → ev' ≡ ev → GivesFit ev → (go : ℤ → ℕ → Outcome C) (go' : ℤ → ℕ → Outcome D) →
     ((v : ℤ) (l : ℕ) → fits v ≡ true → l ≤ left → Alike S l (go v l) (go' v l)) → Alike S left (then_do (pay_for ev line left) go) (then_do (pay_for ev' line left) go')
 value_then {C = C} {D = D} {S = S} (Gives v k) ev' line left e f go go' h =
-    alike_left (value_pays v k line left go) (alike_right (ap (λ ev. then_do (pay_for ev line left) go') e ∙ value_pays v k line left go') (alike_pay k left _ _ (λ enough. h v (left - k) f (omega arith))))
+    alike_left (value_pays v k line left go) (alike_right (ap (λ ev. then_do (pay_for ev line left) go') e ∙ value_pays v k line left go')
+    (alike_pay k left _ _ (λ enough. h v (left - k) f (omega arith))))
 value_then {C = C} {D = D} {S = S} (Traps trap k) ev' line left e f go go' h = alike_right (ap (λ ev. then_do (pay_for ev line left) go') e) (both_stop left trap line go go' (nat_lt left k))
 
 -- values of one cost on both sides
@@ -130,13 +132,20 @@ module _ (c : Surroundings) (fo go : List (Name × ℤ)) (Slot : (fa ga : List (
 
   pub rel_new_int : (x : Name) (v : ℤ) → fits v ≡ true → Rel c fo go Slot (ints ++ x ∷ []) arrays (new_int x v f0) (new_int x v g0)
   rel_new_int x v f =
-      let g : Good (source c fo (loc ++ (x, v) ∷ []) fa la) = record { ints = rw (← append_assoc fo loc ((x, v) ∷ [])) (fit-append (fo ++ loc) ((x, v) ∷ []) good.ints (f, tt)); arrays = good.arrays } in
+      let g : Good (source c fo (loc ++ (x, v) ∷ []) fa la) = record {
+        ints = rw (← append_assoc fo loc ((x, v) ∷ []))
+            (fit-append (fo ++ loc) ((x, v) ∷ []) good.ints (f, tt));
+        arrays = good.arrays;
+      } in
       rw (append_assoc fo loc ((x, v) ∷ []), append_assoc go loc ((x, v) ∷ []))
       (related (loc ++ (x, v) ∷ []) fa ga la slot (keys-append loc ((x, v) ∷ []) ∙ ap (λ t. t ++ x ∷ []) ki) ka g)
 
   pub rel_new_array : (a : Name) (xs : List ℤ) → Fine xs → Rel c fo go Slot ints (arrays ++ a ∷ []) (new_array a xs f0) (new_array a xs g0)
   rel_new_array a xs f =
-      let g : Good (source c fo loc fa (la ++ (a, xs) ∷ [])) = record { ints = good.ints; arrays = rw (← append_assoc fa la ((a, xs) ∷ [])) (fine-append (fa ++ la) ((a, xs) ∷ []) good.arrays (f, tt)) } in
+      let g : Good (source c fo loc fa (la ++ (a, xs) ∷ [])) = record {
+        ints = good.ints;
+        arrays = rw (← append_assoc fa la ((a, xs) ∷ [])) (fine-append (fa ++ la) ((a, xs) ∷ []) good.arrays (f, tt));
+      } in
       rw (append_assoc fa la ((a, xs) ∷ []), append_assoc ga la ((a, xs) ∷ []))
       (related loc fa ga (la ++ (a, xs) ∷ []) slot ki (keys-append la ((a, xs) ∷ []) ∙ ap (λ t. t ++ a ∷ []) ka) g)
 
@@ -169,7 +178,8 @@ module _ (c : Surroundings) (fo go : List (Name × ℤ)) (Slot : (fa ga : List (
   pub declare_array_alike : (a : Name) (e : Expr) → can_evaluate c e ≡ true → (line left : ℕ) (fs fs' : List Function) (calls calls' : Calls) →
       Alike (OutOf ints (arrays ++ a ∷ [])) left (run (DeclareArray a e) line fs calls f0 left) (run (DeclareArray a (lower_expr c.over e)) line fs' calls' g0 left)
   declare_array_alike a e can line left fs fs' calls calls' =
-      value_then (and_then (evaluate e f0) new_length) (and_then (evaluate (lower_expr c.over e) g0) new_length) line left (ap (λ ev. and_then ev new_length) (evaluate_same c fo go Slot w e can loc fa ga la slot))
+      value_then (and_then (evaluate e f0) new_length) (and_then (evaluate (lower_expr c.over e) g0) new_length) line left
+      (ap (λ ev. and_then ev new_length) (evaluate_same c fo go Slot w e can loc fa ga la slot))
       (then_fits (evaluate e f0) new_length (evaluate_fits e f0 good (can_fit c e can)) new_length_fits) _ _ (λ v l f le.
       alike_done l (goes (rel_new_array a (replicate (natural v) (pos 0)) (zeros_fine v f)) (kept_more (fa ++ la) ((a, replicate (natural v) (pos 0)) ∷ []))))
 
@@ -177,14 +187,16 @@ module _ (c : Surroundings) (fo go : List (Name × ℤ)) (Slot : (fa ga : List (
       Alike (OutOf ints arrays) left (run (Reduce how s e) line fs calls f0 left) (run (Reduce how s (lower_expr c.over e)) line fs' calls' g0 left)
   reduce_alike how s e can line left fs fs' calls calls' =
       value_then (evaluate e f0) (evaluate (lower_expr c.over e) g0) line left (evaluate_same c fo go Slot w e can loc fa ga la slot) (evaluate_fits e f0 good (can_fit c e can)) _ _ (λ v l f le.
-      alike_pay 1 l _ _ (λ enough. alike_after {t = record { lines = []; updates = (s, v) ∷ []; events = [] }} {u = record { lines = []; updates = (s, v) ∷ []; events = [] }} (omega arith) refl refl (same_events [])
+      alike_pay 1 l _ _ (λ enough. alike_after {t = record { lines = []; updates = (s, v) ∷ []; events = [] }}
+      {u = record { lines = []; updates = (s, v) ∷ []; events = [] }} (omega arith) refl refl (same_events [])
       (alike_done (l - 1) (goes (related loc fa ga la slot ki ka good) (kept_same (fa ++ la) (fa ++ la) refl)))))
 
   pub print_alike : (e : Expr) → can_evaluate c e ≡ true → (line left : ℕ) (fs fs' : List Function) (calls calls' : Calls) →
       Alike (OutOf ints arrays) left (run (Print e) line fs calls f0 left) (run (Print (lower_expr c.over e)) line fs' calls' g0 left)
   print_alike e can line left fs fs' calls calls' =
       value_then (evaluate e f0) (evaluate (lower_expr c.over e) g0) line left (evaluate_same c fo go Slot w e can loc fa ga la slot) (evaluate_fits e f0 good (can_fit c e can)) _ _ (λ v l f le.
-      alike_pay 1 l _ _ (λ enough. alike_after {t = record { lines = v ∷ []; updates = []; events = [] }} {u = record { lines = v ∷ []; updates = []; events = [] }} (omega arith) refl refl (same_events [])
+      alike_pay 1 l _ _ (λ enough. alike_after {t = record { lines = v ∷ []; updates = []; events = [] }}
+      {u = record { lines = v ∷ []; updates = []; events = [] }} (omega arith) refl refl (same_events [])
       (alike_done (l - 1) (goes (related loc fa ga la slot ki ka good) (kept_same (fa ++ la) (fa ++ la) refl)))))
 
   pub sync_alike : (line left : ℕ) (fs fs' : List Function) (calls calls' : Calls) →
@@ -197,7 +209,9 @@ module _ (c : Surroundings) (fo go : List (Name × ℤ)) (Slot : (fa ga : List (
   top_same : c.returns ≡ true → g0 ≡ f0
   top_same r =
       let h = w.top r fa ga slot in
-      ap (λ t. record { ints = t ++ loc; arrays = ga ++ la; sliced = [] }) (sym h.0) ∙ ap (λ t. record { ints = fo ++ loc; arrays = t ++ la; sliced = [] }) (sym h.1) ∙ ap (λ t. record { ints = fo ++ loc; arrays = fa ++ la; sliced = t }) (sym h.2)
+      ap (λ t. record { ints = t ++ loc; arrays = ga ++ la; sliced = [] }) (sym h.0)
+      ∙ ap (λ t. record { ints = fo ++ loc; arrays = t ++ la; sliced = [] }) (sym h.1)
+      ∙ ap (λ t. record { ints = fo ++ loc; arrays = fa ++ la; sliced = t }) (sym h.2)
 
   back_alike : (v : Option ℤ) (left : ℕ) → c.returns ≡ true → OptionFits v → Alike (OutOf ints arrays) left (Done (ByReturn v f0) left quiet) (Done (ByReturn v g0) left quiet)
   back_alike v left r f = rw (top_same r) (alike_done left (returns r f good (kept_same (fa ++ la) (fa ++ la) refl)))

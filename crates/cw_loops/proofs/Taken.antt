@@ -127,7 +127,8 @@ own_match names known u v past there found =
 pub dropped_match : (names known : List Name) (v : Name) → is_among v known ≡ true → Matches names known [] (v ∷ [])
 dropped_match names known v there found = sym (ap (λ b. map (use_of names) (if b || is_among v found then found else found ++ v ∷ [])) there)
 
-pub fewer_match : (names known : List Name) (us : List Use) (vs k : List Name) → ((v : Name) → is_among v k ≡ true → is_among v known ≡ true) → Matches names known us (new_names vs k) → Matches names known us vs
+pub fewer_match : (names known : List Name) (us : List Use) (vs k : List Name) → ((v : Name) → is_among v k ≡ true → is_among v known ≡ true)
+    → Matches names known us (new_names vs k) → Matches names known us vs
 fewer_match names known us vs k h g found =
     g found ∙ ap (map (use_of names)) (once known found vs k (λ v o. either_left (is_among v known) (is_among v found) (h v o)))
 

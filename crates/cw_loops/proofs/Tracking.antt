@@ -28,7 +28,8 @@ one_less : (x : Name) (ys : List Name) → is_among x ys ≡ true → suc (lengt
 one_less x [] h = absurd cc
 one_less x (y ∷ ys) h = go (same_name x y) h (one_less x ys)
   where
-    go : (b : Bool) → (if b then true else is_among x ys) ≡ true → (is_among x ys ≡ true → suc (length (without x ys)) ≡ length ys) → suc (length (if b then ys else y ∷ without x ys)) ≡ suc (length ys)
+    go : (b : Bool) → (if b then true else is_among x ys) ≡ true → (is_among x ys ≡ true → suc (length (without x ys)) ≡ length ys)
+        → suc (length (if b then ys else y ∷ without x ys)) ≡ suc (length ys)
     go true g more = refl
     go false g more = ap suc (more g)
 
@@ -46,7 +47,8 @@ pub no_more : (xs ys : List Name) → differ xs ≡ true → ((v : Name) → is_
 no_more [] ys h all = omega arith
 no_more (x ∷ xs) ys h all =
     let two = and_parts (not (is_among x xs)) (differ xs) h in
-    let apart : (v : Name) → is_among v xs ≡ true → same_name v x ≡ false = λ v o. refuted (same_name v x) (λ e. never (is_among x xs) (ap (λ w. is_among w xs) (sym (same_are v x e)) ∙ o) (not_true (is_among x xs) two.0)) in
+    let apart : (v : Name) → is_among v xs ≡ true → same_name v x ≡ false =
+    λ v o. refuted (same_name v x) (λ e. never (is_among x xs) (ap (λ w. is_among w xs) (sym (same_are v x e)) ∙ o) (not_true (is_among x xs) two.0)) in
     let rest = no_more xs (without x ys) two.1 (λ v o. still_there v x ys (all v (later_among v x xs o)) (apart v o)) in
     let less = one_less x ys (all x (front_among x xs)) in
     omega (arith, rest, less)
@@ -146,8 +148,10 @@ module _ (c : Surroundings) (ints0 arrays0 : List Name) (x : Name) (taken over :
       go : Told (is_among v (taken ++ x ∷ [])) → (is_among v before ≡ false) × (is_among v (low ∷ high ∷ taken) ≡ false)
       go (yes_is e) = by (side v taken (x ∷ []) e)
       go (no_is e) =
-          let w = and_parts (not (is_among v (before ++ x ∷ []))) (not (is_among v ((low ∷ high ∷ taken) ++ x ∷ []))) (ap (λ b. b || can_write turn v) (sym e) ∙ r) in
-          ((neither_among v before (x ∷ []) (not_true (is_among v (before ++ x ∷ [])) w.0)).0, (neither_among v (low ∷ high ∷ taken) (x ∷ []) (not_true (is_among v ((low ∷ high ∷ taken) ++ x ∷ [])) w.1)).0)
+          let w = and_parts (not (is_among v (before ++ x ∷ []))) (not (is_among v ((low ∷ high ∷ taken) ++ x ∷ []))) (ap (λ b. b || can_write turn v) (sym e) ∙ r) in (
+            (neither_among v before (x ∷ []) (not_true (is_among v (before ++ x ∷ [])) w.0)).0,
+            (neither_among v (low ∷ high ∷ taken) (x ∷ []) (not_true (is_among v ((low ∷ high ∷ taken) ++ x ∷ [])) w.1)).0,
+          )
 
   own_few : (ints : List Name) → length ((before ++ x ∷ []) ++ ints) ≤ 256 → length (x ∷ ints) ≤ 256
   own_few ints room =
@@ -155,7 +159,8 @@ module _ (c : Surroundings) (ints0 arrays0 : List Name) (x : Name) (taken over :
       let q = length-append before (x ∷ []) in
       omega (arith, p, q, room)
 
-  tracked_int : (v : Name) (ints : List Name) → can_read turn v ≡ true → length ((before ++ x ∷ []) ++ ints) ≤ 256 → moved_int m (slot_of v ((before ++ x ∷ []) ++ ints)) ≡ slot_of v (((low ∷ high ∷ taken) ++ x ∷ []) ++ ints)
+  tracked_int : (v : Name) (ints : List Name) → can_read turn v ≡ true → length ((before ++ x ∷ []) ++ ints) ≤ 256
+      → moved_int m (slot_of v ((before ++ x ∷ []) ++ ints)) ≡ slot_of v (((low ∷ high ∷ taken) ++ x ∷ []) ++ ints)
   tracked_int v ints r room =
       ap (λ l. moved_int m (slot_of v l)) (append_assoc before (x ∷ []) ints) ∙ go (told (is_among v taken))
       ∙ ap (slot_of v) (sym (append_assoc (low ∷ high ∷ taken) (x ∷ []) ints))

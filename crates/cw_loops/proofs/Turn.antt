@@ -68,7 +68,8 @@ table_put (b ∷ over) s a v d h = go (same_name a b) refl h (table_put over s a
         (if x then (b, v) ∷ table over s else (b, s b) ∷ put a v (table over s)) ≡ (b, changed s a v b) ∷ table over (changed s a v)
     go true e g f =
         let ab : a ≡ b = same_are a b e in
-        let rest : table over s ≡ table over (changed s a v) = table_same over s (changed s a v) (λ c o. sym (changed_other s a v c (ap (λ y. same_name y c) ab ∙ swapped c b (other_than c b over d.0 o)))) in
+        let rest : table over s ≡ table over (changed s a v) = table_same over s (changed s a v)
+        (λ c o. sym (changed_other s a v c (ap (λ y. same_name y c) ab ∙ swapped c b (other_than c b over d.0 o)))) in
         let here : changed s a v b ≡ v = ap (changed s a v) (sym ab) ∙ changed_here s a v in
         rw here (ap (λ t. (b, v) ∷ t) rest)
     go false e g f = rw (changed_other s a v b e) (ap (λ t. (b, s b) ∷ t) (f g))
@@ -158,7 +159,8 @@ module _ (functions0 : List Function) (i0 : List (Name × ℤ)) (outer0 arrays0 
             ap (λ t. find (pos 0) v t) (append_assoc i0 ((x, i) ∷ []) l) ∙ find_in (pos 0) v i0 ((x, i) ∷ l) (ap (λ ks. is_among v ks) outer_is ∙ t.1)
             ∙ sym t.2 ∙ sym (find_in (pos 0) v cs ((x, i) ∷ l) e) ∙ sym (head (cs ++ (x, i) ∷ l))
             ∙ sym (ap (λ t. find (pos 0) v t) (append_assoc ((low, lo) ∷ (high, lo +ℤ pos n) ∷ cs) ((x, i) ∷ []) l))
-        go false e = let is_x : v ≡ x = among_one v x (among_split v (keys cs) (x ∷ []) e h) in ap (λ y. find (pos 0) y (fo' ++ l)) is_x ∙ x_outer l ∙ sym (x_given l) ∙ ap (λ y. find (pos 0) y (go' ++ l)) (sym is_x)
+        go false e = let is_x : v ≡ x = among_one v x (among_split v (keys cs) (x ∷ []) e h) in ap (λ y. find (pos 0) y (fo' ++ l)) is_x ∙ x_outer l
+            ∙ sym (x_given l) ∙ ap (λ y. find (pos 0) y (go' ++ l)) (sym is_x)
 
     there : (a : Name) → is_among a over ≡ true → is_among a (keys frame.arrays) ≡ true
     there a o = ap (λ ks. is_among a ks) agrees.names ∙ known a o
@@ -181,17 +183,24 @@ module _ (functions0 : List Function) (i0 : List (Name × ℤ)) (outer0 arrays0 
         let new : List ℤ = slice_set (s a) j v in
         let s' : Name → List ℤ = changed s a new in
         let y_is : slice_set (find [] a fa) (natural lo + j) v ≡ with_slice xs (natural lo) (s' a) =
-        ap (λ t. slice_set t (natural lo + j) v) (slot_is fa ga slot a o) ∙ set_slice xs (s a) (natural lo) j v (inside_array a o) (omega (arith, slot.put'.lengths a o)) ∙ ap (λ t. with_slice xs (natural lo) t) (sym (changed_here s a new)) in
+        ap (λ t. slice_set t (natural lo + j) v) (slot_is fa ga slot a o)
+        ∙ set_slice xs (s a) (natural lo) j v (inside_array a o) (omega (arith, slot.put'.lengths a o))
+        ∙ ap (λ t. with_slice xs (natural lo) t) (sym (changed_here s a new)) in
         record {
           slices = s';
           is = ap (λ t. put a t ga) (ap (λ t. slice_set t j v) (slice_is fa ga slot a o)) ∙ ap (λ t. put a new t) slot.is ∙ table_put over s a new distinct o;
           put' = record {
             ints = slot.put'.ints;
             sliced = slot.put'.sliced;
-            good = record { ints = slot.put'.good.ints; arrays = fine-put a (slice_set (find [] a fa) (natural lo + j) v) fa (fine_set (find [] a fa) (natural lo + j) v f (find_fine a fa slot.put'.good.arrays)) slot.put'.good.arrays };
+            good = record {
+              ints = slot.put'.good.ints;
+              arrays = fine-put a (slice_set (find [] a fa) (natural lo + j) v) fa
+                  (fine_set (find [] a fa) (natural lo + j) v f (find_fine a fa slot.put'.good.arrays)) slot.put'.good.arrays;
+            };
             lengths = λ b ob. length_of b ob;
             arrays = ap (λ t. put a t fa) y_is ∙ ap (λ t. put a (with_slice xs (natural lo) (s' a)) t) slot.put'.arrays
-                ∙ mapped_put over (λ a xs. with_slice xs (natural lo) (s a)) (λ a xs. with_slice xs (natural lo) (s' a)) frame.arrays a distinct o (λ b e ys. ap (λ t. with_slice ys (natural lo) t) (changed_other s a new b e));
+                ∙ mapped_put over (λ a xs. with_slice xs (natural lo) (s a)) (λ a xs. with_slice xs (natural lo) (s' a)) frame.arrays a distinct o
+                (λ b e ys. ap (λ t. with_slice ys (natural lo) t) (changed_other s a new b e));
           };
         }
       where
@@ -199,7 +208,8 @@ module _ (functions0 : List Function) (i0 : List (Name × ℤ)) (outer0 arrays0 
         length_of b ob = go (same_name a b) refl
           where
             go : (y : Bool) → same_name a b ≡ y → length (changed slot.slices a (slice_set (slot.slices a) j v) b) ≡ n
-            go true e = ap (λ c. length (changed slot.slices a (slice_set (slot.slices a) j v) c)) (sym (same_are a b e)) ∙ ap length (changed_here slot.slices a (slice_set (slot.slices a) j v)) ∙ length-set (slot.slices a) j v ∙ slot.put'.lengths a o
+            go true e = ap (λ c. length (changed slot.slices a (slice_set (slot.slices a) j v) c)) (sym (same_are a b e))
+                ∙ ap length (changed_here slot.slices a (slice_set (slot.slices a) j v)) ∙ length-set (slot.slices a) j v ∙ slot.put'.lengths a o
             go false e = ap length (changed_other slot.slices a (slice_set (slot.slices a) j v) b e) ∙ slot.put'.lengths b ob
 
     pub turn_world : World scope fo' go' Slot'
@@ -219,13 +229,17 @@ module _ (functions0 : List Function) (i0 : List (Name × ℤ)) (outer0 arrays0 
       low_is = λ a o l. refl;
       spot_is = λ a o. ap (λ z. pos (natural lo + j) -ℤ z) (agrees.from a o (omega arith)) ∙ omega (arith, ints);
       spot_fits = λ a o. tested j (omega arith);
-      same_element = λ fa ga slot a o. ap (λ t. slice_get t (natural lo + j)) (slot_is fa ga slot a o) ∙ get_slice (find [] a frame.arrays) (slot.slices a) (natural lo) j (inside_array a o) (omega (arith, slot.put'.lengths a o)) ∙ ap (λ t. slice_get t j) (sym (slice_is fa ga slot a o));
+      same_element = λ fa ga slot a o. ap (λ t. slice_get t (natural lo + j)) (slot_is fa ga slot a o)
+          ∙ get_slice (find [] a frame.arrays) (slot.slices a) (natural lo) j (inside_array a o) (omega (arith, slot.put'.lengths a o))
+          ∙ ap (λ t. slice_get t j) (sym (slice_is fa ga slot a o));
       put_element = put_in_slot;
       top = λ r. absurd cc;
     }
 
-  module _ (line : ℕ) (b b' : Block) (fs fs' : List Function) (calls : Calls) (depth limit : ℕ) (body : BodyAlike (turn_scope functions0 outer0 arrays0 sliced0 x (keys cs) over) b b' fs fs' calls depth limit) where
-    after_turn : (lo : ℤ) (n : ℕ) (small : n < 2 ^ 63) (start : Frame) (s0 : Name → List ℤ) (agrees : Agrees over i0 arrays0 sliced0 lo n start s0) (j : ℕ) (below : j < n) (frame : Frame) (arrays : List (Name × List ℤ)) →
+  module _ (line : ℕ) (b b' : Block) (fs fs' : List Function) (calls : Calls) (depth limit : ℕ)
+      (body : BodyAlike (turn_scope functions0 outer0 arrays0 sliced0 x (keys cs) over) b b' fs fs' calls depth limit) where
+    after_turn : (lo : ℤ) (n : ℕ) (small : n < 2 ^ 63) (start : Frame) (s0 : Name → List ℤ) (agrees : Agrees over i0 arrays0 sliced0 lo n start s0)
+        (j : ℕ) (below : j < n) (frame : Frame) (arrays : List (Name × List ℤ)) →
         Reached over (Put over lo n start) frame arrays → (mi ma : List Name) {way way' : Completion} (from : Frame) →
         Out scope (fo' lo n small start s0 agrees j below) (go' lo n small start s0 agrees j below) (Slot' lo n small start s0 agrees j below) ([] ++ mi) ([] ++ ma) from way way' → (l : ℕ) →
         Alike (Next (Reached over (Put over lo n start)) (λ arrays. at_turn lo (lo +ℤ pos n) cs arrays x (lo +ℤ pos j)) frame) l (Done way l quiet)
@@ -243,13 +257,16 @@ module _ (functions0 : List Function) (i0 : List (Name × ℤ)) (outer0 arrays0 
         let p : take (length gints) (gints ++ loc) ≡ gints = take-append_seam gints loc in
         let q : take (length arrays) (ga ++ la) ≡ ga = ap (λ k. take k (ga ++ la)) ga_length ∙ take-append_seam ga la in
         let g_is : leave (at_turn lo (lo +ℤ pos n) cs arrays x (lo +ℤ pos j)) (target gints loc ga la) ≡ at_turn lo (lo +ℤ pos n) cs ga x (lo +ℤ pos j) = rw (p, q) refl in
-        let u : take (length frame.ints) (fints ++ loc) ≡ i0 = ap (λ t. take (length t) (fints ++ loc)) ints_is ∙ ap (λ t. take (length i0) t) (append_assoc i0 ((x, lo +ℤ pos j) ∷ []) loc) ∙ take-append_seam i0 ((x, lo +ℤ pos j) ∷ loc) in
+        let u : take (length frame.ints) (fints ++ loc) ≡ i0 = ap (λ t. take (length t) (fints ++ loc)) ints_is
+        ∙ ap (λ t. take (length i0) t) (append_assoc i0 ((x, lo +ℤ pos j) ∷ []) loc) ∙ take-append_seam i0 ((x, lo +ℤ pos j) ∷ loc) in
         let v : take (length frame.arrays) (fa ++ la) ≡ fa = ap (λ k. take k (fa ++ la)) fa_length ∙ take-append_seam fa la in
         let f_is : leave frame (source scope fints loc fa la) ≡ record { ints = i0; arrays = fa; sliced = sliced0 } =
-        ap (λ t. record { ints = t; arrays = take (length frame.arrays) (fa ++ la); sliced = frame.sliced }) u ∙ ap (λ t. record { ints = i0; arrays = t; sliced = frame.sliced }) v ∙ ap (λ t. record { ints = i0; arrays = fa; sliced = t }) sliced_is in
+        ap (λ t. record { ints = t; arrays = take (length frame.arrays) (fa ++ la); sliced = frame.sliced }) u
+        ∙ ap (λ t. record { ints = i0; arrays = t; sliced = frame.sliced }) v ∙ ap (λ t. record { ints = i0; arrays = fa; sliced = t }) sliced_is in
         alike_done l (record { arrays = ga; goes_on = ap Normal g_is; near = record { slices = slot.slices; is = slot.is; put = subst (λ f. Put over lo n start f slot.slices) (sym f_is) slot.put' } })
 
-    pub each_turn : (lo : ℤ) (n : ℕ) (lo_fits : fits lo ≡ true) (hi_fits : fits (lo +ℤ pos n) ≡ true) → n < 2 ^ 63 → (start : Frame) (s0 : Name → List ℤ) → Agrees over i0 arrays0 sliced0 lo n start s0 →
+    pub each_turn : (lo : ℤ) (n : ℕ) (lo_fits : fits lo ≡ true) (hi_fits : fits (lo +ℤ pos n) ≡ true) → n < 2 ^ 63
+        → (start : Frame) (s0 : Name → List ℤ) → Agrees over i0 arrays0 sliced0 lo n start s0 →
         Turns line x over b b' fs fs' calls depth plain lo n cs away lo_fits hi_fits (Reached over (Put over lo n start)) (length over) (counted over (Put over lo n start)) limit
     each_turn lo n lo_fits hi_fits small start s0 agrees j below frame arrays given bound h1 h2 r =
         let i1 : ℤ = lo +ℤ pos j in
@@ -273,5 +290,6 @@ module _ (functions0 : List Function) (i0 : List (Name × ℤ)) (outer0 arrays0 
         subst (λ f. Rel scope fints gints (Slot' lo n small start s0 agrees j below) [] [] f (at_turn lo (lo +ℤ pos n) cs arrays x (lo +ℤ pos j))) f_is
         (subst (λ g. Rel scope fints gints (Slot' lo n small start s0 agrees j below) [] [] (source scope fints [] frame.arrays []) g) g_is (related [] frame.arrays arrays [] slot refl refl good)) in
         alike_left (sym (then_gives (run_all b fs calls (inside_loop over (new_int x (lo +ℤ pos j) frame)) given)))
-        (alike_then (body fints gints (Slot' lo n small start s0 agrees j below) (turn_world lo n small start s0 agrees j below) (inside_loop over (new_int x (lo +ℤ pos j) frame)) (at_turn lo (lo +ℤ pos n) cs arrays x (lo +ℤ pos j)) rel given bound h1 h2)
+        (alike_then (body fints gints (Slot' lo n small start s0 agrees j below) (turn_world lo n small start s0 agrees j below)
+        (inside_loop over (new_int x (lo +ℤ pos j) frame)) (at_turn lo (lo +ℤ pos n) cs arrays x (lo +ℤ pos j)) rel given bound h1 h2)
         (λ way way' l o le. after_turn lo n small start s0 agrees j below frame arrays r o.more_ints o.more_arrays (inside_loop over (new_int x (lo +ℤ pos j) frame)) o.out l))

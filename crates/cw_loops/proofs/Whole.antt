@@ -83,18 +83,22 @@ module _ (fs : List Function) (can : list_all (can_lower_function fs) fs ≡ tru
       keys given.ints ≡ integers_of (function_named g fs).params → keys given.arrays ≡ arrays_of (function_named g fs).params →
       Whole (CallSame given) left (call bound depth fs Deeper (function_named g fs) given line left) (call bound' depth (fs' fs can) Deeper (function_named g (fs' fs can)) given line left)
 
-  ended : (given : Frame) {way way' : Completion} (l : ℕ) (is as' : List Name) → Out (nothing_around fs) [] [] TopSlot is as' given way way' → Alike (CallSame given) l (end_of_call way l) (end_of_call way' l)
+  ended : (given : Frame) {way way' : Completion} (l : ℕ) (is as' : List Name) → Out (nothing_around fs) [] [] TopSlot is as' given way way'
+      → Alike (CallSame given) l (end_of_call way l) (end_of_call way' l)
   ended given l is as' (returns r fit g kept) = alike_done l (same_call fit g kept)
   ended given l is as' (goes {f = f} (related loc fa ga la slot ki ka good) kept) =
       let same_frame : target [] loc ga la ≡ source (nothing_around fs) [] loc fa la = ap (λ t. record { ints = loc; arrays = t ++ la; sliced = [] }) (slot.1 ∙ sym slot.0) in
-      rw same_frame (alike_after {t = shows (Join ∷ [])} {u = shows (Join ∷ [])} (omega arith) refl refl (same_events (Join ∷ [])) (alike_pay 1 l _ _ (λ enough. alike_done (l - 1) (same_call {v = None} tt good kept))))
+      rw same_frame (alike_after {t = shows (Join ∷ [])} {u = shows (Join ∷ [])} (omega arith) refl refl (same_events (Join ∷ []))
+      (alike_pay 1 l _ _ (λ enough. alike_done (l - 1) (same_call {v = None} tt good kept))))
 
   -- a call of the source and of its function with loops lowered
-  one_call : (n : ℕ) → CallOk n → (f : Function) (k : ℕ) → can_lower_function fs f ≡ true → Found (fs' fs can) (made_in k f.body) → (depth : ℕ) (given : Frame) (line left bound bound' : ℕ) → left < suc n → left < suc bound → left < suc bound' →
+  one_call : (n : ℕ) → CallOk n → (f : Function) (k : ℕ) → can_lower_function fs f ≡ true → Found (fs' fs can) (made_in k f.body)
+      → (depth : ℕ) (given : Frame) (line left bound bound' : ℕ) → left < suc n → left < suc bound → left < suc bound' →
       Good given → given.sliced ≡ [] → keys given.ints ≡ integers_of f.params → keys given.arrays ≡ arrays_of f.params →
       Whole (CallSame given) left (call (suc bound) depth fs Deeper f given line left) (call (suc bound') depth (fs' fs can) Deeper (lower_function k f) given line left)
   one_call n more f k can_f made depth given line left bound bound' h h1 h2 good ks ki ka =
-      whole_left (call_deeper bound depth fs f given line left) (whole_right (call_deeper bound' depth (fs' fs can) (lower_function k f) given line left) (by_test (nat_lt MOST_DEPTH (depth + 1)) refl))
+      whole_left (call_deeper bound depth fs f given line left) (whole_right
+      (call_deeper bound' depth (fs' fs can) (lower_function k f) given line left) (by_test (nat_lt MOST_DEPTH (depth + 1)) refl))
     where
       given_is : source (nothing_around fs) [] given.ints [] given.arrays ≡ given
       given_is = ap (λ t. record { ints = given.ints; arrays = given.arrays; sliced = t }) (sym ks)
@@ -125,7 +129,8 @@ module _ (fs : List Function) (can : list_all (can_lower_function fs) fs ≡ tru
       let l = looked fs can g plain in
       whole_left (ap (λ f. call (suc bound) depth fs Deeper f given line left) l.is)
       (whole_right (ap (λ f. call (suc bound') depth (fs' fs can) Deeper f given line left) l.is')
-      (one_call n (calls_ok n) l.f l.number l.can l.made depth given line left bound bound' h h1 h2 good ks (ki ∙ ap (λ (f : Function). integers_of f.params) l.is) (ka ∙ ap (λ (f : Function). arrays_of f.params) l.is)))
+      (one_call n (calls_ok n) l.f l.number l.can l.made depth given line left bound bound' h h1 h2 good ks
+      (ki ∙ ap (λ (f : Function). integers_of f.params) l.is) (ka ∙ ap (λ (f : Function). arrays_of f.params) l.is)))
 
 -- the answer of main
 
@@ -136,15 +141,18 @@ main_good (p ∷ ps) (v ∷ args) frame g h =
     let q = and_parts (fits v) (list_all fits args) h in
     main_good ps args (new_int p.name v frame) (record { ints = fit-append frame.ints ((p.name, v) ∷ []) g.ints (q.0, tt); arrays = g.arrays }) q.1
 
-main_ints : (ps : List Param) (args : List ℤ) (frame : Frame) → length args ≡ length ps → list_all (λ p. not (wants_array p)) ps ≡ true → keys (main_frame ps args frame).ints ≡ keys frame.ints ++ integers_of ps
+main_ints : (ps : List Param) (args : List ℤ) (frame : Frame) → length args ≡ length ps → list_all (λ p. not (wants_array p)) ps ≡ true
+    → keys (main_frame ps args frame).ints ≡ keys frame.ints ++ integers_of ps
 main_ints [] args frame n h = sym (append-nil (keys frame.ints))
 main_ints (p ∷ ps) [] frame n h = absurd (omega arith)
 main_ints (p ∷ ps) (v ∷ args) frame n h =
     let q = and_parts (not (wants_array p)) (list_all (λ p. not (wants_array p)) ps) h in
-    main_ints ps args (new_int p.name v frame) (omega arith) q.1 ∙ ap (λ t. t ++ integers_of ps) (keys-append frame.ints ((p.name, v) ∷ [])) ∙ append_assoc (keys frame.ints) (p.name ∷ []) (integers_of ps)
+    main_ints ps args (new_int p.name v frame) (omega arith) q.1 ∙ ap (λ t. t ++ integers_of ps) (keys-append frame.ints ((p.name, v) ∷ []))
+    ∙ append_assoc (keys frame.ints) (p.name ∷ []) (integers_of ps)
     ∙ ap (λ b. keys frame.ints ++ (if b then integers_of ps else p.name ∷ integers_of ps)) (sym (not_true (wants_array p) q.0))
 
-main_arrays : (ps : List Param) (args : List ℤ) (frame : Frame) → length args ≡ length ps → list_all (λ p. not (wants_array p)) ps ≡ true → keys (main_frame ps args frame).arrays ≡ keys frame.arrays ++ arrays_of ps
+main_arrays : (ps : List Param) (args : List ℤ) (frame : Frame) → length args ≡ length ps → list_all (λ p. not (wants_array p)) ps ≡ true
+    → keys (main_frame ps args frame).arrays ≡ keys frame.arrays ++ arrays_of ps
 main_arrays [] args frame n h = sym (append-nil (keys frame.arrays))
 main_arrays (p ∷ ps) [] frame n h = absurd (omega arith)
 main_arrays (p ∷ ps) (v ∷ args) frame n h =
@@ -158,7 +166,8 @@ main_sliced (p ∷ ps) (v ∷ args) frame = main_sliced ps args (new_int p.name 
 
 same_answer : {given : Frame} {left : ℕ} {o o' : Outcome Returned} (reducers : List Reducer) → Whole (CallSame given) left o o' → answer_of reducers o' ≡ answer_of reducers o
 same_answer reducers (whole_done {t = t} {u = u} (same_call {v = v} fit g kept) le lines updates tree) =
-    let n : normal (Marked (Invocation 0) (tree_of u.events)) ≡ normal (Marked (Invocation 0) (tree_of t.events)) = sym (same_normal (Marked (Invocation 0) (tree_of t.events)) (Marked (Invocation 0) (tree_of u.events)) (in_mark (Invocation 0) tree)) in
+    let n : normal (Marked (Invocation 0) (tree_of u.events)) ≡ normal (Marked (Invocation 0) (tree_of t.events)) =
+    sym (same_normal (Marked (Invocation 0) (tree_of t.events)) (Marked (Invocation 0) (tree_of u.events)) (in_mark (Invocation 0) tree)) in
     ap (λ ls. Ended (int_given v) ls (map (λ r. total_to r.how r.name u.updates) reducers) (normal (Marked (Invocation 0) (tree_of u.events)))) (sym lines)
     ∙ ap (λ as'. Ended (int_given v) t.lines (map (λ r. total_to r.how r.name as') reducers) (normal (Marked (Invocation 0) (tree_of u.events)))) (sym updates)
     ∙ ap (λ x. Ended (int_given v) t.lines (map (λ r. total_to r.how r.name t.updates) reducers) x) n
@@ -166,7 +175,8 @@ same_answer reducers (whole_trapped {trap = trap} {line = line} e) = ap (Trapped
 same_answer reducers whole_over = refl
 
 -- a lowered program answers as its source, on as many arguments of 64 bits as main has parameters
-pub lowered_answers : (p : Program) (args : List ℤ) (limit : ℕ) → is_lowerable p ≡ true → list_all fits args ≡ true → length args ≡ length (function_named main_name p.functions).params → list_all (λ q. not (wants_array q)) (function_named main_name p.functions).params ≡ true →
+pub lowered_answers : (p : Program) (args : List ℤ) (limit : ℕ) → is_lowerable p ≡ true → list_all fits args ≡ true
+    → length args ≡ length (function_named main_name p.functions).params → list_all (λ q. not (wants_array q)) (function_named main_name p.functions).params ≡ true →
     serial_answer (lowered p) args limit ≡ serial_answer p args limit
 unfolding serial_answer
 lowered_answers p args limit can args_fit as_many no_arrays =
@@ -178,7 +188,8 @@ lowered_answers p args limit can args_fit as_many no_arrays =
     let params : main'.params ≡ main.params = params_same fs can main_name refl in
     let lines : main'.line ≡ main.line = ap (λ (f : Function). f.line) l.is' ∙ sym (ap (λ (f : Function). f.line) l.is) in
     let whole : Whole (CallSame given) limit (call (suc limit) 0 fs Deeper main given main.line limit) (call (suc limit) 0 (fs' fs can) Deeper main' given main.line limit) =
-    calls_ok fs can (suc limit) main_name refl 0 given main.line limit (suc limit) (suc limit) (omega arith) (omega arith) (omega arith) (main_good main.params args no_frame (record { ints = tt; arrays = tt }) args_fit)
+    calls_ok fs can (suc limit) main_name refl 0 given main.line limit (suc limit) (suc limit) (omega arith) (omega arith) (omega arith)
+    (main_good main.params args no_frame (record { ints = tt; arrays = tt }) args_fit)
     (main_sliced main.params args no_frame) (main_ints main.params args no_frame as_many no_arrays) (main_arrays main.params args no_frame as_many no_arrays) in
     ap (λ ps. answer_of p.reducers (call (suc limit) 0 (fs' fs can) Deeper main' (main_frame ps args no_frame) main'.line limit)) params
     ∙ ap (λ n. answer_of p.reducers (call (suc limit) 0 (fs' fs can) Deeper main' given n limit)) lines
@@ -186,7 +197,8 @@ lowered_answers p args limit can args_fit as_many no_arrays =
 
 -- the sizes
 
-sizes_add : (all0 fs all : List Function) (k : ℕ) → ((g : Name) → is_plain g ≡ true → (function_named g all).params ≡ (function_named g all0).params) → list_all (can_lower_function all0) fs ≡ true → Found all (made_of k fs) →
+sizes_add : (all0 fs all : List Function) (k : ℕ) → ((g : Name) → is_plain g ≡ true → (function_named g all).params ≡ (function_named g all0).params)
+    → list_all (can_lower_function all0) fs ≡ true → Found all (made_of k fs) →
     sum_by (function_size all) (lower_functions k fs) + sum_by (function_size all) (made_of k fs) ≡ sum_by (function_size all0) fs
 sizes_add all0 [] all k keep h found = omega arith
 sizes_add all0 (f ∷ fs) all k keep h found =
@@ -197,7 +209,15 @@ sizes_add all0 (f ∷ fs) all k keep h found =
     let y = made_of (k + loop_count_in f.body) fs in
     let one = size_block all0 all keep f.body (nothing_around all0) (integers_of f.params) (arrays_of f.params) (λ a o. absurd cc) d.1 k (found_left all x y found) in
     let more = sizes_add all0 fs all (k + loop_count_in f.body) keep p.1 (found_right all x y found) in
-    omega (arith, one, more, sum_by-append (function_size all) x y, sum_by-cons (function_size all) (lower_function k f) (lower_functions (k + loop_count_in f.body) fs), sum_by-cons (function_size all0) f fs)
+    omega (
+      arith,
+      one,
+      more,
+      sum_by-append (function_size all) x y,
+      sum_by-cons (function_size all) (lower_function k f)
+          (lower_functions (k + loop_count_in f.body) fs),
+      sum_by-cons (function_size all0) f fs,
+    )
 
 pub lowered_size : (p : Program) → is_lowerable p ≡ true → static_size (lowered p) ≡ static_size p
 lowered_size p can =

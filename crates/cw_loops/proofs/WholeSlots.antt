@@ -9,7 +9,8 @@ use Rattle.cw_facts.specs.Tests.{Told, yes_is, no_is, told}
 use Rattle.cw_model.specs.Meaning.{function_named}
 use Rattle.cw_model.specs.declared.limits.TheConstants.{MOST_DECLARED}
 use Rattle.cw_model.specs.Lines.{unless}
-use Rattle.cw_model.specs.Syntax.{Name, Stmt, Declare, DeclareArray, Assign, AssignElement, Reduce, Call, Start, Begin, Sync, If, IfElse, While, For, Scope, Cut, Region, Print, Return, Block, End, Then, Param, Function, Program, wants_array}
+use Rattle.cw_model.specs.Syntax.{Name, Stmt, Declare, DeclareArray, Assign, AssignElement, Reduce, Call, Start, Begin, Sync, If, IfElse, While, For}
+use Rattle.cw_model.specs.Syntax.{Scope, Cut, Region, Print, Return, Block, End, Then, Param, Function, Program, wants_array}
 use Rattle.cw_model.specs.Names.{is_among, differ}
 use Rattle.cw_model.specs.Sizes.{loops_in, loops_in_block, limit_faults, loop_faults, function_limits}
 use Rattle.cw_model.specs.Typing.{is_head, faults_of, type_faults, WithInt, Alone, known_of, IsWellTyped}
@@ -114,13 +115,15 @@ arrays_same (p ∷ ps) = go (wants_array p) (arrays_same ps)
 
 params_same : (fs : List Function) (ps : List Param) → locals_of ps ≡ at (nothing_around fs) (integers_of ps) (arrays_of ps)
 params_same fs ps =
-    two_lists (map (λ (p : Param). p.name) (filter (λ p. not (wants_array p)) ps)) (integers_of ps) (map (λ (p : Param). p.name) (filter (λ p. wants_array p) ps)) (arrays_of ps) (ints_same ps) (arrays_same ps)
+    two_lists (map (λ (p : Param). p.name) (filter (λ p. not (wants_array p)) ps)) (integers_of ps)
+    (map (λ (p : Param). p.name) (filter (λ p. wants_array p) ps)) (arrays_of ps) (ints_same ps) (arrays_same ps)
 
 few_kinds : (ps : List Param) → length (integers_of ps) + length (arrays_of ps) ≡ length ps
 few_kinds [] = omega arith
 few_kinds (p ∷ ps) = go (wants_array p) (few_kinds ps)
   where
-    go : (b : Bool) → length (integers_of ps) + length (arrays_of ps) ≡ length ps → length (if b then integers_of ps else p.name ∷ integers_of ps) + length (if b then p.name ∷ arrays_of ps else arrays_of ps) ≡ suc (length ps)
+    go : (b : Bool) → length (integers_of ps) + length (arrays_of ps) ≡ length ps
+        → length (if b then integers_of ps else p.name ∷ integers_of ps) + length (if b then p.name ∷ arrays_of ps else arrays_of ps) ≡ suc (length ps)
     go true e = omega (arith, e)
     go false e = omega (arith, e)
 
@@ -195,7 +198,8 @@ module _ (program : Program) (can : is_lowerable program ≡ true) (within : lim
   loops_read : (k : ℕ) → reads_none (function_named (loop_name k) (lowered program).functions).params ≡ true
   loops_read k = loop_reads_none program.functions can k
 
-  head_here : (g : Function) → Accepted program g → Here many nothing_moved (nothing_around program.functions) (integers_of g.params) (arrays_of g.params) (known_of g.params) (counts_of (resolved program) (resolved_function (lists_of program) g))
+  head_here : (g : Function) → Accepted program g → Here many nothing_moved (nothing_around program.functions) (integers_of g.params)
+      (arrays_of g.params) (known_of g.params) (counts_of (resolved program) (resolved_function (lists_of program) g))
   head_here g h =
       let few = small_head g h.limits in
       let kinds = few_kinds g.params in
@@ -218,13 +222,19 @@ module _ (program : Program) (can : is_lowerable program ≡ true) (within : lim
   body_of loops g = made_body many (arrays_from 0 g.params) loops (resolved_block (lists_of program) (locals_of g.params) g.body)
 
   function_made : (g : Function) → Accepted program g → (loops : List Loop) (k : ℕ) → length loops ≡ k → k + loop_count_in g.body ≤ total →
-      Done many (lowered_lists program) (body_of loops g).block (slotted_block (lowered_lists program) (locals_of g.params) (lower_block [] k g.body)) loops (body_of loops g).loops k (loop_count_in g.body) (made_in k g.body)
+      Done many (lowered_lists program) (body_of loops g).block (slotted_block (lowered_lists program) (locals_of g.params)
+      (lower_block [] k g.body)) loops (body_of loops g).loops k (loop_count_in g.body) (made_in k g.body)
   function_made g h loops k len room =
-      as_blocks program names names' (reducer_names program.reducers) (tags_of program) program.functions (lowered program).functions many total (few_loops program loops_within) (functions_few program within) callee loops_at params_stay loops_read nothing_moved [] loops k g.body
+      as_blocks program names names' (reducer_names program.reducers) (tags_of program) program.functions (lowered program).functions many total
+      (few_loops program loops_within) (functions_few program within) callee loops_at params_stay loops_read nothing_moved [] loops k g.body
       (sym (arrays_counted 0 g.params (omega (arith, few, kinds)) ∙ omega arith)) (sym (params_same program.functions g.params)) (sym (params_same program.functions g.params))
-      (block_made program names names' (reducer_names program.reducers) (tags_of program) program.functions (lowered program).functions many total (few_loops program loops_within) (functions_few program within) callee loops_at params_stay loops_read g.body nothing_moved (nothing_around program.functions)
-      (integers_of g.params) (arrays_of g.params) (known_of g.params) (counts_of (resolved program) (resolved_function (lists_of program) g)) (if g.gives_int then WithInt else Alone) loops k (head_here g h) body_can
-      (ap (λ l. fits_block (counts_of (resolved program) (resolved_function (lists_of program) g)) (resolved_block (lists_of program) l g.body)) (sym (params_same program.functions g.params)) ∙ body_fits)
+      (block_made program names names' (reducer_names program.reducers) (tags_of program) program.functions (lowered program).functions many total
+      (few_loops program loops_within) (functions_few program within) callee loops_at params_stay loops_read g.body nothing_moved
+      (nothing_around program.functions)
+      (integers_of g.params) (arrays_of g.params) (known_of g.params) (counts_of (resolved program) (resolved_function (lists_of program) g))
+      (if g.gives_int then WithInt else Alone) loops k (head_here g h) body_can
+      (ap (λ l. fits_block (counts_of (resolved program) (resolved_function (lists_of program) g)) (resolved_block (lists_of program) l g.body))
+      (sym (params_same program.functions g.params)) ∙ body_fits)
       (right_none (unless (is_head program g) g.line) _ h.types) len room)
     where
       few : length g.params + declares_in_block g.body ≤ 256
@@ -246,7 +256,9 @@ module _ (program : Program) (can : is_lowerable program ≡ true) (within : lim
   abbrev all_of_them : (loops : List Loop) → List Function → Bodies
   all_of_them loops gs = made_bodies many loops (map (resolved_function (lists_of program)) gs)
 
-  bodies_are : (gs : List Function) → list_all (can_lower_function program.functions) gs ≡ true → list_all (fits_function (resolved program)) (map (resolved_function (lists_of program)) gs) ≡ true → flat_map (faults_of program) gs ≡ [] → flat_map function_limits gs ≡ [] →
+  bodies_are : (gs : List Function) → list_all (can_lower_function program.functions) gs ≡ true
+      → list_all (fits_function (resolved program)) (map (resolved_function (lists_of program)) gs) ≡ true → flat_map (faults_of program) gs ≡ []
+      → flat_map function_limits gs ≡ [] →
       (loops : List Loop) (k : ℕ) → length loops ≡ k → k + count_of gs ≤ total →
       (with_bodies (map (resolved_function (lists_of program)) gs) (all_of_them loops gs).blocks ≡ map (slotted_function (lowered_lists program)) (lower_functions k gs))
       × (loop_texts many (all_of_them loops gs).loops ≡ loop_texts many loops ++ map (slotted_function (lowered_lists program)) (made_of k gs))
@@ -257,11 +269,13 @@ module _ (program : Program) (can : is_lowerable program ≡ true) (within : lim
       let f = and_parts (fits_function (resolved program) (resolved_function (lists_of program) g)) (list_all (fits_function (resolved program)) (map (resolved_function (lists_of program)) gs)) fit in
       let here : Accepted program g = record { can = c.0; fit = f.0; types = left_none (faults_of program g) _ types; limits = left_none (function_limits g) _ limits } in
       let d = function_made g here loops k len (omega (arith, room)) in
-      let rest = bodies_are gs c.1 f.1 (right_none (faults_of program g) _ types) (right_none (function_limits g) _ limits) (body_of loops g).loops (k + loop_count_in g.body) d.many (omega (arith, room)) in (
+      let rest = bodies_are gs c.1 f.1 (right_none (faults_of program g) _ types) (right_none (function_limits g) _ limits) (body_of loops g).loops
+      (k + loop_count_in g.body) d.many (omega (arith, room)) in (
         ap (λ b. whole g b ∷ with_bodies (map (resolved_function (lists_of program)) gs) (all_of_them (body_of loops g).loops gs).blocks) d.same
             ∙ ap (λ r. whole g (slotted_block (lowered_lists program) (locals_of g.params) (lower_block [] k g.body)) ∷ r) rest.0,
         rest.1 ∙ ap (λ r. r ++ map (slotted_function (lowered_lists program)) (made_of (k + loop_count_in g.body) gs)) d.texts
-            ∙ append_assoc (loop_texts many loops) (map (slotted_function (lowered_lists program)) (made_in k g.body)) (map (slotted_function (lowered_lists program)) (made_of (k + loop_count_in g.body) gs))
+            ∙ append_assoc (loop_texts many loops) (map (slotted_function (lowered_lists program)) (made_in k g.body))
+            (map (slotted_function (lowered_lists program)) (made_of (k + loop_count_in g.body) gs))
             ∙ ap (λ r. loop_texts many loops ++ r) (sym (map-append (slotted_function (lowered_lists program)) (made_in k g.body) (made_of (k + loop_count_in g.body) gs))),
       )
 
@@ -270,8 +284,10 @@ module _ (program : Program) (can : is_lowerable program ≡ true) (within : lim
 
   by_slot : is_fitting (resolved program) ≡ true → type_faults program ≡ [] → lowered_by_slot (resolved program) ≡ slotted_functions program
   by_slot fitting types =
-      ap (λ i. with_bodies functions' (made_bodies (slot i) [] functions').blocks ++ loop_texts i (made_bodies (slot i) [] functions').loops) (length-map program.functions (resolved_function (lists_of program)))
-      ∙ ap (λ i. with_bodies functions' (made_bodies i [] functions').blocks ++ loop_texts many (made_bodies i [] functions').loops) (small_slot many (let p = functions_few program within in omega (arith, p)))
+      ap (λ i. with_bodies functions' (made_bodies (slot i) [] functions').blocks ++ loop_texts i (made_bodies (slot i) [] functions').loops)
+      (length-map program.functions (resolved_function (lists_of program)))
+      ∙ ap (λ i. with_bodies functions' (made_bodies i [] functions').blocks ++ loop_texts many (made_bodies i [] functions').loops)
+      (small_slot many (let p = functions_few program within in omega (arith, p)))
       ∙ ap (λ r. r ++ loop_texts many (made_bodies many [] functions').loops) both.0
       ∙ ap (λ r. map (slotted_function (lowered_lists program)) (lower_functions 0 program.functions) ++ r) both.1
       ∙ sym (map-append (slotted_function (lowered_lists program)) (lower_functions 0 program.functions) (made_of 0 program.functions))
@@ -282,12 +298,14 @@ module _ (program : Program) (can : is_lowerable program ≡ true) (within : lim
           bodies_are program.functions can (and_parts (list_all (fits_function (resolved program)) (resolved program).functions) _ fitting).0 (heads_kept program types) (heads_small program within)
           [] 0 refl (omega arith)
 
-pub lowers_by_slot : ResolvedFits → (program : Program) → IsWellTyped program → KeepsOwnership program → is_source_like program ≡ true → limit_faults program ≡ [] → loop_faults program ≡ [] → lowered_by_slot (resolved program) ≡ slotted_functions program
+pub lowers_by_slot : ResolvedFits → (program : Program) → IsWellTyped program → KeepsOwnership program → is_source_like program ≡ true
+    → limit_faults program ≡ [] → loop_faults program ≡ [] → lowered_by_slot (resolved program) ≡ slotted_functions program
 lowers_by_slot fits program typed owned source_like within loops =
     by_slot program (owned_can program typed owned source_like) within loops (fits program within typed) typed
 
 -- what lowering makes of a tree whose slots are right
-pub tree_is_lowered : ResolvedFits → (tree : Tree) (made : Bodies) → is_resolved (resolved_of tree) ≡ true → type_faults (program_of tree) ≡ [] → KeepsOwnership (program_of tree) → limit_faults (program_of tree) ≡ [] → loop_faults (program_of tree) ≡ [] →
+pub tree_is_lowered : ResolvedFits → (tree : Tree) (made : Bodies) → is_resolved (resolved_of tree) ≡ true → type_faults (program_of tree) ≡ []
+    → KeepsOwnership (program_of tree) → limit_faults (program_of tree) ≡ [] → loop_faults (program_of tree) ≡ [] →
     made ≡ made_of_tree (resolved_of tree) → is_source_like (program_of tree) ≡ true → expanded (resolved_of tree) made ≡ slotted_functions (program_of tree)
 tree_is_lowered fits tree made right typed owned within loops is source_like =
     ap (expanded (resolved_of tree)) is ∙ ap lowered_by_slot (slots_are_right (resolved_of tree) right) ∙ lowers_by_slot fits (program_of tree) typed owned source_like within loops

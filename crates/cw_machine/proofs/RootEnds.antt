@@ -38,7 +38,8 @@ use Rattle.cw_machine.specs.Runs.{is_asked, IsEndOf, Gives, Runs}
 use Rattle.cw_machine.proofs.Updates.{ReturnsWithin, travelled, totals_are}
 use Rattle.cw_machine.proofs.Metering.{gauge_of}
 use Rattle.cw_machine.proofs.Given.{IsGiven, IsGiven-prop, is_given}
-use Rattle.cw_machine.proofs.FromMain.{Main, main_of, asked_of, told, IsEnded, IsEnded-prop, IsTrapped, IsTrapped-prop, was_trapped, is_over, was_over, same_as, same_totals_as, first_is, asked_count, asked_limit, asked_burden, main_room, main_arrays, main_readers}
+use Rattle.cw_machine.proofs.FromMain.{Main, main_of, asked_of, told, IsEnded, IsEnded-prop, IsTrapped, IsTrapped-prop, was_trapped, is_over, was_over, same_as}
+use Rattle.cw_machine.proofs.FromMain.{same_totals_as, first_is, asked_count, asked_limit, asked_burden, main_room, main_arrays, main_readers}
 
 -- an effect that means the job of a whole run means what the definitions have as that job
 pub means_root : (v : Verified) (args : List ℤ) (n : ℕ) (burden : Burden) (d : Detail) (root : Job) (e : Effect) → IsRootOf v args n burden d root.parts.value → IsMeaningOf root e
@@ -67,7 +68,9 @@ few code f args n e (Same h) = cases (course code (root_job f args n) n) (travel
 few code f args n e (Passed h k) = subst (Few n) (sym h) tt
 few code f args n e (Short h) = subst (Few n) (sym h) tt
 
-module _ (laws : RootsAreSerial) (v : Verified) (ok : IsFit v) (f : Func) (args : List ℤ) (n : ℕ) (burden : Burden) (d : Detail) (root : Job) (found : slice_get (code_view v.code).funcs v.code.main ≡ Some f) (asked : is_asked f.params (length args) n burden ≡ true) (r : IsRootOf v args n burden d root.parts.value) where
+module _ (laws : RootsAreSerial) (v : Verified) (ok : IsFit v) (f : Func) (args : List ℤ) (n : ℕ) (burden : Burden) (d : Detail) (root : Job)
+    (found : slice_get (code_view v.code).funcs v.code.main ≡ Some f) (asked : is_asked f.params (length args) n burden ≡ true)
+    (r : IsRootOf v args n burden d root.parts.value) where
   begins : first_transition (slice_get (code_view v.code).funcs v.code.main) args ≡ On (first_state f args [] [])
   begins = first_is (code_view v.code) f args found (asked_count f args n burden asked) (main_room v f ok found) (main_arrays v f ok found) (main_readers v f ok found)
 
@@ -75,7 +78,9 @@ module _ (laws : RootsAreSerial) (v : Verified) (ok : IsFit v) (f : Func) (args 
   serial : (w : jobs.Effect) → JobMeaning (code_view v.code) (root_job f args n) w → (w ≡ jobs.Memory) ⊎ (jobs.answered (code_view v.code) w ≡ code_serial (code_view v.code) args n)
   serial w m = laws (code_view v.code) f args n w begins m
 
-  pub trapped : (trap : Trap) (line : ℕ) (lines : _) (cost : ℕ) (back : _) → MeansIt v ok root.parts.value (effect.Trapped trap line lines cost back) (root_job f args n) → IsTrapped trap line lines.items (code_serial (code_view v.code) args n)
+  pub trapped : (trap : Trap) (line : ℕ) (lines : _) (cost : ℕ) (back : _)
+      → MeansIt v ok root.parts.value (effect.Trapped trap line lines cost back) (root_job f args n)
+      → IsTrapped trap line lines.items (code_serial (code_view v.code) args n)
   trapped trap line lines cost back m = cases m.effect m.tells (serial m.effect m.means)
     where
       cases : (w : jobs.Effect) → Tells (code_view v.code) (root_job f args n) root.parts.value.rest (effect.Trapped trap line lines cost back) w
@@ -110,7 +115,8 @@ module _ (laws : RootsAreSerial) (v : Verified) (ok : IsFit v) (f : Func) (args 
       cases jobs.Memory h w = absurd h
 
   -- a run that ended: within the limit, and with what the code gives
-  pub gave : (x : Option ℤ) (shown : Shown) (e : Values) → e.value ≡ int_given x → e.lines ≡ shown.lines → e.totals ≡ shown.totals → MeansIt v ok root.parts.value (effect.Ended x shown) (root_job f args n)
+  pub gave : (x : Option ℤ) (shown : Shown) (e : Values) → e.value ≡ int_given x → e.lines ≡ shown.lines → e.totals ≡ shown.totals
+      → MeansIt v ok root.parts.value (effect.Ended x shown) (root_job f args n)
       → IsGiven e (code_serial (code_view v.code) args n)
   gave x shown e value lines totals m = cases m.effect m.tells (few (code_view v.code) f args n m.effect m.means) (serial m.effect m.means)
     where
@@ -143,8 +149,10 @@ module _ (laws : RootsAreSerial) (v : Verified) (ok : IsFit v) (f : Func) (args 
       most : n ≤ MOST_LIMIT
       most = asked_limit f args n burden asked
 
-      cases : (w : jobs.Effect) → Tells (code_view v.code) (root_job f args n) root.parts.value.rest (effect.Ended x shown) w → Counts (code_view v.code) root.parts.value.detail root.parts.value.site (effect.Ended x shown) w → Few n w
-          → (w ≡ jobs.Memory) ⊎ (jobs.answered (code_view v.code) w ≡ code_serial (code_view v.code) args n) → (shown.cost ≤ n) × IsEnded (code_view v.code) burden e end.all (code_serial (code_view v.code) args n)
+      cases : (w : jobs.Effect) → Tells (code_view v.code) (root_job f args n) root.parts.value.rest (effect.Ended x shown) w
+          → Counts (code_view v.code) root.parts.value.detail root.parts.value.site (effect.Ended x shown) w → Few n w
+          → (w ≡ jobs.Memory) ⊎ (jobs.answered (code_view v.code) w ≡ code_serial (code_view v.code) args n)
+          → (shown.cost ≤ n) × IsEnded (code_view v.code) burden e end.all (code_serial (code_view v.code) args n)
       cases (jobs.Ended y arrays t cost) h counts w (inr s) =
           let has : HasShown (code_view v.code) shown t cost = h.2 in
           let within : shown.cost ≤ n = let k = has.cost in let le = w.1 in omega (arith, k, le) in
@@ -157,7 +165,8 @@ module _ (laws : RootsAreSerial) (v : Verified) (ok : IsFit v) (f : Func) (args 
               ap int_given (sym h.1) ∙ sym end.value,
               same_as t.lines e.lines.items (sym has.lines ∙ sym end.lines),
               same_totals_as _ e.totals.items (totals_are (code_view v.code) shown.totals.items t.updates has.totals (let le = w.0 in omega (arith, le, most)) ∙ sym end.totals),
-              subst (λ k. AreMeasures burden (k + 1) (code_view v.code).tags (normal (Marked (Invocation 0) (tree_of t.events))) end.all) (sym sites) (end.reads burden g.tags (code_view v.code).tags t.events (omega (arith, within, most)) light g.named refl meters),
+              subst (λ k. AreMeasures burden (k + 1) (code_view v.code).tags (normal (Marked (Invocation 0) (tree_of t.events))) end.all) (sym sites)
+                  (end.reads burden g.tags (code_view v.code).tags t.events (omega (arith, within, most)) light g.named refl meters),
             ),
           )
       cases (jobs.Ended y arrays t cost) h counts w (inl s) = cc
@@ -174,13 +183,16 @@ on_root prop v args n burden d root e r means f = ∥∥₁_elim v.ok prop (λ o
     ∥∥₁_elim (means_root v args n burden d root e r means ok main.func main.found) prop (f ok main (asked_of v main args n burden r.asked)))
 
 module _ (laws : RootsAreSerial) (v : Verified) (args : List ℤ) (n : ℕ) (burden : Burden) (d : Detail) (root : Job) (r : IsRootOf v args n burden d root.parts.value) where
-  pub gave_as_code : (x : Option ℤ) (shown : Shown) (e : Values) → IsMeaningOf root (effect.Ended x shown) → e.value ≡ int_given x → e.lines ≡ shown.lines → e.totals ≡ shown.totals → Gives (code_view v.code) args n burden e
+  pub gave_as_code : (x : Option ℤ) (shown : Shown) (e : Values) → IsMeaningOf root (effect.Ended x shown) → e.value ≡ int_given x
+      → e.lines ≡ shown.lines → e.totals ≡ shown.totals → Gives (code_view v.code) args n burden e
   gave_as_code x shown e means value lines totals =
       let serial = code_serial (code_view v.code) args n in
-      let is = is_given e serial (on_root (IsGiven-prop e serial) v args n burden d root (effect.Ended x shown) r means (λ ok main asked m. gave laws v ok main.func args n burden d root main.found asked r x shown e value lines totals m)) in
+      let is = is_given e serial (on_root (IsGiven-prop e serial) v args n burden d root (effect.Ended x shown) r means
+      (λ ok main asked m. gave laws v ok main.func args n burden d root main.found asked r x shown e value lines totals m)) in
       record { asked = r.asked; tree = is.0; answer = is.1 }
 
-  pub trapped_as_code : (trap : Trap) (line : ℕ) (lines : _) (cost : ℕ) (back : _) → IsMeaningOf root (effect.Trapped trap line lines cost back) → code_serial (code_view v.code) args n ≡ Some (TrappedAt trap line lines.items)
+  pub trapped_as_code : (trap : Trap) (line : ℕ) (lines : _) (cost : ℕ) (back : _) → IsMeaningOf root (effect.Trapped trap line lines cost back)
+      → code_serial (code_view v.code) args n ≡ Some (TrappedAt trap line lines.items)
   trapped_as_code trap line lines cost back means =
       let serial = code_serial (code_view v.code) args n in
       was_trapped trap line lines.items serial (on_root (IsTrapped-prop trap line lines.items serial) v args n burden d root (effect.Trapped trap line lines cost back) r means
@@ -200,5 +212,6 @@ module _ (laws : RootsAreSerial) (v : Verified) (args : List ℤ) (n : ℕ) (bur
   pub ended_as_code : (x : Option ℤ) (shown : Shown) (e : alone.Ended) → IsMeaningOf root (effect.Ended x shown) → IsEndOf v.code x shown e → Runs (code_view v.code) args n burden e
   ended_as_code x shown e means end =
       let is_end = IsEnded-prop (code_view v.code) burden e end.all (code_serial (code_view v.code) args n) in
-      let both = on_root (hlevel (le_prop, is_end)) v args n burden (Measured burden) root (effect.Ended x shown) r means (λ ok main asked m. ended laws v ok main.func args n burden (Measured burden) root main.found asked r refl x shown e end m) in
+      let both = on_root (hlevel (le_prop, is_end)) v args n burden (Measured burden) root (effect.Ended x shown) r means
+      (λ ok main asked m. ended laws v ok main.func args n burden (Measured burden) root main.found asked r refl x shown e end m) in
       told v args n burden x shown e r.asked both.0 end both.1

@@ -36,7 +36,8 @@ module _ (views : List View) (o : Out) (b k : ℕ) where
       omega (arith, first, rest)
 
 -- other views, which are the same where the slices are of
-pub shares_as : (views views' : List View) (o : Out) (b k n : ℕ) (ps : List Placed) → ((j : ℕ) → j < length ps → view views' (o.first + (n + j)) ≡ view views (o.first + (n + j))) → shares_in views' o n ps b k ≡ shares_in views o n ps b k
+pub shares_as : (views views' : List View) (o : Out) (b k n : ℕ) (ps : List Placed)
+    → ((j : ℕ) → j < length ps → view views' (o.first + (n + j)) ≡ view views (o.first + (n + j))) → shares_in views' o n ps b k ≡ shares_in views o n ps b k
 shares_as views views' o b k n [] same = refl
 shares_as views views' o b k n (p ∷ ps) same =
     let here : n + 0 ≡ n = omega arith in
@@ -48,14 +49,18 @@ shares_as views views' o b k n (p ∷ ps) same =
     omega (arith, first, rest)
 
 -- of all that is out
-pub all_shares_as : (views views' : List View) (outs : List Out) (b k : ℕ) → ((j : ℕ) (o : Out) → slice_get outs j ≡ Some o → (n : ℕ) → n < length o.slices → view views' (o.first + n) ≡ view views (o.first + n)) → shares_at views' outs b k ≡ shares_at views outs b k
+pub all_shares_as : (views views' : List View) (outs : List Out) (b k : ℕ)
+    → ((j : ℕ) (o : Out) → slice_get outs j ≡ Some o → (n : ℕ) → n < length o.slices → view views' (o.first + n) ≡ view views (o.first + n))
+    → shares_at views' outs b k ≡ shares_at views outs b k
 all_shares_as views views' [] b k same = refl
 all_shares_as views views' (o ∷ outs) b k same =
     let first = shares_as views views' o b k 0 o.slices (λ j lt. let z : j ≡ 0 + j = omega arith in subst (λ x. view views' (o.first + x) ≡ view views (o.first + x)) z (same 0 o refl j lt)) in
     let rest = all_shares_as views views' outs b k (λ j q e. same (suc j) q e) in
     omega (arith, first, rest)
 
-pub all_shares_none : (views : List View) (outs : List Out) (b k : ℕ) → ((j : ℕ) (o : Out) → slice_get outs j ≡ Some o → (n : ℕ) (p : Placed) → slice_get o.slices n ≡ Some p → share_of views o n p b k ≡ 0) → shares_at views outs b k ≡ 0
+pub all_shares_none : (views : List View) (outs : List Out) (b k : ℕ)
+    → ((j : ℕ) (o : Out) → slice_get outs j ≡ Some o → (n : ℕ) (p : Placed) → slice_get o.slices n ≡ Some p → share_of views o n p b k ≡ 0)
+    → shares_at views outs b k ≡ 0
 all_shares_none views [] b k none = refl
 all_shares_none views (o ∷ outs) b k none =
     let first = shares_none views o b k 0 o.slices (λ n p e. let z : n ≡ 0 + n = omega arith in subst (λ x. share_of views o x p b k ≡ 0) z (none 0 o refl n p e)) in
@@ -72,13 +77,17 @@ lies_at w count b k e =
     )
 
 -- a slice that is a share of a place, else there is no share
-pub share_or : (views : List View) (o : Out) (n : ℕ) (p : Placed) (b k : ℕ) → ((is_shared o n ≡ true) × (lies_in (view views (o.first + n)) (length p.items) b k ≡ true)) ⊎ (share_of views o n p b k ≡ 0)
+pub share_or : (views : List View) (o : Out) (n : ℕ) (p : Placed) (b k : ℕ)
+    → ((is_shared o n ≡ true) × (lies_in (view views (o.first + n)) (length p.items) b k ≡ true)) ⊎ (share_of views o n p b k ≡ 0)
 share_or views o n p b k = at (is_shared o n) (lies_in (view views (o.first + n)) (length p.items) b k) refl refl
   where
-    at : (x y : Bool) → is_shared o n ≡ x → lies_in (view views (o.first + n)) (length p.items) b k ≡ y → ((is_shared o n ≡ true) × (lies_in (view views (o.first + n)) (length p.items) b k ≡ true)) ⊎ (share_of views o n p b k ≡ 0)
+    at : (x y : Bool) → is_shared o n ≡ x → lies_in (view views (o.first + n)) (length p.items) b k ≡ y
+        → ((is_shared o n ≡ true) × (lies_in (view views (o.first + n)) (length p.items) b k ≡ true)) ⊎ (share_of views o n p b k ≡ 0)
     at true true e e' = inl (e, e')
-    at true false e e' = inr (not_taken (is_shared o n && lies_in (view views (o.first + n)) (length p.items) b k) 1 0 (second_false (is_shared o n) (lies_in (view views (o.first + n)) (length p.items) b k) e'))
-    at false y e e' = inr (not_taken (is_shared o n && lies_in (view views (o.first + n)) (length p.items) b k) 1 0 (first_false (is_shared o n) (lies_in (view views (o.first + n)) (length p.items) b k) e))
+    at true false e e' = inr (not_taken (is_shared o n && lies_in (view views (o.first + n)) (length p.items) b k) 1 0
+        (second_false (is_shared o n) (lies_in (view views (o.first + n)) (length p.items) b k) e'))
+    at false y e e' = inr (not_taken (is_shared o n && lies_in (view views (o.first + n)) (length p.items) b k) 1 0
+        (first_false (is_shared o n) (lies_in (view views (o.first + n)) (length p.items) b k) e))
 
 -- the cell below a call whose array a share is of, and where that lies
 pub record SharedBy (m : Memory) (first b k : ℕ) : Type 0 where
@@ -87,7 +96,8 @@ pub record SharedBy (m : Memory) (first b k : ℕ) : Type 0 where
   pub owned : m.owner b k ≡ cell
 
 module _ (m : Memory) (first round : ℕ) (outs : List Out) (floors : Floored outs first) (away : AreAway m first round outs) where
-  pub shared_by : (j : ℕ) (o : Out) → slice_get outs j ≡ Some o → (n : ℕ) (p : Placed) → slice_get o.slices n ≡ Some p → (b k : ℕ) → is_shared o n ≡ true → lies_in (view m.views (o.first + n)) (length p.items) b k ≡ true → SharedBy m first b k
+  pub shared_by : (j : ℕ) (o : Out) → slice_get outs j ≡ Some o → (n : ℕ) (p : Placed) → slice_get o.slices n ≡ Some p → (b k : ℕ)
+      → is_shared o n ≡ true → lies_in (view m.views (o.first + n)) (length p.items) b k ≡ true → SharedBy m first b k
   shared_by j o is_out n p is b k shared inside =
       let w : View = view m.views (o.first + n) in
       let at = lies_at w (length p.items) b k inside in

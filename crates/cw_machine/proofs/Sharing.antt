@@ -35,7 +35,8 @@ owning m outs older o k p y e = ⊎_elim
     (λ le. let r = y.reads le in record { cell = r.cell; which = inr r.below; same = r.same; has = r.has })
     (less_or k o.slots)
 
-pub own_place : (m : Memory) (o : Out) (k : ℕ) (p : Placed) (h : Owning m o k p) (i : ℕ) → i < length p.items → m.owner (view m.views (o.first + k)).block ((view m.views (o.first + k)).from + i) ≡ h.cell
+pub own_place : (m : Memory) (o : Out) (k : ℕ) (p : Placed) (h : Owning m o k p) (i : ℕ) → i < length p.items
+    → m.owner (view m.views (o.first + k)).block ((view m.views (o.first + k)).from + i) ≡ h.cell
 own_place m o k p h i lt = ap (λ (w : View). m.owner w.block (w.from + i)) h.same ∙ h.has.own i lt
 
 pub owned_in : (m : Memory) (o : Out) (k : ℕ) (p : Placed) (h : Owning m o k p) (b place : ℕ) → lies_in (view m.views (o.first + k)) (length p.items) b place ≡ true → m.owner b place ≡ h.cell
@@ -63,14 +64,17 @@ lies_in_is w count i lt =
     (both_true (nat_le w.from (w.from + i)) (nat_lt (w.from + i) (w.from + count)) (at_most w.from (w.from + i) (omega arith)) (below (w.from + i) (w.from + count) (omega (arith, lt))))
 
 pub share_one : (views : List View) (o : Out) (n : ℕ) (p : Placed) (b k : ℕ) → is_shared o n ≡ true → lies_in (view views (o.first + n)) (length p.items) b k ≡ true → share_of views o n p b k ≡ 1
-share_one views o n p b k e e' = taken (is_shared o n && lies_in (view views (o.first + n)) (length p.items) b k) 1 0 (both_true (is_shared o n) (lies_in (view views (o.first + n)) (length p.items) b k) e e')
+share_one views o n p b k e e' = taken (is_shared o n && lies_in (view views (o.first + n)) (length p.items) b k) 1 0
+    (both_true (is_shared o n) (lies_in (view views (o.first + n)) (length p.items) b k) e e')
 
 -- what is lent is no share
 pub share_not : (views : List View) (o : Out) (n : ℕ) (p : Placed) (b k : ℕ) → is_shared o n ≡ false → share_of views o n p b k ≡ 0
-share_not views o n p b k e = not_taken (is_shared o n && lies_in (view views (o.first + n)) (length p.items) b k) 1 0 (first_false (is_shared o n) (lies_in (view views (o.first + n)) (length p.items) b k) e)
+share_not views o n p b k e = not_taken (is_shared o n && lies_in (view views (o.first + n)) (length p.items) b k) 1 0
+    (first_false (is_shared o n) (lies_in (view views (o.first + n)) (length p.items) b k) e)
 
 -- of a place that does not lie in a slice that is no share
-pub share_beside : (views : List View) (o : Out) (n : ℕ) (p : Placed) (b k : ℕ) → ((at : ℕ) → at < length p.items → b ≡ (view views (o.first + n)).block → k ≡ (view views (o.first + n)).from + at → ⊥) → share_of views o n p b k ≡ 0
+pub share_beside : (views : List View) (o : Out) (n : ℕ) (p : Placed) (b k : ℕ)
+    → ((at : ℕ) → at < length p.items → b ≡ (view views (o.first + n)).block → k ≡ (view views (o.first + n)).from + at → ⊥) → share_of views o n p b k ≡ 0
 share_beside views o n p b k apart = ⊎_elim
     (λ x.
     let w : View = view views (o.first + n) in
@@ -83,15 +87,19 @@ share_beside views o n p b k apart = ⊎_elim
     (share_or views o n p b k)
 
 -- places that are shared alike by each slice are so by all
-shares_eq : (views : List View) (o : Out) (b k k' n : ℕ) (ps : List Placed) → ((j : ℕ) (p : Placed) → slice_get ps j ≡ Some p → share_of views o (n + j) p b k ≡ share_of views o (n + j) p b k') → shares_in views o n ps b k ≡ shares_in views o n ps b k'
+shares_eq : (views : List View) (o : Out) (b k k' n : ℕ) (ps : List Placed)
+    → ((j : ℕ) (p : Placed) → slice_get ps j ≡ Some p → share_of views o (n + j) p b k ≡ share_of views o (n + j) p b k')
+    → shares_in views o n ps b k ≡ shares_in views o n ps b k'
 shares_eq views o b k k' n [] same = refl
 shares_eq views o b k k' n (p ∷ ps) same =
     let at : n + 0 ≡ n = omega arith in
     let first : share_of views o n p b k ≡ share_of views o n p b k' = ap (λ x. share_of views o x p b k) (sym at) ∙ same 0 p refl ∙ ap (λ x. share_of views o x p b k') at in
-    let rest = shares_eq views o b k k' (suc n) ps (λ j q e. let next : suc n + j ≡ n + suc j = omega arith in ap (λ x. share_of views o x q b k) next ∙ same (suc j) q e ∙ ap (λ x. share_of views o x q b k') (sym next)) in
+    let rest = shares_eq views o b k k' (suc n) ps (λ j q e. let next : suc n + j ≡ n + suc j = omega arith in
+    ap (λ x. share_of views o x q b k) next ∙ same (suc j) q e ∙ ap (λ x. share_of views o x q b k') (sym next)) in
     omega (arith, first, rest)
 
-all_shares_eq : (views : List View) (outs : List Out) (b k k' : ℕ) → ((j : ℕ) (o : Out) → slice_get outs j ≡ Some o → (n : ℕ) (p : Placed) → slice_get o.slices n ≡ Some p → share_of views o n p b k ≡ share_of views o n p b k') → shares_at views outs b k ≡ shares_at views outs b k'
+all_shares_eq : (views : List View) (outs : List Out) (b k k' : ℕ) → ((j : ℕ) (o : Out) → slice_get outs j ≡ Some o → (n : ℕ) (p : Placed)
+    → slice_get o.slices n ≡ Some p → share_of views o n p b k ≡ share_of views o n p b k') → shares_at views outs b k ≡ shares_at views outs b k'
 all_shares_eq views [] b k k' same = refl
 all_shares_eq views (o ∷ outs) b k k' same =
     let zero_is : (n : ℕ) → 0 + n ≡ n = λ n. omega arith in
@@ -119,7 +127,8 @@ module _ (m : Memory) (outs : List Out) (lie : AllLie m outs) where
       (λ z. z)
       (share_or m.views o n p b k))
     where
-      clash : (j : ℕ) (o : Out) → slice_get outs j ≡ Some o → (n : ℕ) (p : Placed) → slice_get o.slices n ≡ Some p → is_shared o n ≡ true → lies_in (view m.views (o.first + n)) (length p.items) b k ≡ true → ⊥
+      clash : (j : ℕ) (o : Out) → slice_get outs j ≡ Some o → (n : ℕ) (p : Placed) → slice_get o.slices n ≡ Some p → is_shared o n ≡ true
+          → lies_in (view m.views (o.first + n)) (length p.items) b k ≡ true → ⊥
       clash j o is_out n p is shared inside =
           let w : View = view m.views (o.first + n) in
           let at = lies_at w (length p.items) b k inside in
@@ -264,7 +273,8 @@ module _ (m : Memory) (outs : List Out) (real : List Lodged) (u : LiesUnder outs
       got.1 ∙ ap (λ d. Some d) (u.rights w'.block (w'.from + k) got.0 got.1)
 
   -- that to each is the same
-  pub rights_alike : AllLie m outs → (k : ℕ) → k < length xs → slice_get (block real w'.block).rights (w'.from + k) ≡ Some ((block real w'.block).spot.halved + shares_at m.views outs w'.block (w'.from + 0))
+  pub rights_alike : AllLie m outs → (k : ℕ) → k < length xs → slice_get (block real w'.block).rights (w'.from + k)
+      ≡ Some ((block real w'.block).spot.halved + shares_at m.views outs w'.block (w'.from + 0))
   rights_alike lie k lt =
       right_seen k lt ∙ ap (λ n. Some ((block real w'.block).spot.halved + n))
       (subst (λ (v : View). shares_at m.views outs v.block (v.from + k) ≡ shares_at m.views outs v.block (v.from + 0)) (sym h.same) (alike m outs lie h.cell xs h.has k 0 lt (omega (arith, lt))))

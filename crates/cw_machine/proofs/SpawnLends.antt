@@ -16,7 +16,8 @@ use Rattle.cw_code.specs.declared.code.Loan.TheVariants.{Array, Reader}
 use Rattle.cw_code.specs.declared.code.Instr.{Instr}
 use Rattle.cw_code.specs.declared.code.Instr.TheVariants.{Call}
 use Rattle.cw_code.specs.Code.{code_view}
-use Rattle.cw_code.specs.Run.{Slots, Readers, Taken, Waiting, Around, Caller, State, On, Stops, Stuck, is_full, and_array, reader, lent_in, moved_out, arrays_in, on_arrays, may_begin, begun, begins, call_of, enter, passed_by, lent_by, act, step}
+use Rattle.cw_code.specs.Run.{Slots, Readers, Taken, Waiting, Around, Caller, State, On, Stops, Stuck, is_full, and_array, reader, lent_in}
+use Rattle.cw_code.specs.Run.{moved_out, arrays_in, on_arrays, may_begin, begun, begins, call_of, enter, passed_by, lent_by, act, step}
 use Rattle.cw_code.specs.Fits.{Row, Outer, is_full_in, slots_lent, with_gone, leaves, nexts, FlowsIntoEach}
 use Rattle.cw_code.specs.Good.{Seat, GoodState}
 use Rattle.cw_code.specs.lemmas.Slots.{covers_true, set_frozen, whole_slots}
@@ -34,7 +35,8 @@ and_some (Some (Some xs)) None all e = cc
 and_some (Some (Some xs)) (Some others) all e = (refl, (others, refl))
 
 -- an array that is lent is there
-pub full_lent : (loans : List Loan) (arrays : Slots (List ℤ)) (readers lent : Readers) (a : ℕ) → lent_in loans arrays readers ≡ Some lent → is_among a (slots_lent loans) ≡ true → is_full (slice_get arrays a) ≡ true
+pub full_lent : (loans : List Loan) (arrays : Slots (List ℤ)) (readers lent : Readers) (a : ℕ) → lent_in loans arrays readers ≡ Some lent
+    → is_among a (slots_lent loans) ≡ true → is_full (slice_get arrays a) ≡ true
 full_lent [] arrays readers lent a e among = cc
 full_lent (Reader r ∷ loans) arrays readers lent a e among =
     let x = and_some (reader readers r) (lent_in loans arrays readers) lent e in full_lent loans arrays readers x.1.0 a x.1.1 among
@@ -43,7 +45,9 @@ full_lent (Array b ∷ loans) arrays readers lent a e among = at (λ others is h
     x : (is_full (slice_get arrays b) ≡ true) × ((others : List (List ℤ)) × (lent_in loans arrays readers ≡ Some others))
     x = and_some (slice_get arrays b) (lent_in loans arrays readers) lent e
 
-    at : ((others : Readers) → lent_in loans arrays readers ≡ Some others → is_among a (slots_lent loans) ≡ true → is_full (slice_get arrays a) ≡ true) → (t : Bool) → nat_eq b a ≡ t → (if t then true else is_among a (slots_lent loans)) ≡ true → is_full (slice_get arrays a) ≡ true
+    at : ((others : Readers) → lent_in loans arrays readers ≡ Some others → is_among a (slots_lent loans) ≡ true
+        → is_full (slice_get arrays a) ≡ true) → (t : Bool) → nat_eq b a ≡ t → (if t then true else is_among a (slots_lent loans)) ≡ true
+        → is_full (slice_get arrays a) ≡ true
     at more true is h = ap (λ k. is_full (slice_get arrays k)) (sym (eq_of b a is)) ∙ x.0
     at more false is h = more x.1.0 x.1.1 h
 
@@ -57,7 +61,8 @@ marked : (slots : List ℕ) (row : Row) (a : ℕ) → is_among a slots ≡ true 
 marked [] row a among = cc
 marked (b ∷ slots) row a among = at (λ h. marked slots row a h) (nat_eq b a) refl among
   where
-    at : (is_among a slots ≡ true → is_full_in (slice_get (with_gone slots row) a) ≡ false) → (t : Bool) → nat_eq b a ≡ t → (if t then true else is_among a slots) ≡ true → is_full_in (slice_get (slice_set (with_gone slots row) b true) a) ≡ false
+    at : (is_among a slots ≡ true → is_full_in (slice_get (with_gone slots row) a) ≡ false) → (t : Bool) → nat_eq b a ≡ t
+        → (if t then true else is_among a slots) ≡ true → is_full_in (slice_get (slice_set (with_gone slots row) b true) a) ≡ false
     at more true is h = subst (λ k. is_full_in (slice_get (slice_set (with_gone slots row) k true) a) ≡ false) (sym (eq_of b a is)) (mark_here (with_gone slots row) a)
     at more false is h = set_frozen (with_gone slots row) a b (more h)
 
@@ -71,7 +76,8 @@ module _ (s s' : State) (kind : CallKind) (c : Callee) (passed : List ℕ) (loan
   first_around : (w w' : Waiting) (around around' : List Around) → Caller w ∷ around ≡ Caller w' ∷ around' → w ≡ w'
   first_around w w' around around' e = cc
 
-  begun_it : (f : Func) (given : List (List ℤ)) (lent : Readers) → lent_in loans (moved_out passed s.arrays) s.readers ≡ Some lent → (t : Bool) → (if t then On (begun s (call_of s kind c passed f given lent)) else Stuck) ≡ On s' → Began s s' passed loans
+  begun_it : (f : Func) (given : List (List ℤ)) (lent : Readers) → lent_in loans (moved_out passed s.arrays) s.readers ≡ Some lent → (t : Bool)
+      → (if t then On (begun s (call_of s kind c passed f given lent)) else Stuck) ≡ On s' → Began s s' passed loans
   begun_it f given lent there true e = record {
     lent = lent;
     there = there;
@@ -84,15 +90,19 @@ module _ (s s' : State) (kind : CallKind) (c : Callee) (passed : List ℕ) (loan
   }
   begun_it f given lent there false e = cc
 
-  by_lent : (f : Func) (given : List (List ℤ)) (o : Option Readers) → lent_in loans (moved_out passed s.arrays) s.readers ≡ o → on_arrays o (λ lent. begins s (call_of s kind c passed f given lent)) ≡ On s' → Began s s' passed loans
+  by_lent : (f : Func) (given : List (List ℤ)) (o : Option Readers) → lent_in loans (moved_out passed s.arrays) s.readers ≡ o
+      → on_arrays o (λ lent. begins s (call_of s kind c passed f given lent)) ≡ On s' → Began s s' passed loans
   by_lent f given None is e = cc
   by_lent f given (Some lent) is e = begun_it f given lent is (may_begin s (call_of s kind c passed f given lent)) e
 
-  by_arrays : (f : Func) (o : Option (List (List ℤ))) → on_arrays o (λ given. on_arrays (lent_in loans (moved_out passed s.arrays) s.readers) (λ lent. begins s (call_of s kind c passed f given lent))) ≡ On s' → Began s s' passed loans
+  by_arrays : (f : Func) (o : Option (List (List ℤ))) → on_arrays o (λ given. on_arrays (lent_in loans (moved_out passed s.arrays) s.readers)
+      (λ lent. begins s (call_of s kind c passed f given lent))) ≡ On s' → Began s s' passed loans
   by_arrays f None e = cc
   by_arrays f (Some given) e = by_lent f given (lent_in loans (moved_out passed s.arrays) s.readers) refl e
 
-  by_depth : (f : Func) (t : Bool) (trap : Trap) (line : ℕ) → (if t then Stops trap line s.trace.lines else on_arrays (arrays_in passed s.arrays) (λ given. on_arrays (lent_in loans (moved_out passed s.arrays) s.readers) (λ lent. begins s (call_of s kind c passed f given lent)))) ≡ On s' → Began s s' passed loans
+  by_depth : (f : Func) (t : Bool) (trap : Trap) (line : ℕ) → (if t then Stops trap line s.trace.lines
+      else on_arrays (arrays_in passed s.arrays) (λ given. on_arrays (lent_in loans (moved_out passed s.arrays) s.readers)
+      (λ lent. begins s (call_of s kind c passed f given lent)))) ≡ On s' → Began s s' passed loans
   by_depth f true trap line e = cc
   by_depth f false trap line e = by_arrays f (arrays_in passed s.arrays) e
 
@@ -101,7 +111,8 @@ module _ (s s' : State) (kind : CallKind) (c : Callee) (passed : List ℕ) (loan
   began (Some f) e = by_depth f (nat_lt MOST_DEPTH (s.depth + 1)) trap.TooDeep c.line e
 
 -- a spawn of such a call was done
-call_keeps : (v : Verified) (is : IsFit v) (s s' : State) (good : GoodState (code_view v.code) is.fits s) (c : Callee) → slice_get (code_view v.code).instrs s.place ≡ Some (Call Spawned c) → step (code_view v.code) s ≡ On s' →
+call_keeps : (v : Verified) (is : IsFit v) (s s' : State) (good : GoodState (code_view v.code) is.fits s) (c : Callee)
+    → slice_get (code_view v.code).instrs s.place ≡ Some (Call Spawned c) → step (code_view v.code) s ≡ On s' →
     (w : Waiting) (around : List Around) → s'.around ≡ Caller w ∷ around → KeepsLent v is w (slots_lent (lent_by (code_view v.code) c.lent))
 call_keeps v is s s' good c instr steps w around e a among =
     let code = code_view v.code in
@@ -113,7 +124,8 @@ call_keeps v is s s' good c instr steps w around e a among =
     let table = (is.fits.each good.seat.index good.seat.func good.seat.is_func).table in
     let l = (subst (λ i. FlowsIntoEach table (leaves code good.seat.shape i) (nexts s.place i)) same facts.leads).0 in
     let many = length-map l.there.outer (λ (o : Outer). o.frozen) in
-    let frozen : is_full_in (slice_get l.there.frozen a) ≡ false = covers_true l.there.frozen (with_gone (slots_lent loans) good.seat.shape.frozen) a l.covers_frozen (marked (slots_lent loans) good.seat.shape.frozen a among) in
+    let frozen : is_full_in (slice_get l.there.frozen a) ≡ false = covers_true l.there.frozen
+    (with_gone (slots_lent loans) good.seat.shape.frozen) a l.covers_frozen (marked (slots_lent loans) good.seat.shape.frozen a among) in
     let here : (seat : Seat code is.fits (s.place + 1)) × IsFrozenBy seat.shape a =
     (record { index = good.seat.index; func = good.seat.func; is_func = good.seat.is_func; shape = l.there; at = l.found }, inl (omega (arith, many), frozen)) in
     let there = subst (λ p. (seat : Seat code is.fits p) × IsFrozenBy seat.shape a) (sym at.0) here in (
@@ -126,7 +138,9 @@ none_among : (a : ℕ) → is_among a [] ≡ true → ⊥
 none_among a e = cc
 
 -- whatever instruction spawned
-pub spawn_keeps : (v : Verified) (is : IsFit v) (s s' : State) (good : GoodState (code_view v.code) is.fits s) (i : Instr) → slice_get (code_view v.code).instrs s.place ≡ Some i → (before : List Around) (target : Option ℕ) (taken : List Taken) → turn_of (code_view v.code) (Some i) before ≡ HandsOut target taken → step (code_view v.code) s ≡ On s' →
+pub spawn_keeps : (v : Verified) (is : IsFit v) (s s' : State) (good : GoodState (code_view v.code) is.fits s) (i : Instr)
+    → slice_get (code_view v.code).instrs s.place ≡ Some i → (before : List Around) (target : Option ℕ) (taken : List Taken)
+    → turn_of (code_view v.code) (Some i) before ≡ HandsOut target taken → step (code_view v.code) s ≡ On s' →
     (w : Waiting) (around : List Around) → s'.around ≡ Caller w ∷ around → KeepsLent v is w (slots_lent_by (code_view v.code) (Some i))
 spawn_keeps v is s s' good (Call Spawned c) at before target taken t steps w around e = call_keeps v is s s' good c at steps w around e
 spawn_keeps v is s s' good (Call Plain c) at before target taken t steps w around e = λ a among. absurd (never t)

@@ -22,7 +22,8 @@ SeesShared given slots views views' =
     (a : ℕ) → a < length given → (a < slots → 0 < (placed given a).spot.halved) → view views' (length given + a) ≡ view views (length given + a)
 
 module _ (given : List Placed) (slots : ℕ) (views : List View) where
-  pub stay_as : (arrays arrays' : Slots (List ℤ)) (readers : Readers) → KeepsShared given slots arrays arrays' → SharesStay given slots views arrays readers → SharesStay given slots views arrays' readers
+  pub stay_as : (arrays arrays' : Slots (List ℤ)) (readers : Readers) → KeepsShared given slots arrays arrays'
+      → SharesStay given slots views arrays readers → SharesStay given slots views arrays' readers
   stay_as arrays arrays' readers keeps h = record {
     as_many = h.as_many;
     some = h.some;
@@ -33,13 +34,15 @@ module _ (given : List Placed) (slots : ℕ) (views : List View) where
 
   -- other arrays in the call that runs: those of the first one, where no call waits
   pub stay_round : (arrays arrays' : Slots (List ℤ)) (readers : Readers) (around : List Around) → (AreBlocks around → KeepsShared given slots arrays arrays')
-      → SharesStay given slots views (outermost_arrays arrays around) (outermost_readers readers around) → SharesStay given slots views (outermost_arrays arrays' around) (outermost_readers readers around)
+      → SharesStay given slots views (outermost_arrays arrays around) (outermost_readers readers around)
+      → SharesStay given slots views (outermost_arrays arrays' around) (outermost_readers readers around)
   stay_round arrays arrays' readers [] keeps h = stay_as arrays arrays' readers (keeps tt) h
   stay_round arrays arrays' readers (Caller w ∷ around) keeps h = h
   stay_round arrays arrays' readers (Block o ∷ around) keeps h = stay_round arrays arrays' readers around keeps h
 
   -- and other views
-  pub stay_seen : (views' : List View) (arrays : Slots (List ℤ)) (readers : Readers) → SeesShared given slots views views' → SharesStay given slots views arrays readers → SharesStay given slots views' arrays readers
+  pub stay_seen : (views' : List View) (arrays : Slots (List ℤ)) (readers : Readers) → SeesShared given slots views views'
+      → SharesStay given slots views arrays readers → SharesStay given slots views' arrays readers
   stay_seen views' arrays readers seen h = record {
     as_many = h.as_many;
     some = h.some;
@@ -49,11 +52,13 @@ module _ (given : List Placed) (slots : ℕ) (views : List View) where
   }
 
 -- what waits for a join goes back into slots that are empty
-pub keeps_settled : (given : List Placed) (slots : ℕ) (arrived : Results (List ℤ)) (arrays : Slots (List ℤ)) → ((a : ℕ) → is_full (slice_get arrays a) ≡ true → IsNotAmong a (slots_in arrived)) → KeepsShared given slots arrays (settled arrived arrays)
+pub keeps_settled : (given : List Placed) (slots : ℕ) (arrived : Results (List ℤ)) (arrays : Slots (List ℤ))
+    → ((a : ℕ) → is_full (slice_get arrays a) ≡ true → IsNotAmong a (slots_in arrived)) → KeepsShared given slots arrays (settled arrived arrays)
 keeps_settled given slots arrived arrays apart a lt some e = settled_beside arrived arrays a (apart a (ap is_full e)) ∙ e
 
 -- another slot was written
-pub keeps_set : (given : List Placed) (slots : ℕ) (arrays : Slots (List ℤ)) (b : ℕ) (xs : List ℤ) → ((a : ℕ) → a < slots → 0 < (placed given a).spot.halved → a ≢ b) → KeepsShared given slots arrays (slice_set arrays b (Some xs))
+pub keeps_set : (given : List Placed) (slots : ℕ) (arrays : Slots (List ℤ)) (b : ℕ) (xs : List ℤ)
+    → ((a : ℕ) → a < slots → 0 < (placed given a).spot.halved → a ≢ b) → KeepsShared given slots arrays (slice_set arrays b (Some xs))
 keeps_set given slots arrays b xs apart a lt some e = set_other arrays b a (Some xs) (apart a lt some) ∙ e
 
 -- others were moved out
@@ -61,5 +66,6 @@ pub moved_beside : (passed : List ℕ) (arrays : Slots (List ℤ)) (a : ℕ) →
 moved_beside [] arrays a none = refl
 moved_beside (b ∷ passed) arrays a none = set_other (moved_out passed arrays) b a None none.0 ∙ moved_beside passed arrays a none.1
 
-pub keeps_moved : (given : List Placed) (slots : ℕ) (arrays : Slots (List ℤ)) (passed : List ℕ) → ((a : ℕ) → a < slots → 0 < (placed given a).spot.halved → IsNotAmong a passed) → KeepsShared given slots arrays (moved_out passed arrays)
+pub keeps_moved : (given : List Placed) (slots : ℕ) (arrays : Slots (List ℤ)) (passed : List ℕ)
+    → ((a : ℕ) → a < slots → 0 < (placed given a).spot.halved → IsNotAmong a passed) → KeepsShared given slots arrays (moved_out passed arrays)
 keeps_moved given slots arrays passed apart a lt some e = moved_beside passed arrays a (apart a lt some) ∙ e

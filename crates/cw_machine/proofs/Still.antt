@@ -7,7 +7,8 @@ use Rattle.cw_slices.specs.Blocks.{Lodged}
 use Rattle.cw_code.specs.Run.{Around, Caller, Block}
 use Rattle.cw_machine.specs.declared.machine.Frame.{Frame}
 use Rattle.cw_machine.specs.declared.machine.View.{View}
-use Rattle.cw_machine.specs.Arrays.{Out, upto, view, no_block, block, IsBare, found, put, kept_of, Memory, IsOut, shares_at, IsLent, IsSharedOut, LiesAway, AreAway, AllAbove, Floored, AllFrom, OutsAt, AreGiven}
+use Rattle.cw_machine.specs.Arrays.{Out, upto, view, no_block, block, IsBare, found, put, kept_of, Memory, IsOut, shares_at, IsLent}
+use Rattle.cw_machine.specs.Arrays.{IsSharedOut, LiesAway, AreAway, AllAbove, Floored, AllFrom, OutsAt, AreGiven}
 use Rattle.std.proofs.lemmas.Option.{slice_get_within, same_Some}
 use Rattle.cw_machine.proofs.Blocks.{found_is}
 use Rattle.cw_machine.proofs.Places.{less_or, Steady, has_steady}
@@ -33,18 +34,43 @@ outs_here outs first (f ∷ frames) (Caller w ∷ around) h = h.0
 abbrev pub OutsSeen : (views views' : List View) → List Out → Type 0
 OutsSeen views views' outs = (j : ℕ) (o : Out) → slice_get outs j ≡ Some o → (n : ℕ) → n < length o.slices → view views' (o.first + n) ≡ view views (o.first + n)
 
-pub seen_below : (m : Memory) (views' : List View) (first round : ℕ) (outs : List Out) → Floored outs first → AreAway m first round outs → ((c : ℕ) → c < first → view views' c ≡ view m.views c) → OutsSeen m.views views' outs
+pub seen_below : (m : Memory) (views' : List View) (first round : ℕ) (outs : List Out) → Floored outs first → AreAway m first round outs
+    → ((c : ℕ) → c < first → view views' c ≡ view m.views c) → OutsSeen m.views views' outs
 seen_below m views' first round outs floors away same j o e n lt = let f = floors j o e in let ends = (away j o e).ends in same (o.first + n) (omega (arith, f, ends, lt))
 
 pub outs_on : (views views' : List View) (outs : List Out) → OutsSeen views views' outs → (b k : ℕ) → IsOut views outs b k → IsOut views' outs b k
 outs_on views views' outs seen b k o =
     let is = seen o.index o.out o.is_out o.slot (slice_get_within o.out.slices o.slot o.slice o.is_slice) in
-    record { index = o.index; out = o.out; slot = o.slot; slice = o.slice; at = o.at; is_out = o.is_out; is_slice = o.is_slice; moved = o.moved; within = o.within; in_block = o.in_block ∙ ap (λ (w : View). w.block) (sym is); in_place = o.in_place ∙ ap (λ (w : View). w.from + o.at) (sym is) }
+    record {
+      index = o.index;
+      out = o.out;
+      slot = o.slot;
+      slice = o.slice;
+      at = o.at;
+      is_out = o.is_out;
+      is_slice = o.is_slice;
+      moved = o.moved;
+      within = o.within;
+      in_block = o.in_block ∙ ap (λ (w : View). w.block) (sym is);
+      in_place = o.in_place ∙ ap (λ (w : View). w.from + o.at) (sym is);
+    }
 
 pub outs_back : (views views' : List View) (outs : List Out) → OutsSeen views views' outs → (b k : ℕ) → IsOut views' outs b k → IsOut views outs b k
 outs_back views views' outs seen b k o =
     let is = seen o.index o.out o.is_out o.slot (slice_get_within o.out.slices o.slot o.slice o.is_slice) in
-    record { index = o.index; out = o.out; slot = o.slot; slice = o.slice; at = o.at; is_out = o.is_out; is_slice = o.is_slice; moved = o.moved; within = o.within; in_block = o.in_block ∙ ap (λ (w : View). w.block) is; in_place = o.in_place ∙ ap (λ (w : View). w.from + o.at) is }
+    record {
+      index = o.index;
+      out = o.out;
+      slot = o.slot;
+      slice = o.slice;
+      at = o.at;
+      is_out = o.is_out;
+      is_slice = o.is_slice;
+      moved = o.moved;
+      within = o.within;
+      in_block = o.in_block ∙ ap (λ (w : View). w.block) is;
+      in_place = o.in_place ∙ ap (λ (w : View). w.from + o.at) is;
+    }
 
 few_taken : (n : ℕ) (ps : List Placed) → length (take n ps) ≤ length ps
 few_taken zero ps = omega arith
@@ -57,7 +83,8 @@ get_drop (suc n) [] k o e = cc
 get_drop (suc n) (x ∷ outs) k o e = let same : suc n + k ≡ suc (n + k) = omega arith in ap (slice_get (x ∷ outs)) same ∙ get_drop n outs k o e
 
 -- an array that is out is so still where arrays and blocks below the call are as they were
-module _ (m m' : Memory) (first round : ℕ) (outs : List Out) (floors : Floored outs first) (steady : (c : ℕ) → c < first → Steady m m' c) (kept : (c : ℕ) → c < first → kept_of m'.blocks c ≡ kept_of m.blocks c) (away : AreAway m first round outs) where
+module _ (m m' : Memory) (first round : ℕ) (outs : List Out) (floors : Floored outs first) (steady : (c : ℕ) → c < first → Steady m m' c)
+    (kept : (c : ℕ) → c < first → kept_of m'.blocks c ≡ kept_of m.blocks c) (away : AreAway m first round outs) where
   seen : OutsSeen m.views m'.views outs
   seen = seen_below m m'.views first round outs floors away (λ c lt. (steady c lt).same)
 
@@ -93,7 +120,8 @@ module _ (m m' : Memory) (first round : ℕ) (outs : List Out) (floors : Floored
     shared_on : IsSharedOut m outs (drop (suc j) outs) o k p → IsSharedOut m' outs (drop (suc j) outs) o k p
     shared_on h = record {
       low = subst (λ (x : View). x.block < o.floor) (sym same) h.low;
-      spot = h.spot ∙ ap (λ (q : Spot × List Bool). shared_after w.from p.spot.halved q.0) (sym (block_kept h.low)) ∙ ap (λ (x : View). shared_after x.from p.spot.halved (kept_of m'.blocks x.block).0) (sym same);
+      spot = h.spot ∙ ap (λ (q : Spot × List Bool). shared_after w.from p.spot.halved q.0) (sym (block_kept h.low))
+          ∙ ap (λ (x : View). shared_after x.from p.spot.halved (kept_of m'.blocks x.block).0) (sym same);
       halved = λ i lt. subst (λ (x : View). p.spot.halved ≡ (kept_of m'.blocks x.block).0.halved + shares_at m'.views (upto o k ∷ drop (suc j) outs) x.block (x.from + i)) (sym same)
           (h.halved i lt
           ∙ ap (λ (q : Spot × List Bool). q.0.halved + shares_at m.views (upto o k ∷ drop (suc j) outs) w.block (w.from + i)) (sym (block_kept h.low))
@@ -123,11 +151,14 @@ away_on m m' first first' round round' outs floors up steady kept h = λ j o e.
     }
 
 -- the same with the call where it is
-pub away_here : (m m' : Memory) (first round : ℕ) (outs : List Out) → Floored outs first → ((c : ℕ) → c < first → Steady m m' c) → ((c : ℕ) → c < first → kept_of m'.blocks c ≡ kept_of m.blocks c) → AreAway m first round outs → AreAway m' first round outs
+pub away_here : (m m' : Memory) (first round : ℕ) (outs : List Out) → Floored outs first → ((c : ℕ) → c < first → Steady m m' c)
+    → ((c : ℕ) → c < first → kept_of m'.blocks c ≡ kept_of m.blocks c) → AreAway m first round outs → AreAway m' first round outs
 away_here m m' first round outs floors = away_on m m' first first round round outs floors (λ j o e le. (le, λ lt. floors j o e))
 
 -- with one block more round it
-pub away_up : (m m' : Memory) (first first' round : ℕ) (outs : List Out) → Floored outs first → first ≤ first' → ((c : ℕ) → c < first → Steady m m' c) → ((c : ℕ) → c < first → kept_of m'.blocks c ≡ kept_of m.blocks c) → AreAway m first round outs → AreAway m' first' (suc round) outs
+pub away_up : (m m' : Memory) (first first' round : ℕ) (outs : List Out) → Floored outs first → first ≤ first'
+    → ((c : ℕ) → c < first → Steady m m' c) → ((c : ℕ) → c < first → kept_of m'.blocks c ≡ kept_of m.blocks c) → AreAway m first round outs
+    → AreAway m' first' (suc round) outs
 away_up m m' first first' round outs floors le = away_on m m' first first' round (suc round) outs floors (λ j o e l. (omega (arith, l), λ lt. (let f = floors j o e in omega (arith, f, le))))
 
 -- no share that was given is written, and no other block comes to be a share

@@ -1,5 +1,6 @@
 -- The blocks of a machine under those that its state is shown in, after a change of both.
-use Rattle.std.proofs.Common.{◌≡◌, ◌≢◌, ◌⊎◌, inl, inr, ⊎_elim, ℕ, zero, suc, ◌+◌, ◌^◌, ◌<◌, ◌≤◌, ℤ, Bool, Option, Some, None, List, [], ◌∷◌, ◌++◌, length, refl, sym, ap, ◌∙◌, subst, arith, length-append}
+use Rattle.std.proofs.Common.{◌≡◌, ◌≢◌, ◌⊎◌, inl, inr, ⊎_elim, ℕ, zero, suc, ◌+◌, ◌^◌, ◌<◌, ◌≤◌, ℤ, Bool, Option, Some, None}
+use Rattle.std.proofs.Common.{List, [], ◌∷◌, ◌++◌, length, refl, sym, ap, ◌∙◌, subst, arith, length-append}
 use Rattle.std.specs.Prelude.{take, replicate, is_some, slice_get, slice_set}
 use Rattle.std.proofs.lemmas.List.{length-set, length-map, length-replicate, get_or-set_other, get_or-set_same}
 use Rattle.std.proofs.lemmas.Option.{slice_get_within, same_Some}
@@ -43,7 +44,8 @@ out_owned m first round outs b k floors away o =
     omega (arith, f, ends, slot, e)
 
 -- other views above what is out
-pub under_views : (m : Memory) (views' : List View) (real blocks : List Lodged) (first round : ℕ) (outs : List Out) → Floored outs first → AreAway m first round outs → ((c : ℕ) → c < first → view views' c ≡ view m.views c) → LiesUnder outs m.views real blocks → LiesUnder outs views' real blocks
+pub under_views : (m : Memory) (views' : List View) (real blocks : List Lodged) (first round : ℕ) (outs : List Out) → Floored outs first
+    → AreAway m first round outs → ((c : ℕ) → c < first → view views' c ≡ view m.views c) → LiesUnder outs m.views real blocks → LiesUnder outs views' real blocks
 under_views m views' real blocks first round outs floors away same u = record {
   as_many = u.as_many;
   spots = u.spots;
@@ -63,7 +65,8 @@ pub found_under : (outs : List Out) (views : List View) (real blocks : List Lodg
 found_under outs views real blocks b k x u e = let f = found_is real b k x e in is_found blocks b k x f.0 (u.same b k x f.1)
 
 -- and the other way round where it is not out
-pub found_beside : (outs : List Out) (views : List View) (real blocks : List Lodged) (b k : ℕ) (x : ℤ) → LiesUnder outs views real blocks → (IsOut views outs b k → ⊥) → found blocks b k ≡ Some x → found real b k ≡ Some x
+pub found_beside : (outs : List Out) (views : List View) (real blocks : List Lodged) (b k : ℕ) (x : ℤ) → LiesUnder outs views real blocks
+    → (IsOut views outs b k → ⊥) → found blocks b k ≡ Some x → found real b k ≡ Some x
 found_beside outs views real blocks b k x u none e = at (slice_get (block real b).cells k) refl
   where
     f : (k < 2 ^ 60) × (slice_get (block blocks b).cells k ≡ Some (Some x))
@@ -81,11 +84,14 @@ found_beside outs views real blocks b k x u none e = at (slice_get (block real b
     at (Some None) is = absurd (none (u.missing b k is))
     at (Some (Some y)) is = is_found real b k x f.0 (is ∙ ap (λ z. Some z) (same_Some (Some y) (Some x) (sym (u.same b k y is) ∙ f.1)))
 
-pub found_in : (m : Memory) (real : List Lodged) (first round : ℕ) (outs : List Out) (b k : ℕ) (x : ℤ) → Floored outs first → AreAway m first round outs → LiesUnder outs m.views real m.blocks → first ≤ m.owner b k → found m.blocks b k ≡ Some x → found real b k ≡ Some x
+pub found_in : (m : Memory) (real : List Lodged) (first round : ℕ) (outs : List Out) (b k : ℕ) (x : ℤ) → Floored outs first
+    → AreAway m first round outs → LiesUnder outs m.views real m.blocks → first ≤ m.owner b k → found m.blocks b k ≡ Some x → found real b k ≡ Some x
 found_in m real first round outs b k x floors away u le e = found_beside outs m.views real m.blocks b k x u (λ o. let lt = out_owned m first round outs b k floors away o in omega (arith, lt, le)) e
 
 -- an array of the call that runs lies in the machine's own blocks
-pub has_in : (m : Memory) (real : List Lodged) (first round : ℕ) (outs : List Out) (c : ℕ) (xs : List ℤ) → Floored outs first → AreAway m first round outs → LiesUnder outs m.views real m.blocks → first ≤ c → Has m c xs → Has (record { views = m.views; blocks = real; owner = m.owner }) c xs
+pub has_in : (m : Memory) (real : List Lodged) (first round : ℕ) (outs : List Out) (c : ℕ) (xs : List ℤ) → Floored outs first
+    → AreAway m first round outs → LiesUnder outs m.views real m.blocks → first ≤ c → Has m c xs
+    → Has (record { views = m.views; blocks = real; owner = m.owner }) c xs
 has_in m real first round outs c xs floors away u le h = record {
   len = h.len;
   lies = λ i x e.
@@ -103,7 +109,8 @@ put_rights (w ∷ blocks) (suc b) k x zero = refl
 put_rights (w ∷ blocks) (suc b) k x (suc c) = put_rights blocks b k x c
 
 -- a number is written
-pub under_put : (outs : List Out) (views : List View) (real blocks : List Lodged) (b k : ℕ) (x y : ℤ) → found real b k ≡ Some y → LiesUnder outs views real blocks → LiesUnder outs views (put real b k x) (put blocks b k x)
+pub under_put : (outs : List Out) (views : List View) (real blocks : List Lodged) (b k : ℕ) (x y : ℤ) → found real b k ≡ Some y
+    → LiesUnder outs views real blocks → LiesUnder outs views (put real b k x) (put blocks b k x)
 under_put outs views real blocks b k x y e u =
     let f = found_is real b k y e in
     let e' = found_under outs views real blocks b k y u e in
@@ -115,7 +122,9 @@ under_put outs views real blocks b k x y e u =
       spots = λ c. ap (λ (q : Spot × List Bool). q.0) (kept_put real b k x y e c) ∙ u.spots c ∙ sym (ap (λ (q : Spot × List Bool). q.0) (kept_put blocks b k x y e' c));
       as_long = λ c. long real c (kept_put real b k x y e c) ∙ u.as_long c ∙ sym (long blocks c (kept_put blocks b k x y e' c));
       same = λ c j z is. ⊎_elim
-          (λ at. subst (λ i. slice_get (block (put blocks b k x) i).cells j ≡ Some (Some z)) (sym at.0) (ap (λ i. slice_get (block (put blocks b k x) b).cells i) at.1 ∙ there ∙ sym here ∙ sym (ap (λ i. slice_get (block (put real b k x) i).cells j) at.0 ∙ ap (λ i. slice_get (block (put real b k x) b).cells i) at.1) ∙ is))
+          (λ at. subst (λ i. slice_get (block (put blocks b k x) i).cells j ≡ Some (Some z)) (sym at.0)
+          (ap (λ i. slice_get (block (put blocks b k x) b).cells i) at.1 ∙ there ∙ sym here
+          ∙ sym (ap (λ i. slice_get (block (put real b k x) i).cells j) at.0 ∙ ap (λ i. slice_get (block (put real b k x) b).cells i) at.1) ∙ is))
           (λ n. cell_put_other blocks b k x c j n ∙ u.same c j z (sym (other c j n) ∙ is))
           (place_or c j);
       missing = λ c j is. ⊎_elim
@@ -154,14 +163,16 @@ more_halved [] more c none = (none c).2
 more_halved (w ∷ blocks) more zero none = refl
 more_halved (w ∷ blocks) more (suc c) none = more_halved blocks more c none
 
-more_spots : (real blocks more : List Lodged) (c : ℕ) → length real ≡ length blocks → ((b : ℕ) → (block real b).spot ≡ (block blocks b).spot) → (block (real ++ more) c).spot ≡ (block (blocks ++ more) c).spot
+more_spots : (real blocks more : List Lodged) (c : ℕ) → length real ≡ length blocks → ((b : ℕ) → (block real b).spot ≡ (block blocks b).spot)
+    → (block (real ++ more) c).spot ≡ (block (blocks ++ more) c).spot
 more_spots [] [] more c n e = refl
 more_spots [] (w ∷ blocks) more c n e = absurd (omega (arith, n))
 more_spots (w ∷ real) [] more c n e = absurd (omega (arith, n))
 more_spots (w ∷ real) (w' ∷ blocks) more zero n e = e 0
 more_spots (w ∷ real) (w' ∷ blocks) more (suc c) n e = more_spots real blocks more c (omega (arith, n)) (λ b. e (suc b))
 
-pub under_more : (outs : List Out) (views : List View) (real blocks more : List Lodged) → ((k : ℕ) → IsBare (block more k)) → LiesUnder outs views real blocks → LiesUnder outs views (real ++ more) (blocks ++ more)
+pub under_more : (outs : List Out) (views : List View) (real blocks more : List Lodged) → ((k : ℕ) → IsBare (block more k))
+    → LiesUnder outs views real blocks → LiesUnder outs views (real ++ more) (blocks ++ more)
 under_more outs views real blocks more none u =
     let r : (c : ℕ) → (block (real ++ more) c).cells ≡ (block real c).cells = λ c. more_cells real more c none in
     let s : (c : ℕ) → (block (blocks ++ more) c).cells ≡ (block blocks c).cells = λ c. more_cells blocks more c none in
@@ -184,17 +195,24 @@ replicated (suc n) d zero x e = sym (same_Some d x e)
 replicated (suc n) d (suc k) x e = replicated n d k x e
 
 -- a new block, all in, at a cell of the call that runs
-pub under_set : (m : Memory) (views' : List View) (real : List Lodged) (first round : ℕ) (outs : List Out) (c : ℕ) (w : Lodged) (xs : List ℤ) → w.cells ≡ ins xs → IsWhole w → first ≤ c → Floored outs first → AreAway m first round outs → ((d : ℕ) → d < first → view views' d ≡ view m.views d) → LiesUnder outs m.views real m.blocks → LiesUnder outs views' (slice_set real c w) (slice_set m.blocks c w)
+pub under_set : (m : Memory) (views' : List View) (real : List Lodged) (first round : ℕ) (outs : List Out) (c : ℕ) (w : Lodged) (xs : List ℤ)
+    → w.cells ≡ ins xs → IsWhole w → first ≤ c → Floored outs first → AreAway m first round outs
+    → ((d : ℕ) → d < first → view views' d ≡ view m.views d) → LiesUnder outs m.views real m.blocks
+    → LiesUnder outs views' (slice_set real c w) (slice_set m.blocks c w)
 under_set m views' real first round outs c w xs all whole le floors away same u = under_views m views' (slice_set real c w) (slice_set m.blocks c w) first round outs floors away same (record {
   as_many = length-set real c w ∙ u.as_many ∙ sym (length-set m.blocks c w);
   spots = λ b. both (λ v v'. v.spot ≡ v'.spot) real m.blocks c b u.as_many (λ d. u.spots d) refl;
   as_long = λ b. both (λ v v'. length v.cells ≡ length v'.cells) real m.blocks c b u.as_many (λ d. u.as_long d) refl;
   same = λ b k x. both (λ v v'. slice_get v.cells k ≡ Some (Some x) → slice_get v'.cells k ≡ Some (Some x)) real m.blocks c b u.as_many (λ d. u.same d k x) (λ e. e);
   missing = λ b k is. ⊎_elim
-      (λ e. ⊎_elim (λ lt. absurd (never_out xs k (sym (ap (λ l. slice_get l k) all) ∙ sym (ap (λ (v : Lodged). slice_get v.cells k) (get_or-set_same real c w no_block lt)) ∙ sym (ap (λ i. slice_get (block (slice_set real c w) i).cells k) e) ∙ is))) (λ ge. absurd (past (slice_set real c w) b k (let n = length-set real c w in omega (arith, n, ge, e)) is)) (less_or c (length real)))
+      (λ e. ⊎_elim (λ lt. absurd (never_out xs k (sym (ap (λ l. slice_get l k) all)
+      ∙ sym (ap (λ (v : Lodged). slice_get v.cells k) (get_or-set_same real c w no_block lt))
+      ∙ sym (ap (λ i. slice_get (block (slice_set real c w) i).cells k) e) ∙ is)))
+      (λ ge. absurd (past (slice_set real c w) b k (let n = length-set real c w in omega (arith, n, ge, e)) is)) (less_or c (length real)))
       (λ n. u.missing b k (sym (ap (λ (v : Lodged). slice_get v.cells k) (get_or-set_other real c b w no_block n)) ∙ is))
       (same_or b c);
-  gone = λ b k o. ap (λ (v : Lodged). slice_get v.cells k) (get_or-set_other real c b w no_block (λ e. (let lt = out_low m first round outs b k floors away o in omega (arith, lt, le, e)))) ∙ u.gone b k o;
+  gone = λ b k o. ap (λ (v : Lodged). slice_get v.cells k) (get_or-set_other real c b w no_block
+      (λ e. (let lt = out_low m first round outs b k floors away o in omega (arith, lt, le, e)))) ∙ u.gone b k o;
   righted = λ b. ⊎_elim
       (λ x. ap (λ (v : Lodged). length v.rights) x.1 ∙ ap length whole ∙ length-replicate (length w.cells) w.spot.halved ∙ sym (ap (λ (v : Lodged). length v.cells) x.1))
       (λ x. ap (λ (v : Lodged). length v.rights) x ∙ u.righted b ∙ sym (ap (λ (v : Lodged). length v.cells) x))
@@ -217,7 +235,8 @@ under_set m views' real first round outs c w xs all whole le floors away same u 
     set_cases (v ∷ real) (suc c) zero = inr refl
     set_cases (v ∷ real) (suc c) (suc b) = ⊎_elim (λ x. inl (ap suc x.0, x.1)) (λ x. inr x) (set_cases real c b)
 
-    both : (P : Lodged → Lodged → Type 0) (real blocks : List Lodged) (c b : ℕ) → length real ≡ length blocks → ((d : ℕ) → P (block real d) (block blocks d)) → P w w → P (block (slice_set real c w) b) (block (slice_set blocks c w) b)
+    both : (P : Lodged → Lodged → Type 0) (real blocks : List Lodged) (c b : ℕ) → length real ≡ length blocks
+        → ((d : ℕ) → P (block real d) (block blocks d)) → P w w → P (block (slice_set real c w) b) (block (slice_set blocks c w) b)
     both P [] [] c b n h same = h b
     both P [] (v ∷ blocks) c b n h same = absurd (omega (arith, n))
     both P (v ∷ real) [] c b n h same = absurd (omega (arith, n))
@@ -231,26 +250,29 @@ under_set m views' real first round outs c w xs all whole le floors away same u 
     past (v ∷ bs) zero k le e = absurd (omega (arith, le))
     past (v ∷ bs) (suc b) k le e = past bs b k (omega (arith, le)) e
 
-pub under_take : (m : Memory) (real : List Lodged) (first round : ℕ) (outs : List Out) → Floored outs first → AreAway m first round outs → LiesUnder outs m.views real m.blocks → LiesUnder outs (take first m.views) (take first real) (take first m.blocks)
-under_take m real first round outs floors away u = under_views m (take first m.views) (take first real) (take first m.blocks) first round outs floors away (λ c lt. view_take m.views first c lt) (record {
-  as_many = many real m.blocks first u.as_many;
-  spots = λ b. both (λ v v'. v.spot ≡ v'.spot) b (u.spots b) refl;
-  as_long = λ b. both (λ v v'. length v.cells ≡ length v'.cells) b (u.as_long b) refl;
-  same = λ b k x. both (λ v v'. slice_get v.cells k ≡ Some (Some x) → slice_get v'.cells k ≡ Some (Some x)) b (u.same b k x) (λ e. e);
-  missing = λ b k is. ⊎_elim
-      (λ lt. u.missing b k (sym (ap (λ (v : Lodged). slice_get v.cells k) (block_take real first b lt)) ∙ is))
-      (λ le. absurd (nowhere k (sym (ap (λ (v : Lodged). slice_get v.cells k) (block_past real first b le)) ∙ is)))
-      (less_or b first);
-  gone = λ b k o. ap (λ (v : Lodged). slice_get v.cells k) (block_take real first b (out_low m first round outs b k floors away o)) ∙ u.gone b k o;
-  righted = λ b. ⊎_elim
-      (λ lt. let v = block_take real first b lt in ap (λ (v : Lodged). length v.rights) v ∙ u.righted b ∙ sym (ap (λ (v : Lodged). length v.cells) v))
-      (λ le. let v = block_past real first b le in ap (λ (v : Lodged). length v.rights) v ∙ sym (ap (λ (v : Lodged). length v.cells) v))
-      (less_or b first);
-  rights = λ b k d is. ⊎_elim
-      (λ lt. let v = block_take real first b lt in u.rights b k d (sym (ap (λ (v : Lodged). slice_get v.rights k) v) ∙ is) ∙ ap (λ (v : Lodged). v.spot.halved + shares_at m.views outs b k) (sym v))
-      (λ le. absurd (no_right k d (sym (ap (λ (v : Lodged). slice_get v.rights k) (block_past real first b le)) ∙ is)))
-      (less_or b first);
-})
+pub under_take : (m : Memory) (real : List Lodged) (first round : ℕ) (outs : List Out) → Floored outs first → AreAway m first round outs
+    → LiesUnder outs m.views real m.blocks → LiesUnder outs (take first m.views) (take first real) (take first m.blocks)
+under_take m real first round outs floors away u = under_views m (take first m.views) (take first real)
+    (take first m.blocks) first round outs floors away (λ c lt. view_take m.views first c lt) (record {
+      as_many = many real m.blocks first u.as_many;
+      spots = λ b. both (λ v v'. v.spot ≡ v'.spot) b (u.spots b) refl;
+      as_long = λ b. both (λ v v'. length v.cells ≡ length v'.cells) b (u.as_long b) refl;
+      same = λ b k x. both (λ v v'. slice_get v.cells k ≡ Some (Some x) → slice_get v'.cells k ≡ Some (Some x)) b (u.same b k x) (λ e. e);
+      missing = λ b k is. ⊎_elim
+          (λ lt. u.missing b k (sym (ap (λ (v : Lodged). slice_get v.cells k) (block_take real first b lt)) ∙ is))
+          (λ le. absurd (nowhere k (sym (ap (λ (v : Lodged). slice_get v.cells k) (block_past real first b le)) ∙ is)))
+          (less_or b first);
+      gone = λ b k o. ap (λ (v : Lodged). slice_get v.cells k) (block_take real first b (out_low m first round outs b k floors away o)) ∙ u.gone b k o;
+      righted = λ b. ⊎_elim
+          (λ lt. let v = block_take real first b lt in ap (λ (v : Lodged). length v.rights) v ∙ u.righted b ∙ sym (ap (λ (v : Lodged). length v.cells) v))
+          (λ le. let v = block_past real first b le in ap (λ (v : Lodged). length v.rights) v ∙ sym (ap (λ (v : Lodged). length v.cells) v))
+          (less_or b first);
+      rights = λ b k d is. ⊎_elim
+          (λ lt. let v = block_take real first b lt in u.rights b k d (sym (ap (λ (v : Lodged). slice_get v.rights k) v) ∙ is)
+          ∙ ap (λ (v : Lodged). v.spot.halved + shares_at m.views outs b k) (sym v))
+          (λ le. absurd (no_right k d (sym (ap (λ (v : Lodged). slice_get v.rights k) (block_past real first b le)) ∙ is)))
+          (less_or b first);
+    })
   where
     nowhere : (k : ℕ) → slice_get no_block.cells k ≡ Some None → ⊥
     nowhere k e = cc

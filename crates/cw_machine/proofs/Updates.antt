@@ -1,5 +1,6 @@
 -- How many values a run can add to its reducers, and what their totals can come to.
-use Rattle.std.proofs.Common.{◌≡◌, ℕ, zero, suc, ◌+◌, ◌*◌, ◌≤◌, ℤ, pos, negsuc, ◌+ℤ◌, Bool, true, false, if◌then◌else◌, Option, Some, None, List, [], ◌∷◌, ◌++◌, length, refl, sym, ap, ◌∙◌, arith, length-append, unsigned_abs, FitsSigned, w64}
+use Rattle.std.proofs.Common.{◌≡◌, ℕ, zero, suc, ◌+◌, ◌*◌, ◌≤◌, ℤ, pos, negsuc, ◌+ℤ◌, Bool, true, false, if◌then◌else◌, Option, Some, None, List}
+use Rattle.std.proofs.Common.{[], ◌∷◌, ◌++◌, length, refl, sym, ap, ◌∙◌, arith, length-append, unsigned_abs, FitsSigned, w64}
 use Rattle.std.specs.Prelude.{map, slice_get}
 use Rattle.std.specs.Int.{w128}
 use Rattle.std.proofs.lemmas.Int.{ints, int_wrap_fits, fits_signed_from_abs}
@@ -131,11 +132,13 @@ totals_are code totals ts h le = each code.reducers totals h.as_many h.are
     without_line : coded.Reducer → Reducer
     without_line r = record { name = r.name; how = r.how; line = 0 }
 
-    each : (reducers : List coded.Reducer) (totals : List Total) → length totals ≡ length reducers → ((k : ℕ) (r : coded.Reducer) → slice_get reducers k ≡ Some r → slice_get totals k ≡ Some (kept (total_to r.how r.name ts))) →
+    each : (reducers : List coded.Reducer) (totals : List Total) → length totals ≡ length reducers
+        → ((k : ℕ) (r : coded.Reducer) → slice_get reducers k ≡ Some r → slice_get totals k ≡ Some (kept (total_to r.how r.name ts))) →
         totals_of ts (map without_line reducers) ≡ totals
     each [] [] n are = refl
     each [] (x ∷ totals) n are = absurd (omega (arith, n))
     each (r ∷ reducers) [] n are = absurd (omega (arith, n))
     each (r ∷ reducers) (x ∷ totals) n are =
         let same : x ≡ kept (total_to r.how r.name ts) = let at = are 0 r refl in cc in
-        ap (λ z. z ∷ totals_of ts (map without_line reducers)) (sym (kept_whole r.how r.name ts h.fit le) ∙ sym same) ∙ ap (λ l. x ∷ l) (each reducers totals (omega (arith, n)) (λ k other e. are (suc k) other e))
+        ap (λ z. z ∷ totals_of ts (map without_line reducers)) (sym (kept_whole r.how r.name ts h.fit le) ∙ sym same)
+        ∙ ap (λ l. x ∷ l) (each reducers totals (omega (arith, n)) (λ k other e. are (suc k) other e))

@@ -1,5 +1,6 @@
 -- Where the arrays of the call that waits nearest lie, and which of them stay here when it is handed out.
-use Rattle.std.proofs.Common.{◌≡◌, ◌≢◌, ◌⊎◌, inl, inr, ⊎_elim, ℕ, zero, suc, ◌+◌, ◌-◌, ◌<◌, ◌≤◌, ℤ, pos, Bool, true, false, Option, Some, None, List, [], ◌∷◌, ◌++◌, length, map, refl, sym, ap, ◌∙◌, subst, arith, if◌then◌else◌, nat_lt}
+use Rattle.std.proofs.Common.{◌≡◌, ◌≢◌, ◌⊎◌, inl, inr, ⊎_elim, ℕ, zero, suc, ◌+◌, ◌-◌, ◌<◌, ◌≤◌, ℤ, pos, Bool, true, false, Option, Some, None}
+use Rattle.std.proofs.Common.{List, [], ◌∷◌, ◌++◌, length, map, refl, sym, ap, ◌∙◌, subst, arith, if◌then◌else◌, nat_lt}
 use Rattle.std.specs.Prelude.{reverse, drop, nat_eq, nat_le, slice_get, slice_index_or}
 use Rattle.std.proofs.lemmas.List.{reverse-reverse, get_or-reverse, length-reverse}
 use Rattle.std.proofs.lemmas.Option.{same_Some, none-some}
@@ -58,7 +59,8 @@ found_cut c first cells le =
 
 past_cut : (cell c first : ℕ) (cells : List ℕ) → first ≤ c → c ≢ cell → is_cut_among cell first (c ∷ cells) ≡ is_cut_among cell first cells
 past_cut cell c first cells le n =
-    not_taken (nat_lt c first) false (if nat_eq c cell then true else is_cut_among cell first cells) (not_below c first le) ∙ not_taken (nat_eq c cell) true (is_cut_among cell first cells) (not_equal c cell n)
+    not_taken (nat_lt c first) false (if nat_eq c cell then true else is_cut_among cell first cells) (not_below c first le)
+    ∙ not_taken (nat_eq c cell) true (is_cut_among cell first cells) (not_equal c cell n)
 
 ends_cut : (cell c first : ℕ) (cells : List ℕ) → c < first → is_cut_among cell first (c ∷ cells) ≡ false
 ends_cut cell c first cells lt = taken (nat_lt c first) false (if nat_eq c cell then true else is_cut_among cell first cells) (below c first lt)
@@ -75,8 +77,10 @@ cut_here cuts k c lt e = at (reverse cuts) k (let n = length-reverse cuts in ome
 pub search_ends : (cell first : ℕ) (cuts : List ℕ) (k c : ℕ) → k < length cuts → c ≡ slice_index_or cuts (length cuts - 1 - k) c → c < first → is_cut_among cell first (drop k (reverse cuts)) ≡ false
 search_ends cell first cuts k c lt e below_first = ap (is_cut_among cell first) (cut_here cuts k c lt e) ∙ ends_cut cell c first (drop (k + 1) (reverse cuts)) below_first
 
-pub search_finds : (cell first : ℕ) (cuts : List ℕ) (k c : ℕ) → k < length cuts → c ≡ slice_index_or cuts (length cuts - 1 - k) c → first ≤ c → c ≡ cell → is_cut_among cell first (drop k (reverse cuts)) ≡ true
-search_finds cell first cuts k c lt e le same = ap (is_cut_among cell first) (cut_here cuts k c lt e) ∙ ap (λ z. is_cut_among z first (c ∷ drop (k + 1) (reverse cuts))) (sym same) ∙ found_cut c first (drop (k + 1) (reverse cuts)) le
+pub search_finds : (cell first : ℕ) (cuts : List ℕ) (k c : ℕ) → k < length cuts → c ≡ slice_index_or cuts (length cuts - 1 - k) c → first ≤ c
+    → c ≡ cell → is_cut_among cell first (drop k (reverse cuts)) ≡ true
+search_finds cell first cuts k c lt e le same = ap (is_cut_among cell first) (cut_here cuts k c lt e)
+    ∙ ap (λ z. is_cut_among z first (c ∷ drop (k + 1) (reverse cuts))) (sym same) ∙ found_cut c first (drop (k + 1) (reverse cuts)) le
 
 pub search_goes_on : (cell first : ℕ) (cuts : List ℕ) (k c : ℕ) → k < length cuts → c ≡ slice_index_or cuts (length cuts - 1 - k) c → first ≤ c → c ≢ cell
     → is_cut_among cell first (drop (k + 1) (reverse cuts)) ≡ is_cut_among cell first (drop k (reverse cuts))
@@ -92,13 +96,15 @@ module _ (v : Verified) (ok : Ok v) (m : Memory) where
 
   -- a slot that stays for no cut, and has elements, has no cut's array
   cut_or : (first n a : ℕ) (c : Option Halves) (parts : List ℕ) (given round : ℕ) (rest : List ℕ) → CutIn m first n c parts given ok.home ok.outer round
-      → is_cut_among (first + a) first (cut_cell ok.outer round first c ++ rest) ≡ false → 0 < (view m.views (first + a)).len → IsNotAmong a (slot_cut c) × (is_cut_among (first + a) first rest ≡ false)
+      → is_cut_among (first + a) first (cut_cell ok.outer round first c ++ rest) ≡ false → 0 < (view m.views (first + a)).len
+      → IsNotAmong a (slot_cut c) × (is_cut_among (first + a) first rest ≡ false)
   cut_or first n a None parts given round rest cut e some = (tt, e)
   cut_or first n a (Some h) parts given round rest cut e some = own (nat_le ok.outer round) refl
     where
       own : (t : Bool) → nat_le ok.outer round ≡ t → IsNotAmong a (h.array ∷ []) × (is_cut_among (first + a) first rest ≡ false)
       own true q =
-          let is : is_cut_among (first + a) first ((first + h.array) ∷ rest) ≡ false = sym (ap (λ l. is_cut_among (first + a) first (l ++ rest)) (taken (nat_le ok.outer round) ((first + h.array) ∷ []) [] q)) ∙ e in
+          let is : is_cut_among (first + a) first ((first + h.array) ∷ rest) ≡ false =
+          sym (ap (λ l. is_cut_among (first + a) first (l ++ rest)) (taken (nat_le ok.outer round) ((first + h.array) ∷ []) [] q)) ∙ e in
           ⊎_elim
           (λ r. absurd (true≢false (sym (found_cut (first + a) first rest (omega arith)) ∙ ap (λ k. is_cut_among (first + a) first ((first + k) ∷ rest)) r ∙ is)))
           (λ ne. ((ne, tt), sym (past_cut (first + a) (first + h.array) first rest (omega arith) (λ r. ne (omega (arith, r)))) ∙ is))
@@ -113,7 +119,8 @@ module _ (v : Verified) (ok : Ok v) (m : Memory) where
 
   -- a slot that stays for no cut waits for nothing in the open blocks, or its array lies here already
   pub round_or : (place first n : ℕ) (frames : List Frame) (around : List Around) → RoundOn v ok m place first n frames around → (a : ℕ)
-      → is_cut_among (first + a) first (cut_cells ok.outer first frames around) ≡ false → 0 < (view m.views (first + a)).len → IsNotAmong a (all_of (arrays_round around)) ⊎ ((xs : List ℤ) × Has m (first + a) xs)
+      → is_cut_among (first + a) first (cut_cells ok.outer first frames around) ≡ false → 0 < (view m.views (first + a)).len
+      → IsNotAmong a (all_of (arrays_round around)) ⊎ ((xs : List ℤ) × Has m (first + a) xs)
   round_or place first n frames [] h a e some = inl tt
   round_or place first n frames (Caller w ∷ around) h a e some = inl tt
   round_or place first n frames (Block o ∷ around) h a e some =
@@ -127,14 +134,17 @@ module _ (v : Verified) (ok : Ok v) (m : Memory) where
       (coming_or first n o.arrived h.0 a)
 
   -- no cut of a call below is found
-  none_below : (cell top place first n : ℕ) (frames : List Frame) (around : List Around) → first + n ≤ top → RoundOn v ok m place first n frames around → is_cut_among cell top (cut_cells ok.outer first frames around) ≡ false
+  none_below : (cell top place first n : ℕ) (frames : List Frame) (around : List Around) → first + n ≤ top
+      → RoundOn v ok m place first n frames around → is_cut_among cell top (cut_cells ok.outer first frames around) ≡ false
   none_below cell top place first n frames [] le h = refl
   none_below cell top place first n frames (Caller w ∷ around) le h =
       ap (λ fs. is_cut_among cell top (cut_cells ok.outer first fs (Caller w ∷ around))) h.2
       ∙ none_below cell top w.place h.0.first_array (length w.arrays) h.1 around (let ends = h.5.ends in omega (arith, ends, le)) h.6
   none_below cell top place first n frames (Block o ∷ around) le h = cases o.cut h.1 (none_below cell top place first n frames around le h.2)
     where
-      cases : (c : Option Halves) → CutIn m first n c (parts_round around) (taken_round ok.params around) ok.home ok.outer (length around) → is_cut_among cell top (cut_cells ok.outer first frames around) ≡ false → is_cut_among cell top (cut_cell ok.outer (length around) first c ++ cut_cells ok.outer first frames around) ≡ false
+      cases : (c : Option Halves) → CutIn m first n c (parts_round around) (taken_round ok.params around) ok.home ok.outer (length around)
+          → is_cut_among cell top (cut_cells ok.outer first frames around) ≡ false
+          → is_cut_among cell top (cut_cell ok.outer (length around) first c ++ cut_cells ok.outer first frames around) ≡ false
       cases None cut more = more
       cases (Some k) cut more = own (nat_le ok.outer (length around)) refl
         where
@@ -144,15 +154,18 @@ module _ (v : Verified) (ok : Ok v) (m : Memory) where
           own false q = ap (λ l. is_cut_among cell top (l ++ cut_cells ok.outer first frames around)) (not_taken (nat_le ok.outer (length around)) ((first + k.array) ∷ []) [] q) ∙ more
 
   -- a slot that waits for nothing in the open blocks stays for no cut
-  pub none_cut : (place first n : ℕ) (frames : List Frame) (around : List Around) → RoundOn v ok m place first n frames around → (a : ℕ) → IsNotAmong a (all_of (arrays_round around)) → is_cut_among (first + a) first (cut_cells ok.outer first frames around) ≡ false
+  pub none_cut : (place first n : ℕ) (frames : List Frame) (around : List Around) → RoundOn v ok m place first n frames around → (a : ℕ)
+      → IsNotAmong a (all_of (arrays_round around)) → is_cut_among (first + a) first (cut_cells ok.outer first frames around) ≡ false
   none_cut place first n frames [] h a none = refl
   none_cut place first n frames (Caller w ∷ around) h a none =
       ap (λ fs. is_cut_among (first + a) first (cut_cells ok.outer first fs (Caller w ∷ around))) h.2
       ∙ none_below (first + a) first w.place h.0.first_array (length w.arrays) h.1 around (let ends = h.5.ends in omega (arith, ends)) h.6
-  none_cut place first n frames (Block o ∷ around) h a none = cases o.cut (not_in_first a (slot_cut o.cut) (slots_in o.arrived) (not_in_first a (slot_cut o.cut ++ slots_in o.arrived) (all_of (arrays_round around)) none))
+  none_cut place first n frames (Block o ∷ around) h a none = cases o.cut
+      (not_in_first a (slot_cut o.cut) (slots_in o.arrived) (not_in_first a (slot_cut o.cut ++ slots_in o.arrived) (all_of (arrays_round around)) none))
       (none_cut place first n frames around h.2 a (not_in_second a (slot_cut o.cut ++ slots_in o.arrived) (all_of (arrays_round around)) none))
     where
-      cases : (c : Option Halves) → IsNotAmong a (slot_cut c) → is_cut_among (first + a) first (cut_cells ok.outer first frames around) ≡ false → is_cut_among (first + a) first (cut_cell ok.outer (length around) first c ++ cut_cells ok.outer first frames around) ≡ false
+      cases : (c : Option Halves) → IsNotAmong a (slot_cut c) → is_cut_among (first + a) first (cut_cells ok.outer first frames around) ≡ false
+          → is_cut_among (first + a) first (cut_cell ok.outer (length around) first c ++ cut_cells ok.outer first frames around) ≡ false
       cases None apart more = more
       cases (Some k) apart more = own (nat_le ok.outer (length around)) refl
         where
@@ -185,15 +198,18 @@ module _ (v : Verified) (ok : Ok v) (m : Memory) where
               let is = ap (λ l. is_cut_among (first + a) first (l ++ cut_cells ok.outer first frames around)) (taken (nat_le ok.outer (length around)) ((first + g.array) ∷ []) [] q) in
               ⊎_elim
               (λ y. inl (is ∙ ⊎_elim
-              (λ r. ap (λ i. is_cut_among (first + a) first ((first + i) ∷ cut_cells ok.outer first frames around)) (sym r) ∙ found_cut (first + a) first (cut_cells ok.outer first frames around) (omega arith))
+              (λ r. ap (λ i. is_cut_among (first + a) first ((first + i) ∷ cut_cells ok.outer first frames around)) (sym r)
+              ∙ found_cut (first + a) first (cut_cells ok.outer first frames around) (omega arith))
               (λ ne. past_cut (first + a) (first + g.array) first (cut_cells ok.outer first frames around) (omega arith) (λ r. ne (omega (arith, r))) ∙ y)
               (same_or a g.array)))
               (λ y. inr y)
               x
-          own false q = ⊎_elim (λ y. inl (ap (λ l. is_cut_among (first + a) first (l ++ cut_cells ok.outer first frames around)) (not_taken (nat_le ok.outer (length around)) ((first + g.array) ∷ []) [] q) ∙ y)) (λ y. inr y) x
+          own false q = ⊎_elim (λ y. inl (ap (λ l. is_cut_among (first + a) first (l ++ cut_cells ok.outer first frames around))
+              (not_taken (nat_le ok.outer (length around)) ((first + g.array) ∷ []) [] q) ∙ y)) (λ y. inr y) x
 
       cases : (c : Option Halves) (k : ℕ) → CutIn m first n c (parts_round around) (taken_round ok.params around) ok.home ok.outer (length around)
-          → ((j : ℕ) → slice_get (cut_slots around) j ≡ Some a → (is_cut_among (first + a) first (cut_cells ok.outer first frames around) ≡ true) ⊎ ((view m.views (first + a)).len ≡ 0)) → slice_get (slot_cut c ++ cut_slots around) k ≡ Some a
+          → ((j : ℕ) → slice_get (cut_slots around) j ≡ Some a → (is_cut_among (first + a) first (cut_cells ok.outer first frames around) ≡ true)
+          ⊎ ((view m.views (first + a)).len ≡ 0)) → slice_get (slot_cut c ++ cut_slots around) k ≡ Some a
           → (is_cut_among (first + a) first (cut_cell ok.outer (length around) first c ++ cut_cells ok.outer first frames around) ≡ true) ⊎ ((view m.views (first + a)).len ≡ 0)
       cases None k cut more e = more k e
       cases (Some g) (suc k) cut more e = further (Some g) (more k e)
@@ -205,7 +221,8 @@ module _ (v : Verified) (ok : Ok v) (m : Memory) where
           own : (t : Bool) → nat_le ok.outer (length around) ≡ t
               → (is_cut_among (first + a) first (cut_cell ok.outer (length around) first (Some g) ++ cut_cells ok.outer first frames around) ≡ true) ⊎ ((view m.views (first + a)).len ≡ 0)
           own true q = inl (ap (λ l. is_cut_among (first + a) first (l ++ cut_cells ok.outer first frames around)) (taken (nat_le ok.outer (length around)) ((first + g.array) ∷ []) [] q)
-              ∙ ap (λ i. is_cut_among (first + a) first ((first + i) ∷ cut_cells ok.outer first frames around)) same ∙ found_cut (first + a) first (cut_cells ok.outer first frames around) (omega arith))
+              ∙ ap (λ i. is_cut_among (first + a) first ((first + i) ∷ cut_cells ok.outer first frames around)) same
+              ∙ found_cut (first + a) first (cut_cells ok.outer first frames around) (omega arith))
           own false q = inr (ap (λ i. (view m.views (first + i)).len) (sym same) ∙ (cut.stays (not_le_of ok.outer (length around) q)).bare)
 
 slots_both : (xs ys : Results (List ℤ)) → slots_in (xs ++ ys) ≡ slots_in xs ++ slots_in ys
@@ -231,7 +248,8 @@ awaited_arrays (Some a) None s s' e = absurd (stuck_on s' e)
 awaited_arrays (Some a) (Some x) s s' e =
     let same = same_state (record s { results = (a, x) ∷ s.results }) s' e in (ap (λ (z : State). z.arrays) (sym same), ap (λ (z : State). z.arrived) (sym same))
 
-module _ (v : Verified) (ok : Ok v) (m : Machine) (s : State) (w : Waiting) (around : List Around) (passed : List ℕ) (shows : Shows v ok m s) (is_waiting : s.around ≡ Caller w ∷ around) (spawned : w.kind ≡ Spawned) (took : map slot_taken w.taken ≡ passed) where
+module _ (v : Verified) (ok : Ok v) (m : Machine) (s : State) (w : Waiting) (around : List Around) (passed : List ℕ) (shows : Shows v ok m s)
+    (is_waiting : s.around ≡ Caller w ∷ around) (spawned : w.kind ≡ Spawned) (took : map slot_taken w.taken ≡ passed) where
   abbrev memory : Memory
   memory = record { views = m.views.items; blocks = shows.arrays.1; owner = shows.arrays.0 }
 
@@ -262,7 +280,8 @@ module _ (v : Verified) (ok : Ok v) (m : Machine) (s : State) (w : Waiting) (aro
 
   -- what the call that waits reads lies behind its arrays
   pub reads_waiting : ReadsAll memory ok.outs waiting_frame.first_array (length w.arrays) m.first_array w.readers
-  reads_waiting = (subst (λ fs. RoundReads (code_view v.code) memory ok.outs m.first_array fs (Caller w ∷ around)) frames_are (subst (λ a. RoundReads (code_view v.code) memory ok.outs m.first_array (reverse m.frames.items) a) is_waiting shows.arrays.4.round)).0
+  reads_waiting = (subst (λ fs. RoundReads (code_view v.code) memory ok.outs m.first_array fs (Caller w ∷ around)) frames_are
+      (subst (λ a. RoundReads (code_view v.code) memory ok.outs m.first_array (reverse m.frames.items) a) is_waiting shows.arrays.4.round)).0
 
   pub ends_exact : waiting_frame.first_array + (length w.arrays + length w.readers) ≡ m.first_array
   ends_exact = reads_waiting.ends
@@ -297,9 +316,11 @@ module _ (v : Verified) (ok : Ok v) (m : Machine) (s : State) (w : Waiting) (aro
     where
       at : (f : Func) (shape : Shape) (x : Option ℤ) → Resumed f shape w x (empties w.taken) around quiet → Rests
       at f shape x r =
-          let went : awaited w.target x (record (going_on w around quiet) { arrived = empties w.taken ++ w.arrived }) ≡ On (record (going_on w around quiet) { slots = r.slots; arrays = r.arrays; results = r.results; arrived = r.arrived })
+          let went : awaited w.target x (record (going_on w around quiet) { arrived = empties w.taken ++ w.arrived })
+          ≡ On (record (going_on w around quiet) { slots = r.slots; arrays = r.arrays; results = r.results; arrived = r.arrived })
           = ap (λ k. result_of k w.target x (empties w.taken) (going_on w around quiet)) (sym spawned) ∙ r.went in
-          let same = awaited_arrays w.target x (record (going_on w around quiet) { arrived = empties w.taken ++ w.arrived }) (record (going_on w around quiet) { slots = r.slots; arrays = r.arrays; results = r.results; arrived = r.arrived }) went in
+          let same = awaited_arrays w.target x (record (going_on w around quiet) { arrived = empties w.taken ++ w.arrived })
+          (record (going_on w around quiet) { slots = r.slots; arrays = r.arrays; results = r.results; arrived = r.arrived }) went in
           let row : HoldsSlots f.arrays shape.gone (gone_rows shape.outer) w.arrays (slots_in (empties w.taken ++ w.arrived)) (arrays_round around)
           = subst (λ l. HoldsSlots f.arrays shape.gone (gone_rows shape.outer) l (slots_in (empties w.taken ++ w.arrived)) (arrays_round around)) same.0
           (subst (λ l. HoldsSlots f.arrays shape.gone (gone_rows shape.outer) r.arrays (slots_in l) (arrays_round around)) same.1 r.good.arrays) in
@@ -315,12 +336,14 @@ module _ (v : Verified) (ok : Ok v) (m : Machine) (s : State) (w : Waiting) (aro
           let x = value_for shows.good.seat.func.gives_int in
           at r.seat.func r.seat.shape x.0 (r.on x.0 x.1 (empties w.taken) (empties_slots w.taken) quiet)
 
-  stays_cut : (a : ℕ) → is_among a passed ≡ false → stays_here m.cuts.items waiting_frame.first_array passed a ≡ is_cut_among (waiting_frame.first_array + a) waiting_frame.first_array (cut_cells ok.outer waiting_frame.first_array frames_beyond around)
+  stays_cut : (a : ℕ) → is_among a passed ≡ false → stays_here m.cuts.items waiting_frame.first_array passed a
+      ≡ is_cut_among (waiting_frame.first_array + a) waiting_frame.first_array (cut_cells ok.outer waiting_frame.first_array frames_beyond around)
   stays_cut a e = not_taken (is_among a passed) true (is_cut_among (waiting_frame.first_array + a) waiting_frame.first_array (reverse m.cuts.items)) e
       ∙ ap (is_cut_among (waiting_frame.first_array + a) waiting_frame.first_array) cuts_are
 
   -- an array that does not stay, and has elements, lies here
-  pub lies_here : (a : ℕ) → a < length w.arrays → stays_here m.cuts.items waiting_frame.first_array passed a ≡ false → 0 < (view m.views.items (waiting_frame.first_array + a)).len → (xs : List ℤ) × Has memory (waiting_frame.first_array + a) xs
+  pub lies_here : (a : ℕ) → a < length w.arrays → stays_here m.cuts.items waiting_frame.first_array passed a ≡ false
+      → 0 < (view m.views.items (waiting_frame.first_array + a)).len → (xs : List ℤ) × Has memory (waiting_frame.first_array + a) xs
   lies_here a lt e some = cases (is_among a passed) refl
     where
       cases : (t : Bool) → is_among a passed ≡ t → (xs : List ℤ) × Has memory (waiting_frame.first_array + a) xs
@@ -328,7 +351,8 @@ module _ (v : Verified) (ok : Ok v) (m : Machine) (s : State) (w : Waiting) (aro
       cases false q = ⊎_elim
           (λ none. ⊎_elim
           (λ more.
-          let full = full_value (slice_get w.arrays a) (rests.full a lt (not_in_both a (passed ++ slots_in w.arrived) (all_of (arrays_round around)) (not_in_both a passed (slots_in w.arrived) (among_not a passed q) none) more)) in
+          let full = full_value (slice_get w.arrays a) (rests.full a lt (not_in_both a (passed ++ slots_in w.arrived) (all_of (arrays_round around))
+          (not_in_both a passed (slots_in w.arrived) (among_not a passed q) none) more)) in
           (full.0, stands_on.has a full.0 full.1))
           (λ has. has)
           (round_or v ok memory w.place waiting_frame.first_array (length w.arrays) frames_beyond around beyond a (sym (stays_cut a q) ∙ e) some))
@@ -340,14 +364,16 @@ module _ (v : Verified) (ok : Ok v) (m : Machine) (s : State) (w : Waiting) (aro
   full_goes a xs e =
       let apart = rests.apart a (ap is_full e) in
       let none = not_among a passed (not_in_first a passed (slots_in w.arrived) (not_in_first a (passed ++ slots_in w.arrived) (all_of (arrays_round around)) apart)) in
-      stays_cut a none ∙ none_cut v ok memory w.place waiting_frame.first_array (length w.arrays) frames_beyond around beyond a (not_in_second a (passed ++ slots_in w.arrived) (all_of (arrays_round around)) apart)
+      stays_cut a none ∙ none_cut v ok memory w.place waiting_frame.first_array (length w.arrays) frames_beyond around beyond a
+      (not_in_second a (passed ++ slots_in w.arrived) (all_of (arrays_round around)) apart)
 
   -- nothing is lent of an array that the spawn took, or that an open cut has
   pub passed_stays : (k a : ℕ) → slice_get passed k ≡ Some a → lent_count (stays_here m.cuts.items waiting_frame.first_array passed a) (view m.views.items (waiting_frame.first_array + a)).len ≡ 0
   passed_stays k a e = ap (λ t. lent_count t (view m.views.items (waiting_frame.first_array + a)).len)
       (taken (is_among a passed) true (is_cut_among (waiting_frame.first_array + a) waiting_frame.first_array (reverse m.cuts.items)) (is_there a passed k e))
 
-  pub uncut_stays : (k a : ℕ) → slice_get (cut_slots around) k ≡ Some a → lent_count (stays_here m.cuts.items waiting_frame.first_array passed a) (view m.views.items (waiting_frame.first_array + a)).len ≡ 0
+  pub uncut_stays : (k a : ℕ) → slice_get (cut_slots around) k ≡ Some a
+      → lent_count (stays_here m.cuts.items waiting_frame.first_array passed a) (view m.views.items (waiting_frame.first_array + a)).len ≡ 0
   uncut_stays k a e = cases (is_among a passed) refl
     where
       none : (t : Bool) → lent_count t 0 ≡ 0
@@ -355,7 +381,8 @@ module _ (v : Verified) (ok : Ok v) (m : Machine) (s : State) (w : Waiting) (aro
       none false = refl
 
       cases : (t : Bool) → is_among a passed ≡ t → lent_count (stays_here m.cuts.items waiting_frame.first_array passed a) (view m.views.items (waiting_frame.first_array + a)).len ≡ 0
-      cases true q = ap (λ t. lent_count t (view m.views.items (waiting_frame.first_array + a)).len) (taken (is_among a passed) true (is_cut_among (waiting_frame.first_array + a) waiting_frame.first_array (reverse m.cuts.items)) q)
+      cases true q = ap (λ t. lent_count t (view m.views.items (waiting_frame.first_array + a)).len)
+          (taken (is_among a passed) true (is_cut_among (waiting_frame.first_array + a) waiting_frame.first_array (reverse m.cuts.items)) q)
       cases false q = ⊎_elim
           (λ is. ap (λ t. lent_count t (view m.views.items (waiting_frame.first_array + a)).len) (stays_cut a q ∙ is))
           (λ bare. ap (lent_count (stays_here m.cuts.items waiting_frame.first_array passed a)) bare ∙ none (stays_here m.cuts.items waiting_frame.first_array passed a))

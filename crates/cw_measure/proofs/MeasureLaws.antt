@@ -5,7 +5,8 @@ use Rattle.cw_model.specs.declared.burden.Burden.{Burden}
 use Rattle.cw_model.specs.Burdens.{at_child, no_burden}
 use Rattle.cw_model.specs.Trees.{Tree, Event, Work, Series, Fork, Join, tree_of, work, span, burdened_span}
 use Rattle.cw_measure.specs.Counters.{exactly, up_to, onward, held, of_event, of_events, CountersReadSpans}
-use Rattle.cw_measure.specs.Measured.{Measured, most, most_burdened, measure_of, joined, span_read, burdened_read, after_work, after_part, after_child, after_join, ReadsTree, Measures, MeasuresReadTrees}
+use Rattle.cw_measure.specs.Measured.{Measured, most, most_burdened, measure_of, joined, span_read, burdened_read, after_work}
+use Rattle.cw_measure.specs.Measured.{after_part, after_child, after_join, ReadsTree, Measures, MeasuresReadTrees}
 use Rattle.cw_measure.specs.SumLaws.{up_to_is, exactly_is}
 use Rattle.cw_measure.specs.lemmas.BlockWeights.{child_charge}
 use Rattle.cw_measure.specs.CounterLaws.{ticked_onward, forked_onward, onward-fresh_last, synced_onward, of_events-append, heaviest-of_events}
@@ -34,9 +35,14 @@ reads_tree burden es = record {
 
 pub measure_of-append : (burden : Burden) (es fs : List Event) → measure_of burden (es ++ fs) ≡ joined (measure_of burden es) (measure_of burden fs)
 measure_of-append burden es fs =
-    let w : min most (work (tree_of (es ++ fs))) ≡ up_to most (min most (work (tree_of es))) (min most (work (tree_of fs))) = ap (min most) (work-append es fs) ∙ sym (held-sum most (work (tree_of es)) (work (tree_of fs))) in
-    let p : held most (of_events no_burden (es ++ fs)) ≡ onward (up_to most) (held most (of_events no_burden es)) (held most (of_events no_burden fs)) = ap (held most) (of_events-append no_burden es fs) ∙ sym (held-onward most (of_events no_burden es) (of_events no_burden fs) (omega arith)) in
-    let b : held most_burdened (of_events burden (es ++ fs)) ≡ onward (up_to most_burdened) (held most_burdened (of_events burden es)) (held most_burdened (of_events burden fs)) = ap (held most_burdened) (of_events-append burden es fs) ∙ sym (held-onward most_burdened (of_events burden es) (of_events burden fs) (omega arith)) in
+    let w : min most (work (tree_of (es ++ fs))) ≡ up_to most (min most (work (tree_of es))) (min most (work (tree_of fs))) =
+    ap (min most) (work-append es fs) ∙ sym (held-sum most (work (tree_of es)) (work (tree_of fs))) in
+    let p : held most (of_events no_burden (es ++ fs)) ≡ onward (up_to most) (held most (of_events no_burden es))
+    (held most (of_events no_burden fs)) = ap (held most) (of_events-append no_burden es fs)
+    ∙ sym (held-onward most (of_events no_burden es) (of_events no_burden fs) (omega arith)) in
+    let b : held most_burdened (of_events burden (es ++ fs)) ≡ onward (up_to most_burdened) (held most_burdened (of_events burden es))
+    (held most_burdened (of_events burden fs)) = ap (held most_burdened) (of_events-append burden es fs)
+    ∙ sym (held-onward most_burdened (of_events burden es) (of_events burden fs) (omega arith)) in
     cc
 
 -- the measure of one event alone
@@ -76,7 +82,8 @@ part_more burden m part es t h r =
     let all : after_part part m ≡ joined m (event_measure burden (Series t)) = cc in
     all ∙ sym (one_more burden m es (Series t) h)
 
-pub child_more : (burden : Burden) (m child : Measured) (es : List Event) (t : Tree) → burden.charge < 2 ^ 64 → Measures burden m es → ReadsTree burden child t → Measures burden (after_child burden child m) (es ++ Fork t ∷ [])
+pub child_more : (burden : Burden) (m child : Measured) (es : List Event) (t : Tree) → burden.charge < 2 ^ 64 → Measures burden m es
+    → ReadsTree burden child t → Measures burden (after_child burden child m) (es ++ Fork t ∷ [])
 child_more burden m child es t small h r =
     let z : min most 0 ≡ 0 = omega arith in
     let y : min most_burdened burden.charge ≡ burden.charge = omega arith in

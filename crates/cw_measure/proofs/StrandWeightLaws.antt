@@ -7,11 +7,14 @@ use Rattle.cw_model.specs.Trees.{Mark, Event, Work, Series, Fork, Join, tree_of,
 use Rattle.cw_measure.specs.declared.burdened_path.BurdenedBlock.{BurdenedBlock}
 use Rattle.cw_measure.specs.declared.burdened_path.BurdenedPath.{BurdenedPath}
 use Rattle.cw_measure.specs.OpenParts.{Open, in_fork, marked, closed, has_spawned, Since, work_in}
-use Rattle.cw_measure.specs.BlockWeights.{BlockWeight, Straight, Split, now_of, gone_on, child_ended, top_of, after, after_all, enters, block_weight, weight_in, burdened_work_in, WorkAndWeightAreMetered}
-use Rattle.cw_measure.specs.StrandWeights.{StrandWeight, reversed, strand_weight, goes_on, begins, begins_again, spawns, ends, joins, saved_of, Fits, StandsOn, RestsOn, Under, ShowsWeight, TellsWeight, FitsRun, HasGoneOn, noted_at, LatePathsWait, NotesLate}
+use Rattle.cw_measure.specs.BlockWeights.{BlockWeight, Straight, Split, now_of, gone_on, child_ended, top_of, after, after_all}
+use Rattle.cw_measure.specs.BlockWeights.{enters, block_weight, weight_in, burdened_work_in, WorkAndWeightAreMetered}
+use Rattle.cw_measure.specs.StrandWeights.{StrandWeight, reversed, strand_weight, goes_on, begins, begins_again, spawns, ends, joins, saved_of, Fits, StandsOn}
+use Rattle.cw_measure.specs.StrandWeights.{RestsOn, Under, ShowsWeight, TellsWeight, FitsRun, HasGoneOn, noted_at, LatePathsWait, NotesLate}
 use Rattle.cw_measure.specs.lemmas.BlockWeights.{top-after_all, child_charge}
 use Rattle.cw_measure.specs.lemmas.OpenParts.{KeptBy, kept_since, has_spawned_since, work_since, work_adds, work_more, sum_begun, left_work}
-use Rattle.cw_measure.specs.lemmas.StrandWeights.{block_more, is_split, split-block, straight, span_marked, ended_weight, weight_meters, work_meters, ShowsBlock, by_block, stands_gone_on, now_gone_on, stands_straight, span_within, event_work, sum_of_works, works_is}
+use Rattle.cw_measure.specs.lemmas.StrandWeights.{block_more, is_split, split-block, straight, span_marked, ended_weight, weight_meters, work_meters, ShowsBlock}
+use Rattle.cw_measure.specs.lemmas.StrandWeights.{by_block, stands_gone_on, now_gone_on, stands_straight, span_within, event_work, sum_of_works, works_is}
 
 abbrev pub weighs : ℕ → List BurdenedBlock → StrandWeight
 weighs n bs = record { now = n; blocks = bs }
@@ -22,7 +25,8 @@ block_of l s = record { longest = l; saved = s }
 pub same_top : (n n' l l' s : ℕ) (bs : List BurdenedBlock) → n ≡ n' → l ≡ l' → weighs n (block_of l s ∷ bs) ≡ weighs n' (block_of l' s ∷ bs)
 same_top n n' l l' s bs e f = ap (λ (x : ℕ). weighs x (block_of l s ∷ bs)) e ∙ ap (λ (x : ℕ). weighs n' (block_of x s ∷ bs)) f
 
-pub fits_top : (w : ℕ) (burden : Burden) (all : List BurdenedBlock) (b : BurdenedBlock) (bs : List BurdenedBlock) → all ≡ b ∷ bs → Fits burden (weighs w all) → (b.saved + (at_child burden + w) < 2 ^ 128) × (b.saved + at_rest burden < 2 ^ 128)
+pub fits_top : (w : ℕ) (burden : Burden) (all : List BurdenedBlock) (b : BurdenedBlock) (bs : List BurdenedBlock) → all ≡ b ∷ bs
+    → Fits burden (weighs w all) → (b.saved + (at_child burden + w) < 2 ^ 128) × (b.saved + at_rest burden < 2 ^ 128)
 fits_top w burden all b bs e h = let P : List BurdenedBlock → Type 0 = λ x. Fits burden (weighs w x) in subst P e h
 
 pub work_and_weight_are_metered : WorkAndWeightAreMetered
@@ -31,13 +35,17 @@ work_and_weight_are_metered = record { work_is = work_meters; weight_is = weight
 shows_work : (burden : Burden) (os : List Open) (es : List Event) (v : StrandWeight) (k : ℕ) → ShowsWeight burden os es v → ShowsWeight burden os (es ++ Work k ∷ []) (goes_on k v)
 shows_work burden os es v k h =
     by_block burden os (es ++ Work k ∷ []) (gone_on k (block_weight burden os es)) (goes_on k v) (block_more burden os es (Work k))
-    (record { now_is = ap (λ (x : ℕ). x + k) h.now_is ∙ sym (now_gone_on k (block_weight burden os es)); blocks_are = stands_gone_on (Under burden os) k (block_weight burden os es) v.blocks h.blocks_are })
+    (record {
+      now_is = ap (λ (x : ℕ). x + k) h.now_is ∙ sym (now_gone_on k (block_weight burden os es));
+      blocks_are = stands_gone_on (Under burden os) k (block_weight burden os es) v.blocks h.blocks_are;
+    })
 
 begins_split : (below : List BurdenedBlock → Type 0) (L : BlockWeight) (v : StrandWeight) → is_split L ≡ false → ShowsBlock below L v → RestsOn below L (begins v).blocks
 begins_split below (Straight n) v e h = (refl, h.now_is, h.blocks_are)
 begins_split below (Split l n) v e h = cc
 
-again_at : (below : List BurdenedBlock → Type 0) (L : BlockWeight) (n : ℕ) (bs : List BurdenedBlock) → is_split L ≡ true → n ≡ now_of L → StandsOn below L bs → RestsOn below L (begins_again (record { now = n; blocks = bs })).blocks
+again_at : (below : List BurdenedBlock → Type 0) (L : BlockWeight) (n : ℕ) (bs : List BurdenedBlock) → is_split L ≡ true → n ≡ now_of L
+    → StandsOn below L bs → RestsOn below L (begins_again (record { now = n; blocks = bs })).blocks
 again_at below (Straight m) n bs e f h = cc
 again_at below (Split l m) n [] e f h = absurd h
 again_at below (Split l m) n (b ∷ bs) e f h = (h.0, f, h.1)
@@ -46,7 +54,8 @@ again_now : (n : ℕ) (bs : List BurdenedBlock) → (begins_again (record { now 
 again_now n [] = refl
 again_now n (b ∷ bs) = refl
 
-shows_spawned : (first : Bool) (burden : Burden) (mark : Option Mark) (os : List Open) (es : List Event) (v : StrandWeight) → has_spawned es ≡ not first → ShowsWeight burden os es v → ShowsWeight burden (in_fork mark es os) [] (spawns first v)
+shows_spawned : (first : Bool) (burden : Burden) (mark : Option Mark) (os : List Open) (es : List Event) (v : StrandWeight)
+    → has_spawned es ≡ not first → ShowsWeight burden os es v → ShowsWeight burden (in_fork mark es os) [] (spawns first v)
 shows_spawned true burden mark os es v e h = record {
   now_is = refl;
   blocks_are = begins_split (Under burden os) (block_weight burden os es) v (split-block burden os es ∙ e) (record { now_is = h.now_is; blocks_are = h.blocks_are });
@@ -56,7 +65,8 @@ shows_spawned false burden mark os es v e h = record {
   blocks_are = again_at (Under burden os) (block_weight burden os es) v.now v.blocks (split-block burden os es ∙ e) h.now_is h.blocks_are;
 }
 
-joins_at : (below : List BurdenedBlock → Type 0) (L : BlockWeight) (n : ℕ) (bs : List BurdenedBlock) → is_split L ≡ true → n ≡ now_of L → StandsOn below L bs → ShowsBlock below (Straight (top_of L)) (joins (record { now = n; blocks = bs }))
+joins_at : (below : List BurdenedBlock → Type 0) (L : BlockWeight) (n : ℕ) (bs : List BurdenedBlock) → is_split L ≡ true → n ≡ now_of L
+    → StandsOn below L bs → ShowsBlock below (Straight (top_of L)) (joins (record { now = n; blocks = bs }))
 joins_at below (Straight m) n bs e f h = cc
 joins_at below (Split l m) n [] e f h = absurd h
 joins_at below (Split l m) n (b ∷ bs) e f h = record { now_is = ap (λ (x : ℕ). max x n) h.0 ∙ ap (max l) f; blocks_are = h.1 }
@@ -75,12 +85,15 @@ shows_unjoined burden os es v e h =
     by_block burden os (es ++ Join ∷ []) (Straight (top_of (block_weight burden os es))) v (block_more burden os es Join)
     (stays_at (Under burden os) (block_weight burden os es) v (split-block burden os es ∙ e) (record { now_is = h.now_is; blocks_are = h.blocks_are }))
 
-ends_blocks : (burden : Burden) (below : List BurdenedBlock → Type 0) (L : BlockWeight) (c : ℕ) (bs : List BurdenedBlock) → RestsOn below L bs → ShowsBlock below (child_ended burden c L) (ends burden (record { now = c; blocks = bs }))
+ends_blocks : (burden : Burden) (below : List BurdenedBlock → Type 0) (L : BlockWeight) (c : ℕ) (bs : List BurdenedBlock) → RestsOn below L bs
+    → ShowsBlock below (child_ended burden c L) (ends burden (record { now = c; blocks = bs }))
 ends_blocks burden below L c [] h = absurd h
 ends_blocks burden below (Straight n) c (b ∷ bs) h = let l = h.0 in let s = h.1 in record { now_is = ap (λ (x : ℕ). x + at_rest burden) s; blocks_are = (omega arith, h.2) }
 ends_blocks burden below (Split m n) c (b ∷ bs) h = let l = h.0 in let s = h.1 in record { now_is = ap (λ (x : ℕ). x + at_rest burden) s; blocks_are = (omega arith, h.2) }
 
-in_fork_ends : (burden : Burden) (mark : Option Mark) (outer : List Event) (os : List Open) (es : List Event) (v : StrandWeight) → has_spawned es ≡ false → ShowsWeight burden (in_fork mark outer os) es v → ShowsWeight burden os (closed (record { spawned = true; mark = mark; outer = outer }) es) (ends burden v)
+in_fork_ends : (burden : Burden) (mark : Option Mark) (outer : List Event) (os : List Open) (es : List Event) (v : StrandWeight)
+    → has_spawned es ≡ false → ShowsWeight burden (in_fork mark outer os) es v
+    → ShowsWeight burden os (closed (record { spawned = true; mark = mark; outer = outer }) es) (ends burden v)
 in_fork_ends burden mark outer os es v e h =
     let o : Open = record { spawned = true; mark = mark; outer = outer } in
     let t = marked mark (tree_of es) in
@@ -92,10 +105,12 @@ in_fork_ends burden mark outer os es v e h =
     by_block burden os (closed o es) (child_ended burden c L) (ends burden v) (block_more burden os outer (Fork t))
     (subst R (sym n) (ends_blocks burden (Under burden os) L c v.blocks below))
 
-shows_ended : (burden : Burden) (o : Open) (os : List Open) (es : List Event) (v : StrandWeight) → o.spawned ≡ true → has_spawned es ≡ false → ShowsWeight burden (o ∷ os) es v → ShowsWeight burden os (closed o es) (ends burden v)
+shows_ended : (burden : Burden) (o : Open) (os : List Open) (es : List Event) (v : StrandWeight) → o.spawned ≡ true → has_spawned es ≡ false
+    → ShowsWeight burden (o ∷ os) es v → ShowsWeight burden os (closed o es) (ends burden v)
 shows_ended burden o os es v b e h = by_kind o.spawned b h
   where
-    by_kind : (s : Bool) → s ≡ true → ShowsWeight burden (record { spawned = s; mark = o.mark; outer = o.outer } ∷ os) es v → ShowsWeight burden os (closed (record { spawned = s; mark = o.mark; outer = o.outer }) es) (ends burden v)
+    by_kind : (s : Bool) → s ≡ true → ShowsWeight burden (record { spawned = s; mark = o.mark; outer = o.outer } ∷ os) es v
+        → ShowsWeight burden os (closed (record { spawned = s; mark = o.mark; outer = o.outer }) es) (ends burden v)
     by_kind true b h = in_fork_ends burden o.mark o.outer os es v e h
     by_kind false b h = cc
 
@@ -138,7 +153,8 @@ saved_rests below (Straight n) (b ∷ bs) h = h.1
 saved_rests below (Split l n) (b ∷ bs) h = h.1
 
 -- a spawned part whose block has joined: with the path up to its spawn and what it is charged its path fits
-pub child_fits : (burden : Burden) (mark : Option Mark) (outer : List Event) (os : List Open) (es : List Event) (v : StrandWeight) → has_spawned es ≡ false → FitsRun burden (in_fork mark outer os) es → ShowsWeight burden (in_fork mark outer os) es v → Fits burden v
+pub child_fits : (burden : Burden) (mark : Option Mark) (outer : List Event) (os : List Open) (es : List Event) (v : StrandWeight)
+    → has_spawned es ≡ false → FitsRun burden (in_fork mark outer os) es → ShowsWeight burden (in_fork mark outer os) es v → Fits burden v
 child_fits burden mark outer os es v e fits h =
     let o : Open = record { spawned = true; mark = mark; outer = outer } in
     let L = block_weight burden os outer in
@@ -151,16 +167,20 @@ child_fits burden mark outer os es v e fits h =
 
 -- THE CALLS
 
-pub noted_weight : (burden : Burden) (os : List Open) (es fs : List Event) (old new : BurdenedPath) (count : ℕ) → Since old.noted count es fs → FitsRun burden os (es ++ fs) → TellsWeight burden os es old → (old.weight + (count - old.noted) < 2 ^ 128 → strand_weight new ≡ goes_on (count - old.noted) (strand_weight old)) → new.noted ≡ count → TellsWeight burden os (es ++ fs) new
+pub noted_weight : (burden : Burden) (os : List Open) (es fs : List Event) (old new : BurdenedPath) (count : ℕ) → Since old.noted count es fs
+    → FitsRun burden os (es ++ fs) → TellsWeight burden os es old → (old.weight + (count - old.noted) < 2 ^ 128
+    → strand_weight new ≡ goes_on (count - old.noted) (strand_weight old)) → new.noted ≡ count → TellsWeight burden os (es ++ fs) new
 noted_weight burden os es fs old new count since fits h f m =
     let k = count - old.noted in
     let v = strand_weight old in
     let P : List Event → ℕ → Type 0 = λ x n. ShowsWeight burden os x (goes_on n v) in
     let K : KeptBy P = record {
-      work = λ x n j s. let T : ℕ → Type 0 = λ y. ShowsWeight burden os (x ++ Work j ∷ []) (record { now = y; blocks = v.blocks }) in let e : (v.now + n) + j ≡ v.now + (n + j) = omega arith in subst T e (shows_work burden os x (goes_on n v) j s);
+      work = λ x n j s. let T : ℕ → Type 0 = λ y. ShowsWeight burden os (x ++ Work j ∷ []) (record { now = y; blocks = v.blocks }) in
+          let e : (v.now + n) + j ≡ v.now + (n + j) = omega arith in subst T e (shows_work burden os x (goes_on n v) j s);
       join = λ x n e s. shows_unjoined burden os x (goes_on n v) e s;
     } in
-    let zero_more : ShowsWeight burden os es (goes_on 0 v) = (let T : ℕ → Type 0 = λ y. ShowsWeight burden os es (record { now = y; blocks = v.blocks }) in let e : v.now ≡ v.now + 0 = omega arith in subst T e h.shows) in
+    let zero_more : ShowsWeight burden os es (goes_on 0 v) = (let T : ℕ
+    → Type 0 = λ y. ShowsWeight burden os es (record { now = y; blocks = v.blocks }) in let e : v.now ≡ v.now + 0 = omega arith in subst T e h.shows) in
     let first : 0 + k ≡ k = omega arith in
     let Q : ℕ → Type 0 = λ n. P (es ++ fs) n in
     let s = subst Q first (kept_since P K es fs 0 k since.instructions zero_more) in
@@ -179,7 +199,8 @@ late_waits burden os es fs path count since fits h =
     let a = work_since os es fs (count - w) since.instructions in
     record {
       late = omega arith;
-      tells = noted_weight burden os es fs (noted_at w path) (noted_at (work_in os (es ++ fs)) path) count since fits h.tells (λ small. ap (λ (x : ℕ). weighs x (reversed path.blocks.items [])) (omega arith)) (omega arith);
+      tells = noted_weight burden os es fs (noted_at w path) (noted_at (work_in os (es ++ fs)) path) count since fits h.tells
+          (λ small. ap (λ (x : ℕ). weighs x (reversed path.blocks.items [])) (omega arith)) (omega arith);
     }
 
 pub late_noted : (old new : BurdenedPath) (count : ℕ) → HasGoneOn old new count → new.noted ≡ count → NotesLate old new count
@@ -195,7 +216,9 @@ late_noted old new count gone n = λ burden os es fs since fits h.
     let D : StrandWeight → Type 0 = λ x. ShowsWeight burden os (es ++ fs) x in
     record { shows = subst D (f ∙ sym c) t.shows; noted_is = omega arith }
 
-pub spawned_weight : (burden : Burden) (mark : Option Mark) (os : List Open) (es fs : List Event) (old mid new : BurdenedPath) (count : ℕ) (first : Bool) → Since old.noted count es fs → has_spawned es ≡ not first → TellsWeight burden os (es ++ fs) mid → strand_weight new ≡ spawns first (strand_weight mid) → new.noted ≡ mid.noted → TellsWeight burden (in_fork mark (es ++ fs) os) [] new
+pub spawned_weight : (burden : Burden) (mark : Option Mark) (os : List Open) (es fs : List Event) (old mid new : BurdenedPath) (count : ℕ)
+    (first : Bool) → Since old.noted count es fs → has_spawned es ≡ not first → TellsWeight burden os (es ++ fs) mid
+    → strand_weight new ≡ spawns first (strand_weight mid) → new.noted ≡ mid.noted → TellsWeight burden (in_fork mark (es ++ fs) os) [] new
 spawned_weight burden mark os es fs old mid new count first since e h f m =
     let n = has_spawned_since es fs (count - old.noted) since.instructions ∙ e in
     let D : StrandWeight → Type 0 = λ x. ShowsWeight burden (in_fork mark (es ++ fs) os) [] x in
@@ -204,7 +227,10 @@ spawned_weight burden mark os es fs old mid new count first since e h f m =
       noted_is = m ∙ h.noted_is ∙ sym (sum_begun work work_adds (record { spawned = true; mark = mark; outer = es ++ fs }) os);
     }
 
-pub child_ended_weight : (burden : Burden) (o : Open) (os : List Open) (es fs : List Event) (old mid new : BurdenedPath) (count : ℕ) → Since old.noted count es fs → FitsRun burden (o ∷ os) (es ++ fs) → o.spawned ≡ true → has_spawned es ≡ false → TellsWeight burden (o ∷ os) (es ++ fs) mid → (Fits burden (strand_weight mid) → strand_weight new ≡ ends burden (strand_weight mid)) → new.noted ≡ mid.noted → TellsWeight burden os (closed o (es ++ fs)) new
+pub child_ended_weight : (burden : Burden) (o : Open) (os : List Open) (es fs : List Event) (old mid new : BurdenedPath) (count : ℕ)
+    → Since old.noted count es fs → FitsRun burden (o ∷ os) (es ++ fs) → o.spawned ≡ true → has_spawned es ≡ false
+    → TellsWeight burden (o ∷ os) (es ++ fs) mid → (Fits burden (strand_weight mid) → strand_weight new ≡ ends burden (strand_weight mid))
+    → new.noted ≡ mid.noted → TellsWeight burden os (closed o (es ++ fs)) new
 child_ended_weight burden o os es fs old mid new count since fits b e h f m =
     let n = has_spawned_since es fs (count - old.noted) since.instructions ∙ e in
     let D : StrandWeight → Type 0 = λ x. ShowsWeight burden os (closed o (es ++ fs)) x in
@@ -213,11 +239,15 @@ child_ended_weight burden o os es fs old mid new count since fits b e h f m =
       noted_is = m ∙ h.noted_is ∙ sym (left_work o os (es ++ fs));
     }
   where
-    fits_by : (s : Bool) → s ≡ true → FitsRun burden (record { spawned = s; mark = o.mark; outer = o.outer } ∷ os) (es ++ fs) → ShowsWeight burden (record { spawned = s; mark = o.mark; outer = o.outer } ∷ os) (es ++ fs) (strand_weight mid) → has_spawned (es ++ fs) ≡ false → Fits burden (strand_weight mid)
+    fits_by : (s : Bool) → s ≡ true → FitsRun burden (record { spawned = s; mark = o.mark; outer = o.outer } ∷ os) (es ++ fs)
+        → ShowsWeight burden (record { spawned = s; mark = o.mark; outer = o.outer } ∷ os) (es ++ fs) (strand_weight mid)
+        → has_spawned (es ++ fs) ≡ false → Fits burden (strand_weight mid)
     fits_by true b fits h n = child_fits burden o.mark o.outer os (es ++ fs) (strand_weight mid) n fits h
     fits_by false b fits h n = cc
 
-pub joined_weight : (burden : Burden) (os : List Open) (es fs : List Event) (old mid new : BurdenedPath) (count : ℕ) → Since old.noted count es fs → has_spawned es ≡ true → TellsWeight burden os (es ++ fs) mid → strand_weight new ≡ joins (strand_weight mid) → new.noted ≡ mid.noted → TellsWeight burden os ((es ++ fs) ++ Join ∷ []) new
+pub joined_weight : (burden : Burden) (os : List Open) (es fs : List Event) (old mid new : BurdenedPath) (count : ℕ) → Since old.noted count es fs
+    → has_spawned es ≡ true → TellsWeight burden os (es ++ fs) mid → strand_weight new ≡ joins (strand_weight mid) → new.noted ≡ mid.noted
+    → TellsWeight burden os ((es ++ fs) ++ Join ∷ []) new
 joined_weight burden os es fs old mid new count since e h f m =
     let n = has_spawned_since es fs (count - old.noted) since.instructions ∙ e in
     let D : StrandWeight → Type 0 = λ x. ShowsWeight burden os ((es ++ fs) ++ Join ∷ []) x in

@@ -82,12 +82,15 @@ in_marked (Some m) t u h = in_mark m h
 alike_part : (s : Bool) (a b : List Event) (t u : Tree) → AreAlike a b → Regrouped t u → AreAlike (a ++ part_of s t ∷ []) (b ++ part_of s u ∷ [])
 alike_part s a b t u h r = record {
   parts = λ more.
-      same_lists (a ++ (part_of s t ∷ more)) ((a ++ part_of s t ∷ []) ++ more) (b ++ (part_of s u ∷ more)) ((b ++ part_of s u ∷ []) ++ more) (sym (append_assoc a (part_of s t ∷ []) more)) (sym (append_assoc b (part_of s u ∷ []) more))
-      (and_further (a ++ (part_of s t ∷ more)) (b ++ (part_of s t ∷ more)) (b ++ (part_of s u ∷ more)) (h.parts (part_of s t ∷ more)) (after_events b (part_of s t ∷ more) (part_of s u ∷ more) (after_part s t u more r)));
+      same_lists (a ++ (part_of s t ∷ more)) ((a ++ part_of s t ∷ []) ++ more) (b ++ (part_of s u ∷ more)) ((b ++ part_of s u ∷ []) ++ more)
+      (sym (append_assoc a (part_of s t ∷ []) more)) (sym (append_assoc b (part_of s u ∷ []) more))
+      (and_further (a ++ (part_of s t ∷ more)) (b ++ (part_of s t ∷ more)) (b ++ (part_of s u ∷ more)) (h.parts (part_of s t ∷ more))
+      (after_events b (part_of s t ∷ more) (part_of s u ∷ more) (after_part s t u more r)));
   spawned =
       spawned_append false a (part_of s t ∷ []) ∙ ap (λ (x : Bool). spawned_after x (part_of s t)) h.spawned ∙ spawned_part s (has_spawned b) t u
       ∙ sym (spawned_append false b (part_of s u ∷ []));
-  joins = joins_append a (part_of s t ∷ []) ∙ ap (λ (x : Bool). x && no_joins (part_of s t ∷ [])) h.joins ∙ ap (λ (x : Bool). no_joins b && x) (joins_part s t u) ∙ sym (joins_append b (part_of s u ∷ []));
+  joins = joins_append a (part_of s t ∷ []) ∙ ap (λ (x : Bool). x && no_joins (part_of s t ∷ [])) h.joins
+      ∙ ap (λ (x : Bool). no_joins b && x) (joins_part s t u) ∙ sym (joins_append b (part_of s u ∷ []));
 }
 
 pub alike_closed : (o p : Open) (es fs : List Event) → o.spawned ≡ p.spawned → o.mark ≡ p.mark → AreAlike o.outer p.outer → Regrouped (tree_of es) (tree_of fs) → AreAlike (closed o es) (closed p fs)

@@ -48,11 +48,13 @@ goes_on mark before es b e = e ∙ sym (spawned_append false before (Series (mar
 has_now : (mark : Option Mark) (before es : List Event) → true ≡ has_spawned (closed (record { spawned = true; mark = mark; outer = before }) es)
 has_now mark before es = sym (spawned_append false before (Fork (marked mark (tree_of es)) ∷ []))
 
-joined_now : (burden : Burden) (tags : Tags) (from : Origin) (count : ℕ) (os : List Open) (es : List Event) (t : Tables) → t.spawned ≡ false → TablesTell burden tags from count os es t → has_spawned es ≡ false
+joined_now : (burden : Burden) (tags : Tags) (from : Origin) (count : ℕ) (os : List Open) (es : List Event) (t : Tables) → t.spawned ≡ false
+    → TablesTell burden tags from count os es t → has_spawned es ≡ false
 joined_now burden tags from count os es t e h = sym h.spawned_is ∙ e
 
 -- a call in place ends
-pub call_closed : (t : Tables) (s : SiteTable) (count : ℕ) (part : Part) → Leaves t.sites s count part.site → LatePathsWait → part.kind ≡ kind.Call → Closes t (with_tables t s t.path part.spawned) count part
+pub call_closed : (t : Tables) (s : SiteTable) (count : ℕ) (part : Part) → Leaves t.sites s count part.site → LatePathsWait → part.kind ≡ kind.Call
+    → Closes t (with_tables t s t.path part.spawned) count part
 call_closed t s count part leaves waits e = λ burden tags from o os es is joined small light.
     let k = kind_of from tags o os part kind.Call e is in
     of_mark (Ended t (with_tables t s t.path part.spawned) count burden tags from os es) o false (Some (Invocation k.1.0)) k.0 k.1.1 (λ h.
@@ -62,22 +64,28 @@ call_closed t s count part leaves waits e = λ burden tags from o os es is joine
     let here = opened false mark o.outer os in
     let S : List Event → Type 0 = λ x. sites.Tells (base_of from) nothing_open os (closed this x) s in
     tables_late burden tags from count os (closed this es) (with_tables t s t.path part.spawned)
-    (subst S h.all (leaves (base_of from) nothing_open os o.outer h.told h.since site (sites_since burden tags from count here es t h) (told_spawned burden tags from count here es t h ∙ joined) is.site (told_small burden tags from count here es t h small) h.sites))
+    (subst S h.all (leaves (base_of from) nothing_open os o.outer h.told h.since site (sites_since burden tags from count here es t h)
+    (told_spawned burden tags from count here es t h ∙ joined) is.site (told_small burden tags from count here es t h small) h.sites))
     (late_ended burden this os es t.path refl (joined_now burden tags from count here es t joined h) (path_waits burden tags from count here es t waits small light h))
     (tags_closed burden tags from false mark o.outer os es t.regions tt h.regions)
     (counted_closed burden from count this os es h.counted) h.burden_is (goes_on mark o.outer es part.spawned is.spawned))
 
 -- the path of a spawned part that ends
-child_path : (burden : Burden) (tags : Tags) (from : Origin) (count : ℕ) (mark : Option Mark) (before : List Event) (os : List Open) (es : List Event) (t : Tables) (m p : BurdenedPath) → NotesLate t.path m count → EndsChildWeight m p count t.burden → t.spawned ≡ false → count ≤ MOST_LIMIT → burden.charge ≤ MOST_BURDEN → TablesTell burden tags from count (opened true mark before os) es t → TellsWeight burden os (closed (record { spawned = true; mark = mark; outer = before }) es) p
+child_path : (burden : Burden) (tags : Tags) (from : Origin) (count : ℕ) (mark : Option Mark) (before : List Event) (os : List Open)
+    (es : List Event) (t : Tables) (m p : BurdenedPath) → NotesLate t.path m count → EndsChildWeight m p count t.burden → t.spawned ≡ false
+    → count ≤ MOST_LIMIT → burden.charge ≤ MOST_BURDEN → TablesTell burden tags from count (opened true mark before os) es t
+    → TellsWeight burden os (closed (record { spawned = true; mark = mark; outer = before }) es) p
 child_path burden tags from count mark before os es t m p notes ends joined small light h =
     let here = opened true mark before os in
     let o : Open = record { spawned = true; mark = mark; outer = before } in
     let P : List Event → Type 0 = λ x. TellsWeight burden os (closed o x) p in
     let E : Burden → Type 0 = λ x. EndsChildWeight m p count x in
     let told = path_told burden tags from count here es t m notes small light h in
-    subst P (append-nil es) (subst E h.burden_is ends o os es [] (none_since burden from count here es m h.counted told) (fits_now burden tags from count here es t h small light) refl (joined_now burden tags from count here es t joined h) told)
+    subst P (append-nil es) (subst E h.burden_is ends o os es [] (none_since burden from count here es m h.counted told)
+    (fits_now burden tags from count here es t h small light) refl (joined_now burden tags from count here es t joined h) told)
 
-pub spawned_call_closed : (t : Tables) (s : SiteTable) (m p : BurdenedPath) (count : ℕ) (part : Part) → EndsChild t.sites s count part.site → NotesLate t.path m count → EndsChildWeight m p count t.burden → part.kind ≡ kind.SpawnedCall → Closes t (with_tables t s p true) count part
+pub spawned_call_closed : (t : Tables) (s : SiteTable) (m p : BurdenedPath) (count : ℕ) (part : Part) → EndsChild t.sites s count part.site
+    → NotesLate t.path m count → EndsChildWeight m p count t.burden → part.kind ≡ kind.SpawnedCall → Closes t (with_tables t s p true) count part
 spawned_call_closed t s m p count part ends notes heavier e = λ burden tags from o os es is joined small light.
     let k = kind_of from tags o os part kind.SpawnedCall e is in
     of_mark (Ended t (with_tables t s p true) count burden tags from os es) o true (Some (Invocation k.1.0)) k.0 k.1.1 (λ h.
@@ -86,7 +94,8 @@ spawned_call_closed t s m p count part ends notes heavier e = λ burden tags fro
     let here = opened true mark o.outer os in
     let S : List Event → Type 0 = λ x. sites.Tells (base_of from) nothing_open os (closed (record { spawned = true; mark = mark; outer = o.outer }) x) s in
     tables_told burden tags from count os (closed (record { spawned = true; mark = mark; outer = o.outer }) es) (with_tables t s p true) (record {
-      sites = subst S h.all (ends (base_of from) nothing_open os o.outer h.told h.since site (sites_since burden tags from count here es t h) (told_spawned burden tags from count here es t h ∙ joined) is.site (told_small burden tags from count here es t h small) h.sites);
+      sites = subst S h.all (ends (base_of from) nothing_open os o.outer h.told h.since site (sites_since burden tags from count here es t h)
+          (told_spawned burden tags from count here es t h ∙ joined) is.site (told_small burden tags from count here es t h small) h.sites);
       path = child_path burden tags from count mark o.outer os es t m p notes heavier joined small light h;
       regions = tags_closed burden tags from true mark o.outer os es t.regions tt h.regions;
       counted = counted_closed burden from count (record { spawned = true; mark = mark; outer = o.outer }) os es h.counted;
@@ -94,14 +103,16 @@ spawned_call_closed t s m p count part ends notes heavier e = λ burden tags fro
       spawned_is = has_now mark o.outer es;
     }))
 
-pub half_closed : (t : Tables) (s : SiteTable) (m p : BurdenedPath) (count : ℕ) (part : Part) → EndsHalf t.sites s count → NotesLate t.path m count → EndsChildWeight m p count t.burden → part.kind ≡ kind.Half → Closes t (with_tables t s p true) count part
+pub half_closed : (t : Tables) (s : SiteTable) (m p : BurdenedPath) (count : ℕ) (part : Part) → EndsHalf t.sites s count → NotesLate t.path m count
+    → EndsChildWeight m p count t.burden → part.kind ≡ kind.Half → Closes t (with_tables t s p true) count part
 half_closed t s m p count part ends notes heavier e = λ burden tags from o os es is joined small light.
     let k = kind_of from tags o os part kind.Half e is in
     of_mark (Ended t (with_tables t s p true) count burden tags from os es) o true None k.0 k.1 (λ h.
     let here = opened true None o.outer os in
     let S : List Event → Type 0 = λ x. sites.Tells (base_of from) nothing_open os (closed (record { spawned = true; mark = None; outer = o.outer }) x) s in
     tables_told burden tags from count os (closed (record { spawned = true; mark = None; outer = o.outer }) es) (with_tables t s p true) (record {
-      sites = subst S h.all (ends (base_of from) nothing_open None os o.outer h.told h.since tt (sites_since burden tags from count here es t h) (told_spawned burden tags from count here es t h ∙ joined) (told_small burden tags from count here es t h small) h.sites);
+      sites = subst S h.all (ends (base_of from) nothing_open None os o.outer h.told h.since tt (sites_since burden tags from count here es t h)
+          (told_spawned burden tags from count here es t h ∙ joined) (told_small burden tags from count here es t h small) h.sites);
       path = child_path burden tags from count None o.outer os es t m p notes heavier joined small light h;
       regions = tags_closed burden tags from true None o.outer os es t.regions tt h.regions;
       counted = counted_closed burden from count (record { spawned = true; mark = None; outer = o.outer }) os es h.counted;
@@ -124,7 +135,9 @@ quiet_closed t now count part settles e = λ burden tags from o os es is joined 
       spawned_is = goes_on None o.outer es part.spawned is.spawned;
     }))
 
-pub region_closed : (t now : Tables) (r : RegionTable) (count tag path heavy : ℕ) (part : Part) → Settles t now count → ReadsPath now.sites path → heavy ≡ now.path.weight → regions.EndsRegion now.regions r tag count path heavy → part.kind ≡ kind.Region tag → Closes t (with_regions now r part.spawned) count part
+pub region_closed : (t now : Tables) (r : RegionTable) (count tag path heavy : ℕ) (part : Part) → Settles t now count → ReadsPath now.sites path
+    → heavy ≡ now.path.weight → regions.EndsRegion now.regions r tag count path heavy → part.kind ≡ kind.Region tag
+    → Closes t (with_regions now r part.spawned) count part
 region_closed t now r count tag path heavy part settles reads weighs ends e = λ burden tags from o os es is joined small light.
     let k = kind_of from tags o os part (kind.Region tag) e is in
     of_mark (Ended t (with_regions now r part.spawned) count burden tags from os es) o false (Some (Execution (tags.name tag))) k.0 k.2 (λ h.

@@ -69,7 +69,8 @@ counted_joined burden from count os es k = record {
   burdened = let a = k.burdened in let b = burdened_joined_in burden os es in omega arith;
 }
 
-pub counted_opened : (burden : Burden) (from : Origin) (count : ℕ) (spawned : Bool) (mark : Option Mark) (os : List Open) (es : List Event) → IsCounted burden from count os es → IsCounted burden from (count + 1) (opened spawned mark (ticked es) os) []
+pub counted_opened : (burden : Burden) (from : Origin) (count : ℕ) (spawned : Bool) (mark : Option Mark) (os : List Open) (es : List Event)
+    → IsCounted burden from count os es → IsCounted burden from (count + 1) (opened spawned mark (ticked es) os) []
 counted_opened burden from count spawned mark os es k = record {
   work = let a = k.work in let b = work_more os es (Work 1) in omega arith;
   calls = λ site. let a = k.calls site in let b = calls_more site os es (Work 1) in let c = one_at_most (is_counted (is_site site) mark) in omega arith;
@@ -77,7 +78,8 @@ counted_opened burden from count spawned mark os es k = record {
   burdened = let a = k.burdened in let b = burdened_ticked_in burden os es 1 in let c = one_more_time count (burden.charge + 1) in let d = burden_at_most spawned burden in omega arith;
 }
 
-pub counted_closed : (burden : Burden) (from : Origin) (count : ℕ) (o : Open) (os : List Open) (es : List Event) → IsCounted burden from count (o ∷ os) es → IsCounted burden from count os (closed o es)
+pub counted_closed : (burden : Burden) (from : Origin) (count : ℕ) (o : Open) (os : List Open) (es : List Event)
+    → IsCounted burden from count (o ∷ os) es → IsCounted burden from count os (closed o es)
 counted_closed burden from count o os es k = record {
   work = let a = k.work in let b = left_work o os es in omega arith;
   calls = λ site. let a = k.calls site in let b = left_calls site o os es in omega arith;
@@ -101,12 +103,14 @@ small_run burden from count os es small k = record {
   active = λ site. let a = k.opened in let g = few_given from in let b = active_at_most (is_site site) os in omega arith;
 }
 
-pub fits_run : (burden : Burden) (from : Origin) (count : ℕ) (os : List Open) (es : List Event) → count ≤ MOST_LIMIT → burden.charge ≤ MOST_BURDEN → IsCounted burden from count os es → FitsRun burden os es
+pub fits_run : (burden : Burden) (from : Origin) (count : ℕ) (os : List Open) (es : List Event) → count ≤ MOST_LIMIT → burden.charge ≤ MOST_BURDEN
+    → IsCounted burden from count os es → FitsRun burden os es
 fits_run burden from count os es small light k =
     let more : burden.charge + 1 ≤ MOST_BURDEN + 1 = omega arith in
     let a = k.burdened in let b = mul-le count (burden.charge + 1) MOST_LIMIT (MOST_BURDEN + 1) small more in omega arith
 
-pub small_tags : (burden : Burden) (tags : Tags) (from : Origin) (count : ℕ) (os : List Open) (es : List Event) → count ≤ MOST_LIMIT → burden.charge ≤ MOST_BURDEN → IsCounted burden from count os es → SmallRegions burden tags nothing_open os es
+pub small_tags : (burden : Burden) (tags : Tags) (from : Origin) (count : ℕ) (os : List Open) (es : List Event) → count ≤ MOST_LIMIT
+    → burden.charge ≤ MOST_BURDEN → IsCounted burden from count os es → SmallRegions burden tags nothing_open os es
 small_tags burden tags from count os es small light k = record {
   work = let a = k.work in omega arith;
   burdened = fits_run burden from count os es small light k;
@@ -114,7 +118,8 @@ small_tags burden tags from count os es small light k = record {
 }
 
 -- a rest that ran apart
-pub counted_rest : (burden : Burden) (from : Origin) (count cost site : ℕ) (os : List Open) (es fs : List Event) → IsCounted burden from count os es → IsCounted burden (Rest site) cost [] fs → IsCounted burden from (count + cost) os (es ++ fs)
+pub counted_rest : (burden : Burden) (from : Origin) (count cost site : ℕ) (os : List Open) (es fs : List Event) → IsCounted burden from count os es
+    → IsCounted burden (Rest site) cost [] fs → IsCounted burden from (count + cost) os (es ++ fs)
 counted_rest burden from count cost site os es fs k r = record {
   work = let a = k.work in let b = r.work in let c = work_append os es fs in omega arith;
   calls = λ q. let a = k.calls q in let b = r.calls q in let c = calls_append q os es fs in omega arith;

@@ -28,20 +28,27 @@ not_values d not_so e = true≢false (sym (ap keeps_values e) ∙ not_so)
 not_measures : (d : Detail) (burden : Burden) → keeps_values d ≡ true → d ≡ Measures burden → ⊥
 not_measures d burden so e = true≢false (sym so ∙ ap keeps_values e)
 
-counted_tells : (old new : Meter) (count : ℕ) → keeps_values old.detail ≡ false → new.detail ≡ old.detail → (d : Detail) (tags : Tags) (from : Origin) (os os' : List Open) (es es' : List Event) → ((burden : Burden) → Counts old new count burden tags from os os' es es') → Tells old new count d tags from os os' es es'
+counted_tells : (old new : Meter) (count : ℕ) → keeps_values old.detail ≡ false → new.detail ≡ old.detail
+    → (d : Detail) (tags : Tags) (from : Origin) (os os' : List Open) (es es' : List Event)
+    → ((burden : Burden) → Counts old new count burden tags from os os' es es') → Tells old new count d tags from os os' es es'
 counted_tells old new count not_so kept Values tags from os os' es es' f = λ small light h. absurd (not_values old.detail not_so h.0)
 counted_tells old new count not_so kept (Measures burden) tags from os os' es es' f = λ small light h. (kept ∙ h.0, f burden small light h.1)
 
-values_tell : (old new : Meter) (count : ℕ) → keeps_values old.detail ≡ true → new.detail ≡ old.detail → (d : Detail) (tags : Tags) (from : Origin) (os os' : List Open) (es es' : List Event) → (count < MOST_LIMIT → KnowsOpen (given_open from) count os old → KnowsOpen (given_open from) (count + 1) os' new) → Tells old new count d tags from os os' es es'
+values_tell : (old new : Meter) (count : ℕ) → keeps_values old.detail ≡ true → new.detail ≡ old.detail
+    → (d : Detail) (tags : Tags) (from : Origin) (os os' : List Open) (es es' : List Event)
+    → (count < MOST_LIMIT → KnowsOpen (given_open from) count os old → KnowsOpen (given_open from) (count + 1) os' new) → Tells old new count d tags from os os' es es'
 values_tell old new count so kept Values tags from os os' es es' f = λ small light h. (kept ∙ h.0, f small h.1)
 values_tell old new count so kept (Measures burden) tags from os os' es es' f = λ small light h. absurd (not_measures old.detail burden so h.0)
 
 -- a part begins
-pub begins_counted : (old new : Meter) (count : ℕ) (spawned : Bool) (mark : Option Mark) → keeps_values old.detail ≡ false → new.detail ≡ old.detail → CountsBegin old new count spawned mark → Begins old new count spawned mark
-begins_counted old new count spawned mark not_so kept begins = λ d tags from os es. counted_tells old new count not_so kept d tags from os (begun spawned mark es os) es [] (λ burden. begins burden tags from os es)
+pub begins_counted : (old new : Meter) (count : ℕ) (spawned : Bool) (mark : Option Mark) → keeps_values old.detail ≡ false → new.detail ≡ old.detail
+    → CountsBegin old new count spawned mark → Begins old new count spawned mark
+begins_counted old new count spawned mark not_so kept begins = λ d tags from os es. counted_tells old new count not_so kept d tags from os
+    (begun spawned mark es os) es [] (λ burden. begins burden tags from os es)
 
 pub region_counted : (old new : Meter) (count tag : ℕ) → keeps_values old.detail ≡ false → new.detail ≡ old.detail → CountsRegion old new count tag → BeginsRegion old new count tag
-region_counted old new count tag not_so kept begins = λ d tags from os es known. counted_tells old new count not_so kept d tags from os (begun false (Some (Execution (tags.name tag))) es os) es [] (λ burden. begins burden tags from os es known)
+region_counted old new count tag not_so kept begins = λ d tags from os es known. counted_tells old new count not_so kept d tags from os
+    (begun false (Some (Execution (tags.name tag))) es os) es [] (λ burden. begins burden tags from os es known)
 
 one_more : (given count : ℕ) (o : Open) (os : List Open) (old new : Meter) → IsOpened old new → given ≤ 1 → count < MOST_LIMIT → KnowsOpen given count os old → KnowsOpen given (count + 1) (o ∷ os) new
 one_more given count o os old new opens few small h =
@@ -52,17 +59,23 @@ one_more given count o os old new opens few small h =
     record { many = omega (arith, e, m); few = omega (arith, n) }
 
 pub begins_values : (old new : Meter) (count : ℕ) (spawned : Bool) (mark : Option Mark) → keeps_values old.detail ≡ true → IsOpened old new → Begins old new count spawned mark
-begins_values old new count spawned mark so opens = λ d tags from os es. values_tell old new count so opens.detail d tags from os (begun spawned mark es os) es [] (one_more (given_open from) count (record { spawned = spawned; mark = mark; outer = ticked es }) os old new opens (few_given from))
+begins_values old new count spawned mark so opens = λ d tags from os es. values_tell old new count so opens.detail d tags from os
+    (begun spawned mark es os) es [] (one_more (given_open from) count (record { spawned = spawned; mark = mark; outer = ticked es }) os old new opens
+    (few_given from))
 
 pub region_values : (old new : Meter) (count tag : ℕ) → keeps_values old.detail ≡ true → IsOpened old new → BeginsRegion old new count tag
-region_values old new count tag so opens = λ d tags from os es known. values_tell old new count so opens.detail d tags from os (begun false (Some (Execution (tags.name tag))) es os) es [] (one_more (given_open from) count (record { spawned = false; mark = Some (Execution (tags.name tag)); outer = ticked es }) os old new opens (few_given from))
+region_values old new count tag so opens = λ d tags from os es known. values_tell old new count so opens.detail d tags from os
+    (begun false (Some (Execution (tags.name tag))) es os) es [] (one_more (given_open from) count
+    (record { spawned = false; mark = Some (Execution (tags.name tag)); outer = ticked es }) os old new opens (few_given from))
 
 -- a part ends
 pub ends_counted : (old new : Meter) (count : ℕ) → keeps_values old.detail ≡ false → new.detail ≡ old.detail → CountsEnd old new count → Ends old new count
-ends_counted old new count not_so kept ends = λ d tags from o os es series. counted_tells old new count not_so kept d tags from (o ∷ os) os es (ticked (closed o es)) (λ burden. ends burden tags from o os es series)
+ends_counted old new count not_so kept ends = λ d tags from o os es series. counted_tells old new count not_so kept d tags from (o ∷ os) os es
+    (ticked (closed o es)) (λ burden. ends burden tags from o os es series)
 
 pub returns_counted : (old new : Meter) (count : ℕ) → keeps_values old.detail ≡ false → new.detail ≡ old.detail → CountsReturn old new count → Returns old new count
-returns_counted old new count not_so kept ends = λ d tags from o os es. counted_tells old new count not_so kept d tags from (o ∷ os) os es (closed o (synced es)) (λ burden. ends burden tags from o os es)
+returns_counted old new count not_so kept ends = λ d tags from o os es. counted_tells old new count not_so kept d tags from (o ∷ os) os es
+    (closed o (synced es)) (λ burden. ends burden tags from o os es)
 
 one_less : (given count : ℕ) (o : Open) (os : List Open) (old new : Meter) → LeavesOne old new → count < MOST_LIMIT → KnowsOpen given count (o ∷ os) old → KnowsOpen given (count + 1) os new
 one_less given count o os old new leaves small h =
@@ -72,10 +85,12 @@ one_less given count o os old new leaves small h =
     record { many = omega (arith, e, m); few = omega (arith, n) }
 
 pub ends_values : (old new : Meter) (count : ℕ) → keeps_values old.detail ≡ true → LeavesOne old new → Ends old new count
-ends_values old new count so leaves = λ d tags from o os es series. values_tell old new count so leaves.detail d tags from (o ∷ os) os es (ticked (closed o es)) (one_less (given_open from) count o os old new leaves)
+ends_values old new count so leaves = λ d tags from o os es series. values_tell old new count so leaves.detail d tags from (o ∷ os) os es
+    (ticked (closed o es)) (one_less (given_open from) count o os old new leaves)
 
 pub returns_values : (old new : Meter) (count : ℕ) → keeps_values old.detail ≡ true → LeavesOne old new → Returns old new count
-returns_values old new count so leaves = λ d tags from o os es. values_tell old new count so leaves.detail d tags from (o ∷ os) os es (closed o (synced es)) (one_less (given_open from) count o os old new leaves)
+returns_values old new count so leaves = λ d tags from o os es. values_tell old new count so leaves.detail d tags from (o ∷ os) os es
+    (closed o (synced es)) (one_less (given_open from) count o os old new leaves)
 
 -- the block that runs joins, and an instruction that needs no call
 pub syncs_counted : (old new : Meter) (count : ℕ) → keeps_values old.detail ≡ false → new.detail ≡ old.detail → CountsSync old new count → Syncs old new count
@@ -101,7 +116,8 @@ rests_values m rest count cost so Values tags from os es fs small light n h g = 
 rests_values m rest count cost so (Measures burden) tags from os es fs small light n h g = absurd (not_measures m.detail burden so h.0)
 
 -- a meter begins
-pub starts_as : (d : Detail) (m : Meter) → m.detail ≡ d → m.open_parts ≡ 1 → StartsTables (burden_of d) m.tables → m.parts.items ≡ record { kind = kind.Call; site = 0; spawned = false } ∷ [] → Starts d m
+pub starts_as : (d : Detail) (m : Meter) → m.detail ≡ d → m.open_parts ≡ 1 → StartsTables (burden_of d) m.tables
+    → m.parts.items ≡ record { kind = kind.Call; site = 0; spawned = false } ∷ [] → Starts d m
 starts_as Values m is outer starts parts = λ tags. (is, record { many = outer; few = omega arith })
 starts_as (Measures burden) m is outer starts parts = λ tags. (is, meter_starts burden m starts parts tags)
 

@@ -41,13 +41,15 @@ nothing_alike [] h = refl
 nothing_alike (p ∷ ps) h = absurd h
 
 -- one row more at the end of a list
-at_push : {X : Type 0} (xs : List X) (x : X) (P : ℕ → X → Type 0) → ((k : ℕ) (y : X) → slice_get xs k ≡ Some y → P k y) → P (length xs) x → (k : ℕ) (y : X) → slice_get (xs ++ x ∷ []) k ≡ Some y → P k y
+at_push : {X : Type 0} (xs : List X) (x : X) (P : ℕ → X → Type 0) → ((k : ℕ) (y : X) → slice_get xs k ≡ Some y → P k y) → P (length xs) x
+    → (k : ℕ) (y : X) → slice_get (xs ++ x ∷ []) k ≡ Some y → P k y
 at_push [] x P h last zero y e = let Q = P zero in subst Q (ap (λ o. unwrap_or o x) e) last
 at_push [] x P h last (suc k) y e = absurd (cc)
 at_push (z ∷ xs) x P h last zero y e = h zero y e
 at_push (z ∷ xs) x P h last (suc k) y e = at_push xs x (λ j. P (suc j)) (λ j y e. h (suc j) y e) last k y e
 
-pub site_listed : (t : Tables) (count : ℕ) (old new : List site.SiteRow) (row : site.SiteRow) → ListsSites t count old → new ≡ old ++ row ∷ [] → sites.ReadsSite t.sites count row → ListsSites t (count + 1) new
+pub site_listed : (t : Tables) (count : ℕ) (old new : List site.SiteRow) (row : site.SiteRow) → ListsSites t count old → new ≡ old ++ row ∷ []
+    → sites.ReadsSite t.sites count row → ListsSites t (count + 1) new
 site_listed t count old new row h e reads =
     let P : ℕ → site.SiteRow → Type 0 = λ k y. sites.ReadsSite t.sites k y in
     let R : ℕ → Type 0 = λ k. P k row in
@@ -55,7 +57,8 @@ site_listed t count old new row h e reads =
     let n = h.as_many in let m = length-append old (row ∷ []) in let same = ap (λ (x : List site.SiteRow). length x) e in
     record { as_many = omega arith; are = subst L (sym e) (at_push old row P h.are (subst R (sym h.as_many) reads)) }
 
-pub region_listed : (t : Tables) (count : ℕ) (old new : List region.RegionRow) (row : region.RegionRow) → ListsRegions t count old → new ≡ old ++ row ∷ [] → regions.ReadsRegion t.regions count row → ListsRegions t (count + 1) new
+pub region_listed : (t : Tables) (count : ℕ) (old new : List region.RegionRow) (row : region.RegionRow) → ListsRegions t count old
+    → new ≡ old ++ row ∷ [] → regions.ReadsRegion t.regions count row → ListsRegions t (count + 1) new
 region_listed t count old new row h e reads =
     let P : ℕ → region.RegionRow → Type 0 = λ k y. regions.ReadsRegion t.regions k y in
     let R : ℕ → Type 0 = λ k. P k row in
@@ -91,7 +94,11 @@ same_region : (row : region.RegionRow) (a b : model.RegionRow) → b ≡ a → r
 same_region row a b e h = let P : model.RegionRow → Type 0 = λ x. regions.IsRow row x in subst P (sym e) h
 
 -- all that is read of a run that has been told
-measures_told : (burden : Burden) (count sites : ℕ) (by_number : Tags) (names : List Name) (t : Tables) (whole : Tree) (es : List Event) (all : Measures) → count ≤ MOST_LIMIT → burden.charge ≤ MOST_BURDEN → HasNames by_number names → AreTold burden by_number Main count [] es t → has_spawned es ≡ false → ReadSame whole (tree_of es) → all.measure.work ≡ count → ReadsPath t.sites all.measure.span → ReadsWeight t.path all.measure.burdened → ListsSites t sites all.sites.items → ListsRegions t (length names) all.regions.items → AreMeasures burden sites names whole all
+measures_told : (burden : Burden) (count sites : ℕ) (by_number : Tags) (names : List Name) (t : Tables) (whole : Tree) (es : List Event)
+    (all : Measures) → count ≤ MOST_LIMIT → burden.charge ≤ MOST_BURDEN → HasNames by_number names → AreTold burden by_number Main count [] es t
+    → has_spawned es ≡ false → ReadSame whole (tree_of es) → all.measure.work ≡ count → ReadsPath t.sites all.measure.span
+    → ReadsWeight t.path all.measure.burdened → ListsSites t sites all.sites.items → ListsRegions t (length names) all.regions.items
+    → AreMeasures burden sites names whole all
 measures_told burden count most by_number names t whole es all small light named a n r work path heavy rows tags = record {
   measure = record {
     work = work ∙ sym a.counted.work ∙ sym r.same_work;
@@ -100,7 +107,8 @@ measures_told burden count most by_number names t whole es all small light named
   };
   sites = record {
     as_many = rows.as_many;
-    are = λ number row at. same_site row (model.site_row number (tree_of es)) (model.site_row number whole) (r.same_site_row number) (rows.are number row at nothing_open es refl n (small_run burden Main count [] es small a.counted) a.sites);
+    are = λ number row at. same_site row (model.site_row number (tree_of es)) (model.site_row number whole) (r.same_site_row number)
+        (rows.are number row at nothing_open es refl n (small_run burden Main count [] es small a.counted) a.sites);
   };
   regions = record {
     as_many = tags.as_many;
@@ -114,10 +122,13 @@ measures_told burden count most by_number names t whole es all small light named
   };
 }
 
-pub meter_reads : (m : Meter) (t : Tables) (count sites tags : ℕ) (all : Measures) → Settles m.tables t count → all.measure.work ≡ count → ReadsPath t.sites all.measure.span → ReadsWeight t.path all.measure.burdened → ListsSites t sites all.sites.items → ListsRegions t tags all.regions.items → Reads m count sites tags all
+pub meter_reads : (m : Meter) (t : Tables) (count sites tags : ℕ) (all : Measures) → Settles m.tables t count → all.measure.work ≡ count
+    → ReadsPath t.sites all.measure.span → ReadsWeight t.path all.measure.burdened → ListsSites t sites all.sites.items
+    → ListsRegions t tags all.regions.items → Reads m count sites tags all
 meter_reads m t count sites tags all settles work path heavy rows regions_are = λ burden by_number names es small light named many h.
     let whole = Marked (Invocation 0) (tree_of es) in
     let O : List Open → Type 0 = λ x. AreTold burden by_number Main count x h.1.told t in
     let L : ℕ → Type 0 = λ x. ListsRegions t x all.regions.items in
     let a = subst O (nothing_alike h.1.told_open h.1.open_alike) (settles burden by_number Main h.1.told_open h.1.told small light h.1.tables) in
-    measures_told burden count sites by_number names t (normal whole) h.1.told all small light named a (sym h.1.alike.spawned) (same_readings (normal whole) (tree_of h.1.told) (whole_tree whole h.1.told h.1.alike)) work path heavy rows (subst L (sym many) regions_are)
+    measures_told burden count sites by_number names t (normal whole) h.1.told all small light named a (sym h.1.alike.spawned)
+    (same_readings (normal whole) (tree_of h.1.told) (whole_tree whole h.1.told h.1.alike)) work path heavy rows (subst L (sym many) regions_are)

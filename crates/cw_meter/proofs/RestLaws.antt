@@ -30,7 +30,9 @@ use Rattle.cw_meter.proofs.TableLaws.{tables_told}
 use Rattle.cw_meter.proofs.ReadingLaws.{nothing_alike}
 
 -- a rest begins
-pub rest_tables_start : (burden : Burden) (site : ℕ) (s : SiteTable) (p : BurdenedPath) (r : RegionTable) → sites.Tells site (λ q. 0) [] [] s → ((b : Burden) → TellsWeight b [] [] p) → StartsRegions r → StartsTablesOfRest burden site (record { sites = s; path = p; regions = r; burden = burden; spawned = false })
+pub rest_tables_start : (burden : Burden) (site : ℕ) (s : SiteTable) (p : BurdenedPath) (r : RegionTable) → sites.Tells site (λ q. 0) [] [] s
+    → ((b : Burden) → TellsWeight b [] [] p) → StartsRegions r → StartsTablesOfRest burden site
+    (record { sites = s; path = p; regions = r; burden = burden; spawned = false })
 rest_tables_start burden site s p r told weighs starts = λ tags.
     let t : Tables = record { sites = s; path = p; regions = r; burden = burden; spawned = false } in
     let along : Readings burden = record { path = path_in 0 site; burdened = weight_in burden; path_is = path_meters 0 site; burdened_is = weight_meters burden } in
@@ -54,7 +56,8 @@ meter_rest_starts burden site m starts e = λ tags. record {
 }
 
 -- where it is
-pub meter_here : (m : Meter) (burden : Burden) (tags : Tags) (from : Origin) (count : ℕ) (os : List Open) (es : List Event) → Measured burden tags from count os es m → m.tables.sites.here ≡ here_in (base_of from) os
+pub meter_here : (m : Meter) (burden : Burden) (tags : Tags) (from : Origin) (count : ℕ) (os : List Open) (es : List Event)
+    → Measured burden tags from count os es m → m.tables.sites.here ≡ here_in (base_of from) os
 meter_here m burden tags from count os es h = h.tables.sites.here_is ∙ sym (here_alike (base_of from) os h.told_open h.open_alike)
 
 -- the tables of a rest are taken in
@@ -70,7 +73,9 @@ pub either_else : (a b s : Bool) → a ≡ false → s ≡ b → s ≡ a || b
 either_else true b s e f = cc
 either_else false b s e f = f
 
-pub rest_taken_in : (old rest new : Tables) (first : Bool) → first ≡ not old.spawned → JoinsPiece old.sites rest.sites new.sites first → AppendsWeight old.path rest.path new.path first → JoinsRegions old.regions rest.regions new.regions → new.burden ≡ old.burden → new.spawned ≡ old.spawned || rest.spawned → TakesIn old rest new
+pub rest_taken_in : (old rest new : Tables) (first : Bool) → first ≡ not old.spawned → JoinsPiece old.sites rest.sites new.sites first
+    → AppendsWeight old.path rest.path new.path first → JoinsRegions old.regions rest.regions new.regions → new.burden ≡ old.burden
+    → new.spawned ≡ old.spawned || rest.spawned → TakesIn old rest new
 rest_taken_in old rest new first f joins appends regions b s = λ burden tags from count cost os es fs small light n h g.
     let k = counted_rest burden from count cost (here_in (base_of from) os) os es fs h.counted g.counted in
     let w = small_run burden from (count + cost) os (es ++ fs) small k in
@@ -95,7 +100,8 @@ CountsRest old rest new count cost =
     (burden : Burden) (tags : Tags) (from : Origin) (os : List Open) (es fs : List Event) → count + cost ≤ MOST_LIMIT → burden.charge ≤ MOST_BURDEN → no_joins fs ≡ true
     → Measured burden tags from count os es old → Measured burden tags (Rest (here_in (base_of from) os)) cost [] fs rest → Measured burden tags from (count + cost) os (es ++ fs) new
 
-pub meter_rests : (old rest : Meter) (told settled new : Tables) (count cost : ℕ) → Settles rest.tables told cost → Settles old.tables settled count → TakesIn settled told new → CountsRest old rest (record old { tables = new }) count cost
+pub meter_rests : (old rest : Meter) (told settled new : Tables) (count cost : ℕ) → Settles rest.tables told cost → Settles old.tables settled count
+    → TakesIn settled told new → CountsRest old rest (record old { tables = new }) count cost
 meter_rests old rest told settled new count cost settles settles_ours takes = λ burden tags from os es fs small light n h g.
     let base = base_of from in
     let less : count ≤ MOST_LIMIT = omega arith in
@@ -104,7 +110,8 @@ meter_rests old rest told settled new count cost settles settles_ours takes = λ
     let theirs = settles burden tags (Rest (here_in base os)) g.told_open g.told apart light g.tables in
     let O : List Open → Type 0 = λ x. AreTold burden tags (Rest (here_in base os)) cost x g.told told in
     let H : ℕ → Type 0 = λ x. AreTold burden tags (Rest x) cost [] g.told told in
-    let both = takes burden tags from count cost h.told_open h.told g.told small light (sym g.alike.joins ∙ n) (settles_ours burden tags from h.told_open h.told less light h.tables) (subst H here (subst O (nothing_alike g.told_open g.open_alike) theirs)) in
+    let both = takes burden tags from count cost h.told_open h.told g.told small light (sym g.alike.joins ∙ n)
+    (settles_ours burden tags from h.told_open h.told less light h.tables) (subst H here (subst O (nothing_alike g.told_open g.open_alike) theirs)) in
     record {
       told_open = h.told_open;
       told = h.told ++ g.told;

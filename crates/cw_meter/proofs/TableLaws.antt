@@ -47,20 +47,46 @@ since_join b (Series t ∷ fs) k e s = absurd s
 since_join b (Fork t ∷ fs) k e s = absurd s
 
 -- the tags, as the run goes on
-tags_ticked : (burden : Burden) (tags : Tags) (from : Origin) (os : List Open) (es : List Event) (r : RegionTable) (k : ℕ) → TellsTags burden tags from os es r → TellsTags burden tags from os (es ++ Work k ∷ []) r
-tags_ticked burden tags from os es r k h = record { along = h.along; path_is = h.path_is; burdened_is = h.burdened_is; tells = (regions_need_no_call burden h.along tags nothing_open os r).work es k h.tells }
+tags_ticked : (burden : Burden) (tags : Tags) (from : Origin) (os : List Open) (es : List Event) (r : RegionTable) (k : ℕ)
+    → TellsTags burden tags from os es r → TellsTags burden tags from os (es ++ Work k ∷ []) r
+tags_ticked burden tags from os es r k h = record {
+  along = h.along;
+  path_is = h.path_is;
+  burdened_is = h.burdened_is;
+  tells = (regions_need_no_call burden h.along tags nothing_open os r).work es k h.tells;
+}
 
-tags_joined : (burden : Burden) (tags : Tags) (from : Origin) (os : List Open) (es : List Event) (r : RegionTable) → TellsTags burden tags from os es r → TellsTags burden tags from os (es ++ Join ∷ []) r
-tags_joined burden tags from os es r h = record { along = h.along; path_is = h.path_is; burdened_is = h.burdened_is; tells = (regions_need_no_call burden h.along tags nothing_open os r).join es h.tells }
+tags_joined : (burden : Burden) (tags : Tags) (from : Origin) (os : List Open) (es : List Event) (r : RegionTable)
+    → TellsTags burden tags from os es r → TellsTags burden tags from os (es ++ Join ∷ []) r
+tags_joined burden tags from os es r h = record {
+  along = h.along;
+  path_is = h.path_is;
+  burdened_is = h.burdened_is;
+  tells = (regions_need_no_call burden h.along tags nothing_open os r).join es h.tells;
+}
 
-pub tags_opened : (burden : Burden) (tags : Tags) (from : Origin) (spawned : Bool) (mark : Option Mark) (os : List Open) (es : List Event) (r : RegionTable) → IsNoExecution mark → TellsTags burden tags from os es r → TellsTags burden tags from (opened spawned mark es os) [] r
-tags_opened burden tags from spawned mark os es r quiet h = record { along = h.along; path_is = h.path_is; burdened_is = h.burdened_is; tells = (regions_need_no_call burden h.along tags nothing_open os r).begins (record { spawned = spawned; mark = mark; outer = es }) quiet h.tells }
+pub tags_opened : (burden : Burden) (tags : Tags) (from : Origin) (spawned : Bool) (mark : Option Mark) (os : List Open) (es : List Event)
+    (r : RegionTable) → IsNoExecution mark → TellsTags burden tags from os es r → TellsTags burden tags from (opened spawned mark es os) [] r
+tags_opened burden tags from spawned mark os es r quiet h = record {
+  along = h.along;
+  path_is = h.path_is;
+  burdened_is = h.burdened_is;
+  tells = (regions_need_no_call burden h.along tags nothing_open os r).begins (record { spawned = spawned; mark = mark; outer = es }) quiet h.tells;
+}
 
-pub tags_closed : (burden : Burden) (tags : Tags) (from : Origin) (spawned : Bool) (mark : Option Mark) (before : List Event) (os : List Open) (es : List Event) (r : RegionTable) → IsNoExecution mark → TellsTags burden tags from (opened spawned mark before os) es r → TellsTags burden tags from os (closed (record { spawned = spawned; mark = mark; outer = before }) es) r
-tags_closed burden tags from spawned mark before os es r quiet h = record { along = h.along; path_is = h.path_is; burdened_is = h.burdened_is; tells = (regions_need_no_call burden h.along tags nothing_open os r).ends (record { spawned = spawned; mark = mark; outer = before }) es quiet h.tells }
+pub tags_closed : (burden : Burden) (tags : Tags) (from : Origin) (spawned : Bool) (mark : Option Mark) (before : List Event) (os : List Open)
+    (es : List Event) (r : RegionTable) → IsNoExecution mark → TellsTags burden tags from (opened spawned mark before os) es r
+    → TellsTags burden tags from os (closed (record { spawned = spawned; mark = mark; outer = before }) es) r
+tags_closed burden tags from spawned mark before os es r quiet h = record {
+  along = h.along;
+  path_is = h.path_is;
+  burdened_is = h.burdened_is;
+  tells = (regions_need_no_call burden h.along tags nothing_open os r).ends (record { spawned = spawned; mark = mark; outer = before }) es quiet h.tells;
+}
 
 -- whether what has been told has spawned
-pub told_spawned : (burden : Burden) (tags : Tags) (from : Origin) (count : ℕ) (os : List Open) (es : List Event) (t : Tables) (h : TablesTell burden tags from count os es t) → has_spawned h.told ≡ t.spawned
+pub told_spawned : (burden : Burden) (tags : Tags) (from : Origin) (count : ℕ) (os : List Open) (es : List Event) (t : Tables)
+    (h : TablesTell burden tags from count os es t) → has_spawned h.told ≡ t.spawned
 told_spawned burden tags from count os es t h =
     sym (has_spawned_since h.told h.since (count - work_in os h.told) h.waits.instructions) ∙ ap has_spawned_of h.all ∙ sym h.spawned_is
   where
@@ -68,7 +94,8 @@ told_spawned burden tags from count os es t h =
     has_spawned_of x = has_spawned x
 
 -- an instruction, and a join of a block that has spawned nothing, need no call
-pub tables_ticked : (burden : Burden) (tags : Tags) (from : Origin) (count : ℕ) (os : List Open) (es : List Event) (t : Tables) → TablesTell burden tags from count os es t → TablesTell burden tags from (count + 1) os (ticked es) t
+pub tables_ticked : (burden : Burden) (tags : Tags) (from : Origin) (count : ℕ) (os : List Open) (es : List Event) (t : Tables)
+    → TablesTell burden tags from count os es t → TablesTell burden tags from (count + 1) os (ticked es) t
 tables_ticked burden tags from count os es t h = record {
   told = h.told;
   since = h.since ++ Work 1 ∷ [];
@@ -86,7 +113,8 @@ tables_ticked burden tags from count os es t h = record {
   spawned_is = h.spawned_is ∙ sym (has_spawned-work es 1);
 }
 
-pub tables_unspawned : (burden : Burden) (tags : Tags) (from : Origin) (count : ℕ) (os : List Open) (es : List Event) (t : Tables) → t.spawned ≡ false → TablesTell burden tags from count os es t → TablesTell burden tags from count os (es ++ Join ∷ []) t
+pub tables_unspawned : (burden : Burden) (tags : Tags) (from : Origin) (count : ℕ) (os : List Open) (es : List Event) (t : Tables)
+    → t.spawned ≡ false → TablesTell burden tags from count os es t → TablesTell burden tags from count os (es ++ Join ∷ []) t
 tables_unspawned burden tags from count os es t e h = record {
   told = h.told;
   since = h.since ++ Join ∷ [];
@@ -104,7 +132,9 @@ tables_unspawned burden tags from count os es t e h = record {
 }
 
 -- what has all been told tells, the heaviest path late
-pub tables_late : (burden : Burden) (tags : Tags) (from : Origin) (count : ℕ) (os : List Open) (es : List Event) (t : Tables) → sites.Tells (base_of from) nothing_open os es t.sites → TellsLate burden os es t.path → TellsTags burden tags from os es t.regions → IsCounted burden from count os es → t.burden ≡ burden → t.spawned ≡ has_spawned es → TablesTell burden tags from count os es t
+pub tables_late : (burden : Burden) (tags : Tags) (from : Origin) (count : ℕ) (os : List Open) (es : List Event) (t : Tables)
+    → sites.Tells (base_of from) nothing_open os es t.sites → TellsLate burden os es t.path → TellsTags burden tags from os es t.regions
+    → IsCounted burden from count os es → t.burden ≡ burden → t.spawned ≡ has_spawned es → TablesTell burden tags from count os es t
 tables_late burden tags from count os es t rows path regions counted b s = record {
   told = es;
   since = [];
@@ -118,35 +148,43 @@ tables_late burden tags from count os es t rows path regions counted b s = recor
   spawned_is = s;
 }
 
-pub tables_told : (burden : Burden) (tags : Tags) (from : Origin) (count : ℕ) (os : List Open) (es : List Event) (t : Tables) → AreTold burden tags from count os es t → TablesTell burden tags from count os es t
+pub tables_told : (burden : Burden) (tags : Tags) (from : Origin) (count : ℕ) (os : List Open) (es : List Event) (t : Tables)
+    → AreTold burden tags from count os es t → TablesTell burden tags from count os es t
 tables_told burden tags from count os es t h = tables_late burden tags from count os es t h.sites (told_late burden os es t.path h.path) h.regions h.counted h.burden_is h.spawned_is
 
 -- what each table is owed
-pub sites_since : (burden : Burden) (tags : Tags) (from : Origin) (count : ℕ) (os : List Open) (es : List Event) (t : Tables) (h : TablesTell burden tags from count os es t) → Since t.sites.noted count h.told h.since
+pub sites_since : (burden : Burden) (tags : Tags) (from : Origin) (count : ℕ) (os : List Open) (es : List Event) (t : Tables)
+    (h : TablesTell burden tags from count os es t) → Since t.sites.noted count h.told h.since
 sites_since burden tags from count os es t h = let P : ℕ → Type 0 = λ x. Since x count h.told h.since in subst P (sym h.sites.noted_is) h.waits
 
-pub told_small : (burden : Burden) (tags : Tags) (from : Origin) (count : ℕ) (os : List Open) (es : List Event) (t : Tables) (h : TablesTell burden tags from count os es t) → count ≤ MOST_LIMIT → Small nothing_open os (h.told ++ h.since)
+pub told_small : (burden : Burden) (tags : Tags) (from : Origin) (count : ℕ) (os : List Open) (es : List Event) (t : Tables)
+    (h : TablesTell burden tags from count os es t) → count ≤ MOST_LIMIT → Small nothing_open os (h.told ++ h.since)
 told_small burden tags from count os es t h small = let P : List Event → Type 0 = λ x. Small nothing_open os x in subst P (sym h.all) (small_run burden from count os es small h.counted)
 
-pub told_fits : (burden : Burden) (tags : Tags) (from : Origin) (count : ℕ) (os : List Open) (es : List Event) (t : Tables) (h : TablesTell burden tags from count os es t) → count ≤ MOST_LIMIT → burden.charge ≤ MOST_BURDEN → FitsRun burden os (h.told ++ h.since)
+pub told_fits : (burden : Burden) (tags : Tags) (from : Origin) (count : ℕ) (os : List Open) (es : List Event) (t : Tables)
+    (h : TablesTell burden tags from count os es t) → count ≤ MOST_LIMIT → burden.charge ≤ MOST_BURDEN → FitsRun burden os (h.told ++ h.since)
 told_fits burden tags from count os es t h small light = let P : List Event → Type 0 = λ x. FitsRun burden os x in subst P (sym h.all) (fits_run burden from count os es small light h.counted)
 
-pub path_told : (burden : Burden) (tags : Tags) (from : Origin) (count : ℕ) (os : List Open) (es : List Event) (t : Tables) (p : BurdenedPath) → NotesLate t.path p count → count ≤ MOST_LIMIT → burden.charge ≤ MOST_BURDEN → TablesTell burden tags from count os es t → TellsWeight burden os es p
+pub path_told : (burden : Burden) (tags : Tags) (from : Origin) (count : ℕ) (os : List Open) (es : List Event) (t : Tables) (p : BurdenedPath)
+    → NotesLate t.path p count → count ≤ MOST_LIMIT → burden.charge ≤ MOST_BURDEN → TablesTell burden tags from count os es t → TellsWeight burden os es p
 path_told burden tags from count os es t p notes small light h =
     let P : List Event → Type 0 = λ x. TellsWeight burden os x p in
     subst P h.all (notes burden os h.told h.since h.waits (told_fits burden tags from count os es t h small light) h.path)
 
 -- the heaviest path, of which nothing more is told
-pub path_waits : (burden : Burden) (tags : Tags) (from : Origin) (count : ℕ) (os : List Open) (es : List Event) (t : Tables) → LatePathsWait → count ≤ MOST_LIMIT → burden.charge ≤ MOST_BURDEN → TablesTell burden tags from count os es t → TellsLate burden os es t.path
+pub path_waits : (burden : Burden) (tags : Tags) (from : Origin) (count : ℕ) (os : List Open) (es : List Event) (t : Tables) → LatePathsWait
+    → count ≤ MOST_LIMIT → burden.charge ≤ MOST_BURDEN → TablesTell burden tags from count os es t → TellsLate burden os es t.path
 path_waits burden tags from count os es t waits small light h =
     let P : List Event → Type 0 = λ x. TellsLate burden os x t.path in
     subst P h.all (waits burden os h.told h.since t.path count h.waits (told_fits burden tags from count os es t h small light) h.path)
 
 -- nothing came since a path was noted
-pub none_since : (burden : Burden) (from : Origin) (count : ℕ) (os : List Open) (es : List Event) (p : BurdenedPath) → IsCounted burden from count os es → TellsWeight burden os es p → Since p.noted count es []
+pub none_since : (burden : Burden) (from : Origin) (count : ℕ) (os : List Open) (es : List Event) (p : BurdenedPath)
+    → IsCounted burden from count os es → TellsWeight burden os es p → Since p.noted count es []
 none_since burden from count os es p counted h = let w = counted.work in let n = h.noted_is in record { goes_on = omega arith; instructions = omega arith }
 
-pub fits_now : (burden : Burden) (tags : Tags) (from : Origin) (count : ℕ) (os : List Open) (es : List Event) (t : Tables) → TablesTell burden tags from count os es t → count ≤ MOST_LIMIT → burden.charge ≤ MOST_BURDEN → FitsRun burden os (es ++ [])
+pub fits_now : (burden : Burden) (tags : Tags) (from : Origin) (count : ℕ) (os : List Open) (es : List Event) (t : Tables)
+    → TablesTell burden tags from count os es t → count ≤ MOST_LIMIT → burden.charge ≤ MOST_BURDEN → FitsRun burden os (es ++ [])
 fits_now burden tags from count os es t h small light = let P : List Event → Type 0 = λ x. FitsRun burden os x in subst P (sym (append-nil es)) (fits_run burden from count os es small light h.counted)
 
 -- tables with these sites, this path, and this of the block that runs
@@ -176,24 +214,31 @@ call_opened t s count site enters waits = λ burden tags from os es k small ligh
     let P : List Event → Type 0 = λ x. sites.Tells (base_of from) nothing_open (opened false mark x os) [] s in
     let S : List Event → Type 0 = λ x. Small nothing_open (opened false mark x os) [] in
     tables_late burden tags from count (opened false mark es os) [] (with_tables t s t.path false)
-    (subst P h.all (enters (base_of from) nothing_open os h.told h.since (sites_since burden tags from count os es t h) (subst S (sym h.all) (small_run burden from count (opened false mark es os) [] small k)) h.sites))
+    (subst P h.all (enters (base_of from) nothing_open os h.told h.since (sites_since burden tags from count os es t h)
+    (subst S (sym h.all) (small_run burden from count (opened false mark es os) [] small k)) h.sites))
     (late_begun burden mark os es t.path (path_waits burden tags from count os es t waits small light h))
     (tags_opened burden tags from false mark os es t.regions tt h.regions) k h.burden_is refl
 
 -- a spawned part begins, by a table's own rule
-spawned_path : (burden : Burden) (tags : Tags) (from : Origin) (count : ℕ) (os : List Open) (es : List Event) (t : Tables) (m p : BurdenedPath) (mark : Option Mark) → NotesLate t.path m count → SpawnsWeight m p count (not t.spawned) → count ≤ MOST_LIMIT → burden.charge ≤ MOST_BURDEN → TablesTell burden tags from count os es t → TellsWeight burden (opened true mark es os) [] p
+spawned_path : (burden : Burden) (tags : Tags) (from : Origin) (count : ℕ) (os : List Open) (es : List Event) (t : Tables) (m p : BurdenedPath)
+    (mark : Option Mark) → NotesLate t.path m count → SpawnsWeight m p count (not t.spawned) → count ≤ MOST_LIMIT → burden.charge ≤ MOST_BURDEN
+    → TablesTell burden tags from count os es t → TellsWeight burden (opened true mark es os) [] p
 spawned_path burden tags from count os es t m p mark notes spawns small light h =
     let P : List Event → Type 0 = λ x. TellsWeight burden (opened true mark x os) [] p in
     let told = path_told burden tags from count os es t m notes small light h in
-    subst P (append-nil es) (spawns burden mark os es [] (none_since burden from count os es m h.counted told) (fits_now burden tags from count os es t h small light) (sym h.spawned_is ∙ sym (not-not t.spawned)) told)
+    subst P (append-nil es) (spawns burden mark os es [] (none_since burden from count os es m h.counted told)
+    (fits_now burden tags from count os es t h small light) (sym h.spawned_is ∙ sym (not-not t.spawned)) told)
 
-pub spawned_call_opened : (t : Tables) (s : SiteTable) (m p : BurdenedPath) (count site : ℕ) → Spawns t.sites s count site (not t.spawned) → NotesLate t.path m count → SpawnsWeight m p count (not t.spawned) → Opens t (with_tables t s p false) count true (Some (Invocation site))
+pub spawned_call_opened : (t : Tables) (s : SiteTable) (m p : BurdenedPath) (count site : ℕ) → Spawns t.sites s count site (not t.spawned)
+    → NotesLate t.path m count → SpawnsWeight m p count (not t.spawned) → Opens t (with_tables t s p false) count true (Some (Invocation site))
 spawned_call_opened t s m p count site spawns notes heavier = λ burden tags from os es k small light h.
     let mark : Option Mark = Some (Invocation site) in
     let P : List Event → Type 0 = λ x. sites.Tells (base_of from) nothing_open (opened true mark x os) [] s in
     let S : List Event → Type 0 = λ x. Small nothing_open (opened true mark x os) [] in
     tables_told burden tags from count (opened true mark es os) [] (with_tables t s p false) (record {
-      sites = subst P h.all (spawns (base_of from) nothing_open os h.told h.since (sites_since burden tags from count os es t h) (told_spawned burden tags from count os es t h ∙ sym (not-not t.spawned)) (subst S (sym h.all) (small_run burden from count (opened true mark es os) [] small k)) h.sites);
+      sites = subst P h.all (spawns (base_of from) nothing_open os h.told h.since (sites_since burden tags from count os es t h)
+          (told_spawned burden tags from count os es t h ∙ sym (not-not t.spawned))
+          (subst S (sym h.all) (small_run burden from count (opened true mark es os) [] small k)) h.sites);
       path = spawned_path burden tags from count os es t m p mark notes heavier small light h;
       regions = tags_opened burden tags from true mark os es t.regions tt h.regions;
       counted = k;
@@ -201,11 +246,13 @@ spawned_call_opened t s m p count site spawns notes heavier = λ burden tags fro
       spawned_is = refl;
     })
 
-pub half_opened : (t : Tables) (s : SiteTable) (m p : BurdenedPath) (count : ℕ) → SpawnsHalf t.sites s count (not t.spawned) → NotesLate t.path m count → SpawnsWeight m p count (not t.spawned) → Opens t (with_tables t s p false) count true None
+pub half_opened : (t : Tables) (s : SiteTable) (m p : BurdenedPath) (count : ℕ) → SpawnsHalf t.sites s count (not t.spawned)
+    → NotesLate t.path m count → SpawnsWeight m p count (not t.spawned) → Opens t (with_tables t s p false) count true None
 half_opened t s m p count spawns notes heavier = λ burden tags from os es k small light h.
     let P : List Event → Type 0 = λ x. sites.Tells (base_of from) nothing_open (opened true None x os) [] s in
     tables_told burden tags from count (opened true None es os) [] (with_tables t s p false) (record {
-      sites = subst P h.all (spawns (base_of from) nothing_open None os h.told h.since tt (sites_since burden tags from count os es t h) (told_spawned burden tags from count os es t h ∙ sym (not-not t.spawned)) (told_small burden tags from count os es t h small) h.sites);
+      sites = subst P h.all (spawns (base_of from) nothing_open None os h.told h.since tt (sites_since burden tags from count os es t h)
+          (told_spawned burden tags from count os es t h ∙ sym (not-not t.spawned)) (told_small burden tags from count os es t h small) h.sites);
       path = spawned_path burden tags from count os es t m p None notes heavier small light h;
       regions = tags_opened burden tags from true None os es t.regions tt h.regions;
       counted = k;
@@ -225,7 +272,8 @@ quiet_opened t now count settles = λ burden tags from os es k small light h.
       spawned_is = refl;
     })
 
-pub region_opened : (t now : Tables) (r : RegionTable) (count tag path heavy : ℕ) → Settles t now count → ReadsPath now.sites path → heavy ≡ now.path.weight → regions.BeginsRegion now.regions r tag count path heavy → OpensRegion t (with_regions now r false) count tag
+pub region_opened : (t now : Tables) (r : RegionTable) (count tag path heavy : ℕ) → Settles t now count → ReadsPath now.sites path
+    → heavy ≡ now.path.weight → regions.BeginsRegion now.regions r tag count path heavy → OpensRegion t (with_regions now r false) count tag
 region_opened t now r count tag path heavy settles reads weighs begins = λ burden tags from os es known k small light h.
     let a = settles burden tags from os es small light h in
     let mark : Option Mark = Some (Execution (tags.name tag)) in
@@ -247,7 +295,8 @@ region_opened t now r count tag path heavy settles reads weighs begins = λ burd
     })
 
 -- the block that runs joins
-pub tables_joined : (t : Tables) (s : SiteTable) (m p : BurdenedPath) (count : ℕ) → Joins t.sites s count → NotesLate t.path m count → JoinsWeight m p count → JoinsSpawned t (with_tables t s p false) count
+pub tables_joined : (t : Tables) (s : SiteTable) (m p : BurdenedPath) (count : ℕ) → Joins t.sites s count → NotesLate t.path m count
+    → JoinsWeight m p count → JoinsSpawned t (with_tables t s p false) count
 tables_joined t s m p count joins notes heavier = λ burden tags from os es e small light h.
     let S : List Event → Type 0 = λ x. sites.Tells (base_of from) nothing_open os (x ++ Join ∷ []) s in
     let P : List Event → Type 0 = λ x. TellsWeight burden os (x ++ Join ∷ []) p in

@@ -20,7 +20,8 @@ use Rattle.cw_meter.specs.declared.meter.Measures.{Measures}
 use Rattle.cw_meter.specs.Origins.{Origin, Main, Rest, first_open}
 use Rattle.cw_meter.specs.Meters.{Meters, InstructionsNeedNoCall, Rests}
 use Rattle.cw_meter.specs.Whole.{Reads}
-use Rattle.cw_strand_laws.specs.Jobs.{Extent, WholeCall, ToJoin, joins, has_come, Standing, standing, Came, Arrives, Returns, Falls, Beyond, Lost, moved, travel, course, IsOf, Same, Passed, Short, Job, job_start, root_job, Effect, Ended, Joined, OverLimit, JobMeaning}
+use Rattle.cw_strand_laws.specs.Jobs.{Extent, WholeCall, ToJoin, joins, has_come, Standing, standing, Came, Arrives, Returns, Falls, Beyond, Lost, moved, travel}
+use Rattle.cw_strand_laws.specs.Jobs.{course, IsOf, Same, Passed, Short, Job, job_start, root_job, Effect, Ended, Joined, OverLimit, JobMeaning}
 use Rattle.cw_strand_laws.specs.Strands.{Strand, Going, Waits, Halted, Turn, Goes, HandsOut, ComesBack, turn, goes_on, resumed}
 use Rattle.cw_strand_laws.specs.Promises.{IsStrandOf}
 use Rattle.cw_strand_laws.specs.RestLaws.{RootsAreSerial}
@@ -28,7 +29,8 @@ use Rattle.cw_strand_laws.specs.Steps.{AdvanceKeeps, CallsKeep, advance, finishe
 use Rattle.cw_strand_laws.specs.Steps as steps
 use Rattle.cw_strand_laws.specs.lemmas.First.{first_is}
 use Rattle.cw_meter_laws.specs.Opens.{opens_round, whole, Gauge, IsToldOf}
-use Rattle.cw_meter_laws.specs.Strands.{site_at, StartsFrom, Metered, Started, Ran, TakenBack, Given, TellsStrand, TellsAll, MeansMeasured, MetersKeep, CallsKeepMeters, StrandsTell, MetersTellStrands, IsMeasured, RootsAreMeasured, RestsHaveNoJoins}
+use Rattle.cw_meter_laws.specs.Strands.{site_at, StartsFrom, Metered, Started, Ran, TakenBack, Given, TellsStrand, TellsAll, MeansMeasured, MetersKeep}
+use Rattle.cw_meter_laws.specs.Strands.{CallsKeepMeters, StrandsTell, MetersTellStrands, IsMeasured, RootsAreMeasured, RestsHaveNoJoins}
 use Rattle.cw_meter_laws.proofs.Joinless.{Joinless, stays_joinless}
 use Rattle.cw_meter_laws.proofs.Joinless as joinless
 use Rattle.cw_meter_laws.specs.lemmas.Told.{After}
@@ -44,7 +46,8 @@ NoneShown (Arrives frame t left) = no_joins t.events ≡ true
 NoneShown _ = Unit {0}
 
 module _ (code : Code) where
-  come_to : (s : State) (b : Bool) → has_come ToJoin code s ≡ b → Joinless s.around s.trace.events → (n : ℕ) (other : Came) → (b ≡ false → NoneShown other) → NoneShown (if b then Arrives (standing s) s.trace n else other)
+  come_to : (s : State) (b : Bool) → has_come ToJoin code s ≡ b → Joinless s.around s.trace.events → (n : ℕ) (other : Came)
+      → (b ≡ false → NoneShown other) → NoneShown (if b then Arrives (standing s) s.trace n else other)
   come_to s true e h n other k = at_bottom s.around s.trace.events (first_is s.around (joins (slice_get code.instrs s.place)) e) h
   come_to s false e h n other k = k refl
 
@@ -81,24 +84,31 @@ pub rests_have_no_joins : RestsHaveNoJoins
 rests_have_no_joins = λ code job frame t cost x m. no_joins_in code job frame t cost x m
 
 -- what is told of a strand
-goes_told : {code : Code} (g : Gauge code) (from : Origin) (t : Turn) (s s' : State) (limit before count : ℕ) (outs : List Job) (m : Meter) → Meters g.detail g.tags from count (opens_round from s'.around) s'.trace.events m → TellsStrand code g from (goes_on t s s' limit before count outs) m
+goes_told : {code : Code} (g : Gauge code) (from : Origin) (t : Turn) (s s' : State) (limit before count : ℕ) (outs : List Job) (m : Meter)
+    → Meters g.detail g.tags from count (opens_round from s'.around) s'.trace.events m → TellsStrand code g from (goes_on t s s' limit before count outs) m
 goes_told g from Goes s s' limit before count outs m h = h
 goes_told g from (HandsOut target taken) s s' limit before count outs m h = h
 goes_told g from ComesBack s s' limit before count outs m h = h
 
-kept_on : (code : Code) (job : Job) (old : Strand) (t : Turn) (s s' : State) (limit before count : ℕ) (outs : List Job) → AdvanceKeeps code job old (turned t s s' limit before count outs) → IsStrandOf code job (goes_on t s s' limit before count outs)
+kept_on : (code : Code) (job : Job) (old : Strand) (t : Turn) (s s' : State) (limit before count : ℕ) (outs : List Job)
+    → AdvanceKeeps code job old (turned t s s' limit before count outs) → IsStrandOf code job (goes_on t s s' limit before count outs)
 kept_on code job old Goes s s' limit before count outs h = h.0
 kept_on code job old (HandsOut target taken) s s' limit before count outs h = h.0
 kept_on code job old ComesBack s s' limit before count outs h = h.0
 
 module _ (quiet : InstructionsNeedNoCall) (code : Code) (keep : CallsKeep code) where
-  steps_to : (job : Job) (s : State) (count : ℕ) (outs : List Job) (w : Transition) → has_come job.extent code s ≡ false → step code s ≡ w → job.before + (count + 1) ≤ job.limit → advance code job (Going s count outs) ≡ went_on (turn code s) s w job.limit job.before (count + 1) outs
+  steps_to : (job : Job) (s : State) (count : ℕ) (outs : List Job) (w : Transition) → has_come job.extent code s ≡ false → step code s ≡ w
+      → job.before + (count + 1) ≤ job.limit → advance code job (Going s count outs) ≡ went_on (turn code s) s w job.limit job.before (count + 1) outs
   steps_to job s count outs w come e le =
-      ap (λ b. if b then finished outs (Joined (standing s) s.trace count) else (if nat_lt job.limit (job.before + (count + 1)) then steps.Ran (Halted OverLimit outs) else went_on (turn code s) s (step code s) job.limit job.before (count + 1) outs)) come
+      ap (λ b. if b then finished outs (Joined (standing s) s.trace count)
+      else (if nat_lt job.limit (job.before + (count + 1)) then steps.Ran (Halted OverLimit outs)
+      else went_on (turn code s) s (step code s) job.limit job.before (count + 1) outs)) come
       ∙ ap (λ b. if b then steps.Ran (Halted OverLimit outs) else went_on (turn code s) s (step code s) job.limit job.before (count + 1) outs) (not_below job.limit (job.before + (count + 1)) le)
       ∙ ap (λ x. went_on (turn code s) s x job.limit job.before (count + 1) outs) e
 
-  ran : (job : Job) (s s' : State) (count : ℕ) (outs : List Job) → has_come job.extent code s ≡ false → step code s ≡ On s' → job.before + (count + 1) ≤ job.limit → IsStrandOf code job (Going s count outs) → IsStrandOf code job (goes_on (turn code s) s s' job.limit job.before (count + 1) outs)
+  ran : (job : Job) (s s' : State) (count : ℕ) (outs : List Job) → has_come job.extent code s ≡ false → step code s ≡ On s'
+      → job.before + (count + 1) ≤ job.limit → IsStrandOf code job (Going s count outs)
+      → IsStrandOf code job (goes_on (turn code s) s s' job.limit job.before (count + 1) outs)
   ran job s s' count outs come e le h =
       kept_on code job (Going s count outs) (turn code s) s s' job.limit job.before (count + 1) outs
       (subst (AdvanceKeeps code job (Going s count outs)) (steps_to job s count outs (On s') come e le) (keep.advancing job (Going s count outs) h))
@@ -106,10 +116,14 @@ module _ (quiet : InstructionsNeedNoCall) (code : Code) (keep : CallsKeep code) 
   arrived : (job : Job) (t : State) (cost : ℕ) → IsStrandOf code job (Going t cost []) → has_come job.extent code t ≡ true → JobMeaning code job (Joined (standing t) t.trace cost)
   arrived job t cost h come =
       subst (AdvanceKeeps code job (Going t cost []))
-      (ap (λ b. if b then finished [] (Joined (standing t) t.trace cost) else (if nat_lt job.limit (job.before + (cost + 1)) then steps.Ran (Halted OverLimit []) else went_on (turn code t) t (step code t) job.limit job.before (cost + 1) [])) come)
+      (ap (λ b. if b then finished [] (Joined (standing t) t.trace cost)
+      else (if nat_lt job.limit (job.before + (cost + 1)) then steps.Ran (Halted OverLimit [])
+      else went_on (turn code t) t (step code t) job.limit job.before (cost + 1) [])) come)
       (keep.advancing job (Going t cost []) h)
 
-  given : (job out : Job) (s : State) (count : ℕ) (outs : List Job) (frame : Standing) (t : Trace) (cost : ℕ) → job.before + (count + cost) ≤ job.limit → IsStrandOf code job (Waits s count (out ∷ outs)) → JobMeaning code out (Joined frame t cost) → IsStrandOf code job (Going (resumed s frame t) (count + cost) outs)
+  given : (job out : Job) (s : State) (count : ℕ) (outs : List Job) (frame : Standing) (t : Trace) (cost : ℕ)
+      → job.before + (count + cost) ≤ job.limit → IsStrandOf code job (Waits s count (out ∷ outs)) → JobMeaning code out (Joined frame t cost)
+      → IsStrandOf code job (Going (resumed s frame t) (count + cost) outs)
   given job out s count outs frame t cost le h m =
       subst (IsStrandOf code job)
       (ap (λ b. if b then Halted OverLimit outs else Going (resumed s frame t) (count + cost) outs) (not_below job.limit (job.before + (count + cost)) le))
@@ -122,18 +136,25 @@ module _ (quiet : InstructionsNeedNoCall) (code : Code) (keep : CallsKeep code) 
     pub starting : (from : Origin) (job : Job) (m : Meter) → StartsFrom from detail m → TellsAll code detail from (Going (job_start job) 0 []) m
     starting from job m starts = λ g e. let P : Detail → Type 0 = λ x. Meters x g.tags from 0 (first_open from) [] m in subst P (sym e) (starts g.tags)
 
-    pub advancing : (from : Origin) (job : Job) (s s' : State) (count : ℕ) (outs : List Job) (m m' : Meter) → job.before + (count + 1) ≤ job.limit → job.limit ≤ MOST_LIMIT → step code s ≡ On s' → IsToldOf m m' count (slice_get code.instrs s.place) → TellsAll code detail from (Going s count outs) m → TellsAll code detail from (goes_on (turn code s) s s' job.limit job.before (count + 1) outs) m'
+    pub advancing : (from : Origin) (job : Job) (s s' : State) (count : ℕ) (outs : List Job) (m m' : Meter) → job.before + (count + 1) ≤ job.limit
+        → job.limit ≤ MOST_LIMIT → step code s ≡ On s' → IsToldOf m m' count (slice_get code.instrs s.place)
+        → TellsAll code detail from (Going s count outs) m → TellsAll code detail from (goes_on (turn code s) s s' job.limit job.before (count + 1) outs) m'
     advancing from job s s' count outs m m' le small e told h = λ g b.
         let less : count < MOST_LIMIT = omega (arith, le, small) in
         goes_told g from (turn code s) s s' job.limit job.before (count + 1) outs m'
         (subst (After (Telling quiet code g from count less m m') from) e (acts_told quiet code g from count less m m' s (slice_get code.instrs s.place) told (h g b)))
 
-    pub giving : (from : Origin) (job out : Job) (s : State) (count cost : ℕ) (outs : List Job) (frame : Standing) (t : Trace) (m r m' : Meter) → IsStrandOf code job (Waits s count (out ∷ outs)) → job.before + (count + cost) ≤ job.limit → job.limit ≤ MOST_LIMIT → MeansMeasured code out detail (site_at from s.around) (Joined frame t cost) r → Rests m r m' count cost → TellsAll code detail from (Waits s count (out ∷ outs)) m → TellsAll code detail from (Going (resumed s frame t) (count + cost) outs) m'
+    pub giving : (from : Origin) (job out : Job) (s : State) (count cost : ℕ) (outs : List Job) (frame : Standing) (t : Trace) (m r m' : Meter)
+        → IsStrandOf code job (Waits s count (out ∷ outs)) → job.before + (count + cost) ≤ job.limit → job.limit ≤ MOST_LIMIT
+        → MeansMeasured code out detail (site_at from s.around) (Joined frame t cost) r → Rests m r m' count cost
+        → TellsAll code detail from (Waits s count (out ∷ outs)) m → TellsAll code detail from (Going (resumed s frame t) (count + cost) outs) m'
     giving from job out s count cost outs frame t m r m' is le small means rests h = λ g b.
         rests g.detail g.tags from (opens_round from s.around) s.trace.events t.events (omega (arith, le, small)) g.light
         (no_joins_in code out frame t cost (out_here job out s count outs is) means.means) (h g b) (means.counts g b)
 
-    pub arriving : (job : Job) (site : ℕ) (t : State) (cost : ℕ) (m : Meter) → IsStrandOf code job (Going t cost []) → has_come job.extent code t ≡ true → TellsAll code detail (Rest site) (Going t cost []) m → MeansMeasured code job detail site (Joined (standing t) t.trace cost) m
+    pub arriving : (job : Job) (site : ℕ) (t : State) (cost : ℕ) (m : Meter) → IsStrandOf code job (Going t cost [])
+        → has_come job.extent code t ≡ true → TellsAll code detail (Rest site) (Going t cost []) m
+        → MeansMeasured code job detail site (Joined (standing t) t.trace cost) m
     arriving job site t cost m is come h = record {
       means = arrived job t cost is come;
       counts = λ g b. let P : List Around → Type 0 = λ x. Meters g.detail g.tags (Rest site) cost (opens_round (Rest site) x) t.trace.events m in subst P (at_join job.extent come) (h g b);
@@ -143,7 +164,10 @@ module _ (quiet : InstructionsNeedNoCall) (code : Code) (keep : CallsKeep code) 
         at_join WholeCall e = cc
         at_join ToJoin e = first_is t.around (joins (slice_get code.instrs t.place)) e
 
-    pub ending : (g : Gauge code) → g.detail ≡ detail → (s : State) (count limit : ℕ) (outs : List Job) (v : Option ℤ) (arrays : Slots (List ℤ)) (t : Trace) (m m' : Meter) → count + 1 ≤ limit → limit ≤ MOST_LIMIT → step code s ≡ Ends v arrays t → IsToldOf m m' count (slice_get code.instrs s.place) → TellsAll code detail Main (Going s count outs) m → Meters g.detail g.tags Main (count + 1) [] (whole t) m'
+    pub ending : (g : Gauge code) → g.detail ≡ detail → (s : State) (count limit : ℕ) (outs : List Job) (v : Option ℤ) (arrays : Slots (List ℤ))
+        (t : Trace) (m m' : Meter) → count + 1 ≤ limit → limit ≤ MOST_LIMIT → step code s ≡ Ends v arrays t
+        → IsToldOf m m' count (slice_get code.instrs s.place) → TellsAll code detail Main (Going s count outs) m
+        → Meters g.detail g.tags Main (count + 1) [] (whole t) m'
     ending g b s count limit outs v arrays t m m' le small e told h =
         let less : count < MOST_LIMIT = omega (arith, le, small) in
         subst (After (Telling quiet code g Main count less m m') Main) e (acts_told quiet code g Main count less m m' s (slice_get code.instrs s.place) told (h g b))
@@ -165,7 +189,8 @@ module _ (quiet : InstructionsNeedNoCall) (code : Code) (keep : CallsKeep code) 
 
     tells : (from : Origin) (job : Job) (strand : Strand) (m : Meter) → Metered code detail from job strand m → TellsAll code detail from strand m
     tells from job strand m (Started _ _ _ is low small starts) = starting from job m starts
-    tells from job strand m (Ran _ _ s s' count outs m0 _ h come e le told) = advancing from job s s' count outs m0 m le (limited from job (Going s count outs) m0 h) e told (tells from job (Going s count outs) m0 h)
+    tells from job strand m (Ran _ _ s s' count outs m0 _ h come e le told) =
+        advancing from job s s' count outs m0 m le (limited from job (Going s count outs) m0 h) e told (tells from job (Going s count outs) m0 h)
     tells from job strand m (TakenBack _ _ out s count outs _ h) = tells from job (Waits s count (out ∷ outs)) m h
     tells from job strand m (Given _ _ out s t count cost outs m0 r _ h k come le rests) =
         let site = site_at from s.around in
@@ -186,7 +211,10 @@ module _ (quiet : InstructionsNeedNoCall) (code : Code) (keep : CallsKeep code) 
     }
 
   -- a whole run ends
-  answers : RootsAreSerial → (f : Func) (args : List ℤ) (limit count : ℕ) (s : State) (v : Option ℤ) (arrays : Slots (List ℤ)) (t : Trace) → first_transition (slice_get code.funcs code.main) args ≡ On (first_state f args [] []) → IsStrandOf code (root_job f args limit) (Going s count []) → step code s ≡ Ends v arrays t → count + 1 ≤ limit → code_serial code args limit ≡ Some (answer_of (reducers_of code) (Done (v, no_frame) 0 t))
+  answers : RootsAreSerial → (f : Func) (args : List ℤ) (limit count : ℕ) (s : State) (v : Option ℤ) (arrays : Slots (List ℤ)) (t : Trace)
+      → first_transition (slice_get code.funcs code.main) args ≡ On (first_state f args [] [])
+      → IsStrandOf code (root_job f args limit) (Going s count []) → step code s ≡ Ends v arrays t → count + 1 ≤ limit
+      → code_serial code args limit ≡ Some (answer_of (reducers_of code) (Done (v, no_frame) 0 t))
   answers roots f args limit count s v arrays t first is e le =
       let job = root_job f args limit in
       let m : JobMeaning code job (Ended v arrays t (count + 1)) =
@@ -196,7 +224,11 @@ module _ (quiet : InstructionsNeedNoCall) (code : Code) (keep : CallsKeep code) 
         | inr same ↦ sym same
       ]
 
-  pub root_measured : RootsAreSerial → (g : Gauge code) (burden : Burden) (f : Func) (args : List ℤ) (limit count sites : ℕ) (s : State) (v : Option ℤ) (arrays : Slots (List ℤ)) (t : Trace) (m m' : Meter) (all : Measures) → g.detail ≡ details.Measures burden → first_transition (slice_get code.funcs code.main) args ≡ On (first_state f args [] []) → Metered code g.detail Main (root_job f args limit) (Going s count []) m → step code s ≡ Ends v arrays t → count + 1 ≤ limit → IsToldOf m m' count (slice_get code.instrs s.place) → Reads m' (count + 1) sites (length code.tags) all → IsMeasured code burden args limit sites v t all
+  pub root_measured : RootsAreSerial → (g : Gauge code) (burden : Burden) (f : Func) (args : List ℤ) (limit count sites : ℕ) (s : State)
+      (v : Option ℤ) (arrays : Slots (List ℤ)) (t : Trace) (m m' : Meter) (all : Measures) → g.detail ≡ details.Measures burden
+      → first_transition (slice_get code.funcs code.main) args ≡ On (first_state f args [] [])
+      → Metered code g.detail Main (root_job f args limit) (Going s count []) m → step code s ≡ Ends v arrays t → count + 1 ≤ limit
+      → IsToldOf m m' count (slice_get code.instrs s.place) → Reads m' (count + 1) sites (length code.tags) all → IsMeasured code burden args limit sites v t all
   root_measured roots g burden f args limit count sites s v arrays t m m' all counts first h e le told reads =
       let job = root_job f args limit in
       let small = limited g.detail Main job (Going s count []) m h in

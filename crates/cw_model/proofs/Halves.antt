@@ -1,5 +1,6 @@
 -- A loop by halves does the turns of the plain loop in order, at the costs and in the tree of the halves.
-use Rattle.std.proofs.Common.{◌≡◌, ℕ, zero, suc, ◌+◌, ◌-◌, ◌*◌, ◌/◌, ◌≤◌, Bool, true, false, ℤ, pos, ◌+ℤ◌, List, [], ◌∷◌, ◌++◌, length, arith, refl, sym, ◌∙◌, ap, append_assoc, append-nil, length-append}
+use Rattle.std.proofs.Common.{◌≡◌, ℕ, zero, suc, ◌+◌, ◌-◌, ◌*◌, ◌/◌, ◌≤◌, Bool, true, false, ℤ, pos, ◌+ℤ◌, List, [], ◌∷◌, ◌++◌}
+use Rattle.std.proofs.Common.{length, arith, refl, sym, ◌∙◌, ap, append_assoc, append-nil, length-append}
 use Rattle.std.specs.Prelude.{nat_le, if◌then◌else◌, flat_map}
 use Rattle.std.proofs.lemmas.Int.{ints}
 use Rattle.std.proofs.Math.IntN.{+ℤ_idr}
@@ -10,7 +11,8 @@ use Rattle.cw_model.specs.declared.trap.Trap.{Trap}
 use Rattle.cw_model.specs.Trees.{Tree, Leaf, Seq, Par, Event, Series, Fork, Join, works, tree_of}
 use Rattle.cw_model.specs.Frames.{Frame}
 use Rattle.cw_model.specs.Outcome.{Trace, shows, joined, Done, Trapped, Piece, ◌>>=◌, quiet, gives, show, pay, as_one}
-use Rattle.cw_model.specs.Loops.{leaf_start, turn_start, turn_end, leaf_end, node_start, node_call, node_end, leaf_turns, halves, turns_tree, loop_tree, inner_nodes, Turn, TurnsLead, no_turn, one_turn}
+use Rattle.cw_model.specs.Loops.{leaf_start, turn_start, turn_end, leaf_end, node_start, node_call, node_end, leaf_turns}
+use Rattle.cw_model.specs.Loops.{halves, turns_tree, loop_tree, inner_nodes, Turn, TurnsLead, no_turn, one_turn}
 use Rattle.cw_model.specs.LoopLaws.{IsBody, spent, lines_of, additions_of, trees_of, RunsAsPlain, TrapsAsPlain}
 use Rattle.cw_model.specs.TreeLaws.{Regrouped, same, further, to_the_right, nothing_after, in_series, in_fork}
 use Rattle.cw_model.specs.lemmas.Regrouping.{same_normal}
@@ -153,7 +155,8 @@ module _ (body inner : ℤ → Frame → Piece Frame) (is_body : IsBody body inn
       pay_ends turn_start left _ (λ enough. rw (is_body.in_series from frame (left - turn_start))
       (one_then_ends Series (itself (inner from frame (left - turn_start)))
       (λ frame' left' t e. pay_ends turn_end left' _ (λ enough'.
-      weaken (λ frame'' left'' u r. more_turns n from frame left frame' left' t frame'' left'' u enough e enough' r) (λ trap line lines r. later_trap n from frame left frame' left' t trap line lines e r)
+      weaken (λ frame'' left'' u r. more_turns n from frame left frame' left' t frame'' left'' u enough e enough' r)
+      (λ trap line lines r. later_trap n from frame left frame' left' t trap line lines e r)
       (leaf_ends n (from +ℤ pos 1) frame' (left' - turn_end))))
       (λ trap line lines e. record {
         turns = [];
@@ -216,7 +219,8 @@ module _ (body inner : ℤ → Frame → Piece Frame) (is_body : IsBody body inn
         nat_le n grain ≡ false → node_start k q ≤ left → Runs depth (n / 2) from frame (left - node_start k q) frame1 left1 t →
         node_call k ≤ left1 → Runs depth (n - n / 2) (from +ℤ pos (n / 2)) frame1 (left1 - node_call k) frame2 left2 u → node_end q ≤ left2 →
         Runs (suc depth) n from frame left frame2 (left2 - node_end q)
-        (joined (shows (works (node_start k q))) (joined (one_part Fork t) (joined (shows (works (node_call k))) (joined (one_part Series u) (joined (shows (Join ∷ [])) (joined (shows (works (node_end q))) quiet))))))
+        (joined (shows (works (node_start k q))) (joined (one_part Fork t)
+        (joined (shows (works (node_call k))) (joined (one_part Series u) (joined (shows (Join ∷ [])) (joined (shows (works (node_end q))) quiet))))))
     both_halves depth n from frame left frame1 left1 t frame2 left2 u inner_node enough1 r enough2 s enough3 =
         record {
           turns = r.turns ++ s.turns;

@@ -6,7 +6,9 @@ use Rattle.cw_model.specs.declared.token.Token.{Token}
 use Rattle.cw_model.specs.declared.token.Kind.{Kind}
 use Rattle.cw_model.specs.Syntax.{Name, Stmt, Block, Reducer, Function, Program}
 use Rattle.cw_model.specs.Sites.{CallSite, sites_in, sites_in_block, are_numbered, call_sites}
-use Rattle.cw_model.specs.Grammar.{ReadsAssigned, value, ReadsNamed, assign, assign_element, add, raise, ReadsDeclared, ReadsStmt, begins, ReadsStmtBy, declare, named, sync, when, choose, repeat, loop, scope, cut, region, print, give, ReadsBlock, braces, ReadsStmts, one_more, ReadsFunction, function, ReadsItems, no_item, one_reducer, one_function, Derives}
+use Rattle.cw_model.specs.Grammar.{ReadsAssigned, value, ReadsNamed, assign, assign_element, add, raise, ReadsDeclared, ReadsStmt, begins, ReadsStmtBy}
+use Rattle.cw_model.specs.Grammar.{declare, named, sync, when, choose, repeat, loop, scope, cut, region, print, give, ReadsBlock, braces, ReadsStmts}
+use Rattle.cw_model.specs.Grammar.{one_more, ReadsFunction, function, ReadsItems, no_item, one_reducer, one_function, Derives}
 use Rattle.cw_model.specs.Grammar as grammar
 
 -- numbered from one number up to another
@@ -91,7 +93,8 @@ module _ (text : List ℕ) where
   function_counted : (n m : ℕ) (ts rest : List Token) (f : Function) → ReadsFunction text n ts f m rest → Counted n m (sites_in_block f.body)
   function_counted n m ts rest f (function {us = us} {b = b} gives name left params body) = block_counted n m us rest b body
 
-  items_counted : (n : ℕ) (ts : List Token) (rs : List Reducer) (fs : List Function) → ReadsItems text n ts rs fs → (k : ℕ) → n ≡ suc k → are_numbered k (flat_map (λ f. sites_in_block f.body) fs) ≡ true
+  items_counted : (n : ℕ) (ts : List Token) (rs : List Reducer) (fs : List Function) → ReadsItems text n ts rs fs → (k : ℕ) → n ≡ suc k
+      → are_numbered k (flat_map (λ f. sites_in_block f.body) fs) ≡ true
   items_counted n ts rs fs no_item k e = refl
   items_counted n ts rs fs (one_reducer {ts = us} {rs = others} t u s v read) k e = items_counted n us others fs read k e
   items_counted n ts rs fs (one_function {m = m} {us = us} {f = f} {fs = gs} first others) k e =

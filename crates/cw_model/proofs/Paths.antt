@@ -108,7 +108,8 @@ module _ (burden : Burden) where
       let r = in_marked mark t q qs walk.1 in
       record { qs = q ∷ r.qs; walks = (walk.0, r.walks); same = ap (λ w. weight_at t p + charged burden (rests_entered t p q) (children_entered t p q) + w) r.same }
 
-  in_both : (a b : Tree) (p : Place) (first : List Place) (q : Place) (second : List Place) → IsWalk a p first → IsPath b q second → Part (Seq a b) (First p) (walk_weight burden a p first + path_weight burden b q second)
+  in_both : (a b : Tree) (p : Place) (first : List Place) (q : Place) (second : List Place) → IsWalk a p first → IsPath b q second
+      → Part (Seq a b) (First p) (walk_weight burden a p first + path_weight burden b q second)
   in_both a b p [] q second walk path =
       let r = in_second a b q second path.1 in
       record { qs = Second q ∷ r.qs; walks = ((walk, path.0), r.walks); same = omega (arith, r.same) }

@@ -10,12 +10,14 @@ use Rattle.cw_model.specs.declared.limits.TheConstants.{MOST_DEPTH}
 use Rattle.cw_model.specs.Trees.{Execution, Tree, Marked, Event, Work, Series, Fork, Join, works, tree_of, work}
 use Rattle.cw_model.specs.declared.syntax.CallKind.{CallKind}
 use Rattle.cw_model.specs.declared.syntax.CallKind.TheVariants.{Plain, Spawned}
-use Rattle.cw_model.specs.Syntax.{Name, Expr, Stmt, Declare, DeclareArray, Assign, AssignElement, Reduce, Call, Start, Begin, Sync, If, IfElse, While, For, Scope, Cut, Region, Print, Return, Block, End, Then, Param, Function, wants_array}
+use Rattle.cw_model.specs.Syntax.{Name, Expr, Stmt, Declare, DeclareArray, Assign, AssignElement, Reduce, Call, Start, Begin, Sync, If, IfElse}
+use Rattle.cw_model.specs.Syntax.{While, For, Scope, Cut, Region, Print, Return, Block, End, Then, Param, Function, wants_array}
 use Rattle.cw_model.specs.Frames.{Frame, no_frame, leave, inside_loop, new_array, new_int}
 use Rattle.cw_model.specs.Expressions.{Evaluated, Gives, Traps, evaluate}
 use Rattle.cw_model.specs.Outcome.{Trace, shows, Outcome, Done, Trapped, Over, then_do, Piece, ◌>>=◌, gives, show, pay, pay_for, joined_up, as_one}
 use Rattle.cw_model.specs.Loops.{turn_start, turn_end, leaf_start, leaf_end, node_start, node_call, node_end, leaf_turns, halves}
-use Rattle.cw_model.specs.Meaning.{Completion, Normal, ByReturn, onward, frame_of, scoped, Returned, Entry, Deeper, SameDepth, Calls, function_named, given_array, arguments, call_event, start_event, turns, run, run_all, end_of_call, call, depth_of}
+use Rattle.cw_model.specs.Meaning.{Completion, Normal, ByReturn, onward, frame_of, scoped, Returned, Entry, Deeper, SameDepth, Calls, function_named}
+use Rattle.cw_model.specs.Meaning.{given_array, arguments, call_event, start_event, turns, run, run_all, end_of_call, call, depth_of}
 use Rattle.cw_model.proofs.Endings.{Ends, at_end, at_trap, at_limit, weaken, then_ends, one_ends, when_done}
 
 -- the work of the tree of some events
@@ -202,7 +204,8 @@ spends_call zero depth fs entry f given line = spends_over
 spends_call (suc bound) depth fs entry f given line =
     spends_if (nat_lt MOST_DEPTH (depth_of entry depth)) (spends_trap _ line [])
     (spends_then
-    (spends_block fs (λ e g given' line' left. call bound (depth_of entry depth) fs e g given' line' left) (λ e g given' line'. spends_call bound (depth_of entry depth) fs e g given' line') f.body given)
+    (spends_block fs (λ e g given' line' left. call bound (depth_of entry depth) fs e g given' line' left)
+    (λ e g given' line'. spends_call bound (depth_of entry depth) fs e g given' line') f.body given)
     spends_end)
 
 -- a call that is done leaves what the work of its tree does not take

@@ -42,7 +42,8 @@ params_known (p ∷ ps) known locals f k =
         ((known : Known) (locals : Locals) → AreFresh locals ps → Knows known locals → Knows (known_of ps ++ known) (params_after locals ps)) →
         Knows (known_of ps ++ (p.name, kind) ∷ known) (params_after (if is_array_kind kind then spec.with_array p.name locals else spec.with_int p.name locals) ps)
     by name_kind.Array g more = more ((p.name, name_kind.Array) ∷ known) (spec.with_array p.name locals) g (knows_array known locals p.name f.0 k)
-    by name_kind.Const g more = more ((p.name, name_kind.Const) ∷ known) (spec.with_array p.name locals) g (knows_const known (spec.with_array p.name locals) p.name (knows_array known locals p.name f.0 k))
+    by name_kind.Const g more = more ((p.name, name_kind.Const) ∷ known) (spec.with_array p.name locals) g
+        (knows_const known (spec.with_array p.name locals) p.name (knows_array known locals p.name f.0 k))
     by name_kind.Integer g more = more ((p.name, name_kind.Integer) ∷ known) (spec.with_int p.name locals) g (knows_int known locals p.name f.0 k)
 
 abbrev joined : Locals → Locals → Locals
@@ -53,7 +54,11 @@ params_joined [] locals = λ i. record { ints = sym (append-nil locals.ints) i; 
 params_joined (p ∷ ps) locals = by (wants_array p) (params_joined ps)
   where
     by : (b : Bool) → ((locals : Locals) → params_after locals ps ≡ joined locals (locals_of ps)) → params_after (if b then spec.with_array p.name locals else spec.with_int p.name locals) ps
-        ≡ (let l : Locals = record { ints = locals.ints ++ map (λ p. p.name) (cond (not b) (p ∷ filter (λ p. not (wants_array p)) ps) (filter (λ p. not (wants_array p)) ps)); arrays = locals.arrays ++ map (λ p. p.name) (cond b (p ∷ filter (λ p. wants_array p) ps) (filter (λ p. wants_array p) ps)) } in l)
+        ≡ (let l : Locals = record {
+          ints = locals.ints ++ map (λ p. p.name)
+              (cond (not b) (p ∷ filter (λ p. not (wants_array p)) ps) (filter (λ p. not (wants_array p)) ps));
+          arrays = locals.arrays ++ map (λ p. p.name) (cond b (p ∷ filter (λ p. wants_array p) ps) (filter (λ p. wants_array p) ps));
+        } in l)
     by true more = more (spec.with_array p.name locals) ∙ (λ i. record { ints = locals.ints ++ (locals_of ps).ints; arrays = append_assoc locals.arrays (p.name ∷ []) (locals_of ps).arrays i })
     by false more = more (spec.with_int p.name locals) ∙ (λ i. record { ints = append_assoc locals.ints (p.name ∷ []) (locals_of ps).ints i; arrays = locals.arrays ++ (locals_of ps).arrays })
 
@@ -61,7 +66,10 @@ params_row : (ps : List Param) (locals : Locals) → with_params (length locals.
 params_row [] locals = refl
 params_row (p ∷ ps) locals = by (wants_array p) (params_row ps)
   where
-    by : (b : Bool) → ((locals : Locals) → with_params (length locals.ints) (length locals.arrays) ps (known_row locals) ≡ known_row (params_after locals ps)) → (if b then with_params (length locals.ints) (length locals.arrays + 1) ps (with_array (length locals.arrays) (known_row locals)) else with_params (length locals.ints + 1) (length locals.arrays) ps (with_int (length locals.ints) (known_row locals)))
+    by : (b : Bool) → ((locals : Locals) → with_params (length locals.ints) (length locals.arrays) ps (known_row locals)
+        ≡ known_row (params_after locals ps)) → (if b then with_params (length locals.ints) (length locals.arrays + 1) ps
+        (with_array (length locals.arrays) (known_row locals)) else with_params (length locals.ints + 1) (length locals.arrays) ps
+        (with_int (length locals.ints) (known_row locals)))
         ≡ known_row (params_after (if b then spec.with_array p.name locals else spec.with_int p.name locals) ps)
     by true more =
         ap (λ n. with_params (length locals.ints) n ps (with_array (length locals.arrays) (known_row locals))) (sym (length_push locals.arrays p.name))
@@ -87,8 +95,10 @@ apart_all : (x : Name) (locals : Locals) (ps : List Param) → is_among x (names
     (p : Name) → is_among p (names_of ps) ≡ true → (NotIn (spec.with_int x locals) p) × (NotIn (spec.with_array x locals) p)
 apart_all x locals ps out f p there =
     let old = f p there in
-    let apart : same_name p x ≡ false = differs (same_name p x) refl in
-    ((among_push p locals.ints x ∙ or_from (is_among p locals.ints) (same_name p x) old.0 apart, old.1), (old.0, among_push p locals.arrays x ∙ or_from (is_among p locals.arrays) (same_name p x) old.1 apart))
+    let apart : same_name p x ≡ false = differs (same_name p x) refl in (
+      (among_push p locals.ints x ∙ or_from (is_among p locals.ints) (same_name p x) old.0 apart, old.1),
+      (old.0, among_push p locals.arrays x ∙ or_from (is_among p locals.arrays) (same_name p x) old.1 apart),
+    )
   where
     differs : (b : Bool) → same_name p x ≡ b → same_name p x ≡ false
     differs false e = e

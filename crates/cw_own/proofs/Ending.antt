@@ -2,7 +2,8 @@
 use Rattle.std.proofs.Common.{◌≡◌, ℕ, ◌≤◌, nat_lt, Bool, true, false, not, ◌&&◌, ◌||◌, if◌then◌else◌, [], ◌∷◌, ◌++◌, length, refl, sym, arith, length-append}
 use Rattle.cw_facts.specs.Tests.{not_lt_of, second_true}
 use Rattle.cw_model.specs.declared.syntax.NameKind.TheVariants as name_kind
-use Rattle.cw_model.specs.Syntax.{Name, Program, Declare, DeclareArray, Assign, AssignElement, Reduce, Call, Start, Begin, Sync, If, IfElse, While, For, Scope, Cut, Region, Print, Return, Block, End, Then}
+use Rattle.cw_model.specs.Syntax.{Name, Program, Declare, DeclareArray, Assign, AssignElement, Reduce, Call, Start, Begin, Sync}
+use Rattle.cw_model.specs.Syntax.{If, IfElse, While, For, Scope, Cut, Region, Print, Return, Block, End, Then}
 use Rattle.cw_model.specs.Lines.{unless}
 use Rattle.cw_model.specs.Names.{same_name, is_among}
 use Rattle.cw_model.specs.Typing.{Known, Returns, is_new, is_fine, surely_returns, ends_block, faults_in, faults_in_block}
@@ -56,7 +57,8 @@ drop_block program returns known locals (Then line (Declare y e) b) P row k fine
     let fresh = fresh_name program known locals y k (second_true (is_fine known e) (is_new program known y) (kept (is_fine known e && is_new program known y) line here)) in
     let count = length-append locals.ints (y ∷ []) in
     shows_as locals (λ x. not (same_name x y) && (not (is_among x (own_names b)) && P x)) _ _ (λ x. one_dropped (same_name x y) (is_among x (own_names b)) (P x))
-    (shows_row locals (λ x. not (same_name x y) && (not (is_among x (own_names b)) && P x)) (both_rows (known_row locals) (both_rows (known_row (spec.with_int y locals)) row)) (both_rows (known_row locals) row)
+    (shows_row locals (λ x. not (same_name x y) && (not (is_among x (own_names b)) && P x))
+    (both_rows (known_row locals) (both_rows (known_row (spec.with_int y locals)) row)) (both_rows (known_row locals) row)
     (same_rows (both_rows (known_row locals) (both_rows (known_row (spec.with_int y locals)) row)) (both_rows (known_row locals) row)
     (λ k. mask_twice k (length locals.ints) (length (locals.ints ++ y ∷ [])) (row.ints k) (omega (arith, count)))
     (λ k. mask_twice k (length locals.arrays) (length locals.arrays) (row.arrays k) (omega arith)))
@@ -68,7 +70,8 @@ drop_block program returns known locals (Then line (DeclareArray y e) b) P row k
     let fresh = fresh_name program known locals y k (second_true (is_fine known e) (is_new program known y) (kept (is_fine known e && is_new program known y) line here)) in
     let count = length-append locals.arrays (y ∷ []) in
     shows_as locals (λ x. not (same_name x y) && (not (is_among x (own_names b)) && P x)) _ _ (λ x. one_dropped (same_name x y) (is_among x (own_names b)) (P x))
-    (shows_row locals (λ x. not (same_name x y) && (not (is_among x (own_names b)) && P x)) (both_rows (known_row locals) (both_rows (known_row (spec.with_array y locals)) row)) (both_rows (known_row locals) row)
+    (shows_row locals (λ x. not (same_name x y) && (not (is_among x (own_names b)) && P x))
+    (both_rows (known_row locals) (both_rows (known_row (spec.with_array y locals)) row)) (both_rows (known_row locals) row)
     (same_rows (both_rows (known_row locals) (both_rows (known_row (spec.with_array y locals)) row)) (both_rows (known_row locals) row)
     (λ k. mask_twice k (length locals.ints) (length locals.ints) (row.ints k) (omega arith))
     (λ k. mask_twice k (length locals.arrays) (length (locals.arrays ++ y ∷ [])) (row.arrays k) (omega (arith, count))))

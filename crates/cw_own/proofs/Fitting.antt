@@ -8,7 +8,8 @@ use Rattle.cw_model.specs.Lines.{unless}
 use Rattle.cw_model.specs.Syntax as model
 use Rattle.cw_model.specs.Sizes.{limit_faults, function_limits, lines_beyond}
 use Rattle.cw_model.specs.lemmas.Kept.{left_none, right_none, kept}
-use Rattle.cw_tree.specs.Resolved.{Use, Argument, Int, Array, Shared, Stmt, Declare, DeclareArray, Assign, AssignElement, Reduce, Call, Sync, If, IfElse, While, For, Scope, Cut, Region, Print, Return, Block, End, Then, Function, Resolved, plain, plain_function}
+use Rattle.cw_tree.specs.Resolved.{Use, Argument, Int, Array, Shared, Stmt, Declare, DeclareArray, Assign, AssignElement, Reduce, Call, Sync, If, IfElse}
+use Rattle.cw_tree.specs.Resolved.{While, For, Scope, Cut, Region, Print, Return, Block, End, Then, Function, Resolved, plain, plain_function}
 use Rattle.cw_tree.specs.Bounds.{Counts, is_below, fits_expr, fits_argument, fits_target, fits_head, fits_parts, fits_stmt, fits_block, fits_function, counts_of, is_fitting}
 use Rattle.cw_own.specs.Bounds.{is_small, small_argument, small_target, small_stmt, small_block, small_function}
 
@@ -69,14 +70,16 @@ mutual
       both_true (is_small head.variable) (list_all is_small head.over && small_block b)
       (int_small n head.variable few (first_true _ _ (first_true _ _ (first_true _ _ (first_true _ (list_all (is_below n.arrays) head.over) head_fits)))))
       (both_true (list_all is_small head.over) (small_block b)
-      (over_small n head.over few (second_true (is_below n.ints head.variable && fits_expr n head.from && fits_expr n head.to && list_all (is_below n.ints) head.captured) (list_all (is_below n.arrays) head.over) head_fits))
+      (over_small n head.over few (second_true (is_below n.ints head.variable && fits_expr n head.from && fits_expr n head.to
+      && list_all (is_below n.ints) head.captured) (list_all (is_below n.arrays) head.over) head_fits))
       (block_small n b few (second_true (fits_head n head) (fits_block n b) h)))
   stmt_small n (Scope b) few h = block_small n b few h
   stmt_small n (Cut parts b) few h =
       let fits = first_true (fits_parts n parts) (fits_block n b) h in
       let three = first_true (is_below n.arrays parts.array && fits_expr n parts.at && is_below n.arrays parts.left) (is_below n.arrays parts.right) fits in
       both_true (is_small parts.array) (is_small parts.left && (is_small parts.right && small_block b))
-      (array_small n parts.array few (first_true (is_below n.arrays parts.array) (fits_expr n parts.at) (first_true (is_below n.arrays parts.array && fits_expr n parts.at) (is_below n.arrays parts.left) three)))
+      (array_small n parts.array few (first_true (is_below n.arrays parts.array) (fits_expr n parts.at)
+      (first_true (is_below n.arrays parts.array && fits_expr n parts.at) (is_below n.arrays parts.left) three)))
       (both_true (is_small parts.left) (is_small parts.right && small_block b)
       (array_small n parts.left few (second_true (is_below n.arrays parts.array && fits_expr n parts.at) (is_below n.arrays parts.left) three))
       (both_true (is_small parts.right) (small_block b)
@@ -107,8 +110,10 @@ functions_small : (tree : Resolved) (fs : List Function) → list_all (fits_func
 functions_small tree [] fits few = refl
 functions_small tree (f ∷ fs) fits few =
     both_true (small_function f) (list_all small_function fs)
-    (function_small tree f (first_true (fits_function tree f) (list_all (fits_function tree) fs) fits) (left_none (function_limits (plain_function f)) (flat_map function_limits (map plain_function fs)) few))
-    (functions_small tree fs (second_true (fits_function tree f) (list_all (fits_function tree) fs) fits) (right_none (function_limits (plain_function f)) (flat_map function_limits (map plain_function fs)) few))
+    (function_small tree f (first_true (fits_function tree f) (list_all (fits_function tree) fs) fits)
+    (left_none (function_limits (plain_function f)) (flat_map function_limits (map plain_function fs)) few))
+    (functions_small tree fs (second_true (fits_function tree f) (list_all (fits_function tree) fs) fits)
+    (right_none (function_limits (plain_function f)) (flat_map function_limits (map plain_function fs)) few))
 
 -- each function of a tree that fits and passes no limit
 pub tree_small : (tree : Resolved) → is_fitting tree ≡ true → limit_faults (plain tree) ≡ [] → list_all small_function tree.functions ≡ true

@@ -92,7 +92,8 @@ holds_int locals depth outside taken here cuts x there h p = by (p (SpawnIn dept
     by true e =
         shows_as locals (λ z. same_name z x || held p taken z) (held p ((x, SpawnIn depth) ∷ taken)) _
         (λ z. by_spawn (same_name z x) (p (SpawnIn depth)) (held p taken z) e)
-        (shows_row locals (λ z. same_name z x || held p taken z) (with_int (slot_of x locals.ints) (all_of p depth outside here cuts)) (all_of p depth outside (taking_int (slot_of x locals.ints) here) cuts)
+        (shows_row locals (λ z. same_name z x || held p taken z) (with_int (slot_of x locals.ints) (all_of p depth outside here cuts))
+        (all_of p depth outside (taking_int (slot_of x locals.ints) here) cuts)
         (same_rows (with_int (slot_of x locals.ints) (all_of p depth outside here cuts)) (all_of p depth outside (taking_int (slot_of x locals.ints) here) cuts)
         (λ k. put_in (p (SpawnIn depth)) ((outside p).ints k) (k == slot_of x locals.ints) (here.ints k) e) (λ k. refl))
         (shows_int locals x (held p taken) (all_of p depth outside here cuts) there (h p)))
@@ -113,7 +114,8 @@ holds_array locals depth outside taken here cuts x there h p = by (p (SpawnIn de
     by true e =
         shows_as locals (λ z. same_name z x || held p taken z) (held p ((x, SpawnIn depth) ∷ taken)) _
         (λ z. by_spawn (same_name z x) (p (SpawnIn depth)) (held p taken z) e)
-        (shows_row locals (λ z. same_name z x || held p taken z) (with_array (slot_of x locals.arrays) (all_of p depth outside here cuts)) (all_of p depth outside (taking_array (slot_of x locals.arrays) here) cuts)
+        (shows_row locals (λ z. same_name z x || held p taken z) (with_array (slot_of x locals.arrays) (all_of p depth outside here cuts))
+        (all_of p depth outside (taking_array (slot_of x locals.arrays) here) cuts)
         (same_rows (with_array (slot_of x locals.arrays) (all_of p depth outside here cuts)) (all_of p depth outside (taking_array (slot_of x locals.arrays) here) cuts)
         (λ k. refl) (λ k. put_among (p (SpawnIn depth)) ((outside p).arrays k) (k == slot_of x locals.arrays) (here.arrays k) (p (ReaderIn depth) && here.frozen k) (p CutOf && cuts k) e))
         (shows_array locals x (held p taken) (all_of p depth outside here cuts) there (h p)))
@@ -122,7 +124,8 @@ holds_array locals depth outside taken here cuts x there h p = by (p (SpawnIn de
         (λ z. by_none (same_name z x) (p (SpawnIn depth)) (held p taken z) e)
         (shows_row locals (held p taken) (all_of p depth outside here cuts) (all_of p depth outside (taking_array (slot_of x locals.arrays) here) cuts)
         (same_rows (all_of p depth outside here cuts) (all_of p depth outside (taking_array (slot_of x locals.arrays) here) cuts)
-        (λ k. refl) (λ k. put_off_among (p (SpawnIn depth)) ((outside p).arrays k) (here.arrays k) ((k == slot_of x locals.arrays) || here.arrays k) (p (ReaderIn depth) && here.frozen k) (p CutOf && cuts k) e))
+        (λ k. refl) (λ k. put_off_among (p (SpawnIn depth)) ((outside p).arrays k) (here.arrays k) ((k == slot_of x locals.arrays) || here.arrays k)
+        (p (ReaderIn depth) && here.frozen k) (p CutOf && cuts k) e))
         (h p))
 
 -- a spawn that only reads freezes
@@ -135,7 +138,8 @@ holds_frozen locals depth outside taken here cuts x there h p = by (p (ReaderIn 
     by true e =
         shows_as locals (λ z. same_name z x || held p taken z) (held p ((x, ReaderIn depth) ∷ taken)) _
         (λ z. by_spawn (same_name z x) (p (ReaderIn depth)) (held p taken z) e)
-        (shows_row locals (λ z. same_name z x || held p taken z) (with_array (slot_of x locals.arrays) (all_of p depth outside here cuts)) (all_of p depth outside (freezing (slot_of x locals.arrays) here) cuts)
+        (shows_row locals (λ z. same_name z x || held p taken z) (with_array (slot_of x locals.arrays) (all_of p depth outside here cuts))
+        (all_of p depth outside (freezing (slot_of x locals.arrays) here) cuts)
         (same_rows (with_array (slot_of x locals.arrays) (all_of p depth outside here cuts)) (all_of p depth outside (freezing (slot_of x locals.arrays) here) cuts)
         (λ k. refl) (λ k. put_behind (p (ReaderIn depth)) ((outside p).arrays k) (k == slot_of x locals.arrays) (here.frozen k) (p (SpawnIn depth) && here.arrays k) (p CutOf && cuts k) e))
         (shows_array locals x (held p taken) (all_of p depth outside here cuts) there (h p)))
@@ -144,7 +148,8 @@ holds_frozen locals depth outside taken here cuts x there h p = by (p (ReaderIn 
         (λ z. by_none (same_name z x) (p (ReaderIn depth)) (held p taken z) e)
         (shows_row locals (held p taken) (all_of p depth outside here cuts) (all_of p depth outside (freezing (slot_of x locals.arrays) here) cuts)
         (same_rows (all_of p depth outside here cuts) (all_of p depth outside (freezing (slot_of x locals.arrays) here) cuts)
-        (λ k. refl) (λ k. put_off_behind (p (ReaderIn depth)) ((outside p).arrays k) (here.frozen k) ((k == slot_of x locals.arrays) || here.frozen k) (p (SpawnIn depth) && here.arrays k) (p CutOf && cuts k) e))
+        (λ k. refl) (λ k. put_off_behind (p (ReaderIn depth)) ((outside p).arrays k) (here.frozen k)
+        ((k == slot_of x locals.arrays) || here.frozen k) (p (SpawnIn depth) && here.arrays k) (p CutOf && cuts k) e))
         (h p))
 
 -- two ways on
@@ -165,7 +170,8 @@ twice : (r x y : Bool) → ((r || x) || (r || y)) ≡ (r || (x || y))
 twice true x y = refl
 twice false x y = refl
 
-two_arrays : (r q a b d m n c u v : Bool) → ((r || (((q && a) || (d && m)) || (c && u))) || (r || (((q && b) || (d && n)) || (c && v)))) ≡ (r || (((q && (a || b)) || (d && (m || n))) || (c && (u || v))))
+two_arrays : (r q a b d m n c u v : Bool) → ((r || (((q && a) || (d && m)) || (c && u))) || (r || (((q && b) || (d && n)) || (c && v))))
+    ≡ (r || (((q && (a || b)) || (d && (m || n))) || (c && (u || v))))
 two_arrays r q a b d m n c u v =
     twice r (((q && a) || (d && m)) || (c && u)) (((q && b) || (d && n)) || (c && v))
     ∙ ap (λ x. r || x) (two_parts (q && a) (d && m) (c && u) (q && b) (d && n) (c && v))
@@ -215,7 +221,8 @@ holds_freed locals depth outside taken here cuts steady h p =
     (same_rows (all_of left depth outside here cuts) (all_of p depth outside none_held cuts)
     (λ k. ap (λ (r : Row). r.ints k || ((p (SpawnIn depth) && not (depth == depth)) && here.ints k)) same
     ∙ freed_ints ((outside p).ints k) (p (SpawnIn depth)) (here.ints k) (depth == depth) (equal depth depth refl))
-    (λ k. ap (λ (r : Row). r.arrays k || ((((p (SpawnIn depth) && not (depth == depth)) && here.arrays k) || ((p (ReaderIn depth) && not (depth == depth)) && here.frozen k)) || ((p CutOf && true) && cuts k))) same
+    (λ k. ap (λ (r : Row). r.arrays k || ((((p (SpawnIn depth) && not (depth == depth)) && here.arrays k)
+    || ((p (ReaderIn depth) && not (depth == depth)) && here.frozen k)) || ((p CutOf && true) && cuts k))) same
     ∙ freed_arrays ((outside p).arrays k) (p (SpawnIn depth)) (here.arrays k) (p (ReaderIn depth)) (here.frozen k) (p CutOf) (cuts k) (depth == depth) (equal depth depth refl)))
     (h left))
 
@@ -298,11 +305,13 @@ holds_left locals depth outside here taken inner cuts steady h p =
     ∙ ap (λ b. ((outside p).ints k || (b && here.ints k)) || ((p (SpawnIn (depth + 1)) && not (depth + 1 == depth + 1)) && inner.ints k)) other
     ∙ left_ints ((outside p).ints k) (p (SpawnIn depth)) (here.ints k) (p (SpawnIn (depth + 1))) (inner.ints k) (depth + 1 == depth + 1) (equal (depth + 1) (depth + 1) refl))
     (λ k.
-    let rest = (((p (SpawnIn (depth + 1)) && not (depth + 1 == depth + 1)) && inner.arrays k) || ((p (ReaderIn (depth + 1)) && not (depth + 1 == depth + 1)) && inner.frozen k)) || ((p CutOf && true) && cuts k) in
+    let rest = (((p (SpawnIn (depth + 1)) && not (depth + 1 == depth + 1)) && inner.arrays k)
+    || ((p (ReaderIn (depth + 1)) && not (depth + 1 == depth + 1)) && inner.frozen k)) || ((p CutOf && true) && cuts k) in
     ap (λ (r : Row). (r.arrays k || (((p (SpawnIn depth) && not (depth == depth + 1)) && here.arrays k) || ((p (ReaderIn depth) && not (depth == depth + 1)) && here.frozen k))) || rest) same
     ∙ ap (λ b. ((outside p).arrays k || ((b && here.arrays k) || ((p (ReaderIn depth) && not (depth == depth + 1)) && here.frozen k))) || rest) spawn
     ∙ ap (λ b. ((outside p).arrays k || ((p (SpawnIn depth) && here.arrays k) || (b && here.frozen k))) || rest) reader
-    ∙ left_arrays ((outside p).arrays k) (spun p depth here k) (p (SpawnIn (depth + 1))) (inner.arrays k) (p (ReaderIn (depth + 1))) (inner.frozen k) (p CutOf) (cuts k) (depth + 1 == depth + 1) (equal (depth + 1) (depth + 1) refl)))
+    ∙ left_arrays ((outside p).arrays k) (spun p depth here k) (p (SpawnIn (depth + 1))) (inner.arrays k) (p (ReaderIn (depth + 1))) (inner.frozen k)
+    (p CutOf) (cuts k) (depth + 1 == depth + 1) (equal (depth + 1) (depth + 1) refl)))
     (h left))
 
 -- one name more
@@ -336,7 +345,8 @@ holds_cut locals depth outside taken here cuts a there h p = by (p CutOf) refl
     by true e =
         shows_as locals (λ z. same_name z a || held p taken z) (held p ((a, CutOf) ∷ taken)) _
         (λ z. by_spawn (same_name z a) (p CutOf) (held p taken z) e)
-        (shows_row locals (λ z. same_name z a || held p taken z) (with_array (slot_of a locals.arrays) (all_of p depth outside here cuts)) (all_of p depth outside here (with_slot (slot_of a locals.arrays) cuts))
+        (shows_row locals (λ z. same_name z a || held p taken z) (with_array (slot_of a locals.arrays) (all_of p depth outside here cuts))
+        (all_of p depth outside here (with_slot (slot_of a locals.arrays) cuts))
         (same_rows (with_array (slot_of a locals.arrays) (all_of p depth outside here cuts)) (all_of p depth outside here (with_slot (slot_of a locals.arrays) cuts))
         (λ k. refl) (λ k. put_last (p CutOf) ((outside p).arrays k) (spun p depth here k) (k == slot_of a locals.arrays) (cuts k) e))
         (shows_array locals a (held p taken) (all_of p depth outside here cuts) there (h p)))
@@ -373,7 +383,8 @@ holds_uncut locals depth outside taken here cuts a steady there h p = record {
 }
   where
     by : (x : Name) (b : Bool) → same_name a x ≡ b → held (uncut_test a p x) taken x
-        ≡ ((all_of p depth outside here (without_slot (slot_of a locals.arrays) cuts)).ints (slot_of x locals.ints) || (all_of p depth outside here (without_slot (slot_of a locals.arrays) cuts)).arrays (slot_of x locals.arrays))
+        ≡ ((all_of p depth outside here (without_slot (slot_of a locals.arrays) cuts)).ints (slot_of x locals.ints)
+        || (all_of p depth outside here (without_slot (slot_of a locals.arrays) cuts)).arrays (slot_of x locals.arrays))
     by x true e =
         let one : (slot_of x locals.arrays == slot_of a locals.arrays) ≡ true = one_slot x a locals.arrays there ∙ turned x a ∙ e in
         let same = steady.cuts p in

@@ -2,7 +2,8 @@
 use Rattle.std.proofs.Common.{◌≡◌, ℕ, Bool, true, false, not, ◌&&◌, ◌||◌, List, [], ◌∷◌, ◌==◌, Option, Some, None, refl, sym, ap, ◌∙◌}
 use Rattle.std.proofs.Math.Bool.{and-true}
 use Rattle.cw_model.specs.declared.syntax.CallKind.TheVariants.{Plain, Spawned}
-use Rattle.cw_tree.specs.Resolved.{Use, Argument, Int, Array, Shared, Stmt, Declare, DeclareArray, Assign, AssignElement, Reduce, Call, Sync, If, IfElse, While, For, Scope, Cut, Region, Print, Return, Block, End, Then}
+use Rattle.cw_tree.specs.Resolved.{Use, Argument, Int, Array, Shared, Stmt, Declare, DeclareArray, Assign, AssignElement, Reduce, Call}
+use Rattle.cw_tree.specs.Resolved.{Sync, If, IfElse, While, For, Scope, Cut, Region, Print, Return, Block, End, Then}
 use Rattle.cw_own.specs.Sets.{Slots, with_slot, both, Row}
 use Rattle.cw_own.specs.Taken.{Held, none_held, taking_int, taking_array, freezing, either_held, held_within, with_target, with_arrays, known_after, after, after_all, gain, cuts_after, cuts_after_all}
 use Rattle.cw_own.proofs.Words.{two_steps, two_ways, turn_adds, masked, or_none_of}
@@ -34,7 +35,8 @@ all_stays = record {
 none_stays : (r : Held) → Acts (λ here. r)
 none_stays r = record {
   kept = none_held;
-  law = λ here. same_held r (either_held r (both_held here none_held)) (λ k. or_none_of (r.ints k) (here.ints k)) (λ k. or_none_of (r.arrays k) (here.arrays k)) (λ k. or_none_of (r.frozen k) (here.frozen k));
+  law = λ here. same_held r (either_held r (both_held here none_held)) (λ k. or_none_of (r.ints k) (here.ints k))
+      (λ k. or_none_of (r.arrays k) (here.arrays k)) (λ k. or_none_of (r.frozen k) (here.frozen k));
 }
 
 pub one_after_another : (f g : Held → Held) → Acts f → Acts g → Acts (λ here. g (f here))

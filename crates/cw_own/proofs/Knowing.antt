@@ -93,7 +93,8 @@ knows_array known locals y f k = record {
     apart_by x false e h = ap (λ b. is_among x locals.arrays || b) e ∙ or-false (is_among x locals.arrays) ∙ k.apart x h
 
     names_by : (x : Name) (b : Bool) → same_name x y ≡ b → (if b then true else is_among x (map (λ e. e.0) known)) ≡ (is_among x locals.ints || is_among x (locals.arrays ++ y ∷ []))
-    names_by x true e = sym (ap (λ b. is_among x locals.ints || b) (among_push x locals.arrays y ∙ ap (λ b. is_among x locals.arrays || b) e ∙ or-true (is_among x locals.arrays)) ∙ or-true (is_among x locals.ints))
+    names_by x true e = sym (ap (λ b. is_among x locals.ints || b) (among_push x locals.arrays y ∙ ap (λ b. is_among x locals.arrays || b) e
+        ∙ or-true (is_among x locals.arrays)) ∙ or-true (is_among x locals.ints))
     names_by x false e =
         k.names x ∙ sym (ap (λ b. is_among x locals.ints || b) (among_push x locals.arrays y ∙ ap (λ b. is_among x locals.arrays || b) e ∙ or-false (is_among x locals.arrays)))
 
@@ -149,12 +150,14 @@ shows_drop_int locals y P row f s = record {
 
     by : (x : Name) (d i a : Bool) → same_name x y ≡ d → is_among x locals.ints ≡ i → is_among x locals.arrays ≡ a →
         (not (same_name x y) && (row.ints (slot_of x (locals.ints ++ y ∷ [])) || row.arrays (slot_of x locals.arrays)))
-        ≡ ((nat_lt (slot_of x locals.ints) (length locals.ints) && row.ints (slot_of x locals.ints)) || (nat_lt (slot_of x locals.arrays) (length locals.arrays) && row.arrays (slot_of x locals.arrays)))
+        ≡ ((nat_lt (slot_of x locals.ints) (length locals.ints) && row.ints (slot_of x locals.ints))
+        || (nat_lt (slot_of x locals.arrays) (length locals.arrays) && row.arrays (slot_of x locals.arrays)))
     by x true i a d ei ea =
         let ints = slot_out x locals.ints (ap (λ n. is_among n locals.ints) (same_are x y d) ∙ f.no_int) in
         let arrays = slot_out x locals.arrays (ap (λ n. is_among n locals.arrays) (same_are x y d) ∙ f.no_array) in
         ap (λ b. not b && (row.ints (slot_of x (locals.ints ++ y ∷ [])) || row.arrays (slot_of x locals.arrays))) d
-        ∙ sym (ap (λ b. (b && row.ints (slot_of x locals.ints)) || (nat_lt (slot_of x locals.arrays) (length locals.arrays) && row.arrays (slot_of x locals.arrays))) (not_below (slot_of x locals.ints) (length locals.ints) (omega (arith, ints)))
+        ∙ sym (ap (λ b. (b && row.ints (slot_of x locals.ints)) || (nat_lt (slot_of x locals.arrays) (length locals.arrays)
+        && row.arrays (slot_of x locals.arrays))) (not_below (slot_of x locals.ints) (length locals.ints) (omega (arith, ints)))
         ∙ ap (λ b. b && row.arrays (slot_of x locals.arrays)) (not_below (slot_of x locals.arrays) (length locals.arrays) (omega (arith, arrays))))
     by x false i a d ei ea =
         ap (λ b. not b && (row.ints (slot_of x (locals.ints ++ y ∷ [])) || row.arrays (slot_of x locals.arrays))) d
@@ -194,12 +197,14 @@ shows_drop_array locals y P row f s = record {
 
     by : (x : Name) (d i a : Bool) → same_name x y ≡ d → is_among x locals.ints ≡ i → is_among x locals.arrays ≡ a →
         (not (same_name x y) && (row.ints (slot_of x locals.ints) || row.arrays (slot_of x (locals.arrays ++ y ∷ []))))
-        ≡ ((nat_lt (slot_of x locals.ints) (length locals.ints) && row.ints (slot_of x locals.ints)) || (nat_lt (slot_of x locals.arrays) (length locals.arrays) && row.arrays (slot_of x locals.arrays)))
+        ≡ ((nat_lt (slot_of x locals.ints) (length locals.ints) && row.ints (slot_of x locals.ints))
+        || (nat_lt (slot_of x locals.arrays) (length locals.arrays) && row.arrays (slot_of x locals.arrays)))
     by x true i a d ei ea =
         let ints = slot_out x locals.ints (ap (λ n. is_among n locals.ints) (same_are x y d) ∙ f.no_int) in
         let arrays = slot_out x locals.arrays (ap (λ n. is_among n locals.arrays) (same_are x y d) ∙ f.no_array) in
         ap (λ b. not b && (row.ints (slot_of x locals.ints) || row.arrays (slot_of x (locals.arrays ++ y ∷ [])))) d
-        ∙ sym (ap (λ b. (b && row.ints (slot_of x locals.ints)) || (nat_lt (slot_of x locals.arrays) (length locals.arrays) && row.arrays (slot_of x locals.arrays))) (not_below (slot_of x locals.ints) (length locals.ints) (omega (arith, ints)))
+        ∙ sym (ap (λ b. (b && row.ints (slot_of x locals.ints)) || (nat_lt (slot_of x locals.arrays) (length locals.arrays)
+        && row.arrays (slot_of x locals.arrays))) (not_below (slot_of x locals.ints) (length locals.ints) (omega (arith, ints)))
         ∙ ap (λ b. b && row.arrays (slot_of x locals.arrays)) (not_below (slot_of x locals.arrays) (length locals.arrays) (omega (arith, arrays))))
     by x false i a d ei ea =
         ap (λ b. not b && (row.ints (slot_of x locals.ints) || row.arrays (slot_of x (locals.arrays ++ y ∷ [])))) d

@@ -7,13 +7,16 @@ use Rattle.cw_model.specs.declared.limits.TheConstants.{MOST_GRAIN}
 use Rattle.cw_model.specs.declared.syntax.NameKind.TheVariants as name_kind
 use Rattle.cw_model.specs.lemmas.Fits.{writable_array, writable_arrays}
 use Rattle.cw_model.specs.Meaning.{function_named}
-use Rattle.cw_model.specs.Syntax.{Name, Function, Program, Expr, Stmt, Declare, DeclareArray, Assign, AssignElement, Reduce, Call, Start, Begin, Sync, If, IfElse, While, For, Scope, Cut, Region, Print, Return, Block, End, Then}
+use Rattle.cw_model.specs.Syntax.{Name, Function, Program, Expr, Stmt, Declare, DeclareArray, Assign, AssignElement, Reduce, Call, Start}
+use Rattle.cw_model.specs.Syntax.{Begin, Sync, If, IfElse, While, For, Scope, Cut, Region, Print, Return, Block, End, Then}
 use Rattle.cw_model.specs.Lines.{unless, lowest}
 use Rattle.cw_model.specs.lemmas.Lowest.{lowest-append, lowest-swap}
 use Rattle.cw_model.specs.Names.{same_name, is_among, differ}
-use Rattle.cw_model.specs.Typing.{Known, Returns, Nowhere, WithInt, Alone, is_int, is_array, is_writable, is_new, is_fine, may_return, is_reducer, called, is_call, declares, surely_returns, ends_block, is_head_of_loop, is_cut, faults_in, faults_in_block}
+use Rattle.cw_model.specs.Typing.{Known, Returns, Nowhere, WithInt, Alone, is_int, is_array, is_writable, is_new, is_fine, may_return, is_reducer, called}
+use Rattle.cw_model.specs.Typing.{is_call, declares, surely_returns, ends_block, is_head_of_loop, is_cut, faults_in, faults_in_block}
 use Rattle.cw_model.specs.Ownership as own
-use Rattle.cw_model.specs.Ownership.{CutOf, Taken, is_taken, is_held, are_loose, freed, Around, InLoop, for_head, may_read, may_write, may_index, left_taken, Declared, declared_by, Closing, Joins, Leaves, taken_after, taken_after_all, owner_faults, owner_faults_in}
+use Rattle.cw_model.specs.Ownership.{CutOf, Taken, is_taken, is_held, are_loose, freed, Around, InLoop, for_head, may_read, may_write, may_index, left_taken}
+use Rattle.cw_model.specs.Ownership.{Declared, declared_by, Closing, Joins, Leaves, taken_after, taken_after_all, owner_faults, owner_faults_in}
 use Rattle.cw_model.specs.lemmas.Kept.{left_none, right_none, kept}
 use Rattle.cw_model.specs.lemmas.Names.{same_itself}
 use Rattle.cw_tree.specs.Resolved.{Locals, Lists, slot_of, use_of}
@@ -104,7 +107,8 @@ int_stays x locals (Then line (Return e) b) h = int_stays x locals b h
 array_stays : (x : Name) (locals : Locals) (b : Block) → is_among x locals.arrays ≡ true → Stays x locals.arrays (all_locals locals b).arrays
 array_stays x locals End h = record { there = h; slot = refl }
 array_stays x locals (Then line (Declare y e) b) h = array_stays x (spec.with_int y locals) b h
-array_stays x locals (Then line (DeclareArray y e) b) h = stays_more x y locals.arrays (all_locals (spec.with_array y locals) b).arrays h (array_stays x (spec.with_array y locals) b (among_more x y locals.arrays h))
+array_stays x locals (Then line (DeclareArray y e) b) h = stays_more x y locals.arrays (all_locals (spec.with_array y locals) b).arrays h
+    (array_stays x (spec.with_array y locals) b (among_more x y locals.arrays h))
 array_stays x locals (Then line (Assign v e) b) h = array_stays x locals b h
 array_stays x locals (Then line (AssignElement v i e) b) h = array_stays x locals b h
 array_stays x locals (Then line (Reduce how v e) b) h = array_stays x locals b h
@@ -138,7 +142,8 @@ known_end program returns known locals (Then line s b) k fine =
 abbrev pub Names : Locals → List Name → Type 0
 Names locals known = Shows locals (λ x. is_among x known) (known_row locals)
 
-names_int : (locals : Locals) (x : Name) (known : List Name) → Fresh x locals → Names locals known → Shows (spec.with_int x locals) (λ y. is_among y (x ∷ known)) (with_int (length locals.ints) (known_row locals))
+names_int : (locals : Locals) (x : Name) (known : List Name) → Fresh x locals → Names locals known
+    → Shows (spec.with_int x locals) (λ y. is_among y (x ∷ known)) (with_int (length locals.ints) (known_row locals))
 names_int locals x known f n =
     let there = among_push x locals.ints x ∙ ap (λ b. is_among x locals.ints || b) (same_itself x) ∙ or-true (is_among x locals.ints) in
     shows_as (spec.with_int x locals) (λ y. same_name y x || is_among y known) (λ y. is_among y (x ∷ known)) _ (λ y. if_or (same_name y x) (is_among y known))
@@ -146,24 +151,30 @@ names_int locals x known f n =
     (ap (λ k. with_int k (known_row locals)) (slot_new x locals.ints f.no_int (same_itself x)))
     (shows_int (spec.with_int x locals) x (λ y. is_among y known) (known_row locals) there (shows_push_int locals x (λ y. is_among y known) (known_row locals) n)))
 
-names_array : (locals : Locals) (x : Name) (known : List Name) → Fresh x locals → Names locals known → Shows (spec.with_array x locals) (λ y. is_among y (x ∷ known)) (with_array (length locals.arrays) (known_row locals))
+names_array : (locals : Locals) (x : Name) (known : List Name) → Fresh x locals → Names locals known
+    → Shows (spec.with_array x locals) (λ y. is_among y (x ∷ known)) (with_array (length locals.arrays) (known_row locals))
 names_array locals x known f n =
     let there = among_push x locals.arrays x ∙ ap (λ b. is_among x locals.arrays || b) (same_itself x) ∙ or-true (is_among x locals.arrays) in
     shows_as (spec.with_array x locals) (λ y. same_name y x || is_among y known) (λ y. is_among y (x ∷ known)) _ (λ y. if_or (same_name y x) (is_among y known))
-    (shows_row (spec.with_array x locals) (λ y. same_name y x || is_among y known) (with_array (slot_of x (locals.arrays ++ x ∷ [])) (known_row locals)) (with_array (length locals.arrays) (known_row locals))
+    (shows_row (spec.with_array x locals) (λ y. same_name y x || is_among y known)
+    (with_array (slot_of x (locals.arrays ++ x ∷ [])) (known_row locals)) (with_array (length locals.arrays) (known_row locals))
     (ap (λ k. with_array k (known_row locals)) (slot_new x locals.arrays f.no_array (same_itself x)))
     (shows_array (spec.with_array x locals) x (λ y. is_among y known) (known_row locals) there (shows_push_array locals x (λ y. is_among y known) (known_row locals) n)))
 
 pub names_with_int : (locals : Locals) (x : Name) (known : List Name) → Fresh x locals → Names locals known → Names (spec.with_int x locals) (x ∷ known)
-names_with_int locals x known f n = shows_row (spec.with_int x locals) (λ y. is_among y (x ∷ known)) (with_int (length locals.ints) (known_row locals)) (known_row (spec.with_int x locals)) (sym (known_int locals x)) (names_int locals x known f n)
+names_with_int locals x known f n = shows_row (spec.with_int x locals) (λ y. is_among y (x ∷ known))
+    (with_int (length locals.ints) (known_row locals)) (known_row (spec.with_int x locals)) (sym (known_int locals x)) (names_int locals x known f n)
 
 pub names_with_array : (locals : Locals) (x : Name) (known : List Name) → Fresh x locals → Names locals known → Names (spec.with_array x locals) (x ∷ known)
-names_with_array locals x known f n = shows_row (spec.with_array x locals) (λ y. is_among y (x ∷ known)) (with_array (length locals.arrays) (known_row locals)) (known_row (spec.with_array x locals)) (sym (known_array locals x)) (names_array locals x known f n)
+names_with_array locals x known f n = shows_row (spec.with_array x locals) (λ y. is_among y (x ∷ known))
+    (with_array (length locals.arrays) (known_row locals)) (known_row (spec.with_array x locals)) (sym (known_array locals x)) (names_array locals x known f n)
 
 fresh_at : (program : Program) (known : Known) (locals : Locals) (x : Name) (e : Expr) (line : ℕ) → Knows known locals → unless (is_fine known e && is_new program known x) line ≡ [] → Fresh x locals
-fresh_at program known locals x e line k fine = fresh_name program known locals x k (second_true (is_fine known e) (is_new program known x) (kept (is_fine known e && is_new program known x) line fine))
+fresh_at program known locals x e line k fine = fresh_name program known locals x k
+    (second_true (is_fine known e) (is_new program known x) (kept (is_fine known e && is_new program known x) line fine))
 
-names_next : (program : Program) (returns : Returns) (known : Known) (locals : Locals) (line : ℕ) (s : Stmt) (names : List Name) → Knows known locals → faults_in program returns known line s ≡ [] → Names locals names → Names (spec.locals_after locals s) (own.known_after names s)
+names_next : (program : Program) (returns : Returns) (known : Known) (locals : Locals) (line : ℕ) (s : Stmt) (names : List Name) → Knows known locals
+    → faults_in program returns known line s ≡ [] → Names locals names → Names (spec.locals_after locals s) (own.known_after names s)
 names_next program returns known locals line (Declare x e) names k fine n = names_with_int locals x names (fresh_at program known locals x e line k fine) n
 names_next program returns known locals line (DeclareArray x e) names k fine n = names_with_array locals x names (fresh_at program known locals x e line k fine) n
 names_next program returns known locals line (Assign v e) names k fine n = n
@@ -222,7 +233,8 @@ uses_shown known locals (x ∷ xs) P set k h s =
     (uses_shown known locals xs (λ y. same_name y x || P y) (with_slot (slot_of x locals.arrays) set) k (second_true (is_array known x) (list_all (λ a. is_array known a) xs) h)
     (shows_array locals x P (arrays_of set) array s))
 
-pub over_shown : (known : Known) (locals : Locals) (xs : List Name) → Knows known locals → list_all (λ a. is_array known a) xs ≡ true → Shows locals (λ y. is_among y xs) (arrays_of (with_uses (map (use_of locals.arrays) xs) no_slot))
+pub over_shown : (known : Known) (locals : Locals) (xs : List Name) → Knows known locals → list_all (λ a. is_array known a) xs ≡ true
+    → Shows locals (λ y. is_among y xs) (arrays_of (with_uses (map (use_of locals.arrays) xs) no_slot))
 over_shown known locals xs k h =
     shows_as locals (λ y. is_among y xs || false) (λ y. is_among y xs) _ (λ y. sym (or-false (is_among y xs))) (uses_shown known locals xs (λ y. false) no_slot k h (shows_none locals))
 
@@ -258,7 +270,8 @@ all_held false false false true false = refl
 all_held false false false false true = refl
 all_held false false false false false = refl
 
-pub sees : (locals : Locals) (depth : ℕ) (outside : Outside) (outer : Held) (taken : Taken) (here : Held) (cuts : Slots) → Stands depth outside outer → Holds locals depth outside taken here cuts → Sees locals taken (taken_rows outer here cuts)
+pub sees : (locals : Locals) (depth : ℕ) (outside : Outside) (outer : Held) (taken : Taken) (here : Held) (cuts : Slots) → Stands depth outside outer
+    → Holds locals depth outside taken here cuts → Sees locals taken (taken_rows outer here cuts)
 sees locals depth outside outer taken here cuts s h = record {
   taken_so =
       shows_as locals (held no_reader taken) (is_taken taken) (row_of_taken (taken_rows outer here cuts)) (taken_is taken)
@@ -277,7 +290,8 @@ sees locals depth outside outer taken here cuts s h = record {
 }
 
 -- at the end of a block
-ended : (locals : Locals) (depth : ℕ) (outside : Outside) (outer : Held) (closing : Closing) (taken : Taken) (here : Held) (cuts : Slots) → Stands depth outside outer → Holds locals depth outside taken here cuts →
+ended : (locals : Locals) (depth : ℕ) (outside : Outside) (outer : Held) (closing : Closing) (taken : Taken) (here : Held) (cuts : Slots)
+    → Stands depth outside outer → Holds locals depth outside taken here cuts →
     Sees locals (own.at_end closing depth taken) (rules.at_end closing (taken_rows outer here cuts))
 ended locals depth outside outer Joins taken here cuts s h = sees locals depth outside outer (freed depth taken) none_held cuts s (holds_freed locals depth outside taken here cuts s.steady h)
 ended locals depth outside outer Leaves taken here cuts s h = sees locals depth outside outer taken here cuts s h
@@ -293,19 +307,22 @@ left_array x slot locals taken t line apart same s =
     ap (λ b. unless (not b) line) (array_shown locals (is_held taken) (row_of_held t) x apart s.held_so ∙ ap (array_held t) same)
 
 -- what a statement declares is noted at the end of its block
-left_same : (program : Program) (lists : Lists) (returns : Returns) (known : Known) (locals : Locals) (line : ℕ) (s : Stmt) (b : Block) (taken : Taken) (t : rows.Taken) (declared : Declared) → Knows known locals → faults_in program returns known line s ≡ [] →
+left_same : (program : Program) (lists : Lists) (returns : Returns) (known : Known) (locals : Locals) (line : ℕ) (s : Stmt) (b : Block)
+    (taken : Taken) (t : rows.Taken) (declared : Declared) → Knows known locals → faults_in program returns known line s ≡ [] →
     KnownEnd (all_locals (spec.locals_after locals s) b) → Sees (all_locals (spec.locals_after locals s) b) taken t →
     left_taken (declared_by line s declared) taken ≡ left_line t line (spec.resolved_stmt lists locals s) ++ left_taken declared taken
 left_same program lists returns known locals line (Declare x e) b taken t declared k fine e' s =
     let f = fresh_at program known locals x e line k fine in
     let there = among_push x locals.ints x ∙ ap (λ b. is_among x locals.ints || b) (same_itself x) ∙ or-true (is_among x locals.ints) in
     let stays = int_stays x (spec.with_int x locals) b there in
-    ap (λ ls. ls ++ left_taken declared taken) (left_int x (length locals.ints) (all_locals (spec.with_int x locals) b) taken t line (e'.knows.apart x stays.there) (stays.slot ∙ slot_new x locals.ints f.no_int (same_itself x)) s)
+    ap (λ ls. ls ++ left_taken declared taken) (left_int x (length locals.ints) (all_locals (spec.with_int x locals) b) taken t line
+    (e'.knows.apart x stays.there) (stays.slot ∙ slot_new x locals.ints f.no_int (same_itself x)) s)
 left_same program lists returns known locals line (DeclareArray x e) b taken t declared k fine e' s =
     let f = fresh_at program known locals x e line k fine in
     let there = among_push x locals.arrays x ∙ ap (λ b. is_among x locals.arrays || b) (same_itself x) ∙ or-true (is_among x locals.arrays) in
     let stays = array_stays x (spec.with_array x locals) b there in
-    ap (λ ls. ls ++ left_taken declared taken) (left_array x (length locals.arrays) (all_locals (spec.with_array x locals) b) taken t line (array_apart e'.known (all_locals (spec.with_array x locals) b) x e'.knows stays.there) (stays.slot ∙ slot_new x locals.arrays f.no_array (same_itself x)) s)
+    ap (λ ls. ls ++ left_taken declared taken) (left_array x (length locals.arrays) (all_locals (spec.with_array x locals) b) taken t line
+    (array_apart e'.known (all_locals (spec.with_array x locals) b) x e'.knows stays.there) (stays.slot ∙ slot_new x locals.arrays f.no_array (same_itself x)) s)
 left_same program lists returns known locals line (Assign x v) b taken t declared k fine e' s = refl
 left_same program lists returns known locals line (AssignElement x i v) b taken t declared k fine e' s = refl
 left_same program lists returns known locals line (Reduce how x v) b taken t declared k fine e' s = refl
@@ -344,18 +361,22 @@ rule_and : (a b : Bool) (line : ℕ) (xs ys : List ℕ) → a ≡ b → Same xs 
 rule_and a b line xs ys e f = same_append (unless a line) (unless b line) xs ys (record { at = λ o. ap (λ c. lowest o (unless c line)) e }) f
 
 -- a block without declarations before it
-pub block_whole : (program : Program) (lists : Lists) (names : List Name) (locals : Locals) (depth : ℕ) (outer : Held) (around : Around) (l : Option Loop) (closing : Closing) (b : Block) (taken : Taken) (here : Held) (cuts : Slots) →
+pub block_whole : (program : Program) (lists : Lists) (names : List Name) (locals : Locals) (depth : ℕ) (outer : Held) (around : Around)
+    (l : Option Loop) (closing : Closing) (b : Block) (taken : Taken) (here : Held) (cuts : Slots) →
     Same (owner_faults_in program.functions around names depth closing taken [] b)
     (lines_in l (known_row locals) (taken_rows outer here cuts) (spec.resolved_block lists locals b)
-    ++ (left_at_end closing (known_row locals) (taken_rows outer here cuts) (spec.resolved_block lists locals b) ++ left_taken [] (own.at_end closing depth (taken_after_all program.functions depth b taken)))) →
+    ++ (left_at_end closing (known_row locals) (taken_rows outer here cuts) (spec.resolved_block lists locals b)
+    ++ left_taken [] (own.at_end closing depth (taken_after_all program.functions depth b taken)))) →
     Same (owner_faults_in program.functions around names depth closing taken [] b)
-    (lines_in l (known_row locals) (taken_rows outer here cuts) (spec.resolved_block lists locals b) ++ left_at_end closing (known_row locals) (taken_rows outer here cuts) (spec.resolved_block lists locals b))
+    (lines_in l (known_row locals) (taken_rows outer here cuts) (spec.resolved_block lists locals b) ++ left_at_end closing (known_row locals)
+    (taken_rows outer here cuts) (spec.resolved_block lists locals b))
 block_whole program lists names locals depth outer around l closing b taken here cuts f =
     whole_block (owner_faults_in program.functions around names depth closing taken [] b) (lines_in l (known_row locals) (taken_rows outer here cuts) (spec.resolved_block lists locals b))
     (left_at_end closing (known_row locals) (taken_rows outer here cuts) (spec.resolved_block lists locals b)) f
 
 -- the parts of a block, in another order
-together : (here more xs : List ℕ) (ls es : List ℕ) (left' left declared : List ℕ) → Same here xs → Same more (ls ++ (es ++ left')) → left' ≡ left ++ declared → Same (here ++ more) ((xs ++ ls) ++ ((left ++ es) ++ declared))
+together : (here more xs : List ℕ) (ls es : List ℕ) (left' left declared : List ℕ) → Same here xs → Same more (ls ++ (es ++ left'))
+    → left' ≡ left ++ declared → Same (here ++ more) ((xs ++ ls) ++ ((left ++ es) ++ declared))
 together here more xs ls es left' left declared f g e = record {
   at = λ o.
       (same_append here xs more (ls ++ (es ++ left')) f g).at o
@@ -374,7 +395,8 @@ cut_at program known a e l r h =
 
 cut_fresh : (program : Program) (known : Known) (locals : Locals) (a l r : Name) → Knows known locals → Cuts program known a l r → Fresh r (spec.with_array l locals)
 cut_fresh program known locals a l r k c =
-    fresh_name program ((l, name_kind.Array) ∷ known) (spec.with_array l locals) r (knows_array known locals l (fresh_name program known locals l k c.left) k) (new_beside program known l r c.right c.apart)
+    fresh_name program ((l, name_kind.Array) ∷ known) (spec.with_array l locals) r
+    (knows_array known locals l (fresh_name program known locals l k c.left) k) (new_beside program known l r c.right c.apart)
 
 -- the head of a loop that keeps the rules of names and types
 record Heads (program : Program) (known : Known) (x : Name) (d e : Expr) (xs : List Name) : Type 0 where
@@ -383,28 +405,40 @@ record Heads (program : Program) (known : Known) (x : Name) (d e : Expr) (xs : L
   pub to : is_fine known e ≡ true
   pub over : list_all (λ a. is_array known a) xs ≡ true
 
-head_keeps : (program : Program) (known : Known) (x y z : Name) (from to : Expr) (grain : ℕ) (over : List Name) → is_head_of_loop program known x y z from to grain over ≡ true → Heads program known x from to over
+head_keeps : (program : Program) (known : Known) (x y z : Name) (from to : Expr) (grain : ℕ) (over : List Name)
+    → is_head_of_loop program known x y z from to grain over ≡ true → Heads program known x from to over
 head_keeps program known x y z from to grain over h =
-    let seven = first_true (is_new program known x && same_name y x && same_name z x && is_fine known from && is_fine known to && nat_le 1 grain && nat_le grain MOST_GRAIN) (list_all (λ a. is_writable known a) over) h in
-    let five = first_true (is_new program known x && same_name y x && same_name z x && is_fine known from && is_fine known to) (nat_le 1 grain) (first_true (is_new program known x && same_name y x && same_name z x && is_fine known from && is_fine known to && nat_le 1 grain) (nat_le grain MOST_GRAIN) seven) in
+    let seven = first_true (is_new program known x && same_name y x && same_name z x && is_fine known from && is_fine known to && nat_le 1 grain
+    && nat_le grain MOST_GRAIN) (list_all (λ a. is_writable known a) over) h in
+    let five = first_true (is_new program known x && same_name y x && same_name z x && is_fine known from && is_fine known to) (nat_le 1 grain)
+    (first_true (is_new program known x && same_name y x && same_name z x && is_fine known from && is_fine known to && nat_le 1 grain)
+    (nat_le grain MOST_GRAIN) seven) in
     let four = first_true (is_new program known x && same_name y x && same_name z x && is_fine known from) (is_fine known to) five in
     record {
       variable = head_new program known x y z from to grain over h;
       from = second_true (is_new program known x && same_name y x && same_name z x) (is_fine known from) four;
       to = second_true (is_new program known x && same_name y x && same_name z x && is_fine known from) (is_fine known to) five;
-      over = writable_arrays known over (second_true (is_new program known x && same_name y x && same_name z x && is_fine known from && is_fine known to && nat_le 1 grain && nat_le grain MOST_GRAIN) (list_all (λ a. is_writable known a) over) h);
+      over = writable_arrays known over (second_true (is_new program known x && same_name y x && same_name z x && is_fine known from
+          && is_fine known to && nat_le 1 grain && nat_le grain MOST_GRAIN) (list_all (λ a. is_writable known a) over) h);
     }
 
 mutual
-  pub stmt_lines : (program : Program) (lists : Lists) → lists.callees ≡ program.functions → (returns : Returns) (known : Known) (names : List Name) (locals : Locals) (depth : ℕ) (outside : Outside) (outer : Held) (around : Around) (l : Option Loop) (line : ℕ) (s : Stmt) (taken : Taken) (here : Held) (cuts : Slots) →
-      Knows known locals → Names locals names → Stands depth outside outer → AtTop returns outside cuts → Rounds locals around l → faults_in program returns known line s ≡ [] → Holds locals depth outside taken here cuts →
+  pub stmt_lines : (program : Program) (lists : Lists) → lists.callees ≡ program.functions
+      → (returns : Returns) (known : Known) (names : List Name) (locals : Locals) (depth : ℕ) (outside : Outside) (outer : Held) (around : Around)
+      (l : Option Loop) (line : ℕ) (s : Stmt) (taken : Taken) (here : Held) (cuts : Slots) →
+      Knows known locals → Names locals names → Stands depth outside outer → AtTop returns outside cuts → Rounds locals around l
+      → faults_in program returns known line s ≡ [] → Holds locals depth outside taken here cuts →
       Same (owner_faults program.functions around names depth taken line s)
       (unless (keeps l (seen_by (known_row locals) (taken_rows outer here cuts) (spec.resolved_stmt lists locals s)) (spec.resolved_stmt lists locals s)) line
       ++ lines_within l (known_row locals) (seen_by (known_row locals) (taken_rows outer here cuts) (spec.resolved_stmt lists locals s)) (spec.resolved_stmt lists locals s))
   stmt_lines program lists same returns known names locals depth outside outer around l line (Declare x e) taken here cuts k n steady top r fine h =
-      one_rule _ _ line (read_same known locals around l taken (taken_rows outer here cuts) e k (first_true (is_fine known e) (is_new program known x) (kept (is_fine known e && is_new program known x) line fine)) r (sees locals depth outside outer taken here cuts steady h))
+      one_rule _ _ line (read_same known locals around l taken (taken_rows outer here cuts) e k
+      (first_true (is_fine known e) (is_new program known x) (kept (is_fine known e && is_new program known x) line fine)) r
+      (sees locals depth outside outer taken here cuts steady h))
   stmt_lines program lists same returns known names locals depth outside outer around l line (DeclareArray x e) taken here cuts k n steady top r fine h =
-      one_rule _ _ line (read_same known locals around l taken (taken_rows outer here cuts) e k (first_true (is_fine known e) (is_new program known x) (kept (is_fine known e && is_new program known x) line fine)) r (sees locals depth outside outer taken here cuts steady h))
+      one_rule _ _ line (read_same known locals around l taken (taken_rows outer here cuts) e k
+      (first_true (is_fine known e) (is_new program known x) (kept (is_fine known e && is_new program known x) line fine)) r
+      (sees locals depth outside outer taken here cuts steady h))
   stmt_lines program lists same returns known names locals depth outside outer around l line (Assign x e) taken here cuts k n steady top r fine h =
       let both = kept (is_int known x && is_fine known e) line fine in
       let s = sees locals depth outside outer taken here cuts steady h in
@@ -425,11 +459,15 @@ mutual
       (loose_same known locals taken t a k array s))
       (index_same known locals around l a i k array index r))
   stmt_lines program lists same returns known names locals depth outside outer around l line (Reduce how a e) taken here cuts k n steady top r fine h =
-      one_rule _ _ line (read_same known locals around l taken (taken_rows outer here cuts) e k (second_true (is_reducer program how a) (is_fine known e) (kept (is_reducer program how a && is_fine known e) line fine)) r (sees locals depth outside outer taken here cuts steady h))
+      one_rule _ _ line (read_same known locals around l taken (taken_rows outer here cuts) e k
+      (second_true (is_reducer program how a) (is_fine known e) (kept (is_reducer program how a && is_fine known e) line fine)) r
+      (sees locals depth outside outer taken here cuts steady h))
   stmt_lines program lists same returns known names locals depth outside outer around l line (Call kind site target f es) taken here cuts k n steady top r fine h =
-      subst (λ (fs : List Function). Same (owner_faults program.functions around names depth taken line (Call kind site target f es)) (unless (slot_call locals l (taken_rows outer here cuts) (function_named f fs).params target es) line ++ []))
+      subst (λ (fs : List Function). Same (owner_faults program.functions around names depth taken line (Call kind site target f es))
+      (unless (slot_call locals l (taken_rows outer here cuts) (function_named f fs).params target es) line ++ []))
       (sym same)
-      (one_rule _ _ line (call_same known locals around l taken (taken_rows outer here cuts) program.functions target f es k (kept (is_call known target (called f program.functions) es) line fine) r (sees locals depth outside outer taken here cuts steady h)))
+      (one_rule _ _ line (call_same known locals around l taken (taken_rows outer here cuts) program.functions target f es k
+      (kept (is_call known target (called f program.functions) es) line fine) r (sees locals depth outside outer taken here cuts steady h)))
   stmt_lines program lists same returns known names locals depth outside outer around l line (Start kind f es) taken here cuts k n steady top r fine h = cc
   stmt_lines program lists same returns known names locals depth outside outer around l line (Begin f from to captured over) taken here cuts k n steady top r fine h = cc
   stmt_lines program lists same returns known names locals depth outside outer around l line Sync taken here cuts k n steady top r fine h = record { at = λ o. refl }
@@ -437,30 +475,45 @@ mutual
       one_rule _ _ line (read_same known locals around l taken (taken_rows outer here cuts) e k (kept (is_fine known e) line fine) r (sees locals depth outside outer taken here cuts steady h))
   stmt_lines program lists same returns known names locals depth outside outer around l line (Return None) taken here cuts k n steady top r fine h = record { at = λ o. refl }
   stmt_lines program lists same returns known names locals depth outside outer around l line (Return (Some e)) taken here cuts k n steady top r fine h =
-      one_rule _ _ line (read_same known locals around l taken (taken_rows outer here cuts) e k (return_fine returns known e (kept (may_return returns known (Some e)) line fine)) r (sees locals depth outside outer taken here cuts steady h))
+      one_rule _ _ line (read_same known locals around l taken (taken_rows outer here cuts) e k
+      (return_fine returns known e (kept (may_return returns known (Some e)) line fine)) r (sees locals depth outside outer taken here cuts steady h))
   stmt_lines program lists same returns known names locals depth outside outer around l line (If e b) taken here cuts k n steady top r fine h =
       let rest = right_none (unless (is_fine known e) line) (faults_in_block program returns known b) fine in
       let test = kept (is_fine known e) line (left_none (unless (is_fine known e) line) (faults_in_block program returns known b) fine) in
       rule_and _ _ line _ _ (read_same known locals around l taken (taken_rows outer here cuts) e k test r (sees locals depth outside outer taken here cuts steady h))
-      (block_whole program lists names locals depth outer around l Leaves b taken here cuts (block_lines program lists same returns known names locals depth outside outer around l Leaves b taken here cuts [] k n steady top r rest h))
+      (block_whole program lists names locals depth outer around l Leaves b taken here cuts
+      (block_lines program lists same returns known names locals depth outside outer around l Leaves b taken here cuts [] k n steady top r rest h))
   stmt_lines program lists same returns known names locals depth outside outer around l line (IfElse e b c) taken here cuts k n steady top r fine h =
       let rest = right_none (unless (is_fine known e) line) (faults_in_block program returns known b ++ faults_in_block program returns known c) fine in
       let test = kept (is_fine known e) line (left_none (unless (is_fine known e) line) (faults_in_block program returns known b ++ faults_in_block program returns known c) fine) in
       rule_and _ _ line _ _ (read_same known locals around l taken (taken_rows outer here cuts) e k test r (sees locals depth outside outer taken here cuts steady h))
       (same_append _ _ _ _
-      (block_whole program lists names locals depth outer around l Leaves b taken here cuts (block_lines program lists same returns known names locals depth outside outer around l Leaves b taken here cuts [] k n steady top r (left_none (faults_in_block program returns known b) (faults_in_block program returns known c) rest) h))
-      (block_whole program lists names locals depth outer around l Leaves c taken here cuts (block_lines program lists same returns known names locals depth outside outer around l Leaves c taken here cuts [] k n steady top r (right_none (faults_in_block program returns known b) (faults_in_block program returns known c) rest) h)))
+      (block_whole program lists names locals depth outer around l Leaves b taken here cuts
+      (block_lines program lists same returns known names locals depth outside outer around l Leaves b taken here cuts [] k n steady top r
+      (left_none (faults_in_block program returns known b) (faults_in_block program returns known c) rest) h))
+      (block_whole program lists names locals depth outer around l Leaves c taken here cuts
+      (block_lines program lists same returns known names locals depth outside outer around l Leaves c taken here cuts [] k n steady top r
+      (right_none (faults_in_block program returns known b) (faults_in_block program returns known c) rest) h)))
   stmt_lines program lists same returns known names locals depth outside outer around l line (While e b) taken here cuts k n steady top r fine h =
       let rest = right_none (unless (is_fine known e) line) (faults_in_block program returns known b) fine in
       let test = kept (is_fine known e) line (left_none (unless (is_fine known e) line) (faults_in_block program returns known b) fine) in
       let more = either_held here (gain (known_row locals) (spec.resolved_block lists locals b)) in
       let turns = after_stmt program lists same returns known locals depth outside line (While e b) taken here cuts k steady.steady top fine h in
-      rule_and _ _ line _ _ (read_same known locals around l (taken_after program.functions depth (While e b) taken) (taken_rows outer more cuts) e k test r (sees locals depth outside outer (taken_after program.functions depth (While e b) taken) more cuts steady turns))
-      (block_whole program lists names locals depth outer around l Leaves b (taken_after program.functions depth (While e b) taken) more cuts (block_lines program lists same returns known names locals depth outside outer around l Leaves b (taken_after program.functions depth (While e b) taken) more cuts [] k n steady top r rest turns))
+      rule_and _ _ line _ _ (read_same known locals around l (taken_after program.functions depth (While e b) taken)
+      (taken_rows outer more cuts) e k test r (sees locals depth outside outer (taken_after program.functions depth (While e b) taken) more cuts steady turns))
+      (block_whole program lists names locals depth outer around l Leaves b (taken_after program.functions depth (While e b) taken) more cuts
+      (block_lines program lists same returns known names locals depth outside outer around l Leaves b
+      (taken_after program.functions depth (While e b) taken) more cuts [] k n steady top r rest turns))
   stmt_lines program lists same returns known names locals depth outside outer around l line (Scope b) taken here cuts k n steady top r fine h =
-      block_whole program lists names locals (depth + 1) (either_held outer here) around l Joins b taken none_held cuts (block_lines program lists same Nowhere known names locals (depth + 1) (entered outside depth here) (either_held outer here) around l Joins b taken none_held cuts [] k n (stands_inside depth outside outer here steady) (inl refl) r fine (holds_inside locals depth outside taken here cuts h))
+      block_whole program lists names locals (depth + 1) (either_held outer here) around l Joins b taken none_held cuts
+      (block_lines program lists same Nowhere known names locals (depth + 1) (entered outside depth here)
+      (either_held outer here) around l Joins b taken none_held cuts [] k n (stands_inside depth outside outer here steady) (inl refl) r fine
+      (holds_inside locals depth outside taken here cuts h))
   stmt_lines program lists same returns known names locals depth outside outer around l line (Region tag b) taken here cuts k n steady top r fine h =
-      block_whole program lists names locals (depth + 1) (either_held outer here) around l Joins b taken none_held cuts (block_lines program lists same Nowhere known names locals (depth + 1) (entered outside depth here) (either_held outer here) around l Joins b taken none_held cuts [] k n (stands_inside depth outside outer here steady) (inl refl) r fine (holds_inside locals depth outside taken here cuts h))
+      block_whole program lists names locals (depth + 1) (either_held outer here) around l Joins b taken none_held cuts
+      (block_lines program lists same Nowhere known names locals (depth + 1) (entered outside depth here)
+      (either_held outer here) around l Joins b taken none_held cuts [] k n (stands_inside depth outside outer here steady) (inl refl) r fine
+      (holds_inside locals depth outside taken here cuts h))
   stmt_lines program lists same returns known names locals depth outside outer around l line (Cut a e left right b) taken here cuts k n steady top r fine h =
       let c = is_cut program known a e left right in
       let whole = kept c line (left_none (unless c line) (faults_in_block program Nowhere ((right, name_kind.Array) ∷ (left, name_kind.Array) ∷ known) b) fine) in
@@ -478,12 +531,17 @@ mutual
       (read_same known locals around l taken (taken_rows outer here cuts) e k (cut_at program known a e left right whole) r s)
       (pass_same known locals around l taken (taken_rows outer here cuts) a k keeps.array r s))
       (subst (λ m. Same (owner_faults_in program.functions around (right ∷ left ∷ names) (depth + 1) Joins taken' [] b)
-      (lines_in l m (taken_rows (either_held outer here) none_held more) (spec.resolved_block lists locals' b) ++ left_at_end Joins m (taken_rows (either_held outer here) none_held more) (spec.resolved_block lists locals' b)))
+      (lines_in l m (taken_rows (either_held outer here) none_held more) (spec.resolved_block lists locals' b)
+      ++ left_at_end Joins m (taken_rows (either_held outer here) none_held more) (spec.resolved_block lists locals' b)))
       (known_array (spec.with_array left locals) right ∙ ap (λ m. with_array (length (locals.arrays ++ left ∷ [])) m) (known_array locals left))
-      (block_whole program lists (right ∷ left ∷ names) locals' (depth + 1) (either_held outer here) around l Joins b taken' none_held more (block_lines program lists same Nowhere ((right, name_kind.Array) ∷ (left, name_kind.Array) ∷ known) (right ∷ left ∷ names) locals' (depth + 1) (entered outside depth here) (either_held outer here) around l Joins b taken' none_held more []
-      (knows_cut program known locals a left right k keeps) (names_with_array (spec.with_array left locals) right (left ∷ names) two (names_with_array locals left names one n)) (stands_inside depth outside outer here steady) (inl refl)
+      (block_whole program lists (right ∷ left ∷ names) locals' (depth + 1) (either_held outer here) around l Joins b taken' none_held more
+      (block_lines program lists same Nowhere ((right, name_kind.Array) ∷ (left, name_kind.Array) ∷ known) (right ∷ left ∷ names) locals'
+      (depth + 1) (entered outside depth here) (either_held outer here) around l Joins b taken' none_held more []
+      (knows_cut program known locals a left right k keeps) (names_with_array (spec.with_array left locals) right (left ∷ names) two
+      (names_with_array locals left names one n)) (stands_inside depth outside outer here steady) (inl refl)
       (rounds_array (spec.with_array left locals) around l right (rounds_array locals around l left r)) rest
-      (holds_push_array (spec.with_array left locals) (depth + 1) (entered outside depth here) taken' none_held more right (holds_push_array locals (depth + 1) (entered outside depth here) taken' none_held more left inner)))))
+      (holds_push_array (spec.with_array left locals) (depth + 1) (entered outside depth here) taken' none_held more right
+      (holds_push_array locals (depth + 1) (entered outside depth here) taken' none_held more left inner)))))
   stmt_lines program lists same returns known names locals depth outside outer around l line (For x y z from to grain over b) taken here cuts k n steady top r fine h =
       let c = is_head_of_loop program known x y z from to grain over in
       let whole = kept c line (left_none (unless c line) (faults_in_block program Nowhere ((x, name_kind.Integer) ∷ known) b) fine) in
@@ -510,23 +568,32 @@ mutual
       (over_same known locals around l taken t over k head.over r s))
       (differ_named known locals over k head.over))
       (subst (λ m. Same (owner_faults_in program.functions (InLoop (x ∷ names) x over) (x ∷ names) (depth + 1) Joins taken [] b)
-      (lines_in (Some loop) m (taken_rows (either_held outer here) none_held cuts) (spec.resolved_block lists (spec.with_int x locals) b) ++ left_at_end Joins m (taken_rows (either_held outer here) none_held cuts) (spec.resolved_block lists (spec.with_int x locals) b)))
+      (lines_in (Some loop) m (taken_rows (either_held outer here) none_held cuts) (spec.resolved_block lists (spec.with_int x locals) b)
+      ++ left_at_end Joins m (taken_rows (either_held outer here) none_held cuts) (spec.resolved_block lists (spec.with_int x locals) b)))
       (known_int locals x)
-      (block_whole program lists (x ∷ names) (spec.with_int x locals) (depth + 1) (either_held outer here) (InLoop (x ∷ names) x over) (Some loop) Joins b taken none_held cuts (block_lines program lists same Nowhere ((x, name_kind.Integer) ∷ known) (x ∷ names) (spec.with_int x locals) (depth + 1) (entered outside depth here) (either_held outer here) (InLoop (x ∷ names) x over) (Some loop) Joins b taken none_held cuts []
+      (block_whole program lists (x ∷ names) (spec.with_int x locals) (depth + 1) (either_held outer here) (InLoop (x ∷ names) x over)
+      (Some loop) Joins b taken none_held cuts (block_lines program lists same Nowhere ((x, name_kind.Integer) ∷ known) (x ∷ names)
+      (spec.with_int x locals) (depth + 1) (entered outside depth here) (either_held outer here) (InLoop (x ∷ names) x over)
+      (Some loop) Joins b taken none_held cuts []
       (knows_int known locals x f k) (names_with_int locals x names f n) (stands_inside depth outside outer here steady) (inl refl) rounds rest
       (holds_push_int locals (depth + 1) (entered outside depth here) taken none_held cuts x inner))))
 
-  pub block_lines : (program : Program) (lists : Lists) → lists.callees ≡ program.functions → (returns : Returns) (known : Known) (names : List Name) (locals : Locals) (depth : ℕ) (outside : Outside) (outer : Held) (around : Around) (l : Option Loop) (closing : Closing) (b : Block) (taken : Taken) (here : Held) (cuts : Slots) (declared : Declared) →
-      Knows known locals → Names locals names → Stands depth outside outer → AtTop returns outside cuts → Rounds locals around l → faults_in_block program returns known b ≡ [] → Holds locals depth outside taken here cuts →
+  pub block_lines : (program : Program) (lists : Lists) → lists.callees ≡ program.functions
+      → (returns : Returns) (known : Known) (names : List Name) (locals : Locals) (depth : ℕ) (outside : Outside) (outer : Held) (around : Around)
+      (l : Option Loop) (closing : Closing) (b : Block) (taken : Taken) (here : Held) (cuts : Slots) (declared : Declared) →
+      Knows known locals → Names locals names → Stands depth outside outer → AtTop returns outside cuts → Rounds locals around l
+      → faults_in_block program returns known b ≡ [] → Holds locals depth outside taken here cuts →
       Same (owner_faults_in program.functions around names depth closing taken declared b)
       (lines_in l (known_row locals) (taken_rows outer here cuts) (spec.resolved_block lists locals b)
-      ++ (left_at_end closing (known_row locals) (taken_rows outer here cuts) (spec.resolved_block lists locals b) ++ left_taken declared (own.at_end closing depth (taken_after_all program.functions depth b taken))))
+      ++ (left_at_end closing (known_row locals) (taken_rows outer here cuts) (spec.resolved_block lists locals b)
+      ++ left_taken declared (own.at_end closing depth (taken_after_all program.functions depth b taken))))
   block_lines program lists same returns known names locals depth outside outer around l closing End taken here cuts declared k n steady top r fine h = record { at = λ o. refl }
   block_lines program lists same returns known names locals depth outside outer around l closing (Then line s b) taken here cuts declared k n steady top r fine h =
       let s' = spec.resolved_stmt lists locals s in
       let b' = spec.resolved_block lists (spec.locals_after locals s) b in
       let first = left_none (faults_in program returns known line s) _ fine in
-      let rest = right_none (unless (not (surely_returns s) || ends_block b) line) (faults_in_block program returns (declares s known) b) (right_none (faults_in program returns known line s) _ fine) in
+      let rest = right_none (unless (not (surely_returns s) || ends_block b) line) (faults_in_block program returns (declares s known) b)
+      (right_none (faults_in program returns known line s) _ fine) in
       let last = own.at_end closing depth (taken_after_all program.functions depth b (taken_after program.functions depth s taken)) in
       let t = taken_rows outer (after (known_row locals) s' here) (cuts_after s' cuts) in
       let m = known_after (known_row locals) s' in
@@ -534,11 +601,15 @@ mutual
       let whole = after_block program lists same returns known locals depth outside (Then line s b) taken here cuts k steady.steady top fine h in
       let knows = knows_next program returns known locals line s k first in
       let declared_is = left_same program lists returns known locals line s b last end declared k first (known_end program returns (declares s known) (spec.locals_after locals s) b knows rest)
-      (ended (all_locals (spec.locals_after locals s) b) depth outside outer closing (taken_after_all program.functions depth b (taken_after program.functions depth s taken)) (after_all m b' (after (known_row locals) s' here)) (cuts_after_all b' (cuts_after s' cuts)) steady whole) in
+      (ended (all_locals (spec.locals_after locals s) b) depth outside outer closing
+      (taken_after_all program.functions depth b (taken_after program.functions depth s taken)) (after_all m b' (after (known_row locals) s' here))
+      (cuts_after_all b' (cuts_after s' cuts)) steady whole) in
       let more = subst (λ m. Same (owner_faults_in program.functions around (own.known_after names s) depth closing (taken_after program.functions depth s taken) (declared_by line s declared) b)
       (lines_in l m t b' ++ (left_at_end closing m t b' ++ left_taken (declared_by line s declared) last)))
       (sym (known_next lists locals s))
-      (block_lines program lists same returns (declares s known) (own.known_after names s) (spec.locals_after locals s) depth outside outer around l closing b (taken_after program.functions depth s taken) (after (known_row locals) s' here) (cuts_after s' cuts) (declared_by line s declared)
+      (block_lines program lists same returns (declares s known) (own.known_after names s)
+      (spec.locals_after locals s) depth outside outer around l closing b (taken_after program.functions depth s taken)
+      (after (known_row locals) s' here) (cuts_after s' cuts) (declared_by line s declared)
       knows (names_next program returns known locals line s names k first n) steady (top_stays returns outside cuts (cuts_after s' cuts) (no_more s' cuts) top) (rounds_next locals s around l r) rest
       (after_stmt program lists same returns known locals depth outside line s taken here cuts k steady.steady top first h)) in
       let one = stmt_lines program lists same returns known names locals depth outside outer around l line s taken here cuts k n steady top r first h in

@@ -29,7 +29,8 @@ use Rattle.cw_tree.specs.lemmas.Looked.{body_is, all_right}
 use Rattle.cw_own.proofs.Keeping.{same_rows}
 
 -- a function
-function_by_slot : (program : Program) (lists : Lists) → lists.callees ≡ program.functions → (f : Function) → is_right_function lists f ≡ true → faults_of program (plain_function f) ≡ [] → Same (owner_faults_of program.functions (plain_function f)) (function_lines f)
+function_by_slot : (program : Program) (lists : Lists) → lists.callees ≡ program.functions → (f : Function) → is_right_function lists f ≡ true
+    → faults_of program (plain_function f) ≡ [] → Same (owner_faults_of program.functions (plain_function f)) (function_lines f)
 function_by_slot program lists same f right fine =
     let g = plain_function f in
     let head = kept (is_head program g) f.line (left_none (unless (is_head program g) f.line) _ fine) in
@@ -39,8 +40,11 @@ function_by_slot program lists same f right fine =
     (first_true (differ (map (λ (p : Param). p.name) f.params) && not (list_any (λ (p : Param). is_among p.name (globals program)) f.params) && (not f.gives_int || block_returns g.body)) _ head)) in
     record {
       at = λ o. (block_whole program lists (map (λ (p : Param). p.name) f.params) (locals_of f.params) 1 none_held NoLoop None Joins g.body [] none_held no_slot
-          (lines.block_lines program lists same (if f.gives_int then WithInt else Alone) (known_of f.params) (map (λ (p : Param). p.name) f.params) (locals_of f.params) 1 (λ p. no_local) none_held NoLoop None Joins g.body [] none_held no_slot []
-          (head_known f.params apart) (head_names f.params apart) (record { steady = record { spawns = λ d le p. refl; cuts = λ p. refl }; taken = refl; held = refl }) (inr (λ p. refl, λ k. refl)) tt body (λ p. nothing_held p))).at o
+          (lines.block_lines program lists same (if f.gives_int then WithInt else Alone) (known_of f.params) (map (λ (p : Param). p.name) f.params)
+          (locals_of f.params) 1 (λ p. no_local) none_held NoLoop None Joins g.body [] none_held no_slot []
+          (head_known f.params apart) (head_names f.params apart) (record
+          { steady = record { spawns = λ d le p. refl; cuts = λ p. refl }; taken = refl; held = refl }) (inr (λ p. refl, λ k. refl)) tt body
+          (λ p. nothing_held p))).at o
           ∙ ap (λ k. lowest o (block_lines None k nothing Joins (resolved_block lists (locals_of f.params) g.body))) (sym (head_row f.params))
           ∙ ap (λ b. lowest o (block_lines None (with_params 0 0 f.params no_local) nothing Joins b)) (sym (body_is lists f right));
     }
@@ -54,18 +58,22 @@ function_by_slot program lists same f right fine =
         (same_rows no_local (following.all_of p 1 (λ p. no_local) none_held no_slot) (λ k. sym (and-false (p (SpawnIn 1)))) (λ k. no_array (p (SpawnIn 1)) (p (ReaderIn 1)) (p CutOf)))
         (shows_none (locals_of f.params))
 
-functions_by_slot : (program : Program) (lists : Lists) → lists.callees ≡ program.functions → (fs : List Function) → list_all (is_right_function lists) fs ≡ true → flat_map (faults_of program) (map plain_function fs) ≡ [] →
+functions_by_slot : (program : Program) (lists : Lists) → lists.callees ≡ program.functions → (fs : List Function)
+    → list_all (is_right_function lists) fs ≡ true → flat_map (faults_of program) (map plain_function fs) ≡ [] →
     Same (flat_map (owner_faults_of program.functions) (map plain_function fs)) (flat_map function_lines fs)
 functions_by_slot program lists same [] right fine = record { at = λ o. refl }
 functions_by_slot program lists same (f ∷ fs) right fine =
     same_append (owner_faults_of program.functions (plain_function f)) (function_lines f) (flat_map (owner_faults_of program.functions) (map plain_function fs)) (flat_map function_lines fs)
-    (function_by_slot program lists same f (first_true (is_right_function lists f) (list_all (is_right_function lists) fs) right) (left_none (faults_of program (plain_function f)) (flat_map (faults_of program) (map plain_function fs)) fine))
-    (functions_by_slot program lists same fs (second_true (is_right_function lists f) (list_all (is_right_function lists) fs) right) (right_none (faults_of program (plain_function f)) (flat_map (faults_of program) (map plain_function fs)) fine))
+    (function_by_slot program lists same f (first_true (is_right_function lists f) (list_all (is_right_function lists) fs) right)
+    (left_none (faults_of program (plain_function f)) (flat_map (faults_of program) (map plain_function fs)) fine))
+    (functions_by_slot program lists same fs (second_true (is_right_function lists f) (list_all (is_right_function lists) fs) right)
+    (right_none (faults_of program (plain_function f)) (flat_map (faults_of program) (map plain_function fs)) fine))
 
 -- the least line by slots is that of the language
 pub ownership_by_slot : (tree : Resolved) → is_resolved tree ≡ true → type_faults (plain tree) ≡ [] →
     lowest None (ownership_faults (plain tree)) ≡ lowest None (flat_map function_lines tree.functions)
 ownership_by_slot tree right none =
     let program = plain tree in
-    let faults = right_none (repeated_names program) (flat_map (faults_of program) program.functions) (right_none (unless (is_among main_name (map (λ (f : model.Function). f.name) program.functions)) 1) _ none) in
+    let faults = right_none (repeated_names program) (flat_map (faults_of program) program.functions)
+    (right_none (unless (is_among main_name (map (λ (f : model.Function). f.name) program.functions)) 1) _ none) in
     (functions_by_slot program (lists_of program) refl tree.functions (all_right tree right) faults).at None

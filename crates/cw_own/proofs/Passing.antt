@@ -80,19 +80,22 @@ seen_more locals a seen set there s =
     shows_as locals (λ x. same_name x a || is_among x seen) (λ x. is_among x (a ∷ seen)) (arrays_row (with_slot (slot_of a locals.arrays) set)) (λ x. if_or (same_name x a) (is_among x seen))
     (shows_array locals a (λ x. is_among x seen) (arrays_row set) there s)
 
-named_is : (known : Known) (locals : Locals) (xs seen : List Name) (set : Slots) → Knows known locals → list_all (λ a. is_array known a) xs ≡ true → Shows locals (λ x. is_among x seen) (arrays_row set) →
+named_is : (known : Known) (locals : Locals) (xs seen : List Name) (set : Slots) → Knows known locals → list_all (λ a. is_array known a) xs ≡ true
+    → Shows locals (λ x. is_among x seen) (arrays_row set) →
     once seen xs ≡ named_once set (map (use_of locals.arrays) xs)
 named_is known locals [] seen set k h s = refl
 named_is known locals (x ∷ xs) seen set k h s =
     let array = first_true (is_array known x) (list_all (λ a. is_array known a) xs) h in
     ap (λ b. not b && once (x ∷ seen) xs) (array_shown locals (λ y. is_among y seen) (arrays_row set) x (array_apart known locals x k (k.arrays x array)) s)
-    ∙ ap (λ b. not (set (slot_of x locals.arrays)) && b) (named_is known locals xs (x ∷ seen) (with_slot (slot_of x locals.arrays) set) k (second_true (is_array known x) (list_all (λ a. is_array known a) xs) h) (seen_more locals x seen set (k.arrays x array) s))
+    ∙ ap (λ b. not (set (slot_of x locals.arrays)) && b) (named_is known locals xs (x ∷ seen) (with_slot (slot_of x locals.arrays) set) k
+    (second_true (is_array known x) (list_all (λ a. is_array known a) xs) h) (seen_more locals x seen set (k.arrays x array) s))
 
 pub differ_named : (known : Known) (locals : Locals) (xs : List Name) → Knows known locals → list_all (λ a. is_array known a) xs ≡ true → differ xs ≡ named_once no_slot (map (use_of locals.arrays) xs)
 differ_named known locals xs k h = differ_is xs ∙ named_is known locals xs [] no_slot k h (shows_none locals)
 
 -- the arrays of a loop
-pub over_same : (known : Known) (locals : Locals) (around : Around) (l : Option Loop) (taken : Taken) (t : rows.Taken) (xs : List Name) → Knows known locals → list_all (λ a. is_array known a) xs ≡ true → Rounds locals around l → Sees locals taken t →
+pub over_same : (known : Known) (locals : Locals) (around : Around) (l : Option Loop) (taken : Taken) (t : rows.Taken) (xs : List Name)
+    → Knows known locals → list_all (λ a. is_array known a) xs ≡ true → Rounds locals around l → Sees locals taken t →
     may_write around taken xs ≡ list_all (λ (u : spec.Use). rules.may_pass l t u.slot) (map (use_of locals.arrays) xs)
 over_same known locals around l taken t [] k h r s = refl
 over_same known locals around l taken t (x ∷ xs) k h r s =
@@ -112,8 +115,10 @@ inner_more : (around : Around) (x : Name) (xs : List Name) → are_inner around 
 inner_more around x xs = not_either (is_outer around x) (list_any (λ y. is_outer around y) xs)
 
 -- arguments that are read, given away or only read
-args_same : (known : Known) (locals : Locals) (around : Around) (l : Option Loop) (taken : Taken) (t : rows.Taken) (ps : List Param) (es : List Expr) → Knows known locals → are_arguments known ps es ≡ true → Rounds locals around l → Sees locals taken t →
-    ((list_all (λ e. may_read around taken e) es && may_write around taken (arrays_given ps es)) && are_inner around (arrays_lent ps es)) ≡ list_all (rules.may_give l t) (resolved_arguments locals ps es)
+args_same : (known : Known) (locals : Locals) (around : Around) (l : Option Loop) (taken : Taken) (t : rows.Taken) (ps : List Param) (es : List Expr)
+    → Knows known locals → are_arguments known ps es ≡ true → Rounds locals around l → Sees locals taken t →
+    ((list_all (λ e. may_read around taken e) es && may_write around taken (arrays_given ps es)) && are_inner around (arrays_lent ps es))
+    ≡ list_all (rules.may_give l t) (resolved_arguments locals ps es)
 args_same known locals around l taken t [] [] k h r s = refl
 args_same known locals around l taken t [] (e ∷ es) k h r s = cc
 args_same known locals around l taken t (p ∷ ps) [] k h r s = cc
@@ -147,24 +152,29 @@ args_same known locals around l taken t (p ∷ ps) (e ∷ es) k h r s =
     one_lent false o = refl
 
     by : (kind : NameKind) (e : Expr) → is_argument known kind e ≡ true →
-        ((list_all (λ e. may_read around taken e) es && may_write around taken (arrays_given ps es)) && are_inner around (arrays_lent ps es)) ≡ list_all (rules.may_give l t) (resolved_arguments locals ps es) →
-        (((may_read around taken e && list_all (λ e. may_read around taken e) es) && may_write around taken (given_of kind e ++ arrays_given ps es)) && are_inner around (lent_of kind e ++ arrays_lent ps es))
+        ((list_all (λ e. may_read around taken e) es && may_write around taken (arrays_given ps es)) && are_inner around (arrays_lent ps es))
+        ≡ list_all (rules.may_give l t) (resolved_arguments locals ps es) →
+        (((may_read around taken e && list_all (λ e. may_read around taken e) es) && may_write around taken (given_of kind e ++ arrays_given ps es))
+        && are_inner around (lent_of kind e ++ arrays_lent ps es))
         ≡ (rules.may_give l t (resolved_argument locals (param p.name kind ∷ ps) e) && list_all (rules.may_give l t) (resolved_arguments locals ps es))
     by name_kind.Integer e f more =
         int_words (may_read around taken e) (list_all (λ e. may_read around taken e) es) (may_write around taken (arrays_given ps es)) (are_inner around (arrays_lent ps es))
         ∙ ap (λ b. may_read around taken e && b) more
-        ∙ ap (λ b. b && list_all (rules.may_give l t) (resolved_arguments locals ps es)) (read_same known locals around l taken t e k f r s ∙ ap (rules.may_give l t) (sym (int_argument known locals (param p.name name_kind.Integer ∷ ps) e k f)))
+        ∙ ap (λ b. b && list_all (rules.may_give l t) (resolved_arguments locals ps es))
+        (read_same known locals around l taken t e k f r s ∙ ap (rules.may_give l t) (sym (int_argument known locals (param p.name name_kind.Integer ∷ ps) e k f)))
     by name_kind.Array (Variable a) f more =
         let array = writable_array known a f in
         ap (λ b. ((may_read around taken (Variable a) && list_all (λ e. may_read around taken e) es) && b) && are_inner around (arrays_lent ps es)) (write_more around taken a (arrays_given ps es))
-        ∙ array_words (may_read around taken (Variable a)) (list_all (λ e. may_read around taken e) es) (may_write around taken (a ∷ [])) (may_write around taken (arrays_given ps es)) (are_inner around (arrays_lent ps es))
+        ∙ array_words (may_read around taken (Variable a)) (list_all (λ e. may_read around taken e) es) (may_write around taken (a ∷ []))
+        (may_write around taken (arrays_given ps es)) (are_inner around (arrays_lent ps es))
         ∙ ap (λ b. b && ((list_all (λ e. may_read around taken e) es && may_write around taken (arrays_given ps es)) && are_inner around (arrays_lent ps es)))
         (absorbed (is_taken taken a) (is_held taken a) (is_outer around a) (held_too taken a) ∙ pass_same known locals around l taken t a k array r s)
         ∙ ap (λ b. rules.may_pass l t (slot_of a locals.arrays) && b) more
         ∙ ap (λ b. b && list_all (rules.may_give l t) (resolved_arguments locals ps es)) (ap (rules.may_give l t) (sym (array_argument known locals (param p.name name_kind.Array ∷ ps) a k array)))
     by name_kind.Const (Variable a) f more =
         ap (λ b. ((may_read around taken (Variable a) && list_all (λ e. may_read around taken e) es) && may_write around taken (arrays_given ps es)) && b) (inner_more around a (arrays_lent ps es))
-        ∙ lent_words (may_read around taken (Variable a)) (list_all (λ e. may_read around taken e) es) (may_write around taken (arrays_given ps es)) (not (is_outer around a)) (are_inner around (arrays_lent ps es))
+        ∙ lent_words (may_read around taken (Variable a)) (list_all (λ e. may_read around taken e) es) (may_write around taken (arrays_given ps es))
+        (not (is_outer around a)) (are_inner around (arrays_lent ps es))
         ∙ ap (λ b. b && ((list_all (λ e. may_read around taken e) es && may_write around taken (arrays_given ps es)) && are_inner around (arrays_lent ps es)))
         (one_lent (is_taken taken a) (is_outer around a) ∙ lend_same known locals around l taken t a k f r s)
         ∙ ap (λ b. rules.may_lend l t (slot_of a locals.arrays) && b) more
@@ -183,7 +193,8 @@ args_same known locals around l taken t (p ∷ ps) (e ∷ es) k h r s =
     by name_kind.Const (Binary o d e) f more = cc
 
 -- no array is given away twice
-passed_is : (known : Known) (locals : Locals) (ps : List Param) (es : List Expr) (seen : List Name) (set : Slots) → Knows known locals → are_arguments known ps es ≡ true → Shows locals (λ x. is_among x seen) (arrays_row set) →
+passed_is : (known : Known) (locals : Locals) (ps : List Param) (es : List Expr) (seen : List Name) (set : Slots) → Knows known locals
+    → are_arguments known ps es ≡ true → Shows locals (λ x. is_among x seen) (arrays_row set) →
     once seen (arrays_given ps es) ≡ passed_once set (resolved_arguments locals ps es)
 passed_is known locals [] [] seen set k h s = refl
 passed_is known locals [] (e ∷ es) seen set k h s = cc
@@ -201,7 +212,8 @@ passed_is known locals (p ∷ ps) (e ∷ es) seen set k h s =
         ap (λ b. not b && once (a ∷ seen) (arrays_given ps es)) (array_shown locals (λ y. is_among y seen) (arrays_row set) a (array_apart known locals a k array) s)
         ∙ ap (λ b. not (set (slot_of a locals.arrays)) && b) (more (a ∷ seen) (with_slot (slot_of a locals.arrays) set) (seen_more locals a seen set array s))
         ∙ ap (λ u. passed_once set (u ∷ resolved_arguments locals ps es)) (sym (array_argument known locals (param p.name name_kind.Array ∷ ps) a k (writable_array known a f)))
-    by name_kind.Const (Variable a) f more = more seen set s ∙ ap (λ u. passed_once set (u ∷ resolved_arguments locals ps es)) (sym (array_argument known locals (param p.name name_kind.Const ∷ ps) a k f))
+    by name_kind.Const (Variable a) f more = more seen set s ∙ ap (λ u. passed_once set (u ∷ resolved_arguments locals ps es))
+        (sym (array_argument known locals (param p.name name_kind.Const ∷ ps) a k f))
     by name_kind.Array (Number n) f more = cc
     by name_kind.Array (Element a e) f more = cc
     by name_kind.Array (Length a) f more = cc
@@ -216,7 +228,8 @@ passed_is known locals (p ∷ ps) (e ∷ es) seen set k h s =
     by name_kind.Const (Binary o d e) f more = cc
 
 -- the arrays that are given away, by names and by slots
-away_shown : (known : Known) (locals : Locals) (ps : List Param) (es : List Expr) (P : Name → Bool) (set : Slots) → Knows known locals → are_arguments known ps es ≡ true → Shows locals P (arrays_row set) →
+away_shown : (known : Known) (locals : Locals) (ps : List Param) (es : List Expr) (P : Name → Bool) (set : Slots) → Knows known locals
+    → are_arguments known ps es ≡ true → Shows locals P (arrays_row set) →
     Shows locals (λ y. is_among y (arrays_given ps es) || P y) (arrays_row (given_away (resolved_arguments locals ps es) set))
 away_shown known locals [] [] P set k h s = s
 away_shown known locals [] (e ∷ es) P set k h s = cc
@@ -232,8 +245,10 @@ away_shown known locals (p ∷ ps) (e ∷ es) P set k h s =
     words false false c = refl
 
     by : (kind : NameKind) (e : Expr) → is_argument known kind e ≡ true →
-        ((Q : Name → Bool) (set : Slots) → Shows locals Q (arrays_row set) → Shows locals (λ y. is_among y (arrays_given ps es) || Q y) (arrays_row (given_away (resolved_arguments locals ps es) set))) →
-        Shows locals (λ y. is_among y (given_of kind e ++ arrays_given ps es) || P y) (arrays_row (given_away (resolved_argument locals (param p.name kind ∷ ps) e ∷ resolved_arguments locals ps es) set))
+        ((Q : Name → Bool) (set : Slots) → Shows locals Q (arrays_row set)
+        → Shows locals (λ y. is_among y (arrays_given ps es) || Q y) (arrays_row (given_away (resolved_arguments locals ps es) set))) →
+        Shows locals (λ y. is_among y (given_of kind e ++ arrays_given ps es) || P y)
+        (arrays_row (given_away (resolved_argument locals (param p.name kind ∷ ps) e ∷ resolved_arguments locals ps es) set))
     by name_kind.Integer e f more =
         shows_row locals (λ y. is_among y (arrays_given ps es) || P y) (arrays_row (given_away (resolved_arguments locals ps es) set)) _
         (ap (λ a. arrays_row (given_away (a ∷ resolved_arguments locals ps es) set)) (sym (int_argument known locals (param p.name name_kind.Integer ∷ ps) e k f))) (more P set s)
@@ -241,7 +256,8 @@ away_shown known locals (p ∷ ps) (e ∷ es) P set k h s =
         let array = writable_array known a f in
         shows_row locals (λ y. is_among y (a ∷ arrays_given ps es) || P y) (arrays_row (given_away (resolved_arguments locals ps es) (with_slot (slot_of a locals.arrays) set))) _
         (ap (λ u. arrays_row (given_away (u ∷ resolved_arguments locals ps es) set)) (sym (array_argument known locals (param p.name name_kind.Array ∷ ps) a k array)))
-        (shows_as locals (λ y. is_among y (arrays_given ps es) || (same_name y a || P y)) (λ y. is_among y (a ∷ arrays_given ps es) || P y) _ (λ y. words (is_among y (arrays_given ps es)) (same_name y a) (P y))
+        (shows_as locals (λ y. is_among y (arrays_given ps es) || (same_name y a || P y)) (λ y. is_among y (a ∷ arrays_given ps es) || P y) _
+        (λ y. words (is_among y (arrays_given ps es)) (same_name y a) (P y))
         (more (λ y. same_name y a || P y) (with_slot (slot_of a locals.arrays) set) (shows_array locals a P (arrays_row set) (k.arrays a array) s)))
     by name_kind.Const (Variable a) f more =
         shows_row locals (λ y. is_among y (arrays_given ps es) || P y) (arrays_row (given_away (resolved_arguments locals ps es) set)) _
@@ -260,7 +276,8 @@ away_shown known locals (p ∷ ps) (e ∷ es) P set k h s =
     by name_kind.Const (Binary o d e) f more = cc
 
 -- none of them is only read
-read_is : (known : Known) (locals : Locals) (ps : List Param) (es : List Expr) (away : List Name) (set : Slots) → Knows known locals → are_arguments known ps es ≡ true → Shows locals (λ x. is_among x away) (arrays_row set) →
+read_is : (known : Known) (locals : Locals) (ps : List Param) (es : List Expr) (away : List Name) (set : Slots) → Knows known locals
+    → are_arguments known ps es ≡ true → Shows locals (λ x. is_among x away) (arrays_row set) →
     not (list_any (λ a. is_among a away) (arrays_lent ps es)) ≡ none_read set (resolved_arguments locals ps es)
 read_is known locals [] [] away set k h s = refl
 read_is known locals [] (e ∷ es) away set k h s = cc
@@ -273,7 +290,8 @@ read_is known locals (p ∷ ps) (e ∷ es) away set k h s =
         not (list_any (λ a. is_among a away) (arrays_lent ps es)) ≡ none_read set (resolved_arguments locals ps es) →
         not (list_any (λ a. is_among a away) (lent_of kind e ++ arrays_lent ps es)) ≡ none_read set (resolved_argument locals (param p.name kind ∷ ps) e ∷ resolved_arguments locals ps es)
     by name_kind.Integer e f more = more ∙ ap (λ a. none_read set (a ∷ resolved_arguments locals ps es)) (sym (int_argument known locals (param p.name name_kind.Integer ∷ ps) e k f))
-    by name_kind.Array (Variable a) f more = more ∙ ap (λ u. none_read set (u ∷ resolved_arguments locals ps es)) (sym (array_argument known locals (param p.name name_kind.Array ∷ ps) a k (writable_array known a f)))
+    by name_kind.Array (Variable a) f more = more ∙ ap (λ u. none_read set (u ∷ resolved_arguments locals ps es))
+        (sym (array_argument known locals (param p.name name_kind.Array ∷ ps) a k (writable_array known a f)))
     by name_kind.Const (Variable a) f more =
         not_either (is_among a away) (list_any (λ a. is_among a away) (arrays_lent ps es))
         ∙ ap (λ b. not b && not (list_any (λ a. is_among a away) (arrays_lent ps es))) (array_shown locals (λ y. is_among y away) (arrays_row set) a (array_apart known locals a k (k.arrays a f)) s)
@@ -292,7 +310,8 @@ read_is known locals (p ∷ ps) (e ∷ es) away set k h s =
     by name_kind.Const (Not e) f more = cc
     by name_kind.Const (Binary o d e) f more = cc
 
-target_same : (known : Known) (locals : Locals) (around : Around) (l : Option Loop) (taken : Taken) (t : rows.Taken) (g : Function) (target : Option Name) → Knows known locals → is_target known g target ≡ true → Rounds locals around l → Sees locals taken t →
+target_same : (known : Known) (locals : Locals) (around : Around) (l : Option Loop) (taken : Taken) (t : rows.Taken) (g : Function)
+    (target : Option Name) → Knows known locals → is_target known g target ≡ true → Rounds locals around l → Sees locals taken t →
     may_write around taken (target_names target) ≡ rules.may_target l t (option_map (use_of locals.ints) target)
 target_same known locals around l taken t g None k h r s = refl
 target_same known locals around l taken t g (Some x) k h r s = write_same known locals around l taken t x k (first_true (is_int known x) g.gives_int h) r s
@@ -328,7 +347,8 @@ slot_call locals l t ps target es =
     list_all (rules.may_give l t) (resolved_arguments locals ps es) && rules.may_target l t (option_map (use_of locals.ints) target) && passed_once no_slot (resolved_arguments locals ps es)
     && none_read (given_away (resolved_arguments locals ps es) no_slot) (resolved_arguments locals ps es)
 
-pub call_same : (known : Known) (locals : Locals) (around : Around) (l : Option Loop) (taken : Taken) (t : rows.Taken) (fs : List Function) (target : Option Name) (f : Name) (es : List Expr) → Knows known locals →
+pub call_same : (known : Known) (locals : Locals) (around : Around) (l : Option Loop) (taken : Taken) (t : rows.Taken) (fs : List Function)
+    (target : Option Name) (f : Name) (es : List Expr) → Knows known locals →
     is_call known target (called f fs) es ≡ true → Rounds locals around l → Sees locals taken t →
     model_call around taken (function_named f fs).params target es ≡ slot_call locals l t (function_named f fs).params target es
 call_same known locals around l taken t fs target f es k h r s = by (called f fs) refl h

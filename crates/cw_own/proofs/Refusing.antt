@@ -1,5 +1,6 @@
 -- What is told of a tree is right, and whatever is a reason of one is enough for its refusal.
-use Rattle.std.proofs.Common.{◌≡◌, ℕ, zero, suc, ◌≤◌, ◌<◌, true, List, [], ◌∷◌, length, slice_index_or, flat_map, Option, Some, None, option_map, MatchOption, Contains, refl, sym, ap, ◌∙◌, subst, arith}
+use Rattle.std.proofs.Common.{◌≡◌, ℕ, zero, suc, ◌≤◌, ◌<◌, true, List, [], ◌∷◌, length, slice_index_or, flat_map, Option, Some}
+use Rattle.std.proofs.Common.{None, option_map, MatchOption, Contains, refl, sym, ap, ◌∙◌, subst, arith}
 use Rattle.std.proofs.lemmas.List.Elements.{All-contains}
 use Rattle.cw_model.specs.Lines.{lowest}
 use Rattle.cw_model.specs.Ownership.{KeepsOwnership, ownership_faults}

@@ -2,7 +2,8 @@
 use Rattle.std.proofs.Common.{◌≡◌, ℕ, true, false, not, ◌||◌, [], Some, None, refl, ap, ◌∙◌}
 use Rattle.std.proofs.Math.Bool.{and-false}
 use Rattle.cw_facts.specs.Tests.{first_false, first_true, second_true}
-use Rattle.cw_model.specs.Syntax.{Program, Stmt, Declare, DeclareArray, Assign, AssignElement, Reduce, Call, Start, Begin, Sync, If, IfElse, While, For, Scope, Cut, Region, Print, Return, Block, End, Then}
+use Rattle.cw_model.specs.Syntax.{Program, Stmt, Declare, DeclareArray, Assign, AssignElement, Reduce, Call, Start, Begin, Sync}
+use Rattle.cw_model.specs.Syntax.{If, IfElse, While, For, Scope, Cut, Region, Print, Return, Block, End, Then}
 use Rattle.cw_model.specs.Lines.{unless}
 use Rattle.cw_model.specs.Typing.{Known, Nowhere, is_fine, declares, surely_returns, block_returns, ends_block, faults_in, faults_in_block}
 use Rattle.cw_model.specs.lemmas.Kept.{left_none, right_none}
@@ -19,7 +20,8 @@ mutual
   pub none_after : (lists : Lists) (locals : Locals) (known : Row) (here : Held) (s : Stmt) → surely_returns s ≡ true → after known (spec.resolved_stmt lists locals s) here ≡ none_held
   none_after lists locals known here (Return e) h = refl
   none_after lists locals known here (IfElse e b c) h =
-      ap (λ r. either_held (held_within known r) (held_within known (after_all known (spec.resolved_block lists locals c) here))) (none_after_all lists locals known here b (first_true (block_returns b) (block_returns c) h))
+      ap (λ r. either_held (held_within known r) (held_within known (after_all known (spec.resolved_block lists locals c) here)))
+      (none_after_all lists locals known here b (first_true (block_returns b) (block_returns c) h))
       ∙ ap (λ r. either_held (held_within known none_held) (held_within known r)) (none_after_all lists locals known here c (second_true (block_returns b) (block_returns c) h))
       ∙ ap (λ r. either_held r r) (none_known known)
   none_after lists locals known here (Declare x e) h = cc

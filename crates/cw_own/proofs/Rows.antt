@@ -1,5 +1,6 @@
 -- Rows of bits as sets of slots.
-use Rattle.std.proofs.Common.{◌≡◌, ◌≢◌, ℕ, zero, suc, ◌*◌, ◌/◌, ◌%◌, ◌^◌, ◌<◌, ◌==◌, ◌||◌, List, [], ◌∷◌, length, slice_index, slice_set, bit_or, bit_and, ◌&&◌, not, min, max, w64, refl, sym, ap, ◌∙◌, arith, inl, inr, get_or-set_same, get_or-set_other}
+use Rattle.std.proofs.Common.{◌≡◌, ◌≢◌, ℕ, zero, suc, ◌*◌, ◌/◌, ◌%◌, ◌^◌, ◌<◌, ◌==◌, ◌||◌, List, [], ◌∷◌, length, slice_index, slice_set, bit_or}
+use Rattle.std.proofs.Common.{bit_and, ◌&&◌, not, min, max, w64, refl, sym, ap, ◌∙◌, arith, inl, inr, get_or-set_same, get_or-set_other}
 use Rattle.std.specs.Int.{bit_at, bit_not}
 use Rattle.std.proofs.lemmas.Nat.Bits.{bit_at-lt, bit_at_or, bit_at_and, bit_at_set_same, bit_at_set_other, bit_at_clear_same, bit_at_clear_other}
 use Rattle.std.proofs.lemmas.Bool.{eq-eqb}
@@ -153,10 +154,12 @@ either_words w v g h =
     ∙ max_one (bit_at (slice_index w (slot / 64)) (slot % 64)) (bit_at (slice_index v (slot / 64)) (slot % 64)) (bit_at-lt _ _) (bit_at-lt _ _))
 
 pub both_words : (w v : List ℕ) → length w ≡ 4 → length v ≡ 4 →
-    slots_of (bit_and (slice_index w 0) (slice_index v 0) ∷ bit_and (slice_index w 1) (slice_index v 1) ∷ bit_and (slice_index w 2) (slice_index v 2) ∷ bit_and (slice_index w 3) (slice_index v 3) ∷ [])
+    slots_of (bit_and (slice_index w 0) (slice_index v 0) ∷ bit_and (slice_index w 1) (slice_index v 1) ∷ bit_and (slice_index w 2) (slice_index v 2)
+    ∷ bit_and (slice_index w 3) (slice_index v 3) ∷ [])
     ≡ both (slots_of w) (slots_of v)
 both_words w v g h =
-    let all = bit_and (slice_index w 0) (slice_index v 0) ∷ bit_and (slice_index w 1) (slice_index v 1) ∷ bit_and (slice_index w 2) (slice_index v 2) ∷ bit_and (slice_index w 3) (slice_index v 3) ∷ [] in
+    let all = bit_and (slice_index w 0) (slice_index v 0) ∷ bit_and (slice_index w 1) (slice_index v 1) ∷ bit_and (slice_index w 2) (slice_index v 2)
+    ∷ bit_and (slice_index w 3) (slice_index v 3) ∷ [] in
     same_sets (slots_of all) (both (slots_of w) (slots_of v)) (λ slot.
     ap (λ r. bit_at r (slot % 64) == 1)
     (and_at (slice_index w 0) (slice_index w 1) (slice_index w 2) (slice_index w 3) (slice_index v 0) (slice_index v 1) (slice_index v 2) (slice_index v 3) (slot / 64)

@@ -1,11 +1,13 @@
 -- The lines of reasons are the lines that break a rule, and the first of them is one of them.
-use Rattle.std.proofs.Common.{◌≡◌, ℕ, Bool, true, false, not, ◌&&◌, ◌||◌, nat_le, if◌then◌else◌, List, [], ◌∷◌, ◌++◌, map, flat_map, Option, Some, None, option_map, is_none, Contains, ◌⊎◌, inl, inr, refl, sym, ap, ◌∙◌, subst}
+use Rattle.std.proofs.Common.{◌≡◌, ℕ, Bool, true, false, not, ◌&&◌, ◌||◌, nat_le, if◌then◌else◌, List, [], ◌∷◌, ◌++◌, map, flat_map}
+use Rattle.std.proofs.Common.{Option, Some, None, option_map, is_none, Contains, ◌⊎◌, inl, inr, refl, sym, ap, ◌∙◌, subst}
 use Rattle.std.specs.List.{list_all}
 use Rattle.std.specs.Option.{option_or}
 use Rattle.std.proofs.lemmas.List.Elements.{Contains-append_left, Contains-append_right, Contains-push}
 use Rattle.cw_model.specs.Lines.{unless, lesser, lowest}
 use Rattle.cw_model.specs.Ownership.{Closing, Joins, Leaves}
-use Rattle.cw_tree.specs.Resolved.{Use, Listed, Expr, Number, Variable, Element, Length, Negative, Not, Binary, Argument, Int, Array, Shared, Stmt, Declare, DeclareArray, Assign, AssignElement, Reduce, Call, Sync, If, IfElse, While, For, Scope, Cut, Region, Print, Return, Head, Parts, Block, End, Then, Function}
+use Rattle.cw_tree.specs.Resolved.{Use, Listed, Expr, Number, Variable, Element, Length, Negative, Not, Binary, Argument, Int, Array, Shared, Stmt, Declare, DeclareArray, Assign}
+use Rattle.cw_tree.specs.Resolved.{AssignElement, Reduce, Call, Sync, If, IfElse, While, For, Scope, Cut, Region, Print, Return, Head, Parts, Block, End, Then, Function}
 use Rattle.cw_own.specs.declared.reason.Touch.{Touch}
 use Rattle.cw_own.specs.declared.reason.Touch.TheVariants as touch
 use Rattle.cw_own.specs.declared.reason.Holder.{Holder}
@@ -13,7 +15,10 @@ use Rattle.cw_own.specs.Sets.{Slots, Row, no_slot, with_slot, no_local, with_int
 use Rattle.cw_own.specs.Taken.{Taken, nothing, inside, inside_cut, int_taken, array_taken, array_held, with_parts, known_after, taken_after, taken_after_all, with_params}
 use Rattle.cw_own.specs.Rules as rule
 use Rattle.cw_own.specs.Rules.{seen_by, at_end, given_away, passed_once, none_read, named_once}
-use Rattle.cw_own.specs.Reasons.{Reason, GivenTwice, GivenAndRead, OverTwice, Turn, named, loop_around, head_in, turn_in, int_holder, array_taker, array_reader, array_holder, held_by, why_index, why_outer_array, why_outer_int, why_int, why_taken, why_lend, why_read, why_write, why_whole, why_target, why_argument, why_arguments, why_return, why_twice, why_read_too, why_call, why_over_twice, why_over, why_head, why_cut, why_element, why, reasons_at, ends_by, why_left, left_reasons, ending_reasons, reasons_within, reasons_in, block_reasons, function_reasons, line_in}
+use Rattle.cw_own.specs.Reasons.{Reason, GivenTwice, GivenAndRead, OverTwice, Turn, named, loop_around, head_in, turn_in, int_holder, array_taker, array_reader, array_holder}
+use Rattle.cw_own.specs.Reasons.{held_by, why_index, why_outer_array, why_outer_int, why_int, why_taken, why_lend, why_read, why_write, why_whole, why_target, why_argument}
+use Rattle.cw_own.specs.Reasons.{why_arguments, why_return, why_twice, why_read_too, why_call, why_over_twice, why_over, why_head, why_cut, why_element, why, reasons_at, ends_by}
+use Rattle.cw_own.specs.Reasons.{why_left, left_reasons, ending_reasons, reasons_within, reasons_in, block_reasons, function_reasons, line_in}
 use Rattle.cw_reasons.specs.lemmas.Kept.{sooner, soonest}
 
 abbrev pub line_of : (ℕ × Reason) → ℕ
@@ -156,7 +161,8 @@ over_twice_none seen [] = refl
 over_twice_none seen (u ∷ us) = next_none (seen u.slot) (OverTwice u) (why_over_twice (with_slot u.slot seen) us) _ (over_twice_none (with_slot u.slot seen) us)
 
 call_none : (around : Option Turn) (taken : Taken) (target : Option Use) (f : Listed) (es : List Argument) →
-    is_none (why_call around taken target f es) ≡ (list_all (rule.may_give (loops around) taken) es && rule.may_target (loops around) taken target && passed_once no_slot es && none_read (given_away es no_slot) es)
+    is_none (why_call around taken target f es) ≡ (list_all (rule.may_give (loops around) taken) es && rule.may_target (loops around) taken target
+    && passed_once no_slot es && none_read (given_away es no_slot) es)
 call_none around taken target f es =
     both_none (option_or (option_or (why_arguments around taken es) (why_target around taken target)) (why_twice f no_slot es)) (why_read_too f (given_away es no_slot) es) _ _
     (both_none (option_or (why_arguments around taken es) (why_target around taken target)) (why_twice f no_slot es) _ _
@@ -181,14 +187,16 @@ over_none around taken (u ∷ us) =
 head_none : (around : Option Turn) (taken : Taken) (head : Head) → is_none (why_head around taken head) ≡ rule.head_keeps (loops around) taken head
 head_none around taken head =
     let inner = option_map head_in around in
-    let read : (e : Expr) → is_none (why_read inner taken e) ≡ rule.may_read (rule.for_head (loops around)) taken e = λ e. read_none inner taken e ∙ ap (λ l. rule.may_read l taken e) (head_loops around) in
+    let read : (e : Expr) → is_none (why_read inner taken e) ≡ rule.may_read (rule.for_head (loops around)) taken e = λ e. read_none inner taken e
+    ∙ ap (λ l. rule.may_read l taken e) (head_loops around) in
     both_none (option_or (option_or (why_read inner taken head.from) (why_read inner taken head.to)) (why_over inner taken head.over)) (why_over_twice no_slot head.over) _ _
     (both_none (option_or (why_read inner taken head.from) (why_read inner taken head.to)) (why_over inner taken head.over) _ _
     (both_none (why_read inner taken head.from) (why_read inner taken head.to) _ _ (read head.from) (read head.to))
     (over_none around taken head.over))
     (over_twice_none no_slot head.over)
 
-cut_none : (around : Option Turn) (taken : Taken) (parts : Parts) → is_none (why_cut around taken parts) ≡ (rule.may_read (loops around) taken parts.at && rule.may_pass (loops around) taken parts.array.slot)
+cut_none : (around : Option Turn) (taken : Taken) (parts : Parts) → is_none (why_cut around taken parts)
+    ≡ (rule.may_read (loops around) taken parts.at && rule.may_pass (loops around) taken parts.array.slot)
 cut_none around taken parts =
     both_none (why_read around taken parts.at) (why_whole around taken touch.Cut parts.array) _ _ (read_none around taken parts.at) (whole_none around taken touch.Cut parts.array)
 
@@ -297,7 +305,8 @@ mutual
       (block_by around known taken Leaves b (in_lines around known taken b)) (block_by around known taken Leaves c (in_lines around known taken c))
   within_lines around known taken line (While e b) = block_by around known taken Leaves b (in_lines around known taken b)
   within_lines around known taken line (For head b) =
-      block_by (Some (turn_in line head known)) (with_int head.variable.slot known) (inside taken) Joins b (in_lines (Some (turn_in line head known)) (with_int head.variable.slot known) (inside taken) b)
+      block_by (Some (turn_in line head known)) (with_int head.variable.slot known) (inside taken) Joins b
+      (in_lines (Some (turn_in line head known)) (with_int head.variable.slot known) (inside taken) b)
   within_lines around known taken line (Scope b) = block_by around known (inside taken) Joins b (in_lines around known (inside taken) b)
   within_lines around known taken line (Cut parts b) =
       block_by around (with_parts parts known) (inside_cut parts.array.slot taken) Joins b (in_lines around (with_parts parts known) (inside_cut parts.array.slot taken) b)
@@ -308,7 +317,8 @@ mutual
   in_lines : (around : Option Turn) (known : Row) (taken : Taken) (b : Block) → lines_of (reasons_in around known taken b) ≡ rule.lines_in (loops around) known taken b
   in_lines around known taken End = refl
   in_lines around known taken (Then line s b) =
-      joined_lines (reasons_at line (why around (seen_by known taken s) s) ++ reasons_within around known (seen_by known taken s) line s) (reasons_in around (known_after known s) (taken_after known s taken) b) _ _
+      joined_lines (reasons_at line (why around (seen_by known taken s) s) ++ reasons_within around known (seen_by known taken s) line s)
+      (reasons_in around (known_after known s) (taken_after known s taken) b) _ _
       (joined_lines (reasons_at line (why around (seen_by known taken s) s)) (reasons_within around known (seen_by known taken s) line s) _ _
       (at_lines line (why around (seen_by known taken s) s) _ (why_none around (seen_by known taken s) s)) (within_lines around known (seen_by known taken s) line s))
       (in_lines around (known_after known s) (taken_after known s taken) b)

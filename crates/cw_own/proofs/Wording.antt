@@ -34,16 +34,20 @@ pub record Sees (locals : Locals) (taken : Taken) (t : rows.Taken) : Type 0 wher
   pub held_so : Shows locals (is_held taken) (row_of_held t)
 
 -- an integer and an array that typing knows
-int_free : (known : Known) (locals : Locals) (taken : Taken) (t : rows.Taken) (x : Name) → Knows known locals → is_int known x ≡ true → Sees locals taken t → is_taken taken x ≡ int_taken t (slot_of x locals.ints)
+int_free : (known : Known) (locals : Locals) (taken : Taken) (t : rows.Taken) (x : Name) → Knows known locals → is_int known x ≡ true
+    → Sees locals taken t → is_taken taken x ≡ int_taken t (slot_of x locals.ints)
 int_free known locals taken t x k h s = int_shown locals (is_taken taken) (row_of_taken t) x (k.apart x (k.ints x h)) s.taken_so
 
-int_loose : (known : Known) (locals : Locals) (taken : Taken) (t : rows.Taken) (x : Name) → Knows known locals → is_int known x ≡ true → Sees locals taken t → is_held taken x ≡ int_taken t (slot_of x locals.ints)
+int_loose : (known : Known) (locals : Locals) (taken : Taken) (t : rows.Taken) (x : Name) → Knows known locals → is_int known x ≡ true
+    → Sees locals taken t → is_held taken x ≡ int_taken t (slot_of x locals.ints)
 int_loose known locals taken t x k h s = int_shown locals (is_held taken) (row_of_held t) x (k.apart x (k.ints x h)) s.held_so
 
-array_free : (known : Known) (locals : Locals) (taken : Taken) (t : rows.Taken) (x : Name) → Knows known locals → is_array known x ≡ true → Sees locals taken t → is_taken taken x ≡ array_taken t (slot_of x locals.arrays)
+array_free : (known : Known) (locals : Locals) (taken : Taken) (t : rows.Taken) (x : Name) → Knows known locals → is_array known x ≡ true
+    → Sees locals taken t → is_taken taken x ≡ array_taken t (slot_of x locals.arrays)
 array_free known locals taken t x k h s = array_shown locals (is_taken taken) (row_of_taken t) x (array_apart known locals x k (k.arrays x h)) s.taken_so
 
-array_loose : (known : Known) (locals : Locals) (taken : Taken) (t : rows.Taken) (x : Name) → Knows known locals → is_array known x ≡ true → Sees locals taken t → is_held taken x ≡ array_held t (slot_of x locals.arrays)
+array_loose : (known : Known) (locals : Locals) (taken : Taken) (t : rows.Taken) (x : Name) → Knows known locals → is_array known x ≡ true
+    → Sees locals taken t → is_held taken x ≡ array_held t (slot_of x locals.arrays)
 array_loose known locals taken t x k h s = array_shown locals (is_held taken) (row_of_held t) x (array_apart known locals x k (k.arrays x h)) s.held_so
 
 -- a loop by names and by slots
@@ -87,19 +91,22 @@ rounds_head locals NoLoop (Some l) r = r
 rounds_head locals (InLoop outer i over) None r = r
 rounds_head locals (InLoop outer i over) (Some l) r = record { outside = r.outside; known = r.known; slot = r.slot; arrays = shows_none locals }
 
-outer_int : (known : Known) (locals : Locals) (around : Around) (l : Option Loop) (x : Name) → Knows known locals → is_int known x ≡ true → Rounds locals around l → is_outer around x ≡ is_outer_int l (slot_of x locals.ints)
+outer_int : (known : Known) (locals : Locals) (around : Around) (l : Option Loop) (x : Name) → Knows known locals → is_int known x ≡ true
+    → Rounds locals around l → is_outer around x ≡ is_outer_int l (slot_of x locals.ints)
 outer_int known locals NoLoop None x k h r = refl
 outer_int known locals NoLoop (Some l) x k h r = absurd r
 outer_int known locals (InLoop outer i over) None x k h r = absurd r
 outer_int known locals (InLoop outer i over) (Some l) x k h r = int_shown locals (λ x. is_among x outer) l.outer x (k.apart x (k.ints x h)) r.outside
 
-outer_array : (known : Known) (locals : Locals) (around : Around) (l : Option Loop) (x : Name) → Knows known locals → is_array known x ≡ true → Rounds locals around l → is_outer around x ≡ is_outer_array l (slot_of x locals.arrays)
+outer_array : (known : Known) (locals : Locals) (around : Around) (l : Option Loop) (x : Name) → Knows known locals → is_array known x ≡ true
+    → Rounds locals around l → is_outer around x ≡ is_outer_array l (slot_of x locals.arrays)
 outer_array known locals NoLoop None x k h r = refl
 outer_array known locals NoLoop (Some l) x k h r = absurd r
 outer_array known locals (InLoop outer i over) None x k h r = absurd r
 outer_array known locals (InLoop outer i over) (Some l) x k h r = array_shown locals (λ x. is_among x outer) l.outer x (array_apart known locals x k (k.arrays x h)) r.outside
 
-pub index_same : (known : Known) (locals : Locals) (around : Around) (l : Option Loop) (a : Name) (e : Expr) → Knows known locals → is_array known a ≡ true → is_fine known e ≡ true → Rounds locals around l →
+pub index_same : (known : Known) (locals : Locals) (around : Around) (l : Option Loop) (a : Name) (e : Expr) → Knows known locals
+    → is_array known a ≡ true → is_fine known e ≡ true → Rounds locals around l →
     may_index around a e ≡ rules.may_index l (slot_of a locals.arrays) (resolved_expr locals e)
 index_same known locals NoLoop None a e k h f r = refl
 index_same known locals NoLoop (Some l) a e k h f r = absurd r
@@ -112,11 +119,14 @@ index_same known locals (InLoop outer i over) (Some l) a e k h f r = by e f
     plain_one : not (is_among a outer) ≡ (not (l.outer.arrays (slot_of a locals.arrays)) || (l.over (slot_of a locals.arrays) && false))
     plain_one = out ∙ or_none_of (not (l.outer.arrays (slot_of a locals.arrays))) (l.over (slot_of a locals.arrays))
 
-    by : (e : Expr) → is_fine known e ≡ true → may_index (InLoop outer i over) a e ≡ (not (l.outer.arrays (slot_of a locals.arrays)) || (l.over (slot_of a locals.arrays) && rules.is_variable l.variable (resolved_expr locals e)))
+    by : (e : Expr) → is_fine known e ≡ true → may_index (InLoop outer i over) a e
+        ≡ (not (l.outer.arrays (slot_of a locals.arrays)) || (l.over (slot_of a locals.arrays) && rules.is_variable l.variable (resolved_expr locals e)))
     by (Variable j) f =
         ap (λ b. b || (is_among a over && same_name i j)) out
-        ∙ ap (λ b. not (l.outer.arrays (slot_of a locals.arrays)) || (b && same_name i j)) (array_shown locals (λ x. is_among x over) (record { ints = no_slot; arrays = l.over }) a (array_apart known locals a k (k.arrays a h)) r.arrays)
-        ∙ ap (λ b. not (l.outer.arrays (slot_of a locals.arrays)) || (l.over (slot_of a locals.arrays) && b)) (sym (one_slot i j locals.ints (k.ints j f)) ∙ ap (λ s. s == slot_of j locals.ints) (sym r.slot))
+        ∙ ap (λ b. not (l.outer.arrays (slot_of a locals.arrays)) || (b && same_name i j))
+        (array_shown locals (λ x. is_among x over) (record { ints = no_slot; arrays = l.over }) a (array_apart known locals a k (k.arrays a h)) r.arrays)
+        ∙ ap (λ b. not (l.outer.arrays (slot_of a locals.arrays)) || (l.over (slot_of a locals.arrays) && b))
+        (sym (one_slot i j locals.ints (k.ints j f)) ∙ ap (λ s. s == slot_of j locals.ints) (sym r.slot))
     by (Number n) f = plain_one
     by (Element b e) f = plain_one
     by (Length b) f = plain_one
@@ -139,7 +149,8 @@ element_words false true false l = refl
 element_words false false true l = refl
 element_words false false false l = refl
 
-pub read_same : (known : Known) (locals : Locals) (around : Around) (l : Option Loop) (taken : Taken) (t : rows.Taken) (e : Expr) → Knows known locals → is_fine known e ≡ true → Rounds locals around l → Sees locals taken t →
+pub read_same : (known : Known) (locals : Locals) (around : Around) (l : Option Loop) (taken : Taken) (t : rows.Taken) (e : Expr)
+    → Knows known locals → is_fine known e ≡ true → Rounds locals around l → Sees locals taken t →
     may_read around taken e ≡ rules.may_read l t (resolved_expr locals e)
 read_same known locals around l taken t (Number n) k f r s = refl
 read_same known locals around l taken t (Variable x) k f r s = one_word (is_taken taken x) ∙ ap not (int_free known locals taken t x k f s)
@@ -148,7 +159,8 @@ read_same known locals around l taken t (Element a e) k f r s =
     let index = second_true (is_array known a) (is_fine known e) f in
     element_words (is_taken taken a) (list_any (λ x. is_taken taken x) (names_in e)) (may_index around a e) (keeps_loop around e)
     ∙ ap (λ b. (not b && may_index around a e) && (not (list_any (λ x. is_taken taken x) (names_in e)) && keeps_loop around e)) (array_free known locals taken t a k array s)
-    ∙ ap (λ b. (not (array_taken t (slot_of a locals.arrays)) && b) && (not (list_any (λ x. is_taken taken x) (names_in e)) && keeps_loop around e)) (index_same known locals around l a e k array index r)
+    ∙ ap (λ b. (not (array_taken t (slot_of a locals.arrays)) && b) && (not (list_any (λ x. is_taken taken x) (names_in e)) && keeps_loop around e))
+    (index_same known locals around l a e k array index r)
     ∙ ap (λ b. (not (array_taken t (slot_of a locals.arrays)) && rules.may_index l (slot_of a locals.arrays) (resolved_expr locals e)) && b) (read_same known locals around l taken t e k index r s)
 read_same known locals around l taken t (Length a) k f r s =
     ap (λ b. not b && not (is_outer around a)) (or-false (is_taken taken a) ∙ array_free known locals taken t a k f s)
@@ -166,14 +178,16 @@ one_written true b = refl
 one_written false true = refl
 one_written false false = refl
 
-pub write_same : (known : Known) (locals : Locals) (around : Around) (l : Option Loop) (taken : Taken) (t : rows.Taken) (x : Name) → Knows known locals → is_int known x ≡ true → Rounds locals around l → Sees locals taken t →
+pub write_same : (known : Known) (locals : Locals) (around : Around) (l : Option Loop) (taken : Taken) (t : rows.Taken) (x : Name)
+    → Knows known locals → is_int known x ≡ true → Rounds locals around l → Sees locals taken t →
     may_write around taken (x ∷ []) ≡ rules.may_write l t (slot_of x locals.ints)
 write_same known locals around l taken t x k h r s =
     one_written (is_held taken x) (is_outer around x)
     ∙ ap (λ b. not b && not (is_outer around x)) (int_loose known locals taken t x k h s)
     ∙ ap (λ b. not (int_taken t (slot_of x locals.ints)) && not b) (outer_int known locals around l x k h r)
 
-pub pass_same : (known : Known) (locals : Locals) (around : Around) (l : Option Loop) (taken : Taken) (t : rows.Taken) (x : Name) → Knows known locals → is_array known x ≡ true → Rounds locals around l → Sees locals taken t →
+pub pass_same : (known : Known) (locals : Locals) (around : Around) (l : Option Loop) (taken : Taken) (t : rows.Taken) (x : Name)
+    → Knows known locals → is_array known x ≡ true → Rounds locals around l → Sees locals taken t →
     may_write around taken (x ∷ []) ≡ rules.may_pass l t (slot_of x locals.arrays)
 pass_same known locals around l taken t x k h r s =
     one_written (is_held taken x) (is_outer around x)
@@ -181,7 +195,8 @@ pass_same known locals around l taken t x k h r s =
     ∙ ap (λ b. not (array_held t (slot_of x locals.arrays)) && not b) (outer_array known locals around l x k h r)
 
 -- an array that a call only reads
-pub lend_same : (known : Known) (locals : Locals) (around : Around) (l : Option Loop) (taken : Taken) (t : rows.Taken) (x : Name) → Knows known locals → is_array known x ≡ true → Rounds locals around l → Sees locals taken t →
+pub lend_same : (known : Known) (locals : Locals) (around : Around) (l : Option Loop) (taken : Taken) (t : rows.Taken) (x : Name)
+    → Knows known locals → is_array known x ≡ true → Rounds locals around l → Sees locals taken t →
     (not (is_taken taken x) && not (is_outer around x)) ≡ rules.may_lend l t (slot_of x locals.arrays)
 lend_same known locals around l taken t x k h r s =
     ap (λ b. not b && not (is_outer around x)) (array_free known locals taken t x k h s)

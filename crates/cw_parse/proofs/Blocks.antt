@@ -12,7 +12,8 @@ use Rattle.cw_parse.specs.Marks.{is_mark}
 use Rattle.cw_parse.specs.Reading.{Reader, ◌>>=◌, by_first}
 use Rattle.cw_parse.specs.Parts.{simple, Opening, If, While, For, Scope, Cut, Region, opening, around, unanswered, framed_by, framed, stmt, Line, line_by, put_before, lines_of, line, lines}
 use Rattle.cw_parse.proofs.Reader.{Stops, IsUnique, SomeText, Seq, tok, Done, done}
-use Rattle.cw_parse.proofs.Exact.{Exact, Halts, Branch, First, Against, any, mark as token_of, same_exact, given, zero_exact, one_way, guard_exact, guard_halts, perhaps_halts, map_halts, first_exact, at_first, differ}
+use Rattle.cw_parse.proofs.Exact.{Exact, Halts, Branch, First, Against, any, mark as token_of, same_exact, given, zero_exact, one_way}
+use Rattle.cw_parse.proofs.Exact.{guard_exact, guard_halts, perhaps_halts, map_halts, first_exact, at_first, differ}
 use Rattle.cw_parse.proofs.Pieces.{Marked, Piece, ◌>>>◌, expect, give, perhaps, guard, but, against, branch_map, then_halts, row_by}
 use Rattle.cw_parse.proofs.Statements.{SimpleBy, simple_branch, simple_into, simple_out}
 use Rattle.cw_parse.proofs.Openings.{OpeningBy, opening_branch, Headed, headed, head_into, head_out}
@@ -101,7 +102,11 @@ module _ (text : List ℕ) where
       where
         opened : Piece U n any Opening
         opened = record { rel = R; read = f; exact = x }
-    from_opening site t R f (inr x) = inr (record { stops = λ ts. ap (λ r. r >>= λ o. inner site o.1 >>= λ b. framed_by inner o.0 b.0.0 b.0.1 b.1) (x.stops ts); never = λ ts b rest d. x.never ts d.0 d.1 d.2 })
+    from_opening site t R f (inr x) = inr (record {
+      stops = λ ts. ap (λ r. r >>= λ o. inner site o.1 >>= λ b. framed_by inner o.0 b.0.0 b.0.1 b.1)
+          (x.stops ts);
+      never = λ ts b rest d. x.never ts d.0 d.1 d.2;
+    })
 
     -- a statement without a block behind its first token
     from_simple : (t : Token) (R : List Token → Stmt × ℕ → List Token → Type 0) (f : Reader (Stmt × ℕ)) → Branch U n R any t f → Branch U n R (but mark.Else) t (λ ts. f ts >>= λ x. unanswered x.0 x.1)
@@ -147,7 +152,8 @@ module _ (text : List ℕ) where
     abbrev By : (site : ℕ) → Token → Kind → List Token → Stmt × ℕ → List Token → Type 0
     By = StmtBy U n inner blocks
 
-    cut_end : {a l r : tree.Name} {e : tree.Expr} {vs us xs rest : List Token} {o : Opening} {site : ℕ} {w : Token} (b : Block × ℕ) (y : Stmt × ℕ) → Done (Cut a e l r) vs o us → w.kind ≡ kind.LeftBrace
+    cut_end : {a l r : tree.Name} {e : tree.Expr} {vs us xs rest : List Token} {o : Opening} {site : ℕ} {w : Token} (b : Block × ℕ) (y : Stmt × ℕ)
+        → Done (Cut a e l r) vs o us → w.kind ≡ kind.LeftBrace
         → Lines site us b xs → FramedBy U n inner blocks o b.0 b.1 xs y rest → ReadsBlock text site (w ∷ vs) b.0 b.1 rest × (y ≡ (tree.Cut a e l r b.0, b.1))
     cut_end b y done is q done = (grammar.braces is q, refl)
 
@@ -159,7 +165,12 @@ module _ (text : List ℕ) where
 
     stmt_into : (site : ℕ) (t : Token) (k : Kind) → (ts : List Token) (y : Stmt × ℕ) (rest : List Token) → By site t k ts y rest → ReadsStmtBy text site k t ts y.0 y.1 rest
     stmt_into site t kind.If ts y rest (o, us, (e, vs, (u, u1, tok i1, (d, u2, r, (v, u3, tok i2, (w, u4, tok i3, done)))), done), (b, xs, q, inr done)) = grammar.when i1 r i2 (grammar.braces i3 q)
-    stmt_into site t kind.If ts y rest (o, us, (e, vs, (u, u1, tok i1, (d, u2, r, (v, u3, tok i2, (w, u4, tok i3, done)))), done), (b, xs, q, inl (l, x1, tok i4, (m, x2, tok i5, (c, x3, q', done))))) =
+    stmt_into site t kind.If ts y rest (
+      o,
+      us,
+      (e, vs, (u, u1, tok i1, (d, u2, r, (v, u3, tok i2, (w, u4, tok i3, done)))), done),
+      (b, xs, q, inl (l, x1, tok i4, (m, x2, tok i5, (c, x3, q', done)))),
+    ) =
         grammar.choose i1 r i2 (grammar.braces i3 q) i4 (grammar.braces i5 q')
     stmt_into site t kind.While ts y rest (o, us, (e, vs, (u, u1, tok i1, (d, u2, r, (v, u3, tok i2, (w, u4, tok i3, done)))), done), (b, xs, q, done)) = grammar.repeat i1 r i2 (grammar.braces i3 q)
     stmt_into site t kind.For ts y rest (o, us, (h, vs, r, done), (b, xs, q, done)) = go (head_into text ts h us r)
@@ -180,19 +191,41 @@ module _ (text : List ℕ) where
     stmt_out : {site m : ℕ} {k : Kind} {t : Token} {ts rest : List Token} {s : Stmt} → ReadsStmtBy text site k t ts s m rest → By site t k ts (s, m) rest
     stmt_out {site} {rest = rest} (grammar.when {m = m} {u = u} {v = v} {ts = ts} {e = e} {b = b} i r i' (grammar.braces {t = w} {ts = us} is q)) =
         (If e, us, (e, us, (u, ts, tok i, (e, v ∷ w ∷ us, r, (v, w ∷ us, tok i', (w, us, tok is, done)))), done), ((b, m), rest, q, inr done))
-    stmt_out {site} {rest = rest} (grammar.choose {m = m} {o = o} {u = u} {v = v} {w = l} {ts = ts} {e = e} {b = b} {c = c} i r i' (grammar.braces {t = w} {ts = us} is q) i'' (grammar.braces {t = x} {ts = vs} is' q')) =
-        (If e, us, (e, us, (u, ts, tok i, (e, v ∷ w ∷ us, r, (v, w ∷ us, tok i', (w, us, tok is, done)))), done), ((b, m), l ∷ x ∷ vs, q, inl (l, x ∷ vs, tok i'', (x, vs, tok is', ((c, o), rest, q', done)))))
+    stmt_out {site} {rest = rest} (grammar.choose {m = m} {o = o} {u = u} {v = v} {w = l} {ts = ts} {e = e} {b = b} {c = c} i r i'
+        (grammar.braces {t = w} {ts = us} is q) i'' (grammar.braces {t = x} {ts = vs} is' q')) = (
+          If e,
+          us,
+          (e, us, (u, ts, tok i, (e, v ∷ w ∷ us, r, (v, w ∷ us, tok i', (w, us, tok is, done)))), done),
+          ((b, m), l ∷ x ∷ vs, q, inl (l, x ∷ vs, tok i'', (x, vs, tok is', ((c, o), rest, q', done)))),
+        )
     stmt_out {site} {rest = rest} (grammar.repeat {m = m} {u = u} {v = v} {ts = ts} {e = e} {b = b} i r i' (grammar.braces {t = w} {ts = us} is q)) =
         (While e, us, (e, us, (u, ts, tok i, (e, v ∷ w ∷ us, r, (v, w ∷ us, tok i', (w, us, tok is, done)))), done), ((b, m), rest, q, done))
     stmt_out {site} {rest = rest} (grammar.loop {m = m} {h = h} {b = b} r (grammar.braces {t = w} {ts = us} is q)) = (For h, us, (h, us, head_out text r refl is, done), ((b, m), rest, q, done))
     stmt_out {site} {rest = rest} (grammar.scope {m = m} {b = b} (grammar.braces {t = w} {ts = us} is q)) = (Scope, us, (w, us, tok is, done), ((b, m), rest, q, done))
-    stmt_out {site} {rest = rest} (grammar.cut {m = m} {a = a} {at = at} {«as» = z} {l = l} {comma = c} {r = r} {ts = ts} {e = e} {b = b} i1 i2 q i3 i4 i5 i6 (grammar.braces {t = w} {ts = us} is q')) = (
-      Cut (name_of text a) e (name_of text l) (name_of text r),
-      us,
-      (a, at ∷ ts, tok i1, (at, ts, tok i2, (e, z ∷ l ∷ c ∷ r ∷ w ∷ us, q, (z, l ∷ c ∷ r ∷ w ∷ us, tok i3, (l, c ∷ r ∷ w ∷ us, tok i4, (c, r ∷ w ∷ us, tok i5, (r, w ∷ us, tok i6, (w, us, tok is, done)))))))),
-      ((b, m), rest, q', done),
-    )
-    stmt_out {site} {rest = rest} (grammar.region {m = m} {tag = x} {b = b} i (grammar.braces {t = w} {ts = us} is q)) = (Region (name_of text x), us, (x, w ∷ us, tok i, (w, us, tok is, done)), ((b, m), rest, q, done))
+    stmt_out {site} {rest = rest} (grammar.cut {m = m} {a = a} {at = at} {«as» = z} {l = l} {comma = c} {r = r} {ts = ts} {e = e}
+        {b = b} i1 i2 q i3 i4 i5 i6 (grammar.braces {t = w} {ts = us} is q')) = (
+          Cut (name_of text a) e (name_of text l) (name_of text r),
+          us,
+          (
+            a,
+            at ∷ ts,
+            tok i1,
+            (
+              at,
+              ts,
+              tok i2,
+              (
+                e,
+                z ∷ l ∷ c ∷ r ∷ w ∷ us,
+                q,
+                (z, l ∷ c ∷ r ∷ w ∷ us, tok i3, (l, c ∷ r ∷ w ∷ us, tok i4, (c, r ∷ w ∷ us, tok i5, (r, w ∷ us, tok i6, (w, us, tok is, done))))),
+              ),
+            ),
+          ),
+          ((b, m), rest, q', done),
+        )
+    stmt_out {site} {rest = rest} (grammar.region {m = m} {tag = x} {b = b} i (grammar.braces {t = w} {ts = us} is q)) =
+        (Region (name_of text x), us, (x, w ∷ us, tok i, (w, us, tok is, done)), ((b, m), rest, q, done))
     stmt_out {site} {t = t} (grammar.declare i r) = simple_out text t (grammar.declare i r) tt
     stmt_out {site} {t = t} (grammar.named i r) = simple_out text t (grammar.named i r) tt
     stmt_out {site} {t = t} (grammar.spawn i r) = simple_out text t (grammar.spawn i r) tt
@@ -221,13 +254,15 @@ module _ (text : List ℕ) where
     some_line site = record {
       text = token_of kind.Sync ∷ token_of kind.Semicolon ∷ [];
       value = ((0, tree.Sync), site);
-      reads = λ after. at_first (LineBy site) (token_of kind.Sync) kind.Sync refl (token_of kind.Semicolon ∷ after) ((0, tree.Sync), site) after ((tree.Sync, site), after, (token_of kind.Semicolon, after, tok refl, done), done);
+      reads = λ after. at_first (LineBy site) (token_of kind.Sync) kind.Sync refl (token_of kind.Semicolon ∷ after) ((0, tree.Sync), site) after
+          ((tree.Sync, site), after, (token_of kind.Semicolon, after, tok refl, done), done);
     }
 
     pub line_up : (site : ℕ) → Exact U (suc n) (Lined site) (but mark.Else) (by_first (line_by text n inner site))
     unfolding LineBy
     line_up site =
-        same_exact U (suc n) (First (LineBy site)) (Lined site) (but mark.Else) (by_first (line_by text n inner site)) (λ ts x rest d. rw d.2 (lined_into site d.0 d.1 x rest d.3)) (λ ts x rest r. lined_out r)
+        same_exact U (suc n) (First (LineBy site)) (Lined site) (but mark.Else) (by_first (line_by text n inner site))
+        (λ ts x rest d. rw d.2 (lined_into site d.0 d.1 x rest d.3)) (λ ts x rest r. lined_out r)
         (first_exact U n (LineBy site) (but mark.Else) (line_by text n inner site) (some_line site) (line_branch site))
 
     pub line_up_halts : (site : ℕ) → Halts (suc n) (but mark.Else) (by_first (line_by text n inner site))
@@ -307,7 +342,8 @@ module _ (text : List ℕ) where
 
   lines_by : (n : ℕ) (f : ℕ → Reader (Line × ℕ)) → Level n f → (site : ℕ) → Exact OneWay n (Lines site) any (lines_of f n site)
   lines_by n f x site =
-      row_by OneWay mark.RightBrace (λ m. (tree.End, m)) put_before f Lined (but mark.Else) Lines lines_into (λ s ts y rest q. lines_out q) (λ s ts x rest r. lined_long r) (λ s t us x rest is r. lined_apart is r)
+      row_by OneWay mark.RightBrace (λ m. (tree.End, m)) put_before f Lined (but mark.Else) Lines lines_into (λ s ts y rest q. lines_out q)
+      (λ s ts x rest r. lined_long r) (λ s t us x rest is r. lined_apart is r)
       (λ s ts b rest q. lines_follow q) (λ u. u.0) n (λ s. (x s).0) (λ s. (x s).1) n (omega arith) site
 
   line_level : (n : ℕ) → Level n (line text n)

@@ -3,7 +3,8 @@ use Rattle.std.proofs.Common.{◌≡◌, ℕ, suc, ◌<◌, ◌≤◌, Bool, tru
 use Rattle.cw_model.specs.declared.token.Token.{Token}
 use Rattle.cw_model.specs.declared.token.Kind.{Kind}
 use Rattle.cw_parse.specs.Reading.{Read, Reader, ◌>>=◌, token, by_first, if_next, unless_next}
-use Rattle.cw_parse.proofs.Reader.{Stops, Front, IsUnique, SomeText, Seq, Tok, tok, Done, done, Stuck, Follows, shorter, stuck_left, stuck_right, stuck_behind, stuck_here, bind_ok, bind_err, ok_is, seq_text}
+use Rattle.cw_parse.proofs.Reader.{Stops, Front, IsUnique, SomeText, Seq, Tok, tok, Done, done, Stuck, Follows, shorter, stuck_left}
+use Rattle.cw_parse.proofs.Reader.{stuck_right, stuck_behind, stuck_here, bind_ok, bind_err, ok_is, seq_text}
 
 -- a token of a kind
 abbrev pub mark : Kind → Token
@@ -166,7 +167,8 @@ module _ (U : Type 0) {A B : Type 0} (m n : ℕ) (R : List Token → A → List 
     some = seq_text R G first.some (λ a. (second a).some);
     stable = seq_front;
     sound = λ ts b rest e. let x = bind_ok (f ts) (λ x. g x.0 x.1) (b, rest) e in (x.0.0, x.0.1, first.sound ts x.0.0 x.0.1 x.1, (second x.0.0).sound x.0.1 b rest x.2);
-    complete = λ ts b rest le d stop. ap (λ r. r >>= λ x. g x.0 x.1) (first.complete ts d.0 d.1 le d.2 (follows d.0 d.1 b rest d.3 stop)) ∙ (second d.0).complete d.1 b rest (less ts d.0 d.1 le d.2) d.3 stop;
+    complete = λ ts b rest le d stop. ap (λ r. r >>= λ x. g x.0 x.1) (first.complete ts d.0 d.1 le d.2 (follows d.0 d.1 b rest d.3 stop))
+        ∙ (second d.0).complete d.1 b rest (less ts d.0 d.1 le d.2) d.3 stop;
     unique = seq_unique;
     stuck = seq_stuck;
   }
@@ -360,7 +362,8 @@ map_halts {A} {B} n s f h x ts b rest le e =
     subst (λ (z : B × List Token). Stops s z.1) (ok_is (h y.0.0, y.0.1) (b, rest) y.2) (x ts y.0.0 y.0.1 le y.1)
 
 -- readers that give the same read the same
-pub same_reader : (U : Type 0) (n : ℕ) {A : Type 0} (R : List Token → A → List Token → Type 0) (s : Kind → Bool) (f g : Reader A) → ((ts : List Token) → g ts ≡ f ts) → Exact U n R s f → Exact U n R s g
+pub same_reader : (U : Type 0) (n : ℕ) {A : Type 0} (R : List Token → A → List Token → Type 0) (s : Kind → Bool) (f g : Reader A)
+    → ((ts : List Token) → g ts ≡ f ts) → Exact U n R s f → Exact U n R s g
 same_reader U n R s f g e x = record {
   some = x.some;
   stable = x.stable;
@@ -400,11 +403,13 @@ module _ (U : Type 0) {A : Type 0} (n : ℕ) (B : Token → Kind → List Token 
   sound_first [] a rest e = absurd cc
   sound_first (t ∷ us) a rest e = sound_by t us a rest (branch t t.kind) e
 
-  complete_by : (t : Token) (ts us : List Token) (a : A) (rest : List Token) → Branch U n (B t t.kind) s t (f t t.kind) → len ts ≤ suc n → ts ≡ t ∷ us → B t t.kind us a rest → Stops s rest → by_first f ts ≡ Ok (a, rest)
+  complete_by : (t : Token) (ts us : List Token) (a : A) (rest : List Token) → Branch U n (B t t.kind) s t (f t t.kind) → len ts ≤ suc n
+      → ts ≡ t ∷ us → B t t.kind us a rest → Stops s rest → by_first f ts ≡ Ok (a, rest)
   complete_by t ts us a rest (inr off) le e r stop = absurd (off.never us a rest r)
   complete_by t ts us a rest (inl x) le e r stop = let l = ap len e in ap (λ w. by_first f w) e ∙ x.complete us a rest (omega arith) r stop
 
-  unique_by : U → (t : Token) (ts : List Token) (a b : A) (us vs : List Token) → Branch U n (B t t.kind) s t (f t t.kind) → B t t.kind ts a us → Stops s us → B t t.kind ts b vs → Stops s vs → (a ≡ b) × (us ≡ vs)
+  unique_by : U → (t : Token) (ts : List Token) (a b : A) (us vs : List Token) → Branch U n (B t t.kind) s t (f t t.kind) → B t t.kind ts a us
+      → Stops s us → B t t.kind ts b vs → Stops s vs → (a ≡ b) × (us ≡ vs)
   unique_by u t ts a b us vs (inr off) r su q sv = absurd (off.never ts a us r)
   unique_by u t ts a b us vs (inl x) r su q sv = x.unique u ts a b us vs r su q sv
 
@@ -449,7 +454,8 @@ module _ (U : Type 0) {A : Type 0} (n : ℕ) (B : Token → Kind → List Token 
   }
 
 -- at a first token of a known kind
-pub at_first : {A : Type 0} (B : Token → Kind → List Token → A → List Token → Type 0) (t : Token) (k : Kind) → t.kind ≡ k → (us : List Token) (a : A) (rest : List Token) → B t k us a rest → First B (t ∷ us) a rest
+pub at_first : {A : Type 0} (B : Token → Kind → List Token → A → List Token → Type 0) (t : Token) (k : Kind) → t.kind ≡ k
+    → (us : List Token) (a : A) (rest : List Token) → B t k us a rest → First B (t ∷ us) a rest
 at_first B t k is us a rest r = (t, us, refl, subst (λ k. B t k us a rest) (sym is) r)
 
 -- ---- one part behind a token, and else another
@@ -462,7 +468,8 @@ none_left : (front rest : List Token) (u : Token) (us : List Token) → [] ≡ f
 none_left [] rest u us e f = let g : [] ≡ u ∷ us = e ∙ f in cc
 none_left (x ∷ front) rest u us e f = cc
 
-module _ (U : Type 0) {A : Type 0} (m n : ℕ) (le : n ≤ suc m) (p : Kind → Bool) (K : Kind → Type 0) (test : Passes p K) (P : Token → List Token → A → List Token → Type 0) (Q : List Token → A → List Token → Type 0)
+module _ (U : Type 0) {A : Type 0} (m n : ℕ) (le : n ≤ suc m) (p : Kind → Bool) (K : Kind → Type 0) (test : Passes p K)
+    (P : Token → List Token → A → List Token → Type 0) (Q : List Token → A → List Token → Type 0)
     (s : Kind → Bool) (f : Token → Reader A) (g : Reader A) (x : (t : Token) → Exact U m (P t) s (f t)) (y : Exact U n Q s g)
     (apart : (t : Token) (us : List Token) (b : A) (rest : List Token) → K t.kind → Q (t ∷ us) b rest → Stops s rest → ⊥) where
   abbrev pub Either : List Token → A → List Token → Type 0
@@ -534,7 +541,8 @@ module _ (U : Type 0) {A : Type 0} (m n : ℕ) (le : n ≤ suc m) (p : Kind → 
       dead w us same vs b after (inl r) stop = d.dead w us same vs b after (left_behind r) stop
       dead w us same vs b after (inr q) stop = apart t (d.front ++ w ∷ vs) b after is q stop
 
-  from_right : (ts : List Token) (e : ℕ) → ((front rest : List Token) (u : Token) (us vs : List Token) (b : A) (after : List Token) → ts ≡ front ++ rest → rest ≡ u ∷ us → Seq (Tok K) P (front ++ u ∷ vs) b after → ⊥)
+  from_right : (ts : List Token) (e : ℕ) → ((front rest : List Token) (u : Token) (us vs : List Token) (b : A) (after : List Token)
+      → ts ≡ front ++ rest → rest ≡ u ∷ us → Seq (Tok K) P (front ++ u ∷ vs) b after → ⊥)
       → Stuck Q s ts e → Stuck Either s ts e
   from_right ts e none d = record {
     front = d.front;

@@ -18,7 +18,8 @@ use Rattle.cw_parse.specs.Marks.{is_mark}
 use Rattle.cw_parse.specs.Reading.{Read, Reader, ◌>>=◌, by_first, if_next, unless_next}
 use Rattle.cw_parse.specs.Parts.{named, measured, atom, operand_after, at_level, beside, operator_at, chain_on, chain, level_over, operand, level, expr}
 use Rattle.cw_parse.proofs.Reader.{Stops, Front, IsUnique, SomeText, Seq, Tok, tok, Done, done, shorter, bind_ok, ok_is}
-use Rattle.cw_parse.proofs.Exact.{Exact, Halts, Passes, Against, Branch, First, mark as token_of, done_exact, done_rest, differ, seq_exact, narrow_exact, same_exact, same_reader, given, fewer_exact, zero_exact, one_way, guard_halts, perhaps_halts, map_halts, first_exact, at_first, if_next_exact}
+use Rattle.cw_parse.proofs.Exact.{Exact, Halts, Passes, Against, Branch, First, mark as token_of, done_exact, done_rest, differ, seq_exact, narrow_exact, same_exact}
+use Rattle.cw_parse.proofs.Exact.{same_reader, given, fewer_exact, zero_exact, one_way, guard_halts, perhaps_halts, map_halts, first_exact, at_first, if_next_exact}
 use Rattle.cw_parse.proofs.MarkKinds.{kind_of, passes}
 use Rattle.cw_parse.proofs.Pieces.{Marked, Piece, ◌>>>◌, expect, give, before, perhaps, guard}
 use Rattle.cw_parse.proofs.Operators.{stops, stops_below, operator_stops, operator_on, stops_above, level_of, is_level, operator_ok, Operated, operated}
@@ -64,7 +65,8 @@ module _ (text : List ℕ) where
 
   -- ---- the operators of a level
 
-  module _ (U : Type 0) (n k : ℕ) (small : k < 4) (one : U → (d : Expr) → IsUnique (Behind (suc k) d) (stops (suc k))) (next : Reader Expr) (lower : Exact U n (At k) (stops k) next) (halts : Halts n (stops k) next) where
+  module _ (U : Type 0) (n k : ℕ) (small : k < 4) (one : U → (d : Expr) → IsUnique (Behind (suc k) d) (stops (suc k))) (next : Reader Expr)
+      (lower : Exact U n (At k) (stops k) next) (halts : Halts n (stops k) next) where
     -- what follows an operator
     abbrev After : Expr → Token → List Token → Expr → List Token → Type 0
     After d t = Seq (At k) (λ e. Behind (suc k) (tree.Binary (or_plus (at_level (suc k) (infix_of t.kind))) d e))
@@ -126,7 +128,8 @@ module _ (text : List ℕ) where
         same_reader U (suc m) (Behind (suc k) d) (stops (suc k)) (if_next (goes (suc k)) (after m d) (λ us. Ok (d, us))) (chain next (suc k) (suc m) d) (chain_read m d)
         (same_exact U (suc m) (Chain d) (Behind (suc k) d) (stops (suc k)) (if_next (goes (suc k)) (after m d) (λ us. Ok (d, us))) (chain_into d) (λ ts e rest r. chain_out r)
         (if_next_exact U m (suc m) (omega arith) (goes (suc k)) (Goes (suc k)) (going (suc k)) (After d) (Done d) (stops (suc k)) (after m d) (λ us. Ok (d, us))
-        (λ t. seq_exact U m m (At k) (λ e. Behind (suc k) (tree.Binary (or_plus (at_level (suc k) (infix_of t.kind))) d e)) (stops k) (stops (suc k)) next (λ e. chain next (suc k) m (tree.Binary (or_plus (at_level (suc k) (infix_of t.kind))) d e))
+        (λ t. seq_exact U m m (At k) (λ e. Behind (suc k) (tree.Binary (or_plus (at_level (suc k) (infix_of t.kind))) d e)) (stops k)
+        (stops (suc k)) next (λ e. chain next (suc k) m (tree.Binary (or_plus (at_level (suc k) (infix_of t.kind))) d e))
         (fewer_exact U m n (At k) (stops k) next (omega arith) lower)
         (λ ts e rest few h. halts ts e rest (omega arith) h)
         (λ e. chain_by m (omega arith) (tree.Binary (or_plus (at_level (suc k) (infix_of t.kind))) d e))
@@ -138,7 +141,8 @@ module _ (text : List ℕ) where
     eaten : {us ts : List Token} {o : Operator} → Operated (suc k) ts o us → len us < len ts
     eaten (operated is) = omega arith
 
-    chain_halts : (m : ℕ) → m ≤ n → (d : Expr) (ts : List Token) (e : Expr) (rest : List Token) → len ts ≤ m → Stops (stops k) ts → chain next (suc k) m d ts ≡ Ok (e, rest) → Stops (stops (suc k)) rest
+    chain_halts : (m : ℕ) → m ≤ n → (d : Expr) (ts : List Token) (e : Expr) (rest : List Token) → len ts ≤ m → Stops (stops k) ts
+        → chain next (suc k) m d ts ≡ Ok (e, rest) → Stops (stops (suc k)) rest
     unfolding chain
     chain_halts zero le d [] e rest few stop h = subst (λ (y : Expr × List Token). Stops (stops (suc k)) y.1) (ok_is (d, []) (e, rest) h) tt
     chain_halts zero le d (t ∷ ts) e rest few stop h = absurd (omega arith)
@@ -259,7 +263,8 @@ module _ (text : List ℕ) where
     branch t (kind.Number v) = go (nat_le v MOST_NUMBER) refl
       where
         go : (b : Bool) → nat_le v MOST_NUMBER ≡ b
-            → Branch U n (OperandBy t (kind.Number v)) (stops 0) t (λ ts. (cond {A = Read Expr} b (Ok (tree.Number (pos v), ts)) (Err (len (t ∷ ts)))) >>= λ z. unless_next (is_mark mark.LeftBracket) z.0 z.1)
+            → Branch U n (OperandBy t (kind.Number v)) (stops 0) t (λ ts. (cond {A = Read Expr} b (Ok (tree.Number (pos v), ts))
+            (Err (len (t ∷ ts)))) >>= λ z. unless_next (is_mark mark.LeftBracket) z.0 z.1)
         go true e = inl (same_exact U n (Done (tree.Number (pos v))) (OperandBy t (kind.Number v)) (stops 0) (λ ts. unless_next (is_mark mark.LeftBracket) (tree.Number (pos v)) ts)
             (λ ts a rest d. (leb-true v MOST_NUMBER e, d)) (λ ts a rest d. d.1) (guard mark.LeftBracket no_index (give {U = U} {n = n} (tree.Number (pos v)))).exact)
         go false e = inr (record { stops = λ ts. refl; never = λ ts a rest d. let clash : true ≡ false = sym (le-leb v MOST_NUMBER d.0) ∙ e in cc })
@@ -270,16 +275,23 @@ module _ (text : List ℕ) where
     branch_halts t kind.Minus = map_halts n (stops 0) inner (λ e. tree.Negative e) y.1
     branch_halts t kind.Not = map_halts n (stops 0) inner (λ e. tree.Not e) y.1
     branch_halts t kind.Name =
-        perhaps_halts (is_mark mark.LeftBracket) (stops 0) no_index n (λ _. (guard mark.LeftBracket no_index (before w x.1 mark.RightBracket refl (λ e. give (tree.Element (name_of text t) e)))).read) (tree.Variable (name_of text t))
+        perhaps_halts (is_mark mark.LeftBracket) (stops 0) no_index n (λ _.
+        (guard mark.LeftBracket no_index (before w x.1 mark.RightBracket refl (λ e. give (tree.Element (name_of text t) e)))).read)
+        (tree.Variable (name_of text t))
         (λ _. guard_halts (is_mark mark.LeftBracket) (stops 0) no_index n (before w x.1 mark.RightBracket refl (λ e. give (tree.Element (name_of text t) e))).read)
     branch_halts t k = guard_halts (is_mark mark.LeftBracket) (stops 0) no_index n (atom text whole t k)
 
     some_operand : SomeText (First OperandBy)
-    some_operand = record { text = token_of (kind.Number 0) ∷ []; value = tree.Number (pos 0); reads = λ after. at_first OperandBy (token_of (kind.Number 0)) (kind.Number 0) refl after (tree.Number (pos 0)) after (omega arith, done) }
+    some_operand = record {
+      text = token_of (kind.Number 0) ∷ [];
+      value = tree.Number (pos 0);
+      reads = λ after. at_first OperandBy (token_of (kind.Number 0)) (kind.Number 0) refl after (tree.Number (pos 0)) after (omega arith, done);
+    }
 
     operand_step : Level U (suc n) 0 (by_first (operand_after text whole inner))
     operand_step = (
-      same_exact U (suc n) (First OperandBy) (At 0) (stops 0) (by_first (operand_after text whole inner)) (λ ts e rest d. rw d.2 (operand_into d.0 d.0.kind refl d.1 e rest d.3)) (λ ts e rest r. operand_out r)
+      same_exact U (suc n) (First OperandBy) (At 0) (stops 0) (by_first (operand_after text whole inner))
+          (λ ts e rest d. rw d.2 (operand_into d.0 d.0.kind refl d.1 e rest d.3)) (λ ts e rest r. operand_out r)
           (first_exact U n OperandBy (stops 0) (operand_after text whole inner) some_operand branch),
       halts,
     )

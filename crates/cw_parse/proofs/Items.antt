@@ -1,5 +1,6 @@
 -- Reducers, functions and whole sources.
-use Rattle.std.proofs.Common.{◌≡◌, ◌≢◌, ℕ, zero, suc, ◌<◌, ◌≤◌, Bool, true, false, List, [], ◌∷◌, ◌++◌, length as len, drop, ◌-◌, Ok, Err, Some, refl, sym, ap, subst, ◌∙◌, append_assoc, arith, inl, inr}
+use Rattle.std.proofs.Common.{◌≡◌, ◌≢◌, ℕ, zero, suc, ◌<◌, ◌≤◌, Bool, true, false, List, [], ◌∷◌, ◌++◌, length as len, drop}
+use Rattle.std.proofs.Common.{◌-◌, Ok, Err, Some, refl, sym, ap, subst, ◌∙◌, append_assoc, arith, inl, inr}
 use Rattle.std.proofs.lemmas.List.{append-nil, length-append}
 use Rattle.cw_model.specs.declared.token.Token.{Token}
 use Rattle.cw_model.specs.declared.token.Kind.{Kind}
@@ -97,7 +98,8 @@ module _ (text : List ℕ) where
         One site (t ∷ u ∷ s ∷ v ∷ ts) (Total (summed t s how), site) ts
     code : {m : ℕ} {ts rest : List Token} {f : Function} → ReadsFunction text site ts f m rest → One site ts (Code f, m) rest
 
-  code_into : {site : ℕ} {t : Token} (gives : Bool) → gives_int_of t.kind ≡ Some gives → {us : List Token} {y : Item × ℕ} {rest : List Token} → (code_piece {U = Unit {0}} {n = 0} gives site).rel us y rest → One site (t ∷ us) y rest
+  code_into : {site : ℕ} {t : Token} (gives : Bool) → gives_int_of t.kind ≡ Some gives → {us : List Token} {y : Item × ℕ} {rest : List Token}
+      → (code_piece {U = Unit {0}} {n = 0} gives site).rel us y rest → One site (t ∷ us) y rest
   code_into gives g (f, us, (x, vs, tok i, (u, ws, tok i', (ps, xs, r, (o, zs, tok i'', (b, cs, q, done))))), done) = code (grammar.function g i i' r (grammar.braces i'' q))
 
   total_into : {site : ℕ} {t u s v : Token} {how : Reduction} {us zs ts : List Token} → t.kind ≡ kind.Reducer → us ≡ u ∷ zs →
@@ -131,7 +133,11 @@ module _ (text : List ℕ) where
   some_item : (site : ℕ) → SomeText (First (ItemBy site))
   some_item site =
       let x = (total_piece {U = Unit {0}} {n = 0} (token_of kind.Reducer) site).exact.some in
-      record { text = token_of kind.Reducer ∷ x.text; value = x.value; reads = λ after. at_first (ItemBy site) (token_of kind.Reducer) kind.Reducer refl (x.text ++ after) x.value after (x.reads after) }
+      record {
+        text = token_of kind.Reducer ∷ x.text;
+        value = x.value;
+        reads = λ after. at_first (ItemBy site) (token_of kind.Reducer) kind.Reducer refl (x.text ++ after) x.value after (x.reads after);
+      }
 
   pub one_exact : (U : Type 0) (n : ℕ) (site : ℕ) → Exact U n (One site) any (by_first (item text n site))
   one_exact U n site =

@@ -39,11 +39,13 @@ module _ {A : Type 0} (R : List Token → A → List Token → Type 0) (r : Kind
 
   then_exact : (U : Type 0) (n : ℕ) → Exact U n (Seq R (λ a. Done (alone a))) r (λ ts. part n ts >>= λ x. Ok (alone x.0, x.1))
   then_exact U n =
-      seq_exact U n n R (λ a. Done (alone a)) r r (part n) (λ a ts. Ok (alone a, ts)) (parts U n) (halts n) (λ a. narrow_exact U n (Done (alone a)) r (λ ts. Ok (alone a, ts)) (done_exact U n (alone a)))
+      seq_exact U n n R (λ a. Done (alone a)) r r (part n) (λ a ts. Ok (alone a, ts)) (parts U n) (halts n)
+      (λ a. narrow_exact U n (Done (alone a)) r (λ ts. Ok (alone a, ts)) (done_exact U n (alone a)))
       (less n) (λ a us b rest d h. done_rest r us b rest d h)
 
   further_exact : (U : Type 0) (n : ℕ) (s : Unit {0}) → Exact U n (Further R s) r (further (part n) s)
-  further_exact U n s = after_part U n (Marked mark.Comma) (token (is_mark mark.Comma)) (λ (_ : Token). Seq R (λ a. Done (alone a))) r (λ _ ts. part n ts >>= λ x. Ok (alone x.0, x.1)) (expect {U = U} {n = n} mark.Comma).exact (λ _. then_exact U n)
+  further_exact U n s = after_part U n (Marked mark.Comma) (token (is_mark mark.Comma)) (λ (_ : Token). Seq R (λ a. Done (alone a))) r
+      (λ _ ts. part n ts >>= λ x. Ok (alone x.0, x.1)) (expect {U = U} {n = n} mark.Comma).exact (λ _. then_exact U n)
 
   further_halts : (n : ℕ) (s : Unit {0}) → Halts n r (further (part n) s)
   further_halts n s = then_halts (Unit {0}) n r (expect mark.Comma) (λ _ ts. part n ts >>= λ x. Ok (alone x.0, x.1)) (λ _. map_halts n r (part n) alone (halts n))
@@ -107,7 +109,8 @@ module _ (text : List ℕ) where
   arguments_out (grammar.ReadsArguments.some {us = us} {rest = rest} {e = e} {es = es} r q) = inr (e, us, r, (es, rest, q, done))
 
   arguments_into : (ts : List Token) (es : List Expr) (rest : List Token)
-      → Seq (Marked mark.RightParen) (λ (_ : Token). Done []) ts es rest ⊎ Seq (ReadsWhole text) (λ a. Seq (ReadsMoreArguments text) (λ xs. Done (add_front a xs))) ts es rest → ReadsArguments text ts es rest
+      → Seq (Marked mark.RightParen) (λ (_ : Token). Done []) ts es rest
+      ⊎ Seq (ReadsWhole text) (λ a. Seq (ReadsMoreArguments text) (λ xs. Done (add_front a xs))) ts es rest → ReadsArguments text ts es rest
   arguments_into ts es rest (inl (t, us, tok is, done)) = grammar.ReadsArguments.none is
   arguments_into ts es rest (inr (e, us, r, (bs, vs, q, done))) = grammar.ReadsArguments.some r q
 
@@ -181,7 +184,8 @@ module _ (text : List ℕ) where
 
   param_exact : (U : Type 0) (n : ℕ) → Exact U n (ReadsParam text) (but mark.LeftBracket) (param text)
   unfolding param
-  param_exact U n = same_exact U n (param_piece {U = U} {n = n}).rel (ReadsParam text) (but mark.LeftBracket) (param_piece {U = U} {n = n}).read param_into (λ ts p rest r. param_out r) (param_piece {U = U} {n = n}).exact
+  param_exact U n = same_exact U n (param_piece {U = U} {n = n}).rel (ReadsParam text) (but mark.LeftBracket)
+      (param_piece {U = U} {n = n}).read param_into (λ ts p rest r. param_out r) (param_piece {U = U} {n = n}).exact
 
   written_halts : (n : ℕ) → Halts n (but mark.LeftBracket) (written text)
   written_halts n =
@@ -212,7 +216,8 @@ module _ (text : List ℕ) where
   params_out (grammar.ReadsParams.some {us = us} {rest = rest} {p = p} {ps = ps} r q) = inr (p, us, r, (ps, rest, q, done))
 
   params_into : (ts : List Token) (ps : List Param) (rest : List Token)
-      → Seq (Marked mark.RightParen) (λ (_ : Token). Done []) ts ps rest ⊎ Seq (ReadsParam text) (λ a. Seq (ReadsMoreParams text) (λ xs. Done (add_front a xs))) ts ps rest → ReadsParams text ts ps rest
+      → Seq (Marked mark.RightParen) (λ (_ : Token). Done []) ts ps rest
+      ⊎ Seq (ReadsParam text) (λ a. Seq (ReadsMoreParams text) (λ xs. Done (add_front a xs))) ts ps rest → ReadsParams text ts ps rest
   params_into ts ps rest (inl (t, us, tok is, done)) = grammar.ReadsParams.none is
   params_into ts ps rest (inr (p, us, r, (bs, vs, q, done))) = grammar.ReadsParams.some r q
 

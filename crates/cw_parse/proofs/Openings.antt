@@ -9,7 +9,8 @@ use Rattle.cw_model.specs.Grammar.{name_of, ReadsWhole, ReadsMoreNames, ReadsGra
 use Rattle.cw_parse.specs.declared.marks.Mark.TheVariants as mark
 use Rattle.cw_parse.specs.Marks.{is_mark}
 use Rattle.cw_parse.specs.Reading.{Reader, ◌>>=◌, by_first}
-use Rattle.cw_parse.specs.Parts.{marked, some_of, name, add_front, Opening, If, While, For, Scope, Cut, Region, condition, turns, grain, over, range_from, range_to, range_step, head, cut, region, opening}
+use Rattle.cw_parse.specs.Parts.{marked, some_of, name, add_front, Opening, If, While, For, Scope, Cut, Region, condition, turns}
+use Rattle.cw_parse.specs.Parts.{grain, over, range_from, range_to, range_step, head, cut, region, opening}
 use Rattle.cw_parse.proofs.Reader.{SomeText, Seq, tok, Done, done}
 use Rattle.cw_parse.proofs.Exact.{Exact, Branch, First, any, mark as token_of, done_exact, same_reader, fewer_exact, first_exact, at_first}
 use Rattle.cw_parse.proofs.Pieces.{Piece, ◌>>>◌, expect, give, choose}
@@ -166,13 +167,15 @@ module _ (text : List ℕ) where
 
     -- the turns in a leaf, the arrays of a loop, and a brace behind them
     data Grained : List Token → Head → List Token → Type 0 where
-      grained : {b : Token} {ts us rest : List Token} {n : ℕ} {xs : List Name} → ReadsGrain ts n us → ReadsOver text us xs (b ∷ rest) → b.kind ≡ kind.LeftBrace → Grained ts (made from to step n xs) rest
+      grained : {b : Token} {ts us rest : List Token} {n : ℕ} {xs : List Name} → ReadsGrain ts n us → ReadsOver text us xs (b ∷ rest)
+          → b.kind ≡ kind.LeftBrace → Grained ts (made from to step n xs) rest
 
     over_into : (g : ℕ) (ts : List Token) (h : Head) (rest : List Token) → (over_choice from to step {U = Unit {0}} {n = 0} g).rel ts h rest → Overed g ts h rest
     over_into g ts h rest (inr (b, us, tok is, done)) = overed grammar.nothing is
     over_into g ts h rest (inl (o, us, tok io, (xs, vs, (l, ws, tok il, (x, zs, (u, cs, tok iu, done), (ys, ds, q, done))), (b, es, tok is, done)))) = overed (grammar.over io il iu q) is
 
-    over_out : {g : ℕ} {ts us rest : List Token} {xs : List Name} {b : Token} → ReadsOver text ts xs us → us ≡ b ∷ rest → b.kind ≡ kind.LeftBrace → (over_choice from to step {U = Unit {0}} {n = 0} g).rel ts (made from to step g xs) rest
+    over_out : {g : ℕ} {ts us rest : List Token} {xs : List Name} {b : Token} → ReadsOver text ts xs us → us ≡ b ∷ rest → b.kind ≡ kind.LeftBrace
+        → (over_choice from to step {U = Unit {0}} {n = 0} g).rel ts (made from to step g xs) rest
     over_out {rest = rest} {b = b} grammar.nothing e is = rw e (inr (b, rest, tok is, done))
     over_out {us = us} {rest = rest} {b = b} (grammar.over {t = t} {u = u} {v = v} {ts = ts} {xs = xs} it iu iv q) e is =
         let q' : ReadsMoreNames text ts xs (b ∷ rest) = subst (λ w. ReadsMoreNames text ts xs w) e q in
@@ -187,7 +190,8 @@ module _ (text : List ℕ) where
         let z = turns_into t t.kind refl ws n vs r in
         rw (parts ∙ ap (λ w. t ∷ w) z.1) (with_grain (grammar.grain ig z.0) (over_into n vs h rest d))
 
-    grain_out : {n : ℕ} {ts us rest : List Token} {xs : List Name} {b : Token} → ReadsGrain ts n us → ReadsOver text us xs (b ∷ rest) → b.kind ≡ kind.LeftBrace → (grain_choice from to step {U = Unit {0}} {n = 0}).rel ts (made from to step n xs) rest
+    grain_out : {n : ℕ} {ts us rest : List Token} {xs : List Name} {b : Token} → ReadsGrain ts n us → ReadsOver text us xs (b ∷ rest)
+        → b.kind ≡ kind.LeftBrace → (grain_choice from to step {U = Unit {0}} {n = 0}).rel ts (made from to step n xs) rest
     grain_out grammar.usual r is = inr (over_out r refl is)
     grain_out (grammar.grain {t = t} {u = u} {ts = ts} {n = n} it iu) r is = inl (t, u ∷ ts, tok it, (n, ts, at_first TurnsBy u (kind.Number n) iu ts n ts done, over_out r refl is))
 
@@ -210,12 +214,23 @@ module _ (text : List ℕ) where
 
   pub head_out : {ts us rest : List Token} {h : Head} {b : Token} → ReadsHead text ts h us → us ≡ b ∷ rest → b.kind ≡ kind.LeftBrace → (head_piece {U = Unit {0}} {n = 0}).rel ts h rest
   head_out {us = us} {rest = rest} {b = b}
-      (grammar.head {left = left} {int = int} {x = x} {equals = equals} {semicolon = semicolon} {y = y} {less = less} {semicolon' = semicolon'} {z = z} {increment = increment} {right = right} {ts = ts} {us = as'} {vs = vs} {ws = ws} {from = from} {to = to} {n = n} {xs = xs}
+      (grammar.head {left = left} {int = int} {x = x} {equals = equals} {semicolon = semicolon} {y = y} {less = less} {semicolon' = semicolon'}
+      {z = z} {increment = increment} {right = right} {ts = ts} {us = as'} {vs = vs} {ws = ws} {from = from} {to = to} {n = n} {xs = xs}
       i1 i2 i3 i4 r1 i5 i6 i7 r2 i8 i9 i10 i11 g o) e is =
       let o' : ReadsOver text ws xs (b ∷ rest) = subst (λ w. ReadsOver text ws xs w) e o in (
         (name_of text x, from),
         y ∷ less ∷ as',
-        (left, int ∷ x ∷ equals ∷ ts, tok i1, (int, x ∷ equals ∷ ts, tok i2, (x, equals ∷ ts, tok i3, (equals, ts, tok i4, (from, semicolon ∷ y ∷ less ∷ as', r1, (semicolon, y ∷ less ∷ as', tok i5, done)))))),
+        (
+          left,
+          int ∷ x ∷ equals ∷ ts,
+          tok i1,
+          (
+            int,
+            x ∷ equals ∷ ts,
+            tok i2,
+            (x, equals ∷ ts, tok i3, (equals, ts, tok i4, (from, semicolon ∷ y ∷ less ∷ as', r1, (semicolon, y ∷ less ∷ as', tok i5, done)))),
+          ),
+        ),
         (
           (name_of text y, to),
           z ∷ increment ∷ right ∷ vs,

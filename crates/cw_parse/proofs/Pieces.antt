@@ -7,7 +7,8 @@ use Rattle.cw_parse.specs.declared.marks.Mark.{Mark}
 use Rattle.cw_parse.specs.Marks.{is_mark}
 use Rattle.cw_parse.specs.Reading.{Read, Reader, ◌>>=◌, token, if_next, unless_next, row}
 use Rattle.cw_parse.proofs.Reader.{Stops, Front, IsUnique, SomeText, Seq, Tok, tok, Done, done, shorter, bind_ok}
-use Rattle.cw_parse.proofs.Exact.{Exact, Halts, Against, Branch, any, token_exact, done_exact, done_rest, seq_exact, after_part, narrow_exact, same_exact, fewer_exact, zero_exact, guard_exact, differ, if_next_exact}
+use Rattle.cw_parse.proofs.Exact.{Exact, Halts, Against, Branch, any, token_exact, done_exact, done_rest, seq_exact, after_part}
+use Rattle.cw_parse.proofs.Exact.{narrow_exact, same_exact, fewer_exact, zero_exact, guard_exact, differ, if_next_exact}
 use Rattle.cw_parse.proofs.MarkKinds.{kind_of, Is, passes}
 
 -- a token that a mark stands for
@@ -47,7 +48,8 @@ before {U} {n} {s} {r} x halts m stops g = record {
   read = λ ts. x.read ts >>= λ y. token (is_mark m) y.1 >>= λ z. (g y.0).read z.1;
   exact = seq_exact U n n x.rel (λ a. Seq (Marked m) (λ (_ : Token). (g a).rel)) r s x.read (λ a ts. token (is_mark m) ts >>= λ z. (g a).read z.1)
       x.exact halts
-      (λ a. after_part U n (Marked m) (token (is_mark m)) (λ (_ : Token). (g a).rel) s (λ (_ : Token). (g a).read) (token_exact U n (is_mark m) (Is m) (passes m) (kind_of m) refl) (λ (_ : Token). (g a).exact))
+      (λ a. after_part U n (Marked m) (token (is_mark m)) (λ (_ : Token). (g a).rel) s (λ (_ : Token). (g a).read)
+      (token_exact U n (is_mark m) (Is m) (passes m) (kind_of m) refl) (λ (_ : Token). (g a).exact))
       (λ ts a rest le d. let y = shorter ts a rest (x.exact.stable ts a rest le d) in omega arith)
       (λ a us b rest d h. marked_stops m r stops d.2);
 }
@@ -99,7 +101,8 @@ pub against : (m : Mark) → Against (is_mark m) (but m)
 against m = record { on = λ k e. ap not e; off = λ k e. ap not e }
 
 -- a value alone does not begin with a token that goes on
-pub done_apart : {A : Type 0} {s : Kind → Bool} (m : Mark) → Against (is_mark m) s → (a : A) (t : Token) (us : List Token) (b : A) (rest : List Token) → t.kind ≡ kind_of m → Done a (t ∷ us) b rest → Stops s rest → ⊥
+pub done_apart : {A : Type 0} {s : Kind → Bool} (m : Mark) → Against (is_mark m) s
+    → (a : A) (t : Token) (us : List Token) (b : A) (rest : List Token) → t.kind ≡ kind_of m → Done a (t ∷ us) b rest → Stops s rest → ⊥
 done_apart {s = s} m off a t us b rest is d stop = differ (done_rest s (t ∷ us) b rest d stop) (off.on t.kind ((passes m).is t.kind is))
 
 -- a piece behind a token that a mark stands for, or nothing

@@ -4,7 +4,8 @@ use Rattle.cw_model.specs.declared.token.Token.{Token}
 use Rattle.cw_model.specs.declared.token.Kind.{Kind}
 use Rattle.cw_model.specs.Syntax.{Name, Expr, Stmt, Block, Param}
 use Rattle.cw_model.specs.Grammar as grammar
-use Rattle.cw_model.specs.Grammar.{ReadsWhole, ReadsArguments, ReadsCall, ReadsParams, ReadsMoreNames, ReadsGrain, ReadsOver, ReadsHead, Head, ReadsAssigned, ReadsNamed, ReadsDeclared, ReadsReturned, ReadsStmtBy, ReadsBlock, ReadsStmts}
+use Rattle.cw_model.specs.Grammar.{ReadsWhole, ReadsArguments, ReadsCall, ReadsParams, ReadsMoreNames, ReadsGrain, ReadsOver, ReadsHead, Head}
+use Rattle.cw_model.specs.Grammar.{ReadsAssigned, ReadsNamed, ReadsDeclared, ReadsReturned, ReadsStmtBy, ReadsBlock, ReadsStmts}
 use Rattle.cw_parse.specs.declared.marks.Mark.{Mark}
 use Rattle.cw_parse.specs.Marks.{is_mark}
 use Rattle.cw_parse.specs.Reading.{token, by_first}

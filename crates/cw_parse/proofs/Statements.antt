@@ -51,7 +51,8 @@ module _ (text : List ℕ) where
   abbrev ended_piece : {U : Type 0} {n : ℕ} (site : ℕ) (make : Expr → Stmt) → Piece U n any (Stmt × ℕ)
   ended_piece site make = expr_before text mark.Semicolon refl (λ e. give (make e, site))
 
-  pub called_exact : (U : Type 0) (n : ℕ) (how : CallKind) (site : ℕ) (target : Option Name) (f : Token) → Exact U n (called_piece {U = Unit {0}} {n = 0} how site target f).rel any (called text n how site target f)
+  pub called_exact : (U : Type 0) (n : ℕ) (how : CallKind) (site : ℕ) (target : Option Name) (f : Token)
+      → Exact U n (called_piece {U = Unit {0}} {n = 0} how site target f).rel any (called text n how site target f)
   unfolding called
   called_exact U n how site target f = (called_piece {U = U} {n = n} how site target f).exact
 
@@ -87,7 +88,8 @@ module _ (text : List ℕ) where
     rel = λ ts y rest. (call_piece {U = Unit {0}} {n = 0} Plain site (Some x)).rel ts y rest ⊎ Value site x ts y rest;
     read = λ us. cond (is_call us) (call text n Plain site (Some x) us) (ended text n site (λ e. tree.Assign x e) us);
     exact = call_or_exact U n (λ f. (called_piece {U = Unit {0}} {n = 0} Plain site (Some x) f).rel) (Value site x) (call text n Plain site (Some x)) (ended text n site (λ e. tree.Assign x e))
-        (λ f. (called_exact (Unit {0}) 0 Plain site (Some x) f).some) (value_text site x) (λ ts y rest o q. no_value site x o q) (call_exact U n Plain site (Some x)) (ended_piece {U = U} {n = n} site (λ e. tree.Assign x e)).exact;
+        (λ f. (called_exact (Unit {0}) 0 Plain site (Some x) f).some) (value_text site x) (λ ts y rest o q. no_value site x o q)
+        (call_exact U n Plain site (Some x)) (ended_piece {U = U} {n = n} site (λ e. tree.Assign x e)).exact;
   }
 
   pub no_spawn : (site : ℕ) (x : Name) {t : Token} {us : List Token} {y : Stmt × ℕ} {rest : List Token} → t.kind ≡ kind.Spawn → (value_or_call {U = Unit {0}} {n = 0} site x).rel (t ∷ us) y rest → ⊥
@@ -130,7 +132,11 @@ module _ (text : List ℕ) where
   some_named : (site : ℕ) (t : Token) → SomeText (First (NamedBy site t))
   some_named site t =
       let x = some_ended site (λ e. tree.Reduce Sum (name_of text t) e) in
-      record { text = token_of kind.AddAssign ∷ x.text; value = x.value; reads = λ after. at_first (NamedBy site t) (token_of kind.AddAssign) kind.AddAssign refl (x.text ++ after) x.value after (x.reads after) }
+      record {
+        text = token_of kind.AddAssign ∷ x.text;
+        value = x.value;
+        reads = λ after. at_first (NamedBy site t) (token_of kind.AddAssign) kind.AddAssign refl (x.text ++ after) x.value after (x.reads after);
+      }
 
   pub named_exact : (U : Type 0) (n : ℕ) (site : ℕ) (t : Token) → Exact U n (First (NamedBy site t)) any (by_first (named_stmt text n site t))
   named_exact U n site t =
@@ -154,7 +160,12 @@ module _ (text : List ℕ) where
   pub some_declared : (site : ℕ) (x : Name) → SomeText (First (DeclaredBy site x))
   some_declared site x =
       let y = some_ended site (λ e. tree.Declare x e) in
-      record { text = token_of kind.Assign ∷ y.text; value = y.value; reads = λ after. at_first (DeclaredBy site x) (token_of kind.Assign) kind.Assign refl (y.text ++ after) y.value after (y.reads after) }
+      record {
+        text = token_of kind.Assign ∷ y.text;
+        value = y.value;
+        reads = λ after. at_first (DeclaredBy site x)
+            (token_of kind.Assign) kind.Assign refl (y.text ++ after) y.value after (y.reads after);
+      }
 
   abbrev declared_piece : {U : Type 0} {n : ℕ} (site : ℕ) → Piece U n any (Stmt × ℕ)
   declared_piece {U} {n} site = expect mark.Name >>> λ x. record {
@@ -222,13 +233,15 @@ module _ (text : List ℕ) where
   named_out u (grammar.ReadsNamed.raise {u = w} {v = v} {ts = ts} {rest = rest} {e = e} i r is) = (w, ts, tok i, (e, v ∷ rest, r, (v, rest, tok is, done)))
   named_out u (grammar.ReadsNamed.call {u = v} {rest = rest} {es = es} r is) = (es, v ∷ rest, r, (v, rest, tok is, done_next))
 
-  declared_into : (site : ℕ) (x : Name) (u : Token) (k : Kind) → u.kind ≡ k → (ts : List Token) (y : Stmt × ℕ) (rest : List Token) → DeclaredBy site x u k ts y rest → ReadsDeclared text x (u ∷ ts) y.0 rest × (y.1 ≡ site)
+  declared_into : (site : ℕ) (x : Name) (u : Token) (k : Kind) → u.kind ≡ k → (ts : List Token) (y : Stmt × ℕ) (rest : List Token)
+      → DeclaredBy site x u k ts y rest → ReadsDeclared text x (u ∷ ts) y.0 rest × (y.1 ≡ site)
   declared_into site x u kind.Assign i ts y rest (e, us, r, (v, vs, tok is, done)) = (grammar.ReadsDeclared.integer i r is, refl)
   declared_into site x u kind.LeftBracket i ts y rest (e, us, r, (v, vs, tok is, (w, ws, tok is', done))) = (grammar.ReadsDeclared.array i r is is', refl)
   declared_into site x u _ i ts y rest d = absurd d
 
   declared_out : {x : Name} {ts rest : List Token} {s : Stmt} (site : ℕ) → ReadsDeclared text x ts s rest → First (DeclaredBy site x) ts (s, site) rest
-  declared_out {x} site (grammar.ReadsDeclared.integer {t = t} {u = u} {ts = ts} {rest = rest} {e = e} i r is) = at_first (DeclaredBy site x) t kind.Assign i ts (tree.Declare x e, site) rest (e, u ∷ rest, r, (u, rest, tok is, done))
+  declared_out {x} site (grammar.ReadsDeclared.integer {t = t} {u = u} {ts = ts} {rest = rest} {e = e} i r is) =
+      at_first (DeclaredBy site x) t kind.Assign i ts (tree.Declare x e, site) rest (e, u ∷ rest, r, (u, rest, tok is, done))
   declared_out {x} site (grammar.ReadsDeclared.array {t = t} {u = u} {v = v} {ts = ts} {rest = rest} {e = e} i r is is') =
       at_first (DeclaredBy site x) t kind.LeftBracket i ts (tree.DeclareArray x e, site) rest (e, u ∷ v ∷ rest, r, (u, v ∷ rest, tok is, (v, rest, tok is', done)))
 
@@ -257,7 +270,8 @@ module _ (text : List ℕ) where
   pub simple_out : {site m : ℕ} {k : Kind} (t : Token) {ts rest : List Token} {s : Stmt} → ReadsStmtBy text site k t ts s m rest → IsSimple k → SimpleBy site t k ts (s, m) rest
   simple_out {site} t (grammar.declare {x = x} {ts = ts} {rest = rest} is r) h = (x, ts, tok is, declared_out site r)
   simple_out {site} {m} t {rest = rest} {s = s} (grammar.named {k = k} {u = u} {ts = ts} is r) h = at_first (NamedBy site t) u k is ts (s, m) rest (named_out u r)
-  simple_out {site} t (grammar.spawn {f = f} {rest = rest} {es = es} is (grammar.called {t = t'} {u = u} {ts = ts} i r i')) h = (f, t' ∷ ts, tok is, (t', ts, tok i, (es, u ∷ rest, r, (u, rest, tok i', done_next))))
+  simple_out {site} t (grammar.spawn {f = f} {rest = rest} {es = es} is (grammar.called {t = t'} {u = u} {ts = ts} i r i')) h =
+      (f, t' ∷ ts, tok is, (t', ts, tok i, (es, u ∷ rest, r, (u, rest, tok i', done_next))))
   simple_out {site} t (grammar.sync {u = u} {ts = ts} is) h = (u, ts, tok is, done)
   simple_out {site} t (grammar.print {u = u} {v = v} {w = w} {ts = ts} {rest = rest} {e = e} is r i i') h = (u, ts, tok is, (e, v ∷ w ∷ rest, r, (v, w ∷ rest, tok i, (w, rest, tok i', done))))
   simple_out {site} t (grammar.give (grammar.ReadsReturned.nothing {t = u} {ts = ts} is)) h = inl (u, ts, tok is, done)

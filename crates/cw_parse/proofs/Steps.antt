@@ -63,10 +63,12 @@ one_up : (text : List ℕ) (n k : ℕ) (ts : List Token) (d : Expr) (us : List T
 unfolding level_over
 one_up text n k ts d us e = rw add-one (ap (λ r. r >>= λ x. chain (level text n k) (suc k) n x.0 x.1) e)
 
-pub level_turn : (text : List ℕ) (n k : ℕ) (ts : List Token) (d : Expr) (us : List Token) (r : Read Expr) → level text n k ts ≡ Ok (d, us) → chain (level text n k) (k + 1) n d us ≡ r → level text n (k + 1) ts ≡ r
+pub level_turn : (text : List ℕ) (n k : ℕ) (ts : List Token) (d : Expr) (us : List Token) (r : Read Expr) → level text n k ts ≡ Ok (d, us)
+    → chain (level text n k) (k + 1) n d us ≡ r → level text n (k + 1) ts ≡ r
 level_turn text n k ts d us r e h = one_up text n k ts d us e ∙ h
 
-pub level_turn_fails : (text : List ℕ) (n k highest : ℕ) (ts : List Token) (d : Expr) (us : List Token) (s : Stop) → level text n k ts ≡ Ok (d, us) → Fails s (chain (level text n k) (k + 1) n d us) → k < highest → Fails s (level text n highest ts)
+pub level_turn_fails : (text : List ℕ) (n k highest : ℕ) (ts : List Token) (d : Expr) (us : List Token) (s : Stop) → level text n k ts ≡ Ok (d, us)
+    → Fails s (chain (level text n k) (k + 1) n d us) → k < highest → Fails s (level text n highest ts)
 level_turn_fails text n k highest ts d us stop.Memory e f lt = tt
 level_turn_fails text n k highest ts d us (stop.At m) e f lt = level_fails (operand text n) n (k + 1) highest ts m (one_up text n k ts d us e ∙ f) (omega arith)
 
@@ -90,7 +92,8 @@ module _ (next : Reader Expr) (k n i : ℕ) (d : Expr) (ts : List Token) (total 
   chain_go : (o : Operator) (us : List Token) → i < n → operator_at k ts ≡ Some (o, us) → (next us >>= λ x. chain next k (n - (i + 1)) (Binary o d x.0) x.1) ≡ total
   chain_go o us lt some = sym (ap (chain_on next (chain next k (n - (i + 1))) d ts) some) ∙ sym (chain_step next k n i d ts lt) ∙ so_far
 
-  pub chain_on_turn : (o : Operator) (us : List Token) (e : Expr) (vs : List Token) → i < n → operator_at k ts ≡ Some (o, us) → next us ≡ Ok (e, vs) → chain next k (n - (i + 1)) (Binary o d e) vs ≡ total
+  pub chain_on_turn : (o : Operator) (us : List Token) (e : Expr) (vs : List Token) → i < n → operator_at k ts ≡ Some (o, us) → next us ≡ Ok (e, vs)
+      → chain next k (n - (i + 1)) (Binary o d e) vs ≡ total
   chain_on_turn o us e vs lt some ok = sym (ap (λ r. r >>= λ x. chain next k (n - (i + 1)) (Binary o d x.0) x.1) ok) ∙ chain_go o us lt some
 
   pub chain_fails : (s : Stop) (o : Operator) (us : List Token) → i < n → operator_at k ts ≡ Some (o, us) → Fails s (next us) → Fails s total

@@ -62,7 +62,8 @@ module _ {A S B : Type 0} (m : Mark) (end : S → B) (join : A → B → B) (par
   then_on : i < n → past m ts ≡ None → with_front join front (onward ts) ≡ total
   then_on lt e = sym (ap (with_front join front) (one_turn lt ∙ if_not_past m (λ _ us. Ok (end s, us)) onward ts e)) ∙ so_far
 
-  pub goes_on : (a : A) (s' : S) (us : List Token) → i < n → past m ts ≡ None → part s ts ≡ Ok ((a, s'), us) → with_front join (front ++ a ∷ []) (row (is_mark m) end join part (n - (i + 1)) s' us) ≡ total
+  pub goes_on : (a : A) (s' : S) (us : List Token) → i < n → past m ts ≡ None → part s ts ≡ Ok ((a, s'), us)
+      → with_front join (front ++ a ∷ []) (row (is_mark m) end join part (n - (i + 1)) s' us) ≡ total
   goes_on a s' us lt e h =
       sym (regroup join front a (row (is_mark m) end join part (n - (i + 1)) s' us))
       ∙ sym (ap (λ r. with_front join front (r >>= λ x. row (is_mark m) end join part (n - (i + 1)) x.0.1 x.1 >>= λ y. Ok (join x.0.0 y.0, y.1))) h) ∙ then_on lt e
@@ -82,12 +83,14 @@ block_all [] n = refl
 block_all (x ∷ front) n = ap (put_before x) (block_all front n)
 
 -- an array parameter, before a bracket behind it is tested for
-pub param_array : (x : Name) (ts : List Token) (u : Token) (us : List Token) (p : Param) (rest : List Token) → past mark.LeftBracket ts ≡ Some (u, us) → array x us ≡ Ok (p, rest) → behind_name x ts ≡ single p rest
+pub param_array : (x : Name) (ts : List Token) (u : Token) (us : List Token) (p : Param) (rest : List Token)
+    → past mark.LeftBracket ts ≡ Some (u, us) → array x us ≡ Ok (p, rest) → behind_name x ts ≡ single p rest
 param_array x ts u us p rest on read =
     if_past mark.LeftBracket (λ _ us. array x us >>= λ y. single y.0 y.1) (λ us. Ok (record { name = x; kind = name_kind.Integer }, us)) ts u us on ∙ ap (λ r. r >>= λ y. single y.0 y.1) read
 
 -- an array that is only read, before a bracket behind it is tested for
-pub param_const : (text : List ℕ) (ts : List Token) (u : Token) (us : List Token) (p : Param) (rest : List Token) → past mark.Const ts ≡ Some (u, us) → const_array text us ≡ Ok (p, rest) → param text ts ≡ single p rest
+pub param_const : (text : List ℕ) (ts : List Token) (u : Token) (us : List Token) (p : Param) (rest : List Token) → past mark.Const ts ≡ Some (u, us)
+    → const_array text us ≡ Ok (p, rest) → param text ts ≡ single p rest
 unfolding param
 param_const text ts u us p rest on read =
     if_past mark.Const (λ _ us. const_array text us >>= λ y. single y.0 y.1) (λ us. written text us) ts u us on ∙ ap (λ r. r >>= λ y. single y.0 y.1) read

@@ -78,7 +78,8 @@ module _ (next : ℕ → Reader (Item × ℕ)) (n i : ℕ) (xs : Items) (s : ℕ
   then_on : i < n → (ts ≡ [] → ⊥) → with_items xs (onward ts) ≡ total
   then_on lt some = sym (ap (with_items xs) (one_item lt some)) ∙ so_far
 
-  pub item_on : (x : Item) (s' : ℕ) (us : List Token) (after : Items) → i < n → (ts ≡ [] → ⊥) → next s ts ≡ Ok ((x, s'), us) → after ≡ push_item xs x → with_items after (items next (n - (i + 1)) s' us) ≡ total
+  pub item_on : (x : Item) (s' : ℕ) (us : List Token) (after : Items) → i < n → (ts ≡ [] → ⊥) → next s ts ≡ Ok ((x, s'), us) → after ≡ push_item xs x
+      → with_items after (items next (n - (i + 1)) s' us) ≡ total
   item_on x s' us after lt some e pushed =
       ap (λ ys. with_items ys (items next (n - (i + 1)) s' us)) pushed ∙ sym (regroup xs x (items next (n - (i + 1)) s' us))
       ∙ sym (ap (λ r. with_items xs (r >>= λ x. items next (n - (i + 1)) x.0.1 x.1 >>= λ y. Ok (put_item x.0.0 y.0, y.1))) e) ∙ then_on lt some

@@ -51,7 +51,8 @@ reads_normal same burden m site t r =
       burdened_is = r.burdened_is ∙ ap (min most_burdened) (sym (s.same_span burden));
     }
 
-reads_events : MeasuresReadTrees → NormalsReadTheSame → (burden : Burden) (numbering : Numbering) (t : Trace) (a : Read) → TellsTrace burden numbering t a → ReadsTree burden a.measure (normal (Marked (Invocation 0) (tree_of t.events)))
+reads_events : MeasuresReadTrees → NormalsReadTheSame → (burden : Burden) (numbering : Numbering) (t : Trace) (a : Read)
+    → TellsTrace burden numbering t a → ReadsTree burden a.measure (normal (Marked (Invocation 0) (tree_of t.events)))
 reads_events law same burden numbering t a h =
     let P : Measured → Type 0 = λ m. ReadsTree burden m (tree_of t.events) in
     reads_normal same burden a.measure 0 (tree_of t.events) (subst P (sym h.measure) (law.reads burden t.events))
@@ -66,7 +67,8 @@ run_gives_the_answers program args limit left run exit d l =
     answer_within program args limit left l
     ∙ ap (answer_of program.reducers) (runs_tell_of_pieces OfCall limit left (elision program args limit) run exit d l)
 
-trap_answered : (reducers : List Reducer) (b : Bool) (trap : Trap) (line : ℕ) (lines : List ℤ) → answer_of reducers (if b then model.Over else model.Trapped trap line lines) ≡ (if b then OverLimit else TrappedAt trap line lines)
+trap_answered : (reducers : List Reducer) (b : Bool) (trap : Trap) (line : ℕ) (lines : List ℤ)
+    → answer_of reducers (if b then model.Over else model.Trapped trap line lines) ≡ (if b then OverLimit else TrappedAt trap line lines)
 trap_answered reducers true trap line lines = refl
 trap_answered reducers false trap line lines = refl
 
@@ -103,7 +105,8 @@ module _ (law : MeasuresReadTrees) (same : NormalsReadTheSame) (burden : Burden)
       let g = f limit (omega arith) in
       subst (λ o. Tells o c) (sym g) (by_test (nat_lt limit (cost t)) g h)
     where
-      by_test : (b : Bool) → piece limit ≡ (if b then model.Over else Done a (limit - cost t) t) → TellsCame burden numbering (over_if b (Completed t)) c → Tells (if b then model.Over else Done a (limit - cost t) t) c
+      by_test : (b : Bool) → piece limit ≡ (if b then model.Over else Done a (limit - cost t) t)
+          → TellsCame burden numbering (over_if b (Completed t)) c → Tells (if b then model.Over else Done a (limit - cost t) t) c
       by_test true g k = over_so k
       by_test false g k = ended_so a (limit - cost t) g k
   tells c (Trapping trap line t f) h =

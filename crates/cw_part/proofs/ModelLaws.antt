@@ -17,7 +17,9 @@ after_trace left t (Trapped trap line u) = refl
 after_trace left t Over = refl
 after_trace left t Memory = refl
 
-shown_told : (b : Bool) (left : ℕ) (t : Trace) (rest : Run) → piece_of rest (left - cost t) ≡ outcome_of (left - cost t) (serial (left - cost t) rest) → then_do (if b then model.Over else model.Done (tt {0}) (left - cost t) t) (λ _. piece_of rest) ≡ outcome_of left (over_if b (followed traces (Completed t) (serial (left - cost t) rest)))
+shown_told : (b : Bool) (left : ℕ) (t : Trace) (rest : Run) → piece_of rest (left - cost t)
+    ≡ outcome_of (left - cost t) (serial (left - cost t) rest) → then_do (if b then model.Over else model.Done (tt {0}) (left - cost t) t)
+    (λ _. piece_of rest) ≡ outcome_of left (over_if b (followed traces (Completed t) (serial (left - cost t) rest)))
 shown_told true left t rest e = refl
 shown_told false left t rest e = ap (after t) e ∙ after_trace left t (serial (left - cost t) rest)
 
@@ -25,7 +27,9 @@ trap_told : (b : Bool) (left : ℕ) (trap : Trap) (line : ℕ) (t : Trace) → (
 trap_told true left trap line t = refl
 trap_told false left trap line t = refl
 
-inside_told : (left : ℕ) (spawned : Bool) (mark : Option Mark) (x : Came Trace) (rest : Run) → ((n : ℕ) → piece_of rest n ≡ outcome_of n (serial n rest)) → then_do (joined_up (λ tree. part_of spawned (marked mark tree)) (outcome_of left x)) (λ _. piece_of rest) ≡ outcome_of left (goes_on (seen (as_event spawned mark) x) (λ t. serial (left - cost t) rest))
+inside_told : (left : ℕ) (spawned : Bool) (mark : Option Mark) (x : Came Trace) (rest : Run)
+    → ((n : ℕ) → piece_of rest n ≡ outcome_of n (serial n rest)) → then_do (joined_up (λ tree. part_of spawned (marked mark tree)) (outcome_of left x))
+    (λ _. piece_of rest) ≡ outcome_of left (goes_on (seen (as_event spawned mark) x) (λ t. serial (left - cost t) rest))
 inside_told left spawned mark (Completed t) rest e =
     let f = as_event spawned mark in
     ap (λ (k : ℕ). after (f t) (piece_of rest (left - k))) (sym (cost_inside spawned mark t))

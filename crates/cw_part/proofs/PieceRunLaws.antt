@@ -8,25 +8,29 @@ use Rattle.cw_model.specs.declared.syntax.CallKind.TheVariants.{Plain, Spawned}
 use Rattle.cw_model.specs.Captured.{captured}
 use Rattle.cw_model.specs.Ints.{is_zero, natural}
 use Rattle.cw_model.specs.declared.limits.TheConstants.{MOST_DEPTH}
-use Rattle.cw_model.specs.Syntax.{Expr, Stmt, Declare, DeclareArray, Assign, AssignElement, Reduce, Call, Start, Begin, Sync, If, IfElse, While, For, Scope, Cut, Region, Print, Return, Block, End, Then, Param, Function, wants_array}
+use Rattle.cw_model.specs.Syntax.{Expr, Stmt, Declare, DeclareArray, Assign, AssignElement, Reduce, Call, Start, Begin, Sync, If, IfElse, While}
+use Rattle.cw_model.specs.Syntax.{For, Scope, Cut, Region, Print, Return, Block, End, Then, Param, Function, wants_array}
 use Rattle.cw_model.specs.Trees.{Mark, Invocation, Execution, Join, works}
 use Rattle.cw_model.specs.Frames.{Frame, no_frame, leave, inside_loop, new_array, new_int}
 use Rattle.cw_model.specs.Expressions.{Evaluated, Gives, Traps, evaluate}
 use Rattle.cw_model.specs.Outcome.{Trace, shows, Outcome, Done, Piece, ◌>>=◌, then_do, gives, show, pay, pay_for, as_one}
 use Rattle.cw_model.specs.Outcome as model
 use Rattle.cw_model.specs.Loops.{turn_start, turn_end, leaf_start, leaf_end, node_start, node_call, node_end, leaf_turns, halves}
-use Rattle.cw_model.specs.Meaning.{Completion, Normal, ByReturn, onward, frame_of, scoped, Returned, Entry, Deeper, SameDepth, Calls, function_named, given_array, arguments, call_event, start_event, turns, run, run_all, end_of_call, call, depth_of}
+use Rattle.cw_model.specs.Meaning.{Completion, Normal, ByReturn, onward, frame_of, scoped, Returned, Entry, Deeper, SameDepth, Calls, function_named}
+use Rattle.cw_model.specs.Meaning.{given_array, arguments, call_event, start_event, turns, run, run_all, end_of_call, call, depth_of}
 use Rattle.cw_measure.specs.OpenParts.{marked, part_of}
 use Rattle.cw_part.specs.Parts.{Came}
 use Rattle.cw_part.specs.Runs.{Run, cost}
-use Rattle.cw_part.specs.PieceRuns.{Kind, OfNothing, OfInt, OfFrame, OfStatement, OfCall, Given, Exit, IsRunOf, Nothing, Free, Paid, Valued, Failed, AtOnce, CutOff, Nested, Further, Stopped, Turns, HasRun, CallsAreRuns}
+use Rattle.cw_part.specs.PieceRuns.{Kind, OfNothing, OfInt, OfFrame, OfStatement, OfCall, Given, Exit, IsRunOf, Nothing, Free, Paid}
+use Rattle.cw_part.specs.PieceRuns.{Valued, Failed, AtOnce, CutOff, Nested, Further, Stopped, Turns, HasRun, CallsAreRuns}
 use Rattle.cw_part.proofs.PieceTellingLaws.{tested, Comes, Ending, Trapping, Passing, run_comes}
 
 -- whatever the limit, the piece is a run
 pub record Runs (kind : Kind) (piece : Piece (Given kind)) : Type 0 where
   pub at : (limit : ℕ) → HasRun kind limit piece
 
-abbrev pub runs_then : (kind later : Kind) {piece : Piece (Given kind)} {next : Given kind → Piece (Given later)} → Runs kind piece → ((a : Given kind) → Runs later (next a)) → Runs later (◌>>=◌ piece next)
+abbrev pub runs_then : (kind later : Kind) {piece : Piece (Given kind)} {next : Given kind → Piece (Given later)} → Runs kind piece
+    → ((a : Given kind) → Runs later (next a)) → Runs later (◌>>=◌ piece next)
 runs_then kind later {piece} {next} p f = record { at = λ limit. by_way limit (p.at limit).run (p.at limit).exit (p.at limit).is_run }
   where
     by_way : (limit : ℕ) (first : Run) (exit : Exit kind) → IsRunOf kind limit piece first exit → HasRun later limit (◌>>=◌ piece next)
@@ -90,7 +94,8 @@ runs_arguments (p ∷ ps) (e ∷ es) frame line given =
     runs_if OfFrame (wants_array p) (runs_arguments ps es frame line (new_array p.name (given_array e frame) given))
     (runs_then OfInt OfFrame (runs_value (evaluate e frame) line) (λ v. runs_arguments ps es frame line (new_int p.name v given)))
 
-abbrev pub runs_turns : (bound : ℕ) (test : Frame → Evaluated) (line : ℕ) (body : Frame → Piece Completion) → ((frame : Frame) → Runs OfStatement (body frame)) → (frame : Frame) → Runs OfStatement (turns bound test line body frame)
+abbrev pub runs_turns : (bound : ℕ) (test : Frame → Evaluated) (line : ℕ) (body : Frame → Piece Completion)
+    → ((frame : Frame) → Runs OfStatement (body frame)) → (frame : Frame) → Runs OfStatement (turns bound test line body frame)
 runs_turns zero test line body f frame = runs_over OfStatement
 runs_turns (suc bound) test line body f frame =
     runs_then OfInt OfStatement (runs_value (test frame) line) (λ v. runs_then OfNothing OfStatement (runs_pay 1) (λ _. runs_if OfStatement (is_zero v) (runs_nothing OfStatement _)
@@ -132,7 +137,9 @@ same_then P (model.Trapped trap line lines) h f = refl
 same_then P model.Over h f = refl
 
 -- any bound above the budget allows the same turns
-pub same_turns : (bound other left : ℕ) (test : Frame → Evaluated) (line : ℕ) (body : Frame → Piece Completion) → ((frame : Frame) → Runs OfStatement (body frame)) → (frame : Frame) → left < bound → left < other → turns bound test line body frame left ≡ turns other test line body frame left
+pub same_turns : (bound other left : ℕ) (test : Frame → Evaluated) (line : ℕ) (body : Frame → Piece Completion)
+    → ((frame : Frame) → Runs OfStatement (body frame)) → (frame : Frame) → left < bound → left < other
+    → turns bound test line body frame left ≡ turns other test line body frame left
 same_turns zero other left test line body f frame l m = absurd (omega arith)
 same_turns (suc bound) zero left test line body f frame l m = absurd (omega arith)
 same_turns (suc bound) (suc other) left test line body f frame l m =
@@ -143,7 +150,8 @@ same_turns (suc bound) (suc other) left test line body f frame l m =
     IsSame : Type 0
     IsSame = (frame' : Frame) (j : ℕ) → j < left → turns bound test line body frame' j ≡ turns other test line body frame' j
 
-    by_way : IsSame → (exit : Completion) (k : ℕ) → k < left → onward exit (λ frame'. ◌>>=◌ (pay 1) (λ _. turns bound test line body frame')) k ≡ onward exit (λ frame'. ◌>>=◌ (pay 1) (λ _. turns other test line body frame')) k
+    by_way : IsSame → (exit : Completion) (k : ℕ) → k < left → onward exit (λ frame'. ◌>>=◌ (pay 1) (λ _. turns bound test line body frame')) k
+        ≡ onward exit (λ frame'. ◌>>=◌ (pay 1) (λ _. turns other test line body frame')) k
     by_way same (ByReturn v frame') k h = refl
     by_way same (Normal frame') k h = same_then (λ n. n < k) (pay 1 k) (leaves_pay k) (λ _ n i. same frame' n (omega arith))
 
@@ -153,11 +161,17 @@ same_turns (suc bound) (suc other) left test line body f frame l m =
     by_test same true k h = refl
     by_test same false k h = same_then (λ n. n ≤ k) (body frame k) (leaves_no_more OfStatement k (body frame) (run_comes ((f frame).at k).is_run)) (λ exit n i. by_way same exit n (omega arith))
 
-abbrev pub runs_while : (test : Frame → Evaluated) (line : ℕ) (body : Frame → Piece Completion) → ((frame : Frame) → Runs OfStatement (body frame)) → (frame : Frame) → Runs OfStatement (λ left. turns (suc left) test line body frame left)
+abbrev pub runs_while : (test : Frame → Evaluated) (line : ℕ) (body : Frame → Piece Completion) → ((frame : Frame) → Runs OfStatement (body frame))
+    → (frame : Frame) → Runs OfStatement (λ left. turns (suc left) test line body frame left)
 runs_while test line body f frame = record {
   at = λ limit.
       let all = (runs_turns (suc limit) test line body f frame).at limit in
-      record { run = all.run; exit = all.exit; is_run = Turns limit line test body frame all.run all.exit (λ left l. same_turns (suc left) (suc limit) left test line body f frame (omega arith) (omega arith)) all.is_run };
+      record {
+        run = all.run;
+        exit = all.exit;
+        is_run = Turns limit line test body frame all.run all.exit
+            (λ left l. same_turns (suc left) (suc limit) left test line body f frame (omega arith) (omega arith)) all.is_run;
+      };
 }
 
 abbrev pub runs_leaf : (n : ℕ) (from : ℤ) (body : ℤ → Frame → Piece Frame) → ((i : ℤ) (frame : Frame) → Runs OfFrame (body i frame)) → (frame : Frame) → Runs OfFrame (leaf_turns n from body frame)
@@ -166,11 +180,13 @@ runs_leaf (suc n) from body f frame =
     runs_then OfNothing OfFrame (runs_pay turn_start) (λ _. runs_then OfFrame OfFrame (f from frame) (λ frame'.
     runs_then OfNothing OfFrame (runs_pay turn_end) (λ _. runs_leaf n (from +ℤ pos 1) body f frame')))
 
-abbrev pub runs_halves : (depth grain k q n : ℕ) (from : ℤ) (body : ℤ → Frame → Piece Frame) → ((i : ℤ) (frame : Frame) → Runs OfFrame (body i frame)) → (frame : Frame) → Runs OfFrame (halves depth grain k q n from body frame)
+abbrev pub runs_halves : (depth grain k q n : ℕ) (from : ℤ) (body : ℤ → Frame → Piece Frame)
+    → ((i : ℤ) (frame : Frame) → Runs OfFrame (body i frame)) → (frame : Frame) → Runs OfFrame (halves depth grain k q n from body frame)
 runs_halves zero grain k q n from body f frame = runs_over OfFrame
 runs_halves (suc depth) grain k q n from body f frame =
     runs_if OfFrame (nat_le n grain)
-    (runs_then OfNothing OfFrame (runs_pay leaf_start) (λ _. runs_then OfFrame OfFrame (runs_leaf n from body f frame) (λ frame'. runs_then OfNothing OfFrame (runs_pay leaf_end) (λ _. runs_nothing OfFrame frame'))))
+    (runs_then OfNothing OfFrame (runs_pay leaf_start) (λ _. runs_then OfFrame OfFrame (runs_leaf n from body f frame)
+    (λ frame'. runs_then OfNothing OfFrame (runs_pay leaf_end) (λ _. runs_nothing OfFrame frame'))))
     (runs_then OfNothing OfFrame (runs_pay (node_start k q)) (λ _.
     runs_then OfFrame OfFrame (runs_inside OfFrame true None (runs_halves depth grain k q (n / 2) from body f frame)) (λ frame'.
     runs_then OfNothing OfFrame (runs_pay (node_call k)) (λ _.

@@ -10,7 +10,8 @@ use Rattle.cw_code.specs.lemmas.Runs.{joined_quiet}
 use Rattle.cw_measure.specs.OpenParts.{marked, part_of}
 use Rattle.cw_part.specs.Parts.{Came, Completed, Trapped, Over, Memory, followed, seen, over_if, within}
 use Rattle.cw_part.specs.Runs.{Run, cost, traces, as_event}
-use Rattle.cw_part.specs.PieceRuns.{Kind, OfNothing, OfInt, Given, Exit, exit_of, instructions, IsRunOf, Nothing, Free, Paid, Valued, Failed, AtOnce, CutOff, Nested, Further, Stopped, Turns, outcome_with, RunsTellOfPieces}
+use Rattle.cw_part.specs.PieceRuns.{Kind, OfNothing, OfInt, Given, Exit, exit_of, instructions, IsRunOf, Nothing, Free, Paid, Valued}
+use Rattle.cw_part.specs.PieceRuns.{Failed, AtOnce, CutOff, Nested, Further, Stopped, Turns, outcome_with, RunsTellOfPieces}
 use Rattle.cw_part.proofs.RunLaws.{cost_both, cost_inside, meaning, serial_is, meaning_both}
 
 -- an outcome at this cost, within what is left
@@ -67,7 +68,8 @@ after_tested : {A : Type 0} (b : Bool) (t : Trace) (o : Outcome A) → after t (
 after_tested true t o = refl
 after_tested false t o = refl
 
-goes_on : {A B : Type 0} (n : ℕ) (piece : Piece A) (next : A → Piece B) (a : A) (t : Trace) → piece n ≡ tested n (cost t) (λ k. Done a k t) → then_do (piece n) next ≡ tested n (cost t) (λ k. after t (next a k))
+goes_on : {A B : Type 0} (n : ℕ) (piece : Piece A) (next : A → Piece B) (a : A) (t : Trace) → piece n ≡ tested n (cost t) (λ k. Done a k t)
+    → then_do (piece n) next ≡ tested n (cost t) (λ k. after t (next a k))
 goes_on n piece next a t e = ap (λ o. then_do o next) e ∙ then_tested (nat_lt n (cost t)) (n - cost t) a t next
 
 further_tested : {A B : Type 0} (n left j : ℕ) (piece : Piece A) (next : A → Piece B) (a : A) (t : Trace) (o : ℕ → Outcome B) → n ≤ cost t + left → piece n ≡ tested n (cost t) (λ k. Done a k t)
@@ -103,7 +105,8 @@ further_comes kind later limit piece next (Ending a left t e f) (Passing u d g) 
     Passing (joined t u) (omega arith) (λ n l. further_over n left piece next a t (omega arith) (f n l) g)
 
 -- a piece that stops
-trap_then : {A B : Type 0} (b : Bool) (trap : Trap) (line : ℕ) (lines : List ℤ) (next : A → Piece B) → then_do (if b then model.Over else model.Trapped trap line lines) next ≡ (if b then model.Over else model.Trapped trap line lines)
+trap_then : {A B : Type 0} (b : Bool) (trap : Trap) (line : ℕ) (lines : List ℤ) (next : A → Piece B)
+    → then_do (if b then model.Over else model.Trapped trap line lines) next ≡ (if b then model.Over else model.Trapped trap line lines)
 trap_then true trap line lines next = refl
 trap_then false trap line lines next = refl
 
@@ -198,11 +201,13 @@ run_comes (Stopped kind later limit piece next first d) = stopped_comes kind lat
 run_comes (Turns limit line test body frame run exit same d) = same_comes _ limit _ _ same (run_comes d)
 
 -- as the serial run has it
-done_told : (kind : Kind) (b : Bool) (left rest : ℕ) (a : Given kind) (t : Trace) → (if b then model.Over else Done a (left - cost t) t) ≡ outcome_with kind left (over_if b (Completed t)) (Some (a, rest))
+done_told : (kind : Kind) (b : Bool) (left rest : ℕ) (a : Given kind) (t : Trace)
+    → (if b then model.Over else Done a (left - cost t) t) ≡ outcome_with kind left (over_if b (Completed t)) (Some (a, rest))
 done_told kind true left rest a t = refl
 done_told kind false left rest a t = refl
 
-trap_told : (kind : Kind) (b : Bool) (left : ℕ) (trap : Trap) (line : ℕ) (t : Trace) → (if b then model.Over else model.Trapped trap line t.lines) ≡ outcome_with kind left (over_if b (Trapped trap line t)) None
+trap_told : (kind : Kind) (b : Bool) (left : ℕ) (trap : Trap) (line : ℕ) (t : Trace)
+    → (if b then model.Over else model.Trapped trap line t.lines) ≡ outcome_with kind left (over_if b (Trapped trap line t)) None
 trap_told kind true left trap line t = refl
 trap_told kind false left trap line t = refl
 
@@ -210,7 +215,8 @@ over_told : (kind : Kind) (b : Bool) (left : ℕ) (t : Trace) → model.Over ≡
 over_told kind true left t = refl
 over_told kind false left t = refl
 
-comes_told : (kind : Kind) (limit left : ℕ) (piece : Piece (Given kind)) {exit : Exit kind} {x : Came Trace} → left ≤ limit → Comes kind limit piece exit x → piece left ≡ outcome_with kind left (within traces left x) exit
+comes_told : (kind : Kind) (limit left : ℕ) (piece : Piece (Given kind)) {exit : Exit kind} {x : Came Trace} → left ≤ limit
+    → Comes kind limit piece exit x → piece left ≡ outcome_with kind left (within traces left x) exit
 comes_told kind limit left piece l (Ending a rest t e f) = f left l ∙ done_told kind (nat_lt left (cost t)) left rest a t
 comes_told kind limit left piece l (Trapping trap line t f) = f left l ∙ trap_told kind (nat_lt left (cost t)) left trap line t
 comes_told kind limit left piece l (Passing t d f) = f left l ∙ over_told kind (nat_lt left (cost t)) left t

@@ -61,7 +61,8 @@ totals_read numbering q (x ∷ xs) =
     ∙ ap (held_joined (if numbering.number x.0 == q then one_held (numbering.how q) x.1 else none_held)) (totals_read numbering q xs)
     ∙ by_test (numbering.number x.0 == q)
   where
-    by_test : (b : Bool) → held_joined (if b then one_held (numbering.how q) x.1 else none_held) (told numbering q xs) ≡ (if b then held_joined (one_held (numbering.how q) x.1) (told numbering q xs) else told numbering q xs)
+    by_test : (b : Bool) → held_joined (if b then one_held (numbering.how q) x.1 else none_held) (told numbering q xs)
+        ≡ (if b then held_joined (one_held (numbering.how q) x.1) (told numbering q xs) else told numbering q xs)
     by_test true = refl
     by_test false = held-first (told numbering q xs)
 

@@ -103,7 +103,8 @@ over_over true = refl
 over_over false = refl
 
 -- to test the first trace and then the second against what is left is to test both
-both_tested : (left a b : ℕ) (t : Trace) (second both : Came Trace) → followed traces (Completed t) second ≡ both → over_if (nat_lt left a) (followed traces (Completed t) (over_if (nat_lt (left - a) b) second)) ≡ over_if (nat_lt left (a + b)) both
+both_tested : (left a b : ℕ) (t : Trace) (second both : Came Trace) → followed traces (Completed t) second ≡ both
+    → over_if (nat_lt left a) (followed traces (Completed t) (over_if (nat_lt (left - a) b) second)) ≡ over_if (nat_lt left (a + b)) both
 both_tested left a b t second both e = by_tests (nat_lt left a) (nat_lt (left - a) b) (nat_lt left (a + b)) refl refl refl
   where
     by_tests : (p q r : Bool) → nat_lt left a ≡ p → nat_lt (left - a) b ≡ q → nat_lt left (a + b) ≡ r → over_if p (followed traces (Completed t) (over_if q second)) ≡ over_if r both
@@ -114,7 +115,8 @@ both_tested left a b t second both e = by_tests (nat_lt left a) (nat_lt (left - 
     by_tests false false true h k l = let x = not_lt_of left a h in let y = not_lt_of (left - a) b k in let z = lt_of left (a + b) l in absurd (omega arith)
     by_tests false false false h k l = e
 
-spent : (left : ℕ) (t : Trace) (x : Came Trace) → IsNoMemory x → over_if (nat_lt left (cost t)) (followed traces (Completed t) (within traces (left - cost t) x)) ≡ within traces left (followed traces (Completed t) x)
+spent : (left : ℕ) (t : Trace) (x : Came Trace) → IsNoMemory x → over_if (nat_lt left (cost t))
+    (followed traces (Completed t) (within traces (left - cost t) x)) ≡ within traces left (followed traces (Completed t) x)
 spent left t (Completed u) h =
     both_tested left (cost t) (cost u) t (Completed u) (Completed (joined t u)) refl ∙ ap (λ (k : ℕ). over_if (nat_lt left k) (Completed (joined t u))) (sym (cost_both t u))
 spent left t (Trapped trap line u) h =
@@ -128,11 +130,14 @@ ran_inside : (b : Bool) (f : Trace → Trace) (t : Trace) (go : Trace → Came T
 ran_inside true f t go = refl
 ran_inside false f t go = refl
 
-trapped_inside : (b : Bool) (f : Trace → Trace) (trap : Trap) (line : ℕ) (t : Trace) (go : Trace → Came Trace) → goes_on (seen f (over_if b (Trapped trap line t))) go ≡ over_if b (Trapped trap line (f t))
+trapped_inside : (b : Bool) (f : Trace → Trace) (trap : Trap) (line : ℕ) (t : Trace) (go : Trace → Came Trace)
+    → goes_on (seen f (over_if b (Trapped trap line t))) go ≡ over_if b (Trapped trap line (f t))
 trapped_inside true f trap line t go = refl
 trapped_inside false f trap line t go = refl
 
-inside_tested : (left : ℕ) (f : Trace → Trace) (x y : Came Trace) (go : ℕ → Came Trace) → ((t : Trace) → cost (f t) ≡ cost t) → ((n : ℕ) → go n ≡ within traces n y) → IsNoMemory x → IsNoMemory y → goes_on (seen f (within traces left x)) (λ t. go (left - cost t)) ≡ within traces left (followed traces (seen f x) y)
+inside_tested : (left : ℕ) (f : Trace → Trace) (x y : Came Trace) (go : ℕ → Came Trace) → ((t : Trace) → cost (f t) ≡ cost t)
+    → ((n : ℕ) → go n ≡ within traces n y) → IsNoMemory x → IsNoMemory y
+    → goes_on (seen f (within traces left x)) (λ t. go (left - cost t)) ≡ within traces left (followed traces (seen f x) y)
 inside_tested left f (Completed t) y go c g h k =
     ran_inside (nat_lt left (cost t)) f t (λ u. go (left - cost u))
     ∙ ap (λ (n : ℕ). over_if (nat_lt left n) (followed traces (Completed (f t)) (go (left - cost (f t))))) (sym (c t))
@@ -190,7 +195,8 @@ seen_tested n f c (Trapped trap line t) = by_test (nat_lt n (cost t)) ∙ ap (λ
 seen_tested n f c Over = refl
 seen_tested n f c Memory = refl
 
-pub children_join : (n : ℕ) (spawned : Bool) (mark : Option Mark) (inner rest : Run) → within traces n (followed traces (seen (as_event spawned mark) (serial n inner)) (serial n rest)) ≡ serial n (Inside spawned mark inner rest)
+pub children_join : (n : ℕ) (spawned : Bool) (mark : Option Mark) (inner rest : Run)
+    → within traces n (followed traces (seen (as_event spawned mark) (serial n inner)) (serial n rest)) ≡ serial n (Inside spawned mark inner rest)
 children_join n spawned mark inner rest =
     let f = as_event spawned mark in
     ap (λ (x : Came Trace). within traces n (followed traces (seen f x) (serial n rest))) (serial_is inner n)

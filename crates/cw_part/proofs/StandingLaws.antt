@@ -12,7 +12,8 @@ use Rattle.cw_part.specs.Parts.{Came, Completed, Trapped, Over, Memory, followed
 use Rattle.cw_part.specs.PartFacts.{is_tested}
 use Rattle.cw_part.specs.Read.{readings}
 use Rattle.cw_part.specs.RunParts.{RunPart, as_child, as_call}
-use Rattle.cw_part.specs.Runs.{Run, Numbering, Inside, then_run, cost, traces, as_event, serial, TellsCame, RanAlike, TrappedAlike, OverAlike, IsCountedAfter, IsJoinedOf, Alone, Refused, Cut, Apart, Called, PiecesAreTheRun}
+use Rattle.cw_part.specs.Runs.{Run, Numbering, Inside, then_run, cost, traces, as_event, serial, TellsCame, RanAlike, TrappedAlike}
+use Rattle.cw_part.specs.Runs.{OverAlike, IsCountedAfter, IsJoinedOf, Alone, Refused, Cut, Apart, Called, PiecesAreTheRun}
 use Rattle.cw_part.proofs.RunLaws.{cost_both, cost_inside, IsNoMemory, meaning, none_meant, trap_stays, over_stays, serial_is, runs_join, children_join}
 use Rattle.cw_part.proofs.TellingLaws.{came_both, came_tested, part_read, came_inside}
 
@@ -89,12 +90,15 @@ refused_later Over = refl
 refused_later Memory = refl
 
 -- a part that tells of a run, and one that is over because what follows passes the limit
-passed_later : (burden : Burden) (numbering : Numbering) (n d e : ℕ) (x y : Came Trace) (a b : Came Read) → n ≤ MOST_LIMIT → IsNoMemory y → IsCountedAfter d x e → TellsCame burden numbering x a → b ≡ Over → IsBeyond n e y → Stands burden numbering n d (within traces n (followed traces x y)) (within readings n (followed readings a b))
+passed_later : (burden : Burden) (numbering : Numbering) (n d e : ℕ) (x y : Came Trace) (a b : Came Read) → n ≤ MOST_LIMIT → IsNoMemory y
+    → IsCountedAfter d x e → TellsCame burden numbering x a → b ≡ Over → IsBeyond n e y
+    → Stands burden numbering n d (within traces n (followed traces x y)) (within readings n (followed readings a b))
 passed_later burden numbering n d e x y a b l m c h f q =
     let P : Came Read → Type 0 = λ z. Stands burden numbering n d (within traces n (followed traces x y)) (within readings n (followed readings a z)) in
     subst P (sym f) (by_case x a c h)
   where
-    by_case : (x : Came Trace) (a : Came Read) → IsCountedAfter d x e → TellsCame burden numbering x a → Stands burden numbering n d (within traces n (followed traces x y)) (within readings n (followed readings a Over))
+    by_case : (x : Came Trace) (a : Came Read) → IsCountedAfter d x e → TellsCame burden numbering x a
+        → Stands burden numbering n d (within traces n (followed traces x y)) (within readings n (followed readings a Over))
     by_case _ _ c (RanAlike t r h) = Passed refl (beyond_within n d (followed traces (Completed t) y) (beyond_second n d e t y c q))
     by_case _ _ c (TrappedAlike trap line t r h) =
         let Q : Came Trace → Type 0 = λ z. Stands burden numbering n d (within traces n z) (within readings n (Trapped trap line r)) in
@@ -104,7 +108,9 @@ passed_later burden numbering n d e x y a b l m c h f q =
         subst Q (sym (over_stays y m)) (Same OverAlike)
 
 -- two parts that stand for runs stand for both, joined
-stands_both : MeasuresReadTrees → (burden : Burden) (numbering : Numbering) (n d e : ℕ) (x y : Came Trace) (a b : Came Read) → n ≤ MOST_LIMIT → IsNoMemory y → IsCountedAfter d x e → Stands burden numbering n d x a → Stands burden numbering n e y b → Stands burden numbering n d (within traces n (followed traces x y)) (within readings n (followed readings a b))
+stands_both : MeasuresReadTrees → (burden : Burden) (numbering : Numbering) (n d e : ℕ) (x y : Came Trace) (a b : Came Read) → n ≤ MOST_LIMIT
+    → IsNoMemory y → IsCountedAfter d x e → Stands burden numbering n d x a → Stands burden numbering n e y b
+    → Stands burden numbering n d (within traces n (followed traces x y)) (within readings n (followed readings a b))
 stands_both law burden numbering n d e x y a b l m c (Short f) k = Short (ap (λ (z : Came Read). within readings n (followed readings z b)) f)
 stands_both law burden numbering n d e x y a b l m c (Same h) (Short g) = Short (ap (λ (z : Came Read). within readings n (followed readings a z)) g ∙ ap (within readings n) (refused_later a))
 stands_both law burden numbering n d e x y a b l m c (Same h) (Same k) = Same (came_tested burden numbering n l (came_both law burden numbering h k))
@@ -118,7 +124,9 @@ stands_both law burden numbering n d e x y a b l m c (Passed f p) (Passed g q) =
     (beyond_within n d (followed traces x y) (beyond_first n d x y m p))
 
 -- a child or a call that stands for its run stands for it as a piece of the block round it
-stands_inside : MeasuresReadTrees → (burden : Burden) (numbering : Numbering) (n d : ℕ) (spawned : Bool) (mark : Option Mark) (x : Came Trace) (a : Came Read) → burden.charge < 2 ^ 64 → Stands burden numbering n d x a → Stands burden numbering n d (seen (as_event spawned mark) x) (seen (part_read spawned burden) a)
+stands_inside : MeasuresReadTrees → (burden : Burden) (numbering : Numbering) (n d : ℕ) (spawned : Bool) (mark : Option Mark) (x : Came Trace)
+    (a : Came Read) → burden.charge < 2 ^ 64 → Stands burden numbering n d x a
+    → Stands burden numbering n d (seen (as_event spawned mark) x) (seen (part_read spawned burden) a)
 stands_inside law burden numbering n d spawned mark x a b (Short f) = Short (ap (seen (part_read spawned burden)) f)
 stands_inside law burden numbering n d spawned mark x a b (Same h) = Same (came_inside law burden numbering spawned mark b h)
 stands_inside law burden numbering n d spawned mark x a b (Passed f p) = Passed (ap (seen (part_read spawned burden)) f) (beyond_inside n d spawned mark x p)
@@ -127,18 +135,21 @@ stands_inside law burden numbering n d spawned mark x a b (Passed f p) = Passed 
 over_told : (burden : Burden) (numbering : Numbering) (a : Came Read) → TellsCame burden numbering Over a → a ≡ Over
 over_told burden numbering _ OverAlike = refl
 
-stopped : (burden : Burden) (numbering : Numbering) (n d left : ℕ) (m : Came Trace) (a : Came Read) → is_above traces left m ≡ true → IsBeyond n d m → TellsCame burden numbering (within traces left m) a → Stands burden numbering n d (within traces n m) a
+stopped : (burden : Burden) (numbering : Numbering) (n d left : ℕ) (m : Came Trace) (a : Came Read) → is_above traces left m ≡ true → IsBeyond n d m
+    → TellsCame burden numbering (within traces left m) a → Stands burden numbering n d (within traces n m) a
 stopped burden numbering n d left m a e p h =
     let P : Bool → Type 0 = λ b. TellsCame burden numbering (over_if b m) a in
     Passed (over_told burden numbering a (subst P e h)) (beyond_within n d m p)
 
-unstopped : (burden : Burden) (numbering : Numbering) (n d left : ℕ) (m : Came Trace) (a : Came Read) → is_above traces left m ≡ false → is_above traces n m ≡ false → TellsCame burden numbering (within traces left m) a → Stands burden numbering n d (within traces n m) a
+unstopped : (burden : Burden) (numbering : Numbering) (n d left : ℕ) (m : Came Trace) (a : Came Read) → is_above traces left m ≡ false
+    → is_above traces n m ≡ false → TellsCame burden numbering (within traces left m) a → Stands burden numbering n d (within traces n m) a
 unstopped burden numbering n d left m a e f h =
     let P : Bool → Type 0 = λ b. TellsCame burden numbering (over_if b m) a in
     let Q : Bool → Type 0 = λ b. Stands burden numbering n d (over_if b m) a in
     subst Q (sym f) (Same (subst P e h))
 
-stands_alone : (burden : Burden) (numbering : Numbering) (n d left : ℕ) (m : Came Trace) (a : Came Read) → IsNoMemory m → left ≤ n → n ≤ d + left → TellsCame burden numbering (within traces left m) a → Stands burden numbering n d (within traces n m) a
+stands_alone : (burden : Burden) (numbering : Numbering) (n d left : ℕ) (m : Came Trace) (a : Came Read) → IsNoMemory m → left ≤ n → n ≤ d + left
+    → TellsCame burden numbering (within traces left m) a → Stands burden numbering n d (within traces n m) a
 stands_alone burden numbering n d left (Completed t) a k l g h = by_test (nat_lt left (cost t)) refl
   where
     by_test : (b : Bool) → nat_lt left (cost t) ≡ b → Stands burden numbering n d (within traces n (Completed t)) a
@@ -170,14 +181,18 @@ none_within n Memory h = absurd h
 pub none_met : (n : ℕ) (run : Run) → IsNoMemory (serial n run)
 none_met n run = subst IsNoMemory (sym (serial_is run n)) (none_within n (meaning run) (none_meant run))
 
-alone_stands : (burden : Burden) (numbering : Numbering) (n d left : ℕ) (run : Run) (a : Came Read) → left ≤ n → n ≤ d + left → TellsCame burden numbering (serial left run) a → Stands burden numbering n d (serial n run) a
+alone_stands : (burden : Burden) (numbering : Numbering) (n d left : ℕ) (run : Run) (a : Came Read) → left ≤ n → n ≤ d + left
+    → TellsCame burden numbering (serial left run) a → Stands burden numbering n d (serial n run) a
 alone_stands burden numbering n d left run a l g h =
     let P : Came Trace → Type 0 = λ z. TellsCame burden numbering z a in
     let Q : Came Trace → Type 0 = λ z. Stands burden numbering n d z a in
     subst Q (sym (serial_is run n)) (stands_alone burden numbering n d left (meaning run) a (none_meant run) l g (subst P (serial_is run left) h))
 
 -- the joined part of two pieces
-parts_stand : MeasuresReadTrees → (burden : Burden) (numbering : Numbering) (limit d e : ℕ) (x y whole : Came Trace) (p q : RunPart) → within traces limit (followed traces x y) ≡ whole → IsNoMemory y → IsCountedAfter d x e → p.limit ≡ limit → q.limit ≡ limit → Stands burden numbering limit d x p.came → Stands burden numbering limit e y q.came → (min p.limit q.limit ≡ limit) × Stands burden numbering limit d whole (within readings (min p.limit q.limit) (followed readings p.came q.came))
+parts_stand : MeasuresReadTrees → (burden : Burden) (numbering : Numbering) (limit d e : ℕ) (x y whole : Came Trace) (p q : RunPart)
+    → within traces limit (followed traces x y) ≡ whole → IsNoMemory y → IsCountedAfter d x e → p.limit ≡ limit → q.limit ≡ limit
+    → Stands burden numbering limit d x p.came → Stands burden numbering limit e y q.came
+    → (min p.limit q.limit ≡ limit) × Stands burden numbering limit d whole (within readings (min p.limit q.limit) (followed readings p.came q.came))
 parts_stand law burden numbering limit d e x y whole p q w m c f g h k =
     let n = min p.limit q.limit in
     let same : n ≡ limit = omega arith in
@@ -186,7 +201,9 @@ parts_stand law burden numbering limit d e x y whole p q w m c f g h k =
     let Q : ℕ → Type 0 = λ j. Stands burden numbering limit d (within traces limit (followed traces x y)) (within readings j (followed readings p.came q.came)) in
     (same, subst P w (subst Q (sym same) (stands_both law burden numbering limit d e x y p.came q.came (omega arith) m c h k)))
 
-pieces_stand : MeasuresReadTrees → (burden : Burden) (numbering : Numbering) (limit : ℕ) → burden.charge < 2 ^ 64 → {before : ℕ} {run : Run} {p : RunPart} → IsJoinedOf burden numbering limit before run p → (p.limit ≡ limit) × Stands burden numbering limit before (serial limit run) p.came
+pieces_stand : MeasuresReadTrees → (burden : Burden) (numbering : Numbering) (limit : ℕ) → burden.charge < 2 ^ 64
+    → {before : ℕ} {run : Run} {p : RunPart} → IsJoinedOf burden numbering limit before run p
+    → (p.limit ≡ limit) × Stands burden numbering limit before (serial limit run) p.came
 pieces_stand law burden numbering limit b (Alone before left run p e l g h) = (e, alone_stands burden numbering limit before left run p.came l g h)
 pieces_stand law burden numbering limit b (Refused before run p e h) = (e, Short h)
 pieces_stand law burden numbering limit b (Cut before between first rest p q c h k) =

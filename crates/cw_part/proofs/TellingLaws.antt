@@ -39,7 +39,9 @@ told_both : (how : Reduction) (number : Name → ℕ) (q : ℕ) (xs ys : List (N
 told_both how number q [] ys = sym (held-first (told_so how number q ys))
 told_both how number q (x ∷ xs) ys = by_test (number x.0 == q) (told_both how number q xs ys)
   where
-    by_test : (b : Bool) → told_so how number q (xs ++ ys) ≡ held_joined (told_so how number q xs) (told_so how number q ys) → (if b then held_joined (one_held how x.1) (told_so how number q (xs ++ ys)) else told_so how number q (xs ++ ys)) ≡ held_joined (if b then held_joined (one_held how x.1) (told_so how number q xs) else told_so how number q xs) (told_so how number q ys)
+    by_test : (b : Bool) → told_so how number q (xs ++ ys) ≡ held_joined (told_so how number q xs) (told_so how number q ys)
+        → (if b then held_joined (one_held how x.1) (told_so how number q (xs ++ ys)) else told_so how number q (xs ++ ys))
+        ≡ held_joined (if b then held_joined (one_held how x.1) (told_so how number q xs) else told_so how number q xs) (told_so how number q ys)
     by_test true e = ap (held_joined (one_held how x.1)) e ∙ sym (held-assoc (one_held how x.1) (told_so how number q xs) (told_so how number q ys))
     by_test false e = e
 
@@ -51,7 +53,8 @@ trap_told : {burden : Burden} {numbering : Numbering} (t : Trace) (a : Read) →
 trap_told t a h = record { lines = h.lines; work = work_told t a h }
 
 -- of both
-trace_both : MeasuresReadTrees → (burden : Burden) (numbering : Numbering) (t u : Trace) (a b : Read) → TellsTrace burden numbering t a → TellsTrace burden numbering u b → TellsTrace burden numbering (joined t u) (read_joined a b)
+trace_both : MeasuresReadTrees → (burden : Burden) (numbering : Numbering) (t u : Trace) (a b : Read) → TellsTrace burden numbering t a
+    → TellsTrace burden numbering u b → TellsTrace burden numbering (joined t u) (read_joined a b)
 trace_both law burden numbering t u a b h k = record {
   lines = ap (λ (l : List ℤ). l ++ b.views.lines) h.lines ∙ ap (λ (l : List ℤ). t.lines ++ l) k.lines;
   totals = λ q.
@@ -68,7 +71,8 @@ trap_both t u a b h k = record {
   work = let e = h.work in let f = k.work in let c = cost_both t u in omega arith;
 }
 
-pub came_both : MeasuresReadTrees → (burden : Burden) (numbering : Numbering) {x y : Came Trace} {a b : Came Read} → TellsCame burden numbering x a → TellsCame burden numbering y b → TellsCame burden numbering (followed traces x y) (followed readings a b)
+pub came_both : MeasuresReadTrees → (burden : Burden) (numbering : Numbering) {x y : Came Trace} {a b : Came Read} → TellsCame burden numbering x a
+    → TellsCame burden numbering y b → TellsCame burden numbering (followed traces x y) (followed readings a b)
 came_both law burden numbering (RanAlike t a h) (RanAlike u b k) = RanAlike (joined t u) (read_joined a b) (trace_both law burden numbering t u a b h k)
 came_both law burden numbering (RanAlike t a h) (TrappedAlike trap line u b k) = TrappedAlike trap line (joined t u) (read_joined a b) (trap_both t u a b (trap_told t a h) k)
 came_both law burden numbering (RanAlike t a h) OverAlike = OverAlike
@@ -100,9 +104,12 @@ alike_if burden numbering x a b c e h =
     let P : Bool → Type 0 = λ d. TellsCame burden numbering (over_if b x) (over_if d a) in
     subst P e (over_alike burden numbering x a b h)
 
-pub came_tested : (burden : Burden) (numbering : Numbering) (n : ℕ) {x : Came Trace} {a : Came Read} → n ≤ MOST_LIMIT → TellsCame burden numbering x a → TellsCame burden numbering (within traces n x) (within readings n a)
-came_tested burden numbering n l (RanAlike t a h) = alike_if burden numbering (Completed t) (Completed a) (nat_lt n (cost t)) (nat_lt n a.measure.work) (same_test n (cost t) a.measure.work l (work_told t a h)) (RanAlike t a h)
-came_tested burden numbering n l (TrappedAlike trap line t a h) = alike_if burden numbering (Trapped trap line t) (Trapped trap line a) (nat_lt n (cost t)) (nat_lt n a.measure.work) (same_test n (cost t) a.measure.work l h.work) (TrappedAlike trap line t a h)
+pub came_tested : (burden : Burden) (numbering : Numbering) (n : ℕ) {x : Came Trace} {a : Came Read} → n ≤ MOST_LIMIT
+    → TellsCame burden numbering x a → TellsCame burden numbering (within traces n x) (within readings n a)
+came_tested burden numbering n l (RanAlike t a h) = alike_if burden numbering (Completed t) (Completed a) (nat_lt n (cost t))
+    (nat_lt n a.measure.work) (same_test n (cost t) a.measure.work l (work_told t a h)) (RanAlike t a h)
+came_tested burden numbering n l (TrappedAlike trap line t a h) = alike_if burden numbering (Trapped trap line t) (Trapped trap line a)
+    (nat_lt n (cost t)) (nat_lt n a.measure.work) (same_test n (cost t) a.measure.work l h.work) (TrappedAlike trap line t a h)
 came_tested burden numbering n l OverAlike = OverAlike
 
 -- a child's measure, as a piece of the block round it, is that of the child as an event
@@ -113,13 +120,15 @@ after_none g (suc c) h = omega arith
 same_unsynced : (l l' k k' : ℕ) → l ≡ l' → k ≡ k' → Unsynced l k ≡ Unsynced l' k'
 same_unsynced l l' k k' e f = ap (λ (x : ℕ). Unsynced x k) e ∙ ap (Unsynced l') f
 
-one_child : (g : ℕ) (burden : Burden) (c s : ℕ) → at_child burden ≤ g → at_rest burden ≤ g → c ≡ min g s → forked (up_to g) burden c fresh ≡ held g (onward exactly (Unsynced (at_child burden + s) (at_rest burden)) fresh)
+one_child : (g : ℕ) (burden : Burden) (c s : ℕ) → at_child burden ≤ g → at_rest burden ≤ g → c ≡ min g s
+    → forked (up_to g) burden c fresh ≡ held g (onward exactly (Unsynced (at_child burden + s) (at_rest burden)) fresh)
 one_child g burden c s h k e =
     let child = up_to g (at_child burden) c in
     let x = after_none g child (omega arith) in
     same_unsynced (max 0 (later (up_to g) 0 child)) (min g (max (at_child burden + s) 0)) (up_to g 0 (at_rest burden)) (min g (at_rest burden + 0)) (omega arith) (omega arith)
 
-measure_child : MeasuresReadTrees → (burden : Burden) (mark : Option Mark) (m : Measured) (t : Trace) → burden.charge < 2 ^ 64 → m ≡ measure_of burden t.events → after_child burden m nothing ≡ measure_of burden (Fork (marked mark (tree_of t.events)) ∷ [])
+measure_child : MeasuresReadTrees → (burden : Burden) (mark : Option Mark) (m : Measured) (t : Trace) → burden.charge < 2 ^ 64
+    → m ≡ measure_of burden t.events → after_child burden m nothing ≡ measure_of burden (Fork (marked mark (tree_of t.events)) ∷ [])
 measure_child law burden mark m t h e =
     let tree = tree_of t.events in
     let P : Measured → Type 0 = λ x. ReadsTree burden x tree in
@@ -130,12 +139,14 @@ measure_child law burden mark m t h e =
     let light = child_charge burden in
     same_parts more
     (one_child most no_burden (span_read m) (span (marked mark tree)) (omega arith) (omega arith) (r.span_is ∙ ap (min most) (sym (span_marked no_burden mark tree))))
-    (one_child most_burdened burden (burdened_read m) (burdened_span burden (marked mark tree)) (omega arith) (omega arith) (r.burdened_is ∙ ap (min most_burdened) (sym (span_marked burden mark tree))))
+    (one_child most_burdened burden (burdened_read m) (burdened_span burden (marked mark tree)) (omega arith) (omega arith)
+    (r.burdened_is ∙ ap (min most_burdened) (sym (span_marked burden mark tree))))
 
 one_call : (g c s : ℕ) → c ≡ min g s → ticked (up_to g) c fresh ≡ held g (onward exactly (Unsynced 0 s) fresh)
 one_call g c s e = same_unsynced 0 (min g (max 0 0)) (up_to g 0 c) (min g (s + 0)) (omega arith) (omega arith)
 
-measure_call : MeasuresReadTrees → (burden : Burden) (mark : Option Mark) (m : Measured) (t : Trace) → m ≡ measure_of burden t.events → after_part m nothing ≡ measure_of burden (Series (marked mark (tree_of t.events)) ∷ [])
+measure_call : MeasuresReadTrees → (burden : Burden) (mark : Option Mark) (m : Measured) (t : Trace) → m ≡ measure_of burden t.events
+    → after_part m nothing ≡ measure_of burden (Series (marked mark (tree_of t.events)) ∷ [])
 measure_call law burden mark m t e =
     let tree = tree_of t.events in
     let P : Measured → Type 0 = λ x. ReadsTree burden x tree in
@@ -152,7 +163,8 @@ abbrev pub part_read : (spawned : Bool) → (burden : Burden) → Read → Read
 part_read true burden a = child_read burden a
 part_read false burden a = call_read a
 
-measure_inside : MeasuresReadTrees → (burden : Burden) (numbering : Numbering) (spawned : Bool) (mark : Option Mark) (t : Trace) (a : Read) → burden.charge < 2 ^ 64 → TellsTrace burden numbering t a → TellsTrace burden numbering (as_event spawned mark t) (part_read spawned burden a)
+measure_inside : MeasuresReadTrees → (burden : Burden) (numbering : Numbering) (spawned : Bool) (mark : Option Mark) (t : Trace) (a : Read)
+    → burden.charge < 2 ^ 64 → TellsTrace burden numbering t a → TellsTrace burden numbering (as_event spawned mark t) (part_read spawned burden a)
 measure_inside law burden numbering true mark t a b h = record { lines = h.lines; totals = h.totals; measure = measure_child law burden mark a.measure t b h.measure }
 measure_inside law burden numbering false mark t a b h = record { lines = h.lines; totals = h.totals; measure = measure_call law burden mark a.measure t h.measure }
 
@@ -160,7 +172,9 @@ trap_inside : (burden : Burden) (spawned : Bool) (mark : Option Mark) (t : Trace
 trap_inside burden true mark t a h = record { lines = h.lines; work = let w = h.work in let c = cost_inside true mark t in omega arith }
 trap_inside burden false mark t a h = record { lines = h.lines; work = let w = h.work in let c = cost_inside false mark t in omega arith }
 
-pub came_inside : MeasuresReadTrees → (burden : Burden) (numbering : Numbering) (spawned : Bool) (mark : Option Mark) {x : Came Trace} {a : Came Read} → burden.charge < 2 ^ 64 → TellsCame burden numbering x a → TellsCame burden numbering (seen (as_event spawned mark) x) (seen (part_read spawned burden) a)
+pub came_inside : MeasuresReadTrees → (burden : Burden) (numbering : Numbering) (spawned : Bool) (mark : Option Mark) {x : Came Trace}
+    {a : Came Read} → burden.charge < 2 ^ 64 → TellsCame burden numbering x a
+    → TellsCame burden numbering (seen (as_event spawned mark) x) (seen (part_read spawned burden) a)
 came_inside law burden numbering spawned mark b (RanAlike t a h) =
     RanAlike (as_event spawned mark t) (part_read spawned burden a) (measure_inside law burden numbering spawned mark t a b h)
 came_inside law burden numbering spawned mark b (TrappedAlike trap line t a h) =

@@ -26,7 +26,8 @@ begun y root job bs none e = subst (λ l. Chain y root job (reverse l)) (sym non
 pub same_chain : (y : Yard) (root job job' : Job) (bs bs' : List Below) → job' ≡ job → bs' ≡ bs → Chain y root job (reverse bs) → Chain y root job' (reverse bs')
 same_chain y root job job' bs bs' e same h = subst (λ l. Chain y root job' (reverse l)) (sym same) (subst (λ j. Chain y root j (reverse bs)) (sym e) h)
 
-pub more : (y : Yard) (root job : Job) (bs bs' : List Below) (b : Below) → bs' ≡ bs ++ b ∷ [] → duty_job b.duty ≡ Some job → IsDutyOf y b.duty → Works y b.post → Chain y root (its_job b.post.strand) (reverse bs) → Chain y root job (reverse bs')
+pub more : (y : Yard) (root job : Job) (bs bs' : List Below) (b : Below) → bs' ≡ bs ++ b ∷ [] → duty_job b.duty ≡ Some job → IsDutyOf y b.duty
+    → Works y b.post → Chain y root (its_job b.post.strand) (reverse bs) → Chain y root job (reverse bs')
 more y root job bs bs' b e d of w h = subst (λ l. Chain y root job l) (sym (last_first bs' bs b e)) (d, of, w, h)
 
 pub less : (y : Yard) (root job : Job) (bs bs' : List Below) (b : Below) → bs ≡ bs' ++ b ∷ [] → Chain y root job (reverse bs)

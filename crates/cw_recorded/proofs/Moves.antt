@@ -19,13 +19,16 @@ use Rattle.cw_recorded.specs.declared.recorder.Part.{Part}
 use Rattle.cw_recorded.specs.declared.recorder.Recorder.{Recorder}
 use Rattle.cw_recorded.specs.Merging.{onto, Same, to_join}
 use Rattle.cw_recorded.specs.Normal.{StandApart, AreApart, IsChild}
-use Rattle.cw_recorded.specs.Recording.{opening, ending, ending_in, codes_in, IsOfKind, out_behind, AreParts, Keeps, IsFromMain, RecordsIn, IsOpen, IsQuiet, BeginsChild, BeginsCall, BeginsQuiet, Ends, Returns, Syncs, InstructionsNeedNoCall, Notes, Stacks, Joins, Closes, IsKept, Reads}
+use Rattle.cw_recorded.specs.Recording.{opening, ending, ending_in, codes_in, IsOfKind, out_behind, AreParts, Keeps, IsFromMain, RecordsIn, IsOpen, IsQuiet, BeginsChild}
+use Rattle.cw_recorded.specs.Recording.{BeginsCall, BeginsQuiet, Ends, Returns, Syncs, InstructionsNeedNoCall, Notes, Stacks, Joins, Closes, IsKept, Reads}
 use Rattle.cw_recorded.proofs.Merged.{onto-append, same_merged, nothing_behind}
 use Rattle.cw_recorded.proofs.Normals.{ticked_apart, synced_apart, call_apart, block_apart, tree_followed, marked_child}
-use Rattle.cw_recorded.proofs.Recordings.{same_cuts, keeps_as, keeps_later, keeps_cut, keeps_noted, codes_ticked, spawned_ticked, spawned_synced, codes_begun, codes_synced, codes_ended, codes_returned}
+use Rattle.cw_recorded.proofs.Recordings.{same_cuts, keeps_as, keeps_later, keeps_cut, keeps_noted, codes_ticked, spawned_ticked}
+use Rattle.cw_recorded.proofs.Recordings.{spawned_synced, codes_begun, codes_synced, codes_ended, codes_returned}
 
 -- what is noted
-pub noted_now : (old new : Recorder) (count : ℕ) → new.noted ≡ count → new.kept ≡ followed old.kept (Some (Instructions (count - old.noted) ∷ [])) → new.out ≡ old.out → new.parts.items ≡ old.parts.items → Notes old new count []
+pub noted_now : (old new : Recorder) (count : ℕ) → new.noted ≡ count → new.kept ≡ followed old.kept (Some (Instructions (count - old.noted) ∷ []))
+    → new.out ≡ old.out → new.parts.items ≡ old.parts.items → Notes old new count []
 noted_now old new count n k o p = record {
   noted = λ le. n;
   keeps = λ from before lo hi h.
@@ -47,7 +50,8 @@ noted_already r count past = record {
   parts = refl;
 }
 
-pub noted_cut : (old mid new : Recorder) (count : ℕ) (code : Code) → Notes old mid count [] → new.kept ≡ followed mid.kept (Some (code ∷ [])) → new.noted ≡ mid.noted → new.out ≡ mid.out → new.parts.items ≡ mid.parts.items → Notes old new count (code ∷ [])
+pub noted_cut : (old mid new : Recorder) (count : ℕ) (code : Code) → Notes old mid count [] → new.kept ≡ followed mid.kept (Some (code ∷ []))
+    → new.noted ≡ mid.noted → new.out ≡ mid.out → new.parts.items ≡ mid.parts.items → Notes old new count (code ∷ [])
 noted_cut old mid new count code s k n o p = record {
   noted = λ le. n ∙ s.noted le;
   keeps = λ from before lo hi h.
@@ -65,7 +69,8 @@ nothing_between : (a b : List Code) → Same (a ++ Instructions 0 ∷ b) (a ++ b
 nothing_between a b = λ l. onto-append a (Instructions 0 ∷ b) l ∙ sym (onto-append a b l)
 
 -- a cut at this count
-pub cut_here : (old new : Recorder) (count : ℕ) (code : Code) (codes : List Code) → Notes old new count (code ∷ []) → old.noted ≤ count → Keeps (count - old.noted) codes old.kept → (new.noted ≤ count) × Keeps (count - new.noted) (codes ++ code ∷ []) new.kept
+pub cut_here : (old new : Recorder) (count : ℕ) (code : Code) (codes : List Code) → Notes old new count (code ∷ []) → old.noted ≤ count
+    → Keeps (count - old.noted) codes old.kept → (new.noted ≤ count) × Keeps (count - new.noted) (codes ++ code ∷ []) new.kept
 cut_here old new count code codes s le h =
     let n = s.noted le in
     let none : count - count ≡ 0 = omega arith in
@@ -78,7 +83,8 @@ cut_here old new count code codes s le h =
     )
 
 -- a cut after an instruction more
-pub cut_next : (old new : Recorder) (count : ℕ) (code : Code) (codes : List Code) → Notes old new (count + 1) (code ∷ []) → old.noted ≤ count → Keeps (count - old.noted) codes old.kept → (new.noted ≤ count + 1) × Keeps (count + 1 - new.noted) (codes ++ Instructions 1 ∷ code ∷ []) new.kept
+pub cut_next : (old new : Recorder) (count : ℕ) (code : Code) (codes : List Code) → Notes old new (count + 1) (code ∷ []) → old.noted ≤ count
+    → Keeps (count - old.noted) codes old.kept → (new.noted ≤ count + 1) × Keeps (count + 1 - new.noted) (codes ++ Instructions 1 ∷ code ∷ []) new.kept
 cut_next old new count code codes s le h =
     let n = s.noted (omega (arith, le)) in
     let one : count + 1 - count ≡ 1 = omega arith in
@@ -96,7 +102,8 @@ one_later noted count codes k le h =
     subst (λ (n : ℕ). Keeps n (codes ++ Instructions 1 ∷ []) k) sum (keeps_later (count - noted) 1 codes k h)
 
 -- a join
-pub joined_now : (old mid : Recorder) (count : ℕ) → old.out ≡ true → Notes old mid count (Joined ∷ []) → (codes : List Code) → old.noted ≤ count → Keeps (count - old.noted) codes old.kept → (mid.noted ≤ count) × Keeps (count - mid.noted) (codes ++ to_join old.out) mid.kept
+pub joined_now : (old mid : Recorder) (count : ℕ) → old.out ≡ true → Notes old mid count (Joined ∷ []) → (codes : List Code) → old.noted ≤ count
+    → Keeps (count - old.noted) codes old.kept → (mid.noted ≤ count) × Keeps (count - mid.noted) (codes ++ to_join old.out) mid.kept
 joined_now old mid count out s codes le h =
     let c = cut_here old mid count Joined codes s le h in
     (c.0, subst (λ (b : Bool). Keeps (count - mid.noted) (codes ++ to_join b) mid.kept) (sym out) c.1)
@@ -105,7 +112,8 @@ pub joined_not : (old : Recorder) (count : ℕ) → old.out ≡ false → Joins 
 joined_not old count out codes le h =
     (le, subst (λ (b : Bool). Keeps (count - old.noted) (codes ++ to_join b) old.kept) (sym out) (subst (λ (l : List Code). Keeps (count - old.noted) l old.kept) (sym (append-nil codes)) h))
 
-pub parts_pushed : (o : Open) (os : List Open) (p : Part) (old new : List Part) → IsOpen os → new ≡ old ++ p ∷ [] → IsOfKind o p.kind → p.out ≡ out_behind o.spawned (has_spawned o.outer) → AreParts os (reverse old) → AreParts (o ∷ os) (reverse new)
+pub parts_pushed : (o : Open) (os : List Open) (p : Part) (old new : List Part) → IsOpen os → new ≡ old ++ p ∷ [] → IsOfKind o p.kind
+    → p.out ≡ out_behind o.spawned (has_spawned o.outer) → AreParts os (reverse old) → AreParts (o ∷ os) (reverse new)
 parts_pushed o [] p old new open_ e k out h = absurd open_
 parts_pushed o (q ∷ os) p old new open_ e k out h =
     subst (λ (x : List Part). AreParts (o ∷ q ∷ os) x) (sym (ap (λ (x : List Part). reverse x) e ∙ reverse_pushed old p)) (k, out, h)
@@ -184,13 +192,22 @@ quiet_begins old new count s some mark os es quiet small open_ h =
       keeps = subst (λ (n : ℕ). Keeps (count + 1 - n) (codes_in (begun false mark es os) []) new.kept) (sym s.noted)
           (subst (λ (k : Recorded). Keeps (count + 1 - old.noted) (codes_in (begun false mark es os) []) k) (sym s.kept)
           (subst (λ (l : List Code). Keeps (count + 1 - old.noted) l old.kept) (sym codes) kept));
-      parts = λ x. record { out = s.out; parts = parts_pushed o os (record { kind = kind.Quiet; out = old.out }) old.parts.items new.parts.items open_ s.pushed (refl, quiet_kind mark quiet) (p.out ∙ sym (spawned_ticked es)) p.parts };
+      parts = λ x. record {
+        out = s.out;
+        parts = parts_pushed o os (record { kind = kind.Quiet; out = old.out }) old.parts.items new.parts.items
+            open_ s.pushed (refl, quiet_kind mark quiet) (p.out ∙ sym (spawned_ticked es)) p.parts;
+      };
       from_main = main_in o os open_ h.from_main;
       apart = begun_apart o os es open_ refl h.apart;
     }
 
 -- a part begins that is cut
-cut_begins : (old mid new : Recorder) (count : ℕ) (k : PartKind) (code : Code) (out spawned : Bool) (mark : Option Mark) (os : List Open) (es : List Event) → Notes old mid (count + 1) (code ∷ []) → Stacks mid new k out → IsSome old.kept → IsOfKind (record { spawned = spawned; mark = mark; outer = ticked es }) k → (old.out ≡ has_spawned es → opening spawned mark (has_spawned es) ≡ code ∷ []) → (old.out ≡ has_spawned es → out ≡ out_behind spawned (has_spawned (ticked es))) → IsOpen os → RecordsIn count os es old → RecordsIn (count + 1) (begun spawned mark es os) [] new
+cut_begins : (old mid new : Recorder) (count : ℕ) (k : PartKind) (code : Code) (out spawned : Bool) (mark : Option Mark) (os : List Open)
+    (es : List Event) → Notes old mid (count + 1) (code ∷ []) → Stacks mid new k out → IsSome old.kept
+    → IsOfKind (record { spawned = spawned; mark = mark; outer = ticked es }) k
+    → (old.out ≡ has_spawned es → opening spawned mark (has_spawned es) ≡ code ∷ [])
+    → (old.out ≡ has_spawned es → out ≡ out_behind spawned (has_spawned (ticked es))) → IsOpen os → RecordsIn count os es old
+    → RecordsIn (count + 1) (begun spawned mark es os) [] new
 cut_begins old mid new count k code out spawned mark os es n s some is code_is out_is open_ h =
     let p = h.parts some in
     let o : Open = record { spawned = spawned; mark = mark; outer = ticked es } in
@@ -202,18 +219,27 @@ cut_begins old mid new count k code out spawned mark os es n s some is code_is o
       keeps = subst (λ (x : ℕ). Keeps (count + 1 - x) (codes_in (begun spawned mark es os) []) new.kept) (sym s.noted)
           (subst (λ (x : Recorded). Keeps (count + 1 - mid.noted) (codes_in (begun spawned mark es os) []) x) (sym s.kept)
           (subst (λ (l : List Code). Keeps (count + 1 - mid.noted) l mid.kept) (sym codes) c.1));
-      parts = λ x. record { out = s.out; parts = parts_pushed o os (record { kind = k; out = out }) old.parts.items new.parts.items open_ (s.pushed ∙ ap (λ (l : List Part). l ++ record { kind = k; out = out } ∷ []) n.parts) is (out_is p.out) p.parts };
+      parts = λ x. record {
+        out = s.out;
+        parts = parts_pushed o os (record { kind = k; out = out }) old.parts.items new.parts.items open_
+            (s.pushed ∙ ap (λ (l : List Part). l ++ record { kind = k; out = out } ∷ []) n.parts) is (out_is p.out) p.parts;
+      };
       from_main = main_in o os open_ h.from_main;
       apart = begun_apart o os es open_ refl h.apart;
     }
 
-pub child_begins : (old mid new : Recorder) (count next : ℕ) → Notes old mid next (Spawned (not old.out) ∷ []) → Stacks mid new kind.Child true → IsSome old.kept → (count < MOST_LIMIT → next ≡ count + 1) → BeginsChild old new count
+pub child_begins : (old mid new : Recorder) (count next : ℕ) → Notes old mid next (Spawned (not old.out) ∷ []) → Stacks mid new kind.Child true
+    → IsSome old.kept → (count < MOST_LIMIT → next ≡ count + 1) → BeginsChild old new count
 child_begins old mid new count next n s some sat mark os es small open_ h =
-    cut_begins old mid new count kind.Child (Spawned (not old.out)) true true mark os es (subst (λ (x : ℕ). Notes old mid x (Spawned (not old.out) ∷ [])) (sat small) n) s some refl (λ e. ap (λ (b : Bool). Spawned (not b) ∷ []) (sym e)) (λ e. refl) open_ h
+    cut_begins old mid new count kind.Child (Spawned (not old.out)) true true mark os es
+    (subst (λ (x : ℕ). Notes old mid x (Spawned (not old.out) ∷ [])) (sat small) n) s some refl
+    (λ e. ap (λ (b : Bool). Spawned (not b) ∷ []) (sym e)) (λ e. refl) open_ h
 
-pub call_begins : (old mid new : Recorder) (count next : ℕ) → Notes old mid next (Called ∷ []) → Stacks mid new kind.Call mid.out → IsSome old.kept → (count < MOST_LIMIT → next ≡ count + 1) → BeginsCall old new count
+pub call_begins : (old mid new : Recorder) (count next : ℕ) → Notes old mid next (Called ∷ []) → Stacks mid new kind.Call mid.out → IsSome old.kept
+    → (count < MOST_LIMIT → next ≡ count + 1) → BeginsCall old new count
 call_begins old mid new count next n s some sat site os es small open_ h =
-    cut_begins old mid new count kind.Call Called mid.out false (Some (Invocation site)) os es (subst (λ (x : ℕ). Notes old mid x (Called ∷ [])) (sat small) n) s some (refl, (site, refl)) (λ e. refl) (λ e. n.out ∙ e ∙ sym (spawned_ticked es)) open_ h
+    cut_begins old mid new count kind.Call Called mid.out false (Some (Invocation site)) os es
+    (subst (λ (x : ℕ). Notes old mid x (Called ∷ [])) (sat small) n) s some (refl, (site, refl)) (λ e. refl) (λ e. n.out ∙ e ∙ sym (spawned_ticked es)) open_ h
 
 -- the block that runs joins
 pub block_joins : (old new : Recorder) (count : ℕ) → Joins old new count → new.out ≡ false → new.parts.items ≡ old.parts.items → IsSome old.kept → Syncs old new count
@@ -252,7 +278,8 @@ block_ends old mid new count joins out same closes some o os es quiet small open
       apart = ended_apart o os es h.from_main quiet h.apart;
     }
 
-pub call_ends : (old mid new : Recorder) (count next : ℕ) → Joins old mid count → mid.out ≡ false → mid.parts.items ≡ old.parts.items → Closes mid new next → IsSome old.kept → (count < MOST_LIMIT → next ≡ count + 1) → Returns old new count
+pub call_ends : (old mid new : Recorder) (count next : ℕ) → Joins old mid count → mid.out ≡ false → mid.parts.items ≡ old.parts.items
+    → Closes mid new next → IsSome old.kept → (count < MOST_LIMIT → next ≡ count + 1) → Returns old new count
 call_ends old mid new count next joins out same ends some sat o os es small open_ h =
     let closes = subst (λ (x : ℕ). Closes mid new x) (sat small) ends in
     let p = h.parts some in
@@ -314,7 +341,9 @@ ending_quiet o (p ∷ os) open_ e f = ap (λ (b : Bool). ending b o.mark) e ∙ 
     at (Some (Execution tag)) f = refl
 
 -- a part ends by a cut
-pub closes_cut : (old mid new : Recorder) (count : ℕ) (part : Part) (code : Code) → old.parts.items ≡ mid.parts.items ++ part ∷ [] → mid.out ≡ part.out → mid.noted ≡ old.noted → mid.kept ≡ old.kept → Notes mid new count (code ∷ []) → ((o : Open) (os : List Open) → IsOpen os → IsOfKind o part.kind → ending_in o os ≡ code ∷ []) → Closes old new count
+pub closes_cut : (old mid new : Recorder) (count : ℕ) (part : Part) (code : Code) → old.parts.items ≡ mid.parts.items ++ part ∷ []
+    → mid.out ≡ part.out → mid.noted ≡ old.noted → mid.kept ≡ old.kept → Notes mid new count (code ∷ [])
+    → ((o : Open) (os : List Open) → IsOpen os → IsOfKind o part.kind → ending_in o os ≡ code ∷ []) → Closes old new count
 closes_cut old mid new count part code pops out noted kept n ends codes o os es main joined parts le h =
     let p = popped o os part old.parts.items mid.parts.items pops parts in
     let at_mid = subst (λ (x : ℕ). Keeps (count - x) codes mid.kept) (sym noted) (subst (λ (k : Recorded). Keeps (count - old.noted) codes k) (sym kept) h) in
@@ -327,16 +356,19 @@ closes_cut old mid new count part code pops out noted kept n ends codes o os es 
       },
     )
 
-pub child_closes : (old mid new : Recorder) (count : ℕ) (part : Part) → part.kind ≡ kind.Child → old.parts.items ≡ mid.parts.items ++ part ∷ [] → mid.out ≡ part.out → mid.noted ≡ old.noted → mid.kept ≡ old.kept → Notes mid new count (Ended ∷ []) → Closes old new count
+pub child_closes : (old mid new : Recorder) (count : ℕ) (part : Part) → part.kind ≡ kind.Child → old.parts.items ≡ mid.parts.items ++ part ∷ []
+    → mid.out ≡ part.out → mid.noted ≡ old.noted → mid.kept ≡ old.kept → Notes mid new count (Ended ∷ []) → Closes old new count
 child_closes old mid new count part e pops out noted kept n =
     closes_cut old mid new count part Ended pops out noted kept n (λ o os inner is. ending_child o os inner (subst (IsOfKind o) e is))
 
-pub call_closes : (old mid new : Recorder) (count : ℕ) (part : Part) → part.kind ≡ kind.Call → old.parts.items ≡ mid.parts.items ++ part ∷ [] → mid.out ≡ part.out → mid.noted ≡ old.noted → mid.kept ≡ old.kept → Notes mid new count (Called ∷ []) → Closes old new count
+pub call_closes : (old mid new : Recorder) (count : ℕ) (part : Part) → part.kind ≡ kind.Call → old.parts.items ≡ mid.parts.items ++ part ∷ []
+    → mid.out ≡ part.out → mid.noted ≡ old.noted → mid.kept ≡ old.kept → Notes mid new count (Called ∷ []) → Closes old new count
 call_closes old mid new count part e pops out noted kept n =
     closes_cut old mid new count part Called pops out noted kept n (λ o os inner is. let a = subst (IsOfKind o) e is in ending_call o os a.1.0 inner a.0 a.1.1)
 
 -- a part ends that is cut by nothing
-pub quiet_closes : (old new : Recorder) (count : ℕ) (part : Part) → part.kind ≡ kind.Quiet → old.parts.items ≡ new.parts.items ++ part ∷ [] → new.out ≡ part.out → new.noted ≡ old.noted → new.kept ≡ old.kept → Closes old new count
+pub quiet_closes : (old new : Recorder) (count : ℕ) (part : Part) → part.kind ≡ kind.Quiet → old.parts.items ≡ new.parts.items ++ part ∷ []
+    → new.out ≡ part.out → new.noted ≡ old.noted → new.kept ≡ old.kept → Closes old new count
 quiet_closes old new count part e pops out noted kept codes o os es main joined parts le h =
     let p = popped o os part old.parts.items new.parts.items pops parts in
     let a = subst (IsOfKind o) e p.is in
@@ -360,7 +392,8 @@ nothing_closes old new count none none' out noted kept codes o [] es main joined
 nothing_closes old new count none none' out noted kept codes o (p ∷ os) es main joined parts le h = absurd (subst (λ (l : List Part). AreParts (o ∷ p ∷ os) (reverse l)) none parts)
 
 -- once there are too many strands, nothing is done
-idle : (r : Recorder) (count : ℕ) (os os' : List Open) (es es' : List Event) (added : List Code) → (IsSome r.kept → ⊥) → Same (codes_in os es ++ added) (codes_in os' es') → IsFromMain os' → AreApart os' es' → RecordsIn count os es r → RecordsIn (count + 1) os' es' r
+idle : (r : Recorder) (count : ℕ) (os os' : List Open) (es es' : List Event) (added : List Code) → (IsSome r.kept → ⊥)
+    → Same (codes_in os es ++ added) (codes_in os' es') → IsFromMain os' → AreApart os' es' → RecordsIn count os es r → RecordsIn (count + 1) os' es' r
 idle r count os os' es es' added none same main apart h =
     let a = cuts-append (codes_in os es) added in
     let b = same_cuts (codes_in os es ++ added) (codes_in os' es') same in
@@ -375,7 +408,8 @@ idle r count os os' es es' added none same main apart h =
 equal : (a b : List Code) → a ≡ b → Same b a
 equal a b e = λ l. ap (λ (x : List Code). onto x l) (sym e)
 
-idle_begins : (r : Recorder) (count : ℕ) (spawned : Bool) (mark : Option Mark) (os : List Open) (es : List Event) → (IsSome r.kept → ⊥) → IsOpen os → RecordsIn count os es r → RecordsIn (count + 1) (begun spawned mark es os) [] r
+idle_begins : (r : Recorder) (count : ℕ) (spawned : Bool) (mark : Option Mark) (os : List Open) (es : List Event) → (IsSome r.kept → ⊥) → IsOpen os
+    → RecordsIn count os es r → RecordsIn (count + 1) (begun spawned mark es os) [] r
 idle_begins r count spawned mark os es none open_ h =
     let o : Open = record { spawned = spawned; mark = mark; outer = ticked es } in
     idle r count os (begun spawned mark es os) es [] (Instructions 1 ∷ opening spawned mark (has_spawned es)) none

@@ -64,7 +64,8 @@ enough_before true t later m = more_before t later m
 enough_before false t later m = tt
 
 -- a part that is no strand
-part_alone : (rest : Bool) (part later : Tree) → codes_of (stands rest) part ≡ codes_of InSeries part → Same (codes_of (stands rest) (part_before part later)) (codes_of InSeries part ++ codes_of (stands rest) later)
+part_alone : (rest : Bool) (part later : Tree) → codes_of (stands rest) part ≡ codes_of InSeries part
+    → Same (codes_of (stands rest) (part_before part later)) (codes_of InSeries part ++ codes_of (stands rest) later)
 part_alone rest part (Leaf zero) e = λ l. ap (λ (c : List Code). onto c l) e ∙ sym (nothing_behind (codes_of InSeries part) l)
 part_alone rest part (Leaf (suc k)) e = in_series rest part (Leaf (suc k))
 part_alone rest part (Seq a b) e = in_series rest part (Seq a b)
@@ -100,7 +101,8 @@ fork_holds rest child rest_of later e h k =
     let forked = fork_in_series (codes_of AsChild (normal child)) (codes_of AsChild child) (codes_of AsRest (normal rest_of)) (codes_of AsRest rest_of) h k in
     λ l. at rest e l ∙ same_before (codes_of InSeries (Par (normal child) (normal rest_of))) (codes_of InSeries (Par child rest_of)) (codes_of (stands rest) later) forked l
   where
-    at : (b : Bool) → Enough b later → Same (codes_of (stands b) (part_before (Par (normal child) (normal rest_of)) later)) (codes_of InSeries (Par (normal child) (normal rest_of)) ++ codes_of (stands b) later)
+    at : (b : Bool) → Enough b later → Same (codes_of (stands b) (part_before (Par (normal child) (normal rest_of)) later))
+        (codes_of InSeries (Par (normal child) (normal rest_of)) ++ codes_of (stands b) later)
     at true m = part_followed true (Par (normal child) (normal rest_of)) later m
     at false m = part_alone false (Par (normal child) (normal rest_of)) later refl
 
@@ -117,7 +119,8 @@ stands_holds t (Join ∷ es) h = λ rest later. h rest later
 rest_normal : (es : List Event) → StandApart es → Same (codes_of AsRest (normal (parts_of es).0)) (codes_of AsRest (parts_of es).0)
 rest_normal [] g = λ l. refl
 rest_normal (Work k ∷ es) g = λ l. leaf_holds true k (normal (parts_of es).0) l ∙ ap (instructions_before k) (rest_normal es g l)
-rest_normal (Series t ∷ es) g = λ l. stands_holds t es g.0 true (Leaf 0) l ∙ same_after (codes_of InSeries t) (codes_of AsRest (normal (parts_of es).0)) (codes_of AsRest (parts_of es).0) (rest_normal es g.1) l
+rest_normal (Series t ∷ es) g = λ l. stands_holds t es g.0 true (Leaf 0) l
+    ∙ same_after (codes_of InSeries t) (codes_of AsRest (normal (parts_of es).0)) (codes_of AsRest (parts_of es).0) (rest_normal es g.1) l
 rest_normal (e.Fork t ∷ es) g = fork_in_rest (codes_of AsChild (normal t)) (codes_of AsChild t) (codes_of AsRest (normal (parts_of es).0)) (codes_of AsRest (parts_of es).0) g.0 (rest_normal es g.1)
 rest_normal (Join ∷ es) g = λ l. refl
 
@@ -158,7 +161,8 @@ call_same (Execution tag) a b h = h
 pub marked_apart : (mark : Mark) (t : Tree) → IsFollowed t → IsApart (Marked mark t)
 marked_apart mark t h = λ rest later l.
     part_alone rest (Marked mark (normal t)) later (call_stands rest mark (codes_of InSeries (normal t))) l
-    ∙ same_before (codes_of InSeries (Marked mark (normal t))) (codes_of InSeries (Marked mark t)) (codes_of (stands rest) later) (call_same mark (codes_of InSeries (normal t)) (codes_of InSeries t) (same_normal t h)) l
+    ∙ same_before (codes_of InSeries (Marked mark (normal t))) (codes_of InSeries (Marked mark t)) (codes_of (stands rest) later)
+    (call_same mark (codes_of InSeries (normal t)) (codes_of InSeries t) (same_normal t h)) l
 
 pub marked_child : (mark : Mark) (t : Tree) → IsFollowed t → IsChild (Marked mark t)
 marked_child mark t h = same_normal t h
@@ -247,7 +251,8 @@ call_apart o es outer g = append_apart o.outer (part_of o.spawned (marked o.mark
 -- a block ends, and an instruction follows
 pub block_apart : (o : Open) (es : List Event) → o.spawned ≡ false → StandApart o.outer → StandApart es → StandApart (ticked (closed o es))
 block_apart o es quiet outer g = subst (λ (b : Bool). StandApart ((o.outer ++ part_of b (marked o.mark (tree_of es)) ∷ []) ++ Work 1 ∷ [])) (sym quiet)
-    (subst StandApart (sym (append_assoc o.outer (Series (marked o.mark (tree_of es)) ∷ []) (Work 1 ∷ []))) (append_apart o.outer (Series (marked o.mark (tree_of es)) ∷ Work 1 ∷ []) outer (one o.mark)))
+    (subst StandApart (sym (append_assoc o.outer (Series (marked o.mark (tree_of es)) ∷ []) (Work 1 ∷ [])))
+    (append_apart o.outer (Series (marked o.mark (tree_of es)) ∷ Work 1 ∷ []) outer (one o.mark)))
   where
     one : (mark : Option Mark) → StandApart (Series (marked mark (tree_of es)) ∷ Work 1 ∷ [])
     one None = (tree_followed es g, tt)

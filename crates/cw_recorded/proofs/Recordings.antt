@@ -61,7 +61,8 @@ keeps_later since more a (Some kept) h = (
       ∙ sym (onto-append a (Instructions more ∷ []) l),
 )
 
-one_more : (P : Recorded → Type 0) (kept : List Code) (c : Code) → (cuts (kept ++ c ∷ []) < MOST_STRANDS → P (Some (kept ++ c ∷ []))) → (MOST_STRANDS ≤ cuts (kept ++ c ∷ []) → P None) → P (followed (Some kept) (Some (c ∷ [])))
+one_more : (P : Recorded → Type 0) (kept : List Code) (c : Code) → (cuts (kept ++ c ∷ []) < MOST_STRANDS → P (Some (kept ++ c ∷ [])))
+    → (MOST_STRANDS ≤ cuts (kept ++ c ∷ []) → P None) → P (followed (Some kept) (Some (c ∷ [])))
 one_more P [] c f g = f (omega (arith, cut_small c))
 one_more P (d ∷ kept) c f g = by_few P (d ∷ (kept ++ c ∷ [])) (λ h. f (omega (arith, h))) g
 
@@ -130,7 +131,8 @@ pub spawned_synced : (es : List Event) → has_spawned (synced es) ≡ false
 spawned_synced es = spawned_append false es (Join ∷ Work 1 ∷ [])
 
 -- a part begins
-pub codes_begun : (spawned : Bool) (mark : Option Mark) (os : List Open) (es : List Event) → IsOpen os → codes_in (begun spawned mark es os) [] ≡ codes_in os es ++ Instructions 1 ∷ opening spawned mark (has_spawned es)
+pub codes_begun : (spawned : Bool) (mark : Option Mark) (os : List Open) (es : List Event) → IsOpen os
+    → codes_in (begun spawned mark es os) [] ≡ codes_in os es ++ Instructions 1 ∷ opening spawned mark (has_spawned es)
 codes_begun spawned mark [] es open_ = absurd open_
 codes_begun spawned mark (o ∷ os) es open_ =
     let a = codes_in (o ∷ os) es in
@@ -154,7 +156,8 @@ as_child : (mark : Option Mark) (a b : Tree) → codes_of AsChild (marked mark (
 as_child None a b = refl
 as_child (Some m) a b = refl
 
-part_record : (spawned : Bool) (mark : Option Mark) (out : Bool) (a b : Tree) → record_of out (part_of spawned (marked mark (Seq a b)) ∷ []) ≡ opening spawned mark out ++ (codes_of InSeries (Seq a b) ++ ending spawned mark)
+part_record : (spawned : Bool) (mark : Option Mark) (out : Bool) (a b : Tree)
+    → record_of out (part_of spawned (marked mark (Seq a b)) ∷ []) ≡ opening spawned mark out ++ (codes_of InSeries (Seq a b) ++ ending spawned mark)
 part_record true mark true a b = ap (λ (l : List Code). Spawned false ∷ (l ++ Ended ∷ [])) (as_child mark a b)
 part_record true mark false a b = ap (λ (l : List Code). Spawned true ∷ (l ++ Ended ∷ [])) (as_child mark a b)
 part_record false None out a b = refl
@@ -190,10 +193,12 @@ codes_closed o (p ∷ os) es main = λ l.
     ∙ onto-append a (b ++ r) (onto j after)
     ∙ ap (onto a) (onto-append b r (onto j after) ∙ ap (onto b) (sym (onto-append r j after) ∙ block_same es after ∙ sym (onto-append t d l)) ∙ sym (onto-append b (t ++ d) l))
     ∙ sym (onto-append a (b ++ (t ++ d)) l)
-    ∙ ap (λ (x : List Code). onto x l) (sym (codes_more p os o.outer (part_of o.spawned (marked o.mark (tree_of es)) ∷ []) ∙ ap (λ (x : List Code). a ++ x) (part_record o.spawned o.mark (has_spawned o.outer) (parts_of es).0 (parts_of es).1)))
+    ∙ ap (λ (x : List Code). onto x l) (sym (codes_more p os o.outer (part_of o.spawned (marked o.mark (tree_of es)) ∷ [])
+    ∙ ap (λ (x : List Code). a ++ x) (part_record o.spawned o.mark (has_spawned o.outer) (parts_of es).0 (parts_of es).1)))
 
 -- a block ends, and an instruction of the block round it follows
-pub codes_ended : (o : Open) (os : List Open) (es : List Event) → IsFromMain (o ∷ os) → Same (codes_in (o ∷ os) es ++ (to_join (has_spawned es) ++ (ending_in o os ++ Instructions 1 ∷ []))) (codes_in os (ticked (closed o es)))
+pub codes_ended : (o : Open) (os : List Open) (es : List Event) → IsFromMain (o ∷ os)
+    → Same (codes_in (o ∷ os) es ++ (to_join (has_spawned es) ++ (ending_in o os ++ Instructions 1 ∷ []))) (codes_in os (ticked (closed o es)))
 codes_ended o os es main = λ l.
     let a = codes_in (o ∷ os) es in
     let j = to_join (has_spawned es) in
@@ -204,7 +209,8 @@ codes_ended o os es main = λ l.
     ∙ ap (λ (x : List Code). onto x l) (sym (codes_ticked os (closed o es)))
 
 -- a call joins, and ends by an instruction of its own
-pub codes_returned : (o : Open) (os : List Open) (es : List Event) → IsFromMain (o ∷ os) → Same (codes_in (o ∷ os) es ++ (to_join (has_spawned es) ++ Instructions 1 ∷ ending_in o os)) (codes_in os (closed o (synced es)))
+pub codes_returned : (o : Open) (os : List Open) (es : List Event) → IsFromMain (o ∷ os)
+    → Same (codes_in (o ∷ os) es ++ (to_join (has_spawned es) ++ Instructions 1 ∷ ending_in o os)) (codes_in os (closed o (synced es)))
 codes_returned o os es main = λ l.
     let a = codes_in (o ∷ os) es in
     let j = to_join (has_spawned es) in

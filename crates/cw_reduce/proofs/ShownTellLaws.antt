@@ -12,7 +12,8 @@ first_joined : (F I : List Held) (i : ℕ) → totals_joined (take zero F) I ≡
 first_joined [] I i = refl
 first_joined (x ∷ F) I i = refl
 
-next : (F I : List Held) (i : ℕ) (d : Held) → i < length F → length F ≤ length I → set (totals_joined (take i F) I) i (held_joined (get_or F i d) (get_or (totals_joined (take i F) I) i d)) ≡ totals_joined (take (suc i) F) I
+next : (F I : List Held) (i : ℕ) (d : Held) → i < length F → length F ≤ length I
+    → set (totals_joined (take i F) I) i (held_joined (get_or F i d) (get_or (totals_joined (take i F) I) i d)) ≡ totals_joined (take (suc i) F) I
 next [] I i d h k = absurd (omega arith)
 next (x ∷ F) [] i d h k = absurd (omega arith)
 next (x ∷ F) (y ∷ I) zero d h k = ap (λ (l : List Held). held_joined x y ∷ l) (sym (first_joined F I zero))
@@ -23,7 +24,8 @@ pub record JoinedTo (from into : List Total) (i : ℕ) (now : List Total) : Type
   pub totals : map held now ≡ totals_joined (take i (map held from)) (map held into)
   pub size : length now ≡ length into
 
-pub one_joined : (from into now : List Total) (i : ℕ) (f n new : Total) → i < length from → length from ≤ length into → f ≡ get_or from i f → n ≡ get_or now i n → held new ≡ held_joined (held f) (held n) → JoinedTo from into i now → JoinedTo from into (i + 1) (set now i new)
+pub one_joined : (from into now : List Total) (i : ℕ) (f n new : Total) → i < length from → length from ≤ length into → f ≡ get_or from i f
+    → n ≡ get_or now i n → held new ≡ held_joined (held f) (held n) → JoinedTo from into i now → JoinedTo from into (i + 1) (set now i new)
 one_joined from into now i f n new h k e g j a =
     let lf = length-map from held in
     let li = length-map into held in
@@ -48,10 +50,12 @@ one_joined from into now i f n new h k e g j a =
 pub held_at : (totals : List Total) (q : ℕ) → held_of (map held totals) q ≡ held (total_of totals q)
 held_at totals q = listn.get_or-map held totals q (total.Max None)
 
-pub told_total : (old new : List Total) (reducer q : ℕ) (more : Total) (x : Held) → TellsTotals old new reducer more → held more ≡ x → held_of (map held new) q ≡ (if reducer == q then held_joined (held_of (map held old) q) x else held_of (map held old) q)
+pub told_total : (old new : List Total) (reducer q : ℕ) (more : Total) (x : Held) → TellsTotals old new reducer more → held more ≡ x
+    → held_of (map held new) q ≡ (if reducer == q then held_joined (held_of (map held old) q) x else held_of (map held old) q)
 told_total old new reducer q more x a e = by_test (reducer == q) (a q)
   where
-    by_test : (b : Bool) → held (total_of new q) ≡ (if b then held_joined (held (total_of old q)) (held more) else held (total_of old q)) → held_of (map held new) q ≡ (if b then held_joined (held_of (map held old) q) x else held_of (map held old) q)
+    by_test : (b : Bool) → held (total_of new q) ≡ (if b then held_joined (held (total_of old q)) (held more) else held (total_of old q))
+        → held_of (map held new) q ≡ (if b then held_joined (held_of (map held old) q) x else held_of (map held old) q)
     by_test true h =
         held_at new q ∙ h ∙ ap (λ (w : Held). held_joined w (held more)) (sym (held_at old q)) ∙ ap (held_joined (held_of (map held old) q)) e
     by_test false h = held_at new q ∙ h ∙ sym (held_at old q)

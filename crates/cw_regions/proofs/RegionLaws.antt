@@ -46,7 +46,9 @@ ended_burdened : (last : Bool) (count path heavy : ℕ) (r : Row) → ended_at l
 ended_burdened true count path heavy r = refl
 ended_burdened false count path heavy r = refl
 
-row_entered : (burden : Burden) (along : Readings burden) (tag : Name) (busy : ℕ) (o : Open) (os : List Open) (r : Row) (count path heavy : ℕ) → is_counted (is_tag tag) o.mark ≡ true → count ≡ work_in (o ∷ os) [] → path ≡ along.path (o ∷ os) [] → heavy ≡ along.burdened (o ∷ os) [] → CountsTag burden along tag busy os o.outer r → CountsTag burden along tag busy (o ∷ os) [] (entered count path heavy r)
+row_entered : (burden : Burden) (along : Readings burden) (tag : Name) (busy : ℕ) (o : Open) (os : List Open) (r : Row) (count path heavy : ℕ)
+    → is_counted (is_tag tag) o.mark ≡ true → count ≡ work_in (o ∷ os) [] → path ≡ along.path (o ∷ os) [] → heavy ≡ along.burdened (o ∷ os) []
+    → CountsTag burden along tag busy os o.outer r → CountsTag burden along tag busy (o ∷ os) [] (entered count path heavy r)
 row_entered burden along tag busy o os r count path heavy e c p b h =
     let first = r.active == 0 in
     let W : Tally → Type 0 = λ t. Counts work work_in (is_tag tag) busy (o ∷ os) [] t in
@@ -55,19 +57,26 @@ row_entered burden along tag busy o os r count path heavy e c p b h =
     record {
       work_is = subst W (ap (λ (x : ℕ). begun x (work_tally r)) (sym c) ∙ begun_work first count path heavy r) (counts_begun work work_in (is_tag tag) busy o os (work_tally r) e h.work_is);
       span_is = subst S (ap (λ (x : ℕ). begun x (span_tally r)) (sym p) ∙ begun_span first count path heavy r) (counts_begun span along.path (is_tag tag) busy o os (span_tally r) e h.span_is);
-      burdened_is = subst B (ap (λ (x : ℕ). begun x (burdened_tally r)) (sym b) ∙ begun_burdened first count path heavy r) (counts_begun (burdened_span burden) along.burdened (is_tag tag) busy o os (burdened_tally r) e h.burdened_is);
+      burdened_is = subst B (ap (λ (x : ℕ). begun x (burdened_tally r)) (sym b) ∙ begun_burdened first count path heavy r)
+          (counts_begun (burdened_span burden) along.burdened (is_tag tag) busy o os (burdened_tally r) e h.burdened_is);
     }
 
-row_left : (burden : Burden) (along : Readings burden) (tag : Name) (busy : ℕ) (o : Open) (os : List Open) (es : List Event) (r : Row) (count path heavy : ℕ) → is_counted (is_tag tag) o.mark ≡ true → has_spawned es ≡ false → count ≡ work_in (o ∷ os) es → path ≡ along.path (o ∷ os) es → heavy ≡ along.burdened (o ∷ os) es → CountsTag burden along tag busy (o ∷ os) es r → CountsTag burden along tag busy os (closed o es) (left count path heavy r)
+row_left : (burden : Burden) (along : Readings burden) (tag : Name) (busy : ℕ) (o : Open) (os : List Open) (es : List Event) (r : Row)
+    (count path heavy : ℕ) → is_counted (is_tag tag) o.mark ≡ true → has_spawned es ≡ false → count ≡ work_in (o ∷ os) es
+    → path ≡ along.path (o ∷ os) es → heavy ≡ along.burdened (o ∷ os) es → CountsTag burden along tag busy (o ∷ os) es r
+    → CountsTag burden along tag busy os (closed o es) (left count path heavy r)
 row_left burden along tag busy o os es r count path heavy e j c p b h =
     let last = r.active == 1 in
     let W : Tally → Type 0 = λ t. Counts work work_in (is_tag tag) busy os (closed o es) t in
     let S : Tally → Type 0 = λ t. Counts span along.path (is_tag tag) busy os (closed o es) t in
     let B : Tally → Type 0 = λ t. Counts (burdened_span burden) along.burdened (is_tag tag) busy os (closed o es) t in
     record {
-      work_is = subst W (ap (λ (x : ℕ). ended x (work_tally r)) (sym c) ∙ ended_work last count path heavy r) (counts_ended work work_in (is_tag tag) busy work_meters o os es (work_tally r) e j h.work_is);
-      span_is = subst S (ap (λ (x : ℕ). ended x (span_tally r)) (sym p) ∙ ended_span last count path heavy r) (counts_ended span along.path (is_tag tag) busy along.path_is o os es (span_tally r) e j h.span_is);
-      burdened_is = subst B (ap (λ (x : ℕ). ended x (burdened_tally r)) (sym b) ∙ ended_burdened last count path heavy r) (counts_ended (burdened_span burden) along.burdened (is_tag tag) busy along.burdened_is o os es (burdened_tally r) e j h.burdened_is);
+      work_is = subst W (ap (λ (x : ℕ). ended x (work_tally r)) (sym c) ∙ ended_work last count path heavy r)
+          (counts_ended work work_in (is_tag tag) busy work_meters o os es (work_tally r) e j h.work_is);
+      span_is = subst S (ap (λ (x : ℕ). ended x (span_tally r)) (sym p) ∙ ended_span last count path heavy r)
+          (counts_ended span along.path (is_tag tag) busy along.path_is o os es (span_tally r) e j h.span_is);
+      burdened_is = subst B (ap (λ (x : ℕ). ended x (burdened_tally r)) (sym b) ∙ ended_burdened last count path heavy r)
+          (counts_ended (burdened_span burden) along.burdened (is_tag tag) busy along.burdened_is o os es (burdened_tally r) e j h.burdened_is);
     }
 
 burdened_bounds : (burden : Burden) → Bounds (burdened_span burden) (burdened_work burden)
@@ -77,14 +86,16 @@ burdened_sum : (burden : Burden) (os : List Open) (es : List Event) → sum_in (
 burdened_sum burden [] es = omega arith
 burdened_sum burden (o ∷ os) es = let a = burdened_sum burden os o.outer in omega arith
 
-fits_row : (burden : Burden) (along : Readings burden) (tags : Tags) (busy : ℕ → ℕ) (os : List Open) (es : List Event) (k : ℕ) (r : Row) → SmallRegions burden tags busy os es → CountsTag burden along (tags.name k) (busy k) os es r → FitsRow r
+fits_row : (burden : Burden) (along : Readings burden) (tags : Tags) (busy : ℕ → ℕ) (os : List Open) (es : List Event) (k : ℕ) (r : Row)
+    → SmallRegions burden tags busy os es → CountsTag burden along (tags.name k) (busy k) os es r → FitsRow r
 fits_row burden along tags busy os es k r small h =
     let picks = is_tag (tags.name k) in
     let w = small.work in
     record {
       work = let a = outer_in_within work work work_bounds picks (busy k) os es in let b = h.work_is.sum_is in omega arith;
       span = let a = outer_in_within span work span_bounds picks (busy k) os es in let b = h.span_is.sum_is in omega arith;
-      burdened = let a = outer_in_within (burdened_span burden) (burdened_work burden) (burdened_bounds burden) picks (busy k) os es in let b = h.burdened_is.sum_is in let c = burdened_sum burden os es in let d = small.burdened in omega arith;
+      burdened = let a = outer_in_within (burdened_span burden) (burdened_work burden) (burdened_bounds burden) picks (busy k) os es in let b =
+          h.burdened_is.sum_is in let c = burdened_sum burden os es in let d = small.burdened in omega arith;
       active = let a = small.active k in let b = h.work_is.active_is in omega arith;
     }
 
@@ -102,7 +113,11 @@ other_tag tags q tag true e l m n =
 other_tag tags q tag false e l m n = refl
 
 -- an execution begins
-pub region_begins : (burden : Burden) (along : Readings burden) (tags : Tags) (busy : ℕ → ℕ) (os : List Open) (es : List Event) (old new : RegionTable) (tag count path heavy : ℕ) → tag < tags.count → count ≡ work_in os es → path ≡ along.path os es → heavy ≡ along.burdened os es → SmallRegions burden tags busy (executed tags tag es os) [] → TellsRegions burden along tags busy os es old → (FitsRow (entered count path heavy (row_of old.rows tag)) → row_of new.rows tag ≡ entered count path heavy (row_of old.rows tag)) → ((q : ℕ) → (tag == q) ≡ false → row_of new.rows q ≡ row_of old.rows q) → TellsRegions burden along tags busy (executed tags tag es os) [] new
+pub region_begins : (burden : Burden) (along : Readings burden) (tags : Tags) (busy : ℕ → ℕ) (os : List Open) (es : List Event)
+    (old new : RegionTable) (tag count path heavy : ℕ) → tag < tags.count → count ≡ work_in os es → path ≡ along.path os es
+    → heavy ≡ along.burdened os es → SmallRegions burden tags busy (executed tags tag es os) [] → TellsRegions burden along tags busy os es old
+    → (FitsRow (entered count path heavy (row_of old.rows tag)) → row_of new.rows tag ≡ entered count path heavy (row_of old.rows tag))
+    → ((q : ℕ) → (tag == q) ≡ false → row_of new.rows q ≡ row_of old.rows q) → TellsRegions burden along tags busy (executed tags tag es os) [] new
 region_begins burden along tags busy os es old new tag count path heavy known c p b small h own others = λ q less. by_tag q less (tag == q) refl
   where
     by_tag : (q : ℕ) → q < tags.count → (x : Bool) → (tag == q) ≡ x → CountsTag burden along (tags.name q) (busy q) (executed tags tag es os) [] (row_of new.rows q)
@@ -118,23 +133,33 @@ region_begins burden along tags busy os es old new tag count path heavy known c 
     by_tag q less false e =
         let o : Open = record { spawned = false; mark = Some (Execution (tags.name tag)); outer = es } in
         let D : Row → Type 0 = λ r. CountsTag burden along (tags.name q) (busy q) (o ∷ os) [] r in
-        subst D (sym (others q e)) (row_other burden along (tags.name q) (busy q) o os (row_of old.rows q) (other_tag tags q tag (same_name (tags.name q) (tags.name tag)) refl less known e) (h q less))
+        subst D (sym (others q e)) (row_other burden along (tags.name q) (busy q) o os (row_of old.rows q)
+        (other_tag tags q tag (same_name (tags.name q) (tags.name tag)) refl less known e) (h q less))
 
 -- it ends
-pub region_ends : (burden : Burden) (along : Readings burden) (tags : Tags) (busy : ℕ → ℕ) (os : List Open) (before es : List Event) (old new : RegionTable) (tag count path heavy : ℕ) → tag < tags.count → count ≡ work_in (executed tags tag before os) es → path ≡ along.path (executed tags tag before os) es → heavy ≡ along.burdened (executed tags tag before os) es → has_spawned es ≡ false → SmallRegions burden tags busy (executed tags tag before os) es → TellsRegions burden along tags busy (executed tags tag before os) es old → (FitsRow (left count path heavy (row_of old.rows tag)) → row_of new.rows tag ≡ left count path heavy (row_of old.rows tag)) → ((q : ℕ) → (tag == q) ≡ false → row_of new.rows q ≡ row_of old.rows q) → TellsRegions burden along tags busy os (closed (record { spawned = false; mark = Some (Execution (tags.name tag)); outer = before }) es) new
+pub region_ends : (burden : Burden) (along : Readings burden) (tags : Tags) (busy : ℕ → ℕ) (os : List Open) (before es : List Event)
+    (old new : RegionTable) (tag count path heavy : ℕ) → tag < tags.count → count ≡ work_in (executed tags tag before os) es
+    → path ≡ along.path (executed tags tag before os) es → heavy ≡ along.burdened (executed tags tag before os) es → has_spawned es ≡ false
+    → SmallRegions burden tags busy (executed tags tag before os) es → TellsRegions burden along tags busy (executed tags tag before os) es old
+    → (FitsRow (left count path heavy (row_of old.rows tag)) → row_of new.rows tag ≡ left count path heavy (row_of old.rows tag))
+    → ((q : ℕ) → (tag == q) ≡ false → row_of new.rows q ≡ row_of old.rows q)
+    → TellsRegions burden along tags busy os (closed (record { spawned = false; mark = Some (Execution (tags.name tag)); outer = before }) es) new
 region_ends burden along tags busy os before es old new tag count path heavy known c p b j small h own others = λ q less. by_tag q less (tag == q) refl
   where
-    by_tag : (q : ℕ) → q < tags.count → (x : Bool) → (tag == q) ≡ x → CountsTag burden along (tags.name q) (busy q) os (closed (record { spawned = false; mark = Some (Execution (tags.name tag)); outer = before }) es) (row_of new.rows q)
+    by_tag : (q : ℕ) → q < tags.count → (x : Bool) → (tag == q) ≡ x → CountsTag burden along (tags.name q) (busy q) os
+        (closed (record { spawned = false; mark = Some (Execution (tags.name tag)); outer = before }) es) (row_of new.rows q)
     by_tag q less true e =
         let o : Open = record { spawned = false; mark = Some (Execution (tags.name tag)); outer = before } in
         let row = row_left burden along (tags.name tag) (busy tag) o os es (row_of old.rows tag) count path heavy (same_itself (tags.name tag)) j c p b (h tag known) in
         let D : Row → Type 0 = λ r. CountsTag burden along (tags.name tag) (busy tag) os (closed o es) r in
         let P : ℕ → Type 0 = λ x. CountsTag burden along (tags.name x) (busy x) os (closed o es) (row_of new.rows x) in
-        subst P (eqb-true tag q e) (subst D (sym (own (fits_row burden along tags busy os (closed o es) tag (left count path heavy (row_of old.rows tag)) (small_closed burden tags busy o os es small) row))) row)
+        subst P (eqb-true tag q e) (subst D (sym (own (fits_row burden along tags busy os (closed o es) tag
+        (left count path heavy (row_of old.rows tag)) (small_closed burden tags busy o os es small) row))) row)
     by_tag q less false e =
         let o : Open = record { spawned = false; mark = Some (Execution (tags.name tag)); outer = before } in
         let D : Row → Type 0 = λ r. CountsTag burden along (tags.name q) (busy q) os (closed o es) r in
-        subst D (sym (others q e)) (row_other_left burden along (tags.name q) (busy q) o os es (row_of old.rows q) (other_tag tags q tag (same_name (tags.name q) (tags.name tag)) refl less known e) (h q less))
+        subst D (sym (others q e)) (row_other_left burden along (tags.name q) (busy q) o os es (row_of old.rows q)
+        (other_tag tags q tag (same_name (tags.name q) (tags.name tag)) refl less known e) (h q less))
 
 -- nothing has run
 pub regions_start : (burden : Burden) (along : Readings burden) (tags : Tags) (table : RegionTable) → ((q : ℕ) → row_of table.rows q ≡ zero_row) → TellsRegions burden along tags (λ k. 0) [] [] table
@@ -152,7 +177,8 @@ pub record ReadsRow (row : Row) (burden : Burden) (tag : Name) (t : Tree) : Type
   pub span_is : row.span ≡ (region_row burden tag t).span
   pub burdened_is : row.burdened ≡ (region_row burden tag t).burdened
 
-pub region_read : (burden : Burden) (along : Readings burden) (tags : Tags) (busy : ℕ → ℕ) (es : List Event) (table : RegionTable) (tag : ℕ) → tag < tags.count → busy tag ≡ 0 → TellsRegions burden along tags busy [] es table → ReadsRow (row_of table.rows tag) burden (tags.name tag) (tree_of es)
+pub region_read : (burden : Burden) (along : Readings burden) (tags : Tags) (busy : ℕ → ℕ) (es : List Event) (table : RegionTable) (tag : ℕ)
+    → tag < tags.count → busy tag ≡ 0 → TellsRegions burden along tags busy [] es table → ReadsRow (row_of table.rows tag) burden (tags.name tag) (tree_of es)
 region_read burden along tags busy es table tag known idle h =
     let r = h tag known in
     let picks = is_tag (tags.name tag) in
@@ -166,7 +192,8 @@ pub regions_keep : RegionsKeep
 regions_keep = regions_need_no_call
 
 -- pieces that ran apart
-row_further : (burden : Burden) (along there : Readings burden) (tag : Name) (busy : ℕ) (os : List Open) (es fs : List Event) (r s : Row) → CountsTag burden along tag busy os es r → CountsTag burden there tag 0 [] fs s → CountsTag burden along tag busy os (es ++ fs) (summed r s)
+row_further : (burden : Burden) (along there : Readings burden) (tag : Name) (busy : ℕ) (os : List Open) (es fs : List Event) (r s : Row)
+    → CountsTag burden along tag busy os es r → CountsTag burden there tag 0 [] fs s → CountsTag burden along tag busy os (es ++ fs) (summed r s)
 row_further burden along there tag busy os es fs r s h g = record {
   work_is = counts_further work work_in work_in (is_tag tag) busy os es fs (work_tally r) (work_tally s) h.work_is g.work_is;
   span_is = counts_further span along.path there.path (is_tag tag) busy os es fs (span_tally r) (span_tally s) h.span_is g.span_is;
@@ -174,7 +201,8 @@ row_further burden along there tag busy os es fs r s h g = record {
 }
 
 -- a row that is read alike counts the same run
-row_alike : (burden : Burden) (along : Readings burden) (tag : Name) (busy : ℕ) (os : List Open) (es : List Event) (r s : Row) → IsReadAs s r → CountsTag burden along tag busy os es r → CountsTag burden along tag busy os es s
+row_alike : (burden : Burden) (along : Readings burden) (tag : Name) (busy : ℕ) (os : List Open) (es : List Event) (r s : Row) → IsReadAs s r
+    → CountsTag burden along tag busy os es r → CountsTag burden along tag busy os es s
 row_alike burden along tag busy os es r s a h = record {
   work_is = counts_alike work work_in (is_tag tag) busy os es (work_tally r) (work_tally s) a.work a.active a.at_work h.work_is;
   span_is = counts_alike span along.path (is_tag tag) busy os es (span_tally r) (span_tally s) a.span a.active a.at_path h.span_is;

@@ -25,7 +25,9 @@ given_here now new place sum g = g place ∙ ap (λ (b : Bool). if b then sum el
 given_other : (now new : Rows) (place q : ℕ) (sum : Row) → IsGiven now new place sum → (place == q) ≡ false → row_of new q ≡ row_of now q
 given_other now new place q sum g e = g q ∙ ap (λ (b : Bool). if b then sum else row_of now q) e
 
-pub one_added : (add : Row → Row → Row) (old shorter now new : Rows) (place : ℕ) (current row sum : Row) → current ≡ row_of now place → row ≡ row_of shorter place → (FitsRow (add current row) → sum ≡ add current row) → IsGiven now new place sum → length new.by_tag.items ≡ length now.by_tag.items → Added add old shorter now place → Added add old shorter new (place + 1)
+pub one_added : (add : Row → Row → Row) (old shorter now new : Rows) (place : ℕ) (current row sum : Row) → current ≡ row_of now place
+    → row ≡ row_of shorter place → (FitsRow (add current row) → sum ≡ add current row) → IsGiven now new place sum
+    → length new.by_tag.items ≡ length now.by_tag.items → Added add old shorter now place → Added add old shorter new (place + 1)
 one_added add old shorter now new place current row sum c r s g l h = record {
   as_long = l ∙ h.as_long;
   below = λ q less fits. by_place q less fits (place == q) refl;
@@ -51,7 +53,16 @@ each_added add old shorter now place e h = record {
 
 -- rows that are the same are read alike
 read_same : (r s : Row) → r ≡ s → IsReadAs r s
-read_same r s e = record { work = ap (λ (x : Row). x.work) e; span = ap (λ (x : Row). x.span) e; burdened = ap (λ (x : Row). x.burdened) e; active = ap (λ (x : Row). x.active) e; at_work = λ h. ap (λ (x : Row). x.at_work) e; at_path = λ h. ap (λ (x : Row). x.at_path) e; at_burdened = λ h. ap (λ (x : Row). x.at_burdened) e }
+read_same r s e = record {
+  work = ap (λ (x : Row). x.work) e;
+  span = ap (λ (x : Row). x.span) e;
+  burdened = ap (λ (x : Row). x.burdened) e;
+  active = ap (λ (x : Row). x.active) e;
+  at_work = λ h. ap (λ (x : Row). x.at_work) e;
+  at_path = λ h. ap (λ (x : Row). x.at_path) e;
+  at_burdened =
+      λ h. ap (λ (x : Row). x.at_burdened) e;
+}
 
 -- a row of the piece alone
 read_alone : (ours piece row : Row) → ours ≡ zero_row → row ≡ piece → piece.active ≡ 0 → IsReadAs row (summed ours piece)
@@ -68,14 +79,17 @@ read_alone ours piece row none e idle =
     })
 
 summed_none : (r : Row) → summed r zero_row ≡ r
-summed_none r = let z = unless_nothing (r.active == 0) in let a : r.work + unless_at (r.active == 0) 0 ≡ r.work = omega arith in let b : r.span + unless_at (r.active == 0) 0 ≡ r.span = omega arith in let c : r.burdened + unless_at (r.active == 0) 0 ≡ r.burdened = omega arith in simp (a, b, c)
+summed_none r = let z = unless_nothing (r.active == 0) in let a : r.work + unless_at (r.active == 0) 0 ≡ r.work = omega arith in
+    let b : r.span + unless_at (r.active == 0) 0 ≡ r.span = omega arith in let c : r.burdened + unless_at (r.active == 0) 0 ≡ r.burdened =
+    omega arith in simp (a, b, c)
 
 -- where ours are no fewer, and where they are fewer
 pub joined_into_ours : (old piece new : Rows) → AddsEach summed old piece new → JoinsRows old piece new
 joined_into_ours old piece new a = λ q fits alike.
     elim (cases_lt q (length piece.by_tag.items)) [
       | inl h ↦ read_same (row_of new q) (summed (row_of old q) (row_of piece q)) (a.within q h fits)
-      | inr h ↦ read_same (row_of new q) (summed (row_of old q) (row_of piece q)) (a.beyond q h ∙ sym (summed_none (row_of old q)) ∙ ap (summed (row_of old q)) (sym (get_or_past piece.by_tag.items q zero_row h)))
+      | inr h ↦ read_same (row_of new q) (summed (row_of old q) (row_of piece q))
+          (a.beyond q h ∙ sym (summed_none (row_of old q)) ∙ ap (summed (row_of old q)) (sym (get_or_past piece.by_tag.items q zero_row h)))
     ]
 
 pub joined_into_piece : (old piece new : Rows) → AddsEach under piece old new → JoinsRows old piece new

@@ -16,9 +16,14 @@ then-Appends (Some x) (Some y) None xs ys p q = absurd q
 then-Appends (Some x) (Some y) (Some z) xs ys p q = q ∙ ap (λ l. l ++ ys) p ∙ append_assoc x xs ys
 
 -- n more bytes of the text
-pub more-AppendsBefore : (n : ℕ) (left text : List ℕ) (a b c : Option (List ℕ)) → AppendsBefore left a b text → Appends b c (take n left) → AppendsBefore (take (length left - n) (drop n left)) a c text
-more-AppendsBefore n left text a b c (done, split, wrote) more =
-    (done ++ take n left, split ∙ ap (λ l. done ++ l) (sym (take-append-drop n left)) ∙ sym (append_assoc done (take n left) (drop n left)) ∙ ap (λ l. (done ++ take n left) ++ l) (sym (take_rest left n)), then-Appends a b c done (take n left) wrote more)
+pub more-AppendsBefore : (n : ℕ) (left text : List ℕ) (a b c : Option (List ℕ)) → AppendsBefore left a b text → Appends b c (take n left)
+    → AppendsBefore (take (length left - n) (drop n left)) a c text
+more-AppendsBefore n left text a b c (done, split, wrote) more = (
+  done ++ take n left,
+  split ∙ ap (λ l. done ++ l) (sym (take-append-drop n left)) ∙ sym (append_assoc done (take n left) (drop n left))
+      ∙ ap (λ l. (done ++ take n left) ++ l) (sym (take_rest left n)),
+  then-Appends a b c done (take n left) wrote more,
+)
 
 -- what comes after a text that was written
 after-AppendsPart : (a b c : Option (List ℕ)) (xs ys : List ℕ) → Appends a b xs → AppendsPart b c ys → AppendsPart a c (xs ++ ys)

@@ -8,7 +8,8 @@ use Rattle.cw_greedy.specs.lemmas.Slots.{ready_nones}
 use Rattle.cw_schedule.specs.declared.board.Board.{Board}
 use Rattle.cw_schedule.specs.Boards.{left_at, lowered, minus, lesser, least_slot, least_first, over, shown, one_if_none, EndFrom, Full, HasRoom, Keeps, Moves, NoneFrom, NoneBefore}
 use Rattle.cw_schedule.proofs.Slots.{ready-lowered, least-lowered, length-lowered, lowered-lowered, length-nones, nones_at}
-use Rattle.cw_schedule.proofs.Over.{lowered-set, ready_set, ready_unset, least_ends, over_none, length-over, left_at-lowered, none_of_lowered, lowered_of_none, over_set_first, over_unset_first, over_set_second, over_at_first, over_at_second, first_over, run_over, least_over, ready_over}
+use Rattle.cw_schedule.proofs.Over.{lowered-set, ready_set, ready_unset, least_ends, over_none, length-over, left_at-lowered, none_of_lowered, lowered_of_none}
+use Rattle.cw_schedule.proofs.Over.{over_set_first, over_unset_first, over_set_second, over_at_first, over_at_second, first_over, run_over, least_over, ready_over}
 use Rattle.cw_schedule.proofs.Groups.{stands_somewhere, ready_none}
 use Rattle.cw_schedule.proofs.Jumps.{zero_left, zero_right}
 use Rattle.cw_schedule.proofs.Parts.{zero_second}

@@ -1,5 +1,6 @@
 -- Groups of a row, and the row of their leasts.
-use Rattle.std.proofs.Common.{◌≡◌, ◌≢◌, ℕ, zero, suc, ◌+◌, ◌-◌, ◌*◌, ◌/◌, ◌≤◌, ◌<◌, [], ◌∷◌, Option, Some, None, length, length-drop, take, drop, length-take, take-append-drop, set, length-set, get_or-set_same, get_or-set_other, get_or-take, get_or-drop, arith, refl, ap, sym, ◌∙◌, subst}
+use Rattle.std.proofs.Common.{◌≡◌, ◌≢◌, ℕ, zero, suc, ◌+◌, ◌-◌, ◌*◌, ◌/◌, ◌≤◌, ◌<◌, [], ◌∷◌, Option, Some, None, length, length-drop, take, drop, length-take}
+use Rattle.std.proofs.Common.{take-append-drop, set, length-set, get_or-set_same, get_or-set_other, get_or-take, get_or-drop, arith, refl, ap, sym, ◌∙◌, subst}
 use Rattle.std.specs.Prelude.{min}
 use Rattle.std.proofs.lemmas.List.{take_min, drop-drop, drop-set-lt, drop-set-add, take-set-le, get_or_past}
 use Rattle.std.proofs.lemmas.Option.{same_Some}

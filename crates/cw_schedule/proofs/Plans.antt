@@ -1,5 +1,6 @@
 -- A plan follows the block that codes are read as.
-use Rattle.std.proofs.Common.{◌≡◌, ℕ, ◌+◌, ◌-◌, ◌<◌, Bool, true, false, List, [], ◌∷◌, ◌++◌, Option, Some, None, length, length-append, append_assoc, arith, set, drop, get_or, refl, ap, sym, ◌∙◌, subst}
+use Rattle.std.proofs.Common.{◌≡◌, ℕ, ◌+◌, ◌-◌, ◌<◌, Bool, true, false, List, [], ◌∷◌, ◌++◌, Option, Some, None, length}
+use Rattle.std.proofs.Common.{length-append, append_assoc, arith, set, drop, get_or, refl, ap, sym, ◌∙◌, subst}
 use Rattle.std.proofs.lemmas.List.{set_at, get_or_at, drop_more, same_from_push}
 use Rattle.std.proofs.lemmas.Option.{none-some, same_Some}
 use Rattle.cw_greedy.specs.declared.code.Code.{Code}

@@ -70,7 +70,8 @@ module _ (code : Code) where
       begun None e = absurd (none-some (Ended v lines totals tree) e)
       begun (Some f) e = by_test (nat_eq (length args) f.params && (nat_le f.params f.slots && (nat_eq f.array_params 0 && nat_eq f.readers 0))) e
         where
-          by_test : (b : Bool) → option_map (λ o. answer_of (reducers_of code) o) (go_on (if b then On (first_state f args [] []) else Stuck) n (λ s. steps code n s)) ≡ Some (Ended v lines totals tree)
+          by_test : (b : Bool) → option_map (λ o. answer_of (reducers_of code) o)
+              (go_on (if b then On (first_state f args [] []) else Stuck) n (λ s. steps code n s)) ≡ Some (Ended v lines totals tree)
               → work tree ≤ n
           by_test true e = ran f (steps code n (first_state f args [] [])) refl e
           by_test false e = absurd (none-some (Ended v lines totals tree) e)

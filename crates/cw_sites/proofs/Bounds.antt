@@ -107,7 +107,9 @@ total_local site base (o ∷ os) es =
     let b = ap (λ (p : Path). p.own) (enters_total o.spawned (block_path site base os o.outer)) in (omega arith, omega arith)
 
 -- the blocks of a block hold what is kept of it beside the path that runs, and those below it
-stands_sum : (below : List SeenBlock → Type 0) (L : BlockPath) (ps : List SeenBlock) (start : Path) (k : ℕ) → ((qs : List SeenBlock) → below qs → Within (plus (sum_of qs) start) nowhere k) → (j : ℕ) → Within (total L) start j → StandsOn below L ps → Within (plus (sum_of ps) (now_of L)) nowhere (j + k)
+stands_sum : (below : List SeenBlock → Type 0) (L : BlockPath) (ps : List SeenBlock) (start : Path) (k : ℕ)
+    → ((qs : List SeenBlock) → below qs → Within (plus (sum_of qs) start) nowhere k) → (j : ℕ) → Within (total L) start j → StandsOn below L ps
+    → Within (plus (sum_of ps) (now_of L)) nowhere (j + k)
 stands_sum below (Straight n) ps start k bound j t h = let b = bound ps h in (omega arith, omega arith)
 stands_sum below (Split b l n) [] start k bound j t h = absurd h
 stands_sum below (Split b l n) (p ∷ ps) start k bound j t h =
@@ -116,7 +118,9 @@ stands_sum below (Split b l n) (p ∷ ps) start k bound j t h =
     let lw = ap (λ (x : Option Path). (longest_path x).weight) h.1 in let lo = ap (λ (x : Option Path). (longest_path x).own) h.1 in
     let rw' = ap (λ (x : Path). x.weight) h.2 in let ro = ap (λ (x : Path). x.own) h.2 in (omega arith, omega arith)
 
-rests_sum : (below : List SeenBlock → Type 0) (L : BlockPath) (ps : List SeenBlock) (start : Path) (k : ℕ) → ((qs : List SeenBlock) → below qs → Within (plus (sum_of qs) start) nowhere k) → (j : ℕ) → Within (total L) start j → RestsOn below L ps → Within (sum_of ps) nowhere (j + k)
+rests_sum : (below : List SeenBlock → Type 0) (L : BlockPath) (ps : List SeenBlock) (start : Path) (k : ℕ)
+    → ((qs : List SeenBlock) → below qs → Within (plus (sum_of qs) start) nowhere k) → (j : ℕ) → Within (total L) start j → RestsOn below L ps
+    → Within (sum_of ps) nowhere (j + k)
 rests_sum below L [] start k bound j t h = absurd h
 rests_sum below (Straight n) (p ∷ ps) start k bound j t h =
     let q = bound ps h.3 in
@@ -138,7 +142,9 @@ round-is : (os : List Open) (es : List Event) → work_in os es ≡ work (tree_o
 round-is [] es = omega arith
 round-is (o ∷ os) es = refl
 
-lies_sum : (b : Bool) (below : List SeenBlock → Type 0) (L : BlockPath) (ps : List SeenBlock) (start : Path) (k : ℕ) → ((qs : List SeenBlock) → below qs → Within (plus (sum_of qs) start) nowhere k) → (j w : ℕ) → w ≡ j + k → Within (total L) start j → LiesUnder b below L ps → Within (plus (sum_of ps) (now_of (enters b L))) nowhere w
+lies_sum : (b : Bool) (below : List SeenBlock → Type 0) (L : BlockPath) (ps : List SeenBlock) (start : Path) (k : ℕ)
+    → ((qs : List SeenBlock) → below qs → Within (plus (sum_of qs) start) nowhere k) → (j w : ℕ) → w ≡ j + k → Within (total L) start j
+    → LiesUnder b below L ps → Within (plus (sum_of ps) (now_of (enters b L))) nowhere w
 lies_sum true below L ps start k bound j w e t h = let s = rests_sum below L ps start k bound j t h in (omega arith, omega arith)
 lies_sum false below L ps start k bound j w e t h = let s = stands_sum below L ps start k bound j t h in (omega arith, omega arith)
 

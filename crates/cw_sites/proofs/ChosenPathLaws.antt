@@ -21,7 +21,8 @@ path_of-append site a b =
 pub path_of_one : (site here k : ℕ) → path_of site ((here, k) ∷ []) ≡ steps_of site here k
 path_of_one site here k = grind arith
 
-path_of_choice : (site here : ℕ) (child rest : Tree) → path_of site (chosen_leaves here child) ≡ chosen site here child → path_of site (chosen_leaves here rest) ≡ chosen site here rest → path_of site (chosen_leaves here (Par child rest)) ≡ chosen site here (Par child rest)
+path_of_choice : (site here : ℕ) (child rest : Tree) → path_of site (chosen_leaves here child) ≡ chosen site here child
+    → path_of site (chosen_leaves here rest) ≡ chosen site here rest → path_of site (chosen_leaves here (Par child rest)) ≡ chosen site here (Par child rest)
 path_of_choice site here child rest e f =
     let c = chosen-weight site here child in let r = chosen-weight site here rest in
     elim (cases_lt (chosen site here child).weight (chosen site here rest).weight) [

@@ -53,14 +53,17 @@ nothing_summed from to steps sums e = record {
   sites = λ most b. let n = ap length e in omega arith;
 }
 
-pub one_summed : (from to : ℕ) (steps : List Steps) (i : ℕ) (s : Steps) (sums sums' : List ℕ) → from ≤ i → i < length steps → s ≡ get_or steps i s → (length sums ≤ 2 ^ 32 → length sums' ≤ 2 ^ 32) → ((q : ℕ) → sum_at q sums' ≡ added q s.site s.count (sum_at q sums)) → ((most : ℕ) → s.site < most → length sums ≤ most → length sums' ≤ most) → SummedTo from to steps i sums → SummedTo from to steps (i + 1) sums'
+pub one_summed : (from to : ℕ) (steps : List Steps) (i : ℕ) (s : Steps) (sums sums' : List ℕ) → from ≤ i → i < length steps → s ≡ get_or steps i s
+    → (length sums ≤ 2 ^ 32 → length sums' ≤ 2 ^ 32) → ((q : ℕ) → sum_at q sums' ≡ added q s.site s.count (sum_at q sums))
+    → ((most : ℕ) → s.site < most → length sums ≤ most → length sums' ≤ most) → SummedTo from to steps i sums → SummedTo from to steps (i + 1) sums'
 one_summed from to steps i s sums sums' le lt at word add longest h = record {
   each = λ l k q fits. own_next q steps from i to s (sum_at q sums) (sum_at q sums') le lt (omega arith) at (h.each l (omega arith) q fits) fits (add q);
   words = word h.words;
   sites = λ most b. let P : Steps → Type 0 = λ x. x.site < most in longest most (subst P (sym at) (all_below_at most steps i s lt b)) (h.sites most b);
 }
 
-pub all_summed : (from to : ℕ) (steps : List Steps) (i : ℕ) (sums : List ℕ) → (from ≤ to → to ≤ length steps → i ≡ to) → SummedTo from to steps i sums → from ≤ to → to ≤ length steps → SumsUp from to steps sums
+pub all_summed : (from to : ℕ) (steps : List Steps) (i : ℕ) (sums : List ℕ) → (from ≤ to → to ≤ length steps → i ≡ to)
+    → SummedTo from to steps i sums → from ≤ to → to ≤ length steps → SumsUp from to steps sums
 all_summed from to steps i sums e h o l = λ q fits. let z = e o l in h.each l (omega arith) q fits ∙ ap (λ (n : ℕ). upto q steps n - upto q steps from) z
 
 not_same : (n q : ℕ) → n < q → ((n == q) ≡ false) × ((q == n) ≡ false)
@@ -125,18 +128,24 @@ nothing_gathered from to old places none = record {
     none_placed (suc n) = let k = none_placed n in let e = none n in let f = ap one_if (not_below (entry to places n) to (omega arith)) in omega arith
 
 -- the step at the place `i` is of the list that there was
-next_is : (q i : ℕ) (old now : List Steps) (one : Steps) → i < length now → one ≡ get_or now i one → upto q now (i + 1) + upto q old i ≡ upto q old (i + 1) + upto q now i → upto q old (i + 1) ≡ upto q old i + if_site q one.site one.count
+next_is : (q i : ℕ) (old now : List Steps) (one : Steps) → i < length now → one ≡ get_or now i one
+    → upto q now (i + 1) + upto q old i ≡ upto q old (i + 1) + upto q now i → upto q old (i + 1) ≡ upto q old i + if_site q one.site one.count
 next_is q i old now one lt is behind =
     let a = upto-next q now i one lt in
     let b = ap (λ (x : Steps). if_site q x.site x.count) is in
     omega arith
 
-merged_by : (b : Bool) (before all new there count sum next end : ℕ) → new + steps_if b there ≡ all + steps_if b sum → before + steps_if b there ≤ all → next ≡ all + steps_if b count → next ≤ end → end - before < 2 ^ 64 → (there + count < 2 ^ 64 → sum ≡ there + count) → new ≡ next
+merged_by : (b : Bool) (before all new there count sum next end : ℕ) → new + steps_if b there ≡ all + steps_if b sum
+    → before + steps_if b there ≤ all → next ≡ all + steps_if b count → next ≤ end → end - before < 2 ^ 64
+    → (there + count < 2 ^ 64 → sum ≡ there + count) → new ≡ next
 merged_by true before all new there count sum next end e f g h fits m = let k = m (omega arith) in omega arith
 merged_by false before all new there count sum next end e f g h fits m = omega arith
 
 -- it is added to the one of its site
-pub one_merged : (from to : ℕ) (old now : List Steps) (i end place sum : ℕ) (places : Table ℕ) (one there : Steps) → i < to → to ≤ length now → one ≡ get_or now i one → place ≡ entry to places one.site → place < to → there ≡ get_or now place there → (there.count + one.count < 2 ^ 64 → sum ≡ there.count + one.count) → Gathered from to old now i places end → Gathered from to old (set now place (record { site = one.site; count = sum })) (i + 1) places end
+pub one_merged : (from to : ℕ) (old now : List Steps) (i end place sum : ℕ) (places : Table ℕ) (one there : Steps) → i < to → to ≤ length now
+    → one ≡ get_or now i one → place ≡ entry to places one.site → place < to → there ≡ get_or now place there
+    → (there.count + one.count < 2 ^ 64 → sum ≡ there.count + one.count) → Gathered from to old now i places end
+    → Gathered from to old (set now place (record { site = one.site; count = sum })) (i + 1) places end
 one_merged from to old now i end place sum places one there lt within is at less was more h =
     let y : Steps = record { site = one.site; count = sum } in
     let P : ℕ → Type 0 = λ p. IsAt one.site now from end p in
@@ -159,7 +168,8 @@ one_merged from to old now i end place sum places one there lt within is at less
           let f = upto-mono q now (place + 1) end (omega arith) in
           let g = h.below q from (omega arith) in
           let k = upto-mono q old (i + 1) to (omega arith) in
-          merged_by (one.site == q) (upto q old from) (upto q old i) (upto q (set now place y) end) there.count one.count sum (upto q old (i + 1)) (upto q old to) (omega arith) (omega arith) next k fits more;
+          merged_by (one.site == q) (upto q old from) (upto q old i) (upto q (set now place y) end) there.count one.count sum (upto q old (i + 1))
+          (upto q old to) (omega arith) (omega arith) next k fits more;
       behind = λ q m k a b.
           let u = shifted q m (omega arith) in
           let v = shifted q k (omega arith) in
@@ -199,7 +209,9 @@ one_merged from to old now i end place sum places one there lt within is at less
         ]
 
 -- it is put behind them
-pub one_put : (from to : ℕ) (old now : List Steps) (i end : ℕ) (places new_places : Table ℕ) (one : Steps) → i < to → to ≤ length now → one ≡ get_or now i one → to ≤ entry to places one.site → Enters to places new_places one.site end → Gathered from to old now i places end → Gathered from to old (set now end one) (i + 1) new_places (end + 1)
+pub one_put : (from to : ℕ) (old now : List Steps) (i end : ℕ) (places new_places : Table ℕ) (one : Steps) → i < to → to ≤ length now
+    → one ≡ get_or now i one → to ≤ entry to places one.site → Enters to places new_places one.site end → Gathered from to old now i places end
+    → Gathered from to old (set now end one) (i + 1) new_places (end + 1)
 one_put from to old now i end places new_places one lt within is free g h =
     let f = h.from_is in let e = h.end_is in let n = h.count_is in
     record {

@@ -25,7 +25,8 @@ own_append : (site base : ℕ) (os : List Open) (es fs : List Event) → own_in 
 own_append site base [] es fs = adds_append (own_tree site base) (own_adds site base) es fs
 own_append site base (o ∷ os) es fs = let a = adds_append (own_tree site (here_in base (o ∷ os))) (own_adds site (here_in base (o ∷ os))) es fs in omega arith
 
-row_further : (site base busy : ℕ) (os : List Open) (es fs : List Event) (r s : Row) → CountsSite site base busy os es r → CountsSite site (here_in base os) 0 [] fs s → CountsSite site base busy os (es ++ fs) (summed r s)
+row_further : (site base busy : ℕ) (os : List Open) (es fs : List Event) (r s : Row) → CountsSite site base busy os es r
+    → CountsSite site (here_in base os) 0 [] fs s → CountsSite site base busy os (es ++ fs) (summed r s)
 row_further site base busy os es fs r s h g = record {
   calls_is = let a = calls_append site os es fs in let b = h.calls_is in let c = g.calls_is in omega arith;
   own_is = let a = own_append site base os es fs in let b = h.own_is in let c = g.own_is in omega arith;
@@ -43,13 +44,16 @@ row_alike site base busy os es r s a h = record {
 }
 
 -- the paths of both fit
-fits_both : (q base : ℕ) (busy : ℕ → ℕ) (os : List Open) (es fs : List Event) (n : ℕ) (t u : StrandPath) → work_in os es + work (tree_of fs) ≡ n → n < 2 ^ 64 → Shows q base os es t → Shows q (here_in base os) [] fs u → Fits (plus (whole t) (whole u))
+fits_both : (q base : ℕ) (busy : ℕ → ℕ) (os : List Open) (es fs : List Event) (n : ℕ) (t u : StrandPath) → work_in os es + work (tree_of fs) ≡ n
+    → n < 2 ^ 64 → Shows q base os es t → Shows q (here_in base os) [] fs u → Fits (plus (whole t) (whole u))
 fits_both q base busy os es fs n t u e small h g =
     let a = whole_within q base os es t h in let a0 = a.0 in let a1 = a.1 in
     let b = whole_within q (here_in base os) [] fs u g in let b0 = b.0 in let b1 = b.1 in
     (omega arith, omega arith)
 
-pub table_piece : (old piece new : SiteTable) (first : Bool) → JoinsRows old.rows piece.rows new.rows → (Laid old.paths → Laid new.paths) → Appends old.paths piece.paths new.paths first → (old.noted + piece.noted < 2 ^ 64 → new.noted ≡ old.noted + piece.noted) → new.here ≡ old.here → JoinsPiece old piece new first
+pub table_piece : (old piece new : SiteTable) (first : Bool) → JoinsRows old.rows piece.rows new.rows → (Laid old.paths → Laid new.paths)
+    → Appends old.paths piece.paths new.paths first → (old.noted + piece.noted < 2 ^ 64 → new.noted ≡ old.noted + piece.noted) → new.here ≡ old.here
+    → JoinsPiece old piece new first
 table_piece old piece new first rows laid paths noted here = λ base busy os es fs s n small h g.
     let a = work_append os es fs in
     let l = small.work in
@@ -62,7 +66,8 @@ table_piece old piece new first rows laid paths noted here = λ base busy os es 
           let t = strand_path q old.paths in
           let u = strand_path q piece.paths in
           let D : StrandPath → Type 0 = λ x. Shows q base os (es ++ fs) x in
-          subst D (sym (paths h.laid g.laid q (fits_both q base busy os es fs (work_in os (es ++ fs)) t u (sym a) l (h.paths q) (g.paths q)))) (shows_piece q base os es fs t u first s n (h.paths q) (g.paths q));
+          subst D (sym (paths h.laid g.laid q (fits_both q base busy os es fs (work_in os (es ++ fs)) t u (sym a) l (h.paths q) (g.paths q))))
+          (shows_piece q base os es fs t u first s n (h.paths q) (g.paths q));
       laid = laid h.laid;
       noted_is = let b = h.noted_is in let c = g.noted_is in let d = noted (omega arith) in omega arith;
       here_is = here ∙ h.here_is;

@@ -62,7 +62,8 @@ module _ (q : ℕ) (s : List Steps) (at : ℕ) (t : List Steps) (k : ℕ) (a : a
       omega arith
 
 -- the last steps of a part come down
-module _ (from to end count : ℕ) (old new : List Steps) (order : from ≤ to) (behind : to ≤ end) (within : end ≤ length old) (c : count ≡ min (to - from) (end - to)) (e : new ≡ paste old from (drop (end - count) old) (end - (end - count))) where
+module _ (from to end count : ℕ) (old new : List Steps) (order : from ≤ to) (behind : to ≤ end) (within : end ≤ length old)
+    (c : count ≡ min (to - from) (end - to)) (e : new ≡ paste old from (drop (end - count) old) (end - (end - count))) where
   moved_count : end - (end - count) ≡ count
   moved_count = omega arith
 
@@ -132,7 +133,8 @@ all_below-moved most old new from src count e a =
     (all_below-drop most old (from + count) a))
 
 -- and the list is cut
-pub cut_out : (from to end : ℕ) (old moved new : List Steps) → end ≡ length old → from ≤ to → to ≤ length old → IsMovedDown from to end old moved → new ≡ take (end - (to - from)) moved → IsCutOut from to old new
+pub cut_out : (from to end : ℕ) (old moved new : List Steps) → end ≡ length old → from ≤ to → to ≤ length old → IsMovedDown from to end old moved
+    → new ≡ take (end - (to - from)) moved → IsCutOut from to old new
 cut_out from to end old moved new z order within h e =
     let n = h.count_is in
     let l : length new ≡ end - (to - from) = ap length e ∙ length-take-le (end - (to - from)) moved (omega arith) in
@@ -199,7 +201,8 @@ all_below-swapped most old new from gone within e a =
     subst P (sym e) (all_below-take most (set old from last) (length old - 1) (all_below-set most old from last (all_below_at most old (length old - 1) gone (omega arith) a) a))
 
 -- a part is taken out in front of a path, and then what the path left behind it
-pub closed_up : (from to end mid : ℕ) (old moved new : List Steps) → from ≤ to → to ≤ end → end ≤ length old → mid ≡ from + (end - to) → IsMovedDown from to end old moved → IsCutOut mid end moved new → IsClosedUp from to end old new mid
+pub closed_up : (from to end mid : ℕ) (old moved new : List Steps) → from ≤ to → to ≤ end → end ≤ length old → mid ≡ from + (end - to)
+    → IsMovedDown from to end old moved → IsCutOut mid end moved new → IsClosedUp from to end old new mid
 closed_up from to end mid old moved new order behind within m h g =
     let n = h.count_is in let k = g.count_is in
     record {
@@ -228,6 +231,7 @@ within_cut from to n old moved new h l le e place d outside long =
     let m = length-take-le n moved (omega arith) in
     ap (λ (xs : List Steps). get_or xs place d) e ∙ get_or-take n moved place d (omega arith) ∙ h place d outside (omega arith)
 
-pub within_closed : (from to end mid : ℕ) (old moved new : List Steps) → mid ≡ from + (end - to) → length moved ≡ length old → WritesWithin from to old moved → WritesWithin mid end moved new → length new ≤ length moved → WritesTwice from to end old new mid
+pub within_closed : (from to end mid : ℕ) (old moved new : List Steps) → mid ≡ from + (end - to) → length moved ≡ length old
+    → WritesWithin from to old moved → WritesWithin mid end moved new → length new ≤ length moved → WritesTwice from to end old new mid
 within_closed from to end mid old moved new m l h g n order behind within =
     (omega arith, λ place d first second long. g place d second long ∙ h place d first (omega arith))

@@ -29,7 +29,8 @@ pub looser : (room room' most : ℕ) (paths : Paths) → room ≤ room' → IsBo
 looser room room' most paths le h = let n = h.now in record { laid = h.laid; sites = h.sites; limit = h.limit; blocks = h.blocks; now = omega arith }
 
 -- a block that is taken out of the list
-pub tight_with : (most : ℕ) (r r' : Paths) (f : Block) → r.blocks.items ≡ r'.blocks.items ++ f ∷ [] → r'.start ≡ r.start → r'.steps.items ≡ r.steps.items → r'.limit ≡ r.limit → IsTight most r → IsTightWith most r' f
+pub tight_with : (most : ℕ) (r r' : Paths) (f : Block) → r.blocks.items ≡ r'.blocks.items ++ f ∷ [] → r'.start ≡ r.start
+    → r'.steps.items ≡ r.steps.items → r'.limit ≡ r.limit → IsTight most r → IsTightWith most r' f
 tight_with most r r' f e start steps limit h =
     let p = short_pop (most_steps most + 1) r'.blocks.items f (subst (AreShort (most_steps most + 1)) e h.blocks) in
     let n = h.now in let l = h.limit in
@@ -100,7 +101,9 @@ shortened_path old new len end e all k laid q fits =
     kept_path q old new k
     ∙ added_up q old.steps.items new.steps.items old.weight old.start end old.blocks.items (all' laid.start (omega arith)) laid.start laid.blocks fits
 
-pub shortened_bounded : (room most : ℕ) (old new : Paths) (len end : ℕ) → len ≡ length old.steps.items → AddsUpWithin old.start len old.steps.items new.steps.items end → end ≤ old.start + new.limit → StaysBelow old.steps.items new.steps.items → KeepsLimit old new → KeepsBlocks old new → IsBoundedBy room most old → IsBoundedBy (most_steps most) most new
+pub shortened_bounded : (room most : ℕ) (old new : Paths) (len end : ℕ) → len ≡ length old.steps.items
+    → AddsUpWithin old.start len old.steps.items new.steps.items end → end ≤ old.start + new.limit → StaysBelow old.steps.items new.steps.items
+    → KeepsLimit old new → KeepsBlocks old new → IsBoundedBy room most old → IsBoundedBy (most_steps most) most new
 shortened_bounded room most old new len end e all short kept limit k b =
     let st = b.laid.start in
     let h = all (omega arith) (omega arith) in

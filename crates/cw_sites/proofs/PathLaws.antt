@@ -36,10 +36,12 @@ laid_pop lo hi [] f h = (h.0, h.1, h.2)
 laid_pop lo hi (g ∷ fs) f h = let i = laid_pop g.child hi fs f h.2 in ((h.0, h.1, i.0), i.1, i.2)
 
 -- a list that is the same up to a place shows the same blocks below it
-part_same : (q : ℕ) (steps steps' : List Steps) (from to weight hi : ℕ) → ((n : ℕ) → n ≤ hi → upto q steps' n ≡ upto q steps n) → from ≤ hi → to ≤ hi → part q steps' from to weight ≡ part q steps from to weight
+part_same : (q : ℕ) (steps steps' : List Steps) (from to weight hi : ℕ) → ((n : ℕ) → n ≤ hi → upto q steps' n ≡ upto q steps n) → from ≤ hi → to ≤ hi
+    → part q steps' from to weight ≡ part q steps from to weight
 part_same q steps steps' from to weight hi same a b = let e = same from a in let f = same to b in ap (λ (o : ℕ). path_with weight o) (omega arith)
 
-longest_same : (q : ℕ) (steps steps' : List Steps) (from to hi : ℕ) (l : Option ℕ) → ((n : ℕ) → n ≤ hi → upto q steps' n ≡ upto q steps n) → from ≤ hi → to ≤ hi → option_map (part q steps' from to) l ≡ option_map (part q steps from to) l
+longest_same : (q : ℕ) (steps steps' : List Steps) (from to hi : ℕ) (l : Option ℕ) → ((n : ℕ) → n ≤ hi → upto q steps' n ≡ upto q steps n)
+    → from ≤ hi → to ≤ hi → option_map (part q steps' from to) l ≡ option_map (part q steps from to) l
 longest_same q steps steps' from to hi None same a b = refl
 longest_same q steps steps' from to hi (Some w) same a b = ap Some (part_same q steps steps' from to w hi same a b)
 
@@ -49,9 +51,12 @@ place_same e f g = cc
 pub seen_same : (q : ℕ) (steps steps' : List Steps) (f : Block) (hi : ℕ) → ((n : ℕ) → n ≤ hi → upto q steps' n ≡ upto q steps n) → InOrder f → f.child ≤ hi → seen q steps' f ≡ seen q steps f
 seen_same q steps steps' f hi same o h =
     let a = o.0 in let b = o.1 in let c = o.2 in
-    place_same (part_same q steps steps' f.from f.mid f.base hi same (omega arith) (omega arith)) (longest_same q steps steps' f.mid f.end hi f.longest same (omega arith) (omega arith)) (part_same q steps steps' f.end f.child f.rest hi same (omega arith) (omega arith))
+    place_same (part_same q steps steps' f.from f.mid f.base hi same (omega arith) (omega arith))
+    (longest_same q steps steps' f.mid f.end hi f.longest same (omega arith) (omega arith))
+    (part_same q steps steps' f.end f.child f.rest hi same (omega arith) (omega arith))
 
-pub seen_blocks_same : (q : ℕ) (steps steps' : List Steps) (fs : List Block) (ps : List SeenBlock) (lo hi : ℕ) → ((n : ℕ) → n ≤ hi → upto q steps' n ≡ upto q steps n) → LaidFrom lo fs hi → seen_blocks q steps' fs ps ≡ seen_blocks q steps fs ps
+pub seen_blocks_same : (q : ℕ) (steps steps' : List Steps) (fs : List Block) (ps : List SeenBlock) (lo hi : ℕ)
+    → ((n : ℕ) → n ≤ hi → upto q steps' n ≡ upto q steps n) → LaidFrom lo fs hi → seen_blocks q steps' fs ps ≡ seen_blocks q steps fs ps
 seen_blocks_same q steps steps' [] ps lo hi same h = refl
 seen_blocks_same q steps steps' (f ∷ fs) ps lo hi same h =
     seen_blocks_same q steps steps' fs (seen q steps' f ∷ ps) f.child hi same h.2
@@ -81,7 +86,15 @@ part_none : (q : ℕ) (steps : List Steps) (from to : ℕ) → from ≡ to → p
 part_none q steps from to e = let f = ap (upto q steps) e in part_is q steps from to 0 nowhere refl (omega arith)
 
 -- so many instructions more
-pub extended_strand_path : (q : ℕ) (steps steps' : List Steps) (weight weight' start site count : ℕ) (fs : List Block) → ((n : ℕ) → n ≤ start → n ≤ length steps → upto q steps' n ≡ upto q steps n) → ((whole q steps - upto q steps start) + if_site q site count < 2 ^ 64 → whole q steps' ≡ whole q steps + if_site q site count) → (weight + count < 2 ^ 64 → weight' ≡ weight + count) → LaidFrom 0 fs start → start ≤ length steps → Fits (plus (strand_path_of q steps weight start fs).now (steps_of q site count)) → strand_path_of q steps' weight' start fs ≡ record { now = plus (strand_path_of q steps weight start fs).now (steps_of q site count); blocks = (strand_path_of q steps weight start fs).blocks }
+pub extended_strand_path : (q : ℕ) (steps steps' : List Steps) (weight weight' start site count : ℕ) (fs : List Block)
+    → ((n : ℕ) → n ≤ start → n ≤ length steps → upto q steps' n ≡ upto q steps n)
+    → ((whole q steps - upto q steps start) + if_site q site count < 2 ^ 64 → whole q steps' ≡ whole q steps + if_site q site count)
+    → (weight + count < 2 ^ 64 → weight' ≡ weight + count) → LaidFrom 0 fs start → start ≤ length steps
+    → Fits (plus (strand_path_of q steps weight start fs).now (steps_of q site count))
+    → strand_path_of q steps' weight' start fs ≡ record {
+      now = plus (strand_path_of q steps weight start fs).now (steps_of q site count);
+      blocks = (strand_path_of q steps weight start fs).blocks;
+    }
 extended_strand_path q steps steps' weight weight' start site count fs below all add laid l fits =
     let m = upto-mono q steps start (length steps) l in
     let a = all fits.1 in
@@ -92,7 +105,9 @@ extended_strand_path q steps steps' weight weight' start site count fs below all
     (seen_blocks_same q steps steps' fs [] 0 start (λ n h. below n h (omega arith)) laid)
 
 -- the path is added up by site
-pub added_up : (q : ℕ) (steps steps' : List Steps) (weight start end : ℕ) (fs : List Block) → IsAddedUp start (length steps) steps steps' end → start ≤ length steps → LaidFrom 0 fs start → (part q steps start (length steps) weight).own < 2 ^ 64 → strand_path_of q steps' weight start fs ≡ strand_path_of q steps weight start fs
+pub added_up : (q : ℕ) (steps steps' : List Steps) (weight start end : ℕ) (fs : List Block) → IsAddedUp start (length steps) steps steps' end
+    → start ≤ length steps → LaidFrom 0 fs start → (part q steps start (length steps) weight).own < 2 ^ 64
+    → strand_path_of q steps' weight start fs ≡ strand_path_of q steps weight start fs
 added_up q steps steps' weight start end fs h l laid fits =
     let a = h.same q fits in
     let b = h.below q start (omega arith) in
@@ -133,19 +148,22 @@ begun_laid steps weight start len fs fs' e f h =
     let b = h.1 in
     (subst P (sym f) (laid_push 0 len fs (first_fork weight start len) h.0 (omega arith, omega arith, omega arith) refl), omega arith)
 
-pub begun_strand_path : (q : ℕ) (steps : List Steps) (weight start len : ℕ) (fs fs' : List Block) → len ≡ length steps → fs' ≡ fs ++ first_fork weight start len ∷ [] → strand_path_of q steps 0 len fs' ≡ begins (strand_path_of q steps weight start fs)
+pub begun_strand_path : (q : ℕ) (steps : List Steps) (weight start len : ℕ) (fs fs' : List Block) → len ≡ length steps
+    → fs' ≡ fs ++ first_fork weight start len ∷ [] → strand_path_of q steps 0 len fs' ≡ begins (strand_path_of q steps weight start fs)
 begun_strand_path q steps weight start len fs fs' e f =
     let u = ap (upto q steps) e in
     same_strand_path (part q steps len (length steps) 0) nowhere (seen_blocks q steps fs' []) (place_with (part q steps start (length steps) weight) None nowhere ∷ seen_blocks q steps fs [])
     (part_none q steps len (length steps) e)
     (ap (λ (x : List Block). seen_blocks q steps x []) f ∙ seen_blocks-push q steps fs (first_fork weight start len) []
-    ∙ ap (λ (p : SeenBlock). p ∷ seen_blocks q steps fs []) (place_same (part_is q steps start len weight (part q steps start (length steps) weight) refl (omega arith)) refl (part_none q steps len len refl)))
+    ∙ ap (λ (p : SeenBlock). p ∷ seen_blocks q steps fs []) (place_same
+    (part_is q steps start len weight (part q steps start (length steps) weight) refl (omega arith)) refl (part_none q steps len len refl)))
 
 -- a further one
 abbrev pub again_fork : Block → (weight len : ℕ) → Block
 again_fork f weight len = record { base = f.base; longest = f.longest; rest = weight; from = f.from; mid = f.mid; end = f.end; child = len }
 
-pub again_laid : (steps steps' : List Steps) (weight start len : ℕ) (all fs fs' : List Block) (f : Block) → len ≡ length steps' → all ≡ fs ++ f ∷ [] → fs' ≡ fs ++ again_fork f weight len ∷ [] → CutsOut f.end f.child steps steps' → laid_of steps start all → laid_of steps' len fs'
+pub again_laid : (steps steps' : List Steps) (weight start len : ℕ) (all fs fs' : List Block) (f : Block) → len ≡ length steps' → all ≡ fs ++ f ∷ []
+    → fs' ≡ fs ++ again_fork f weight len ∷ [] → CutsOut f.end f.child steps steps' → laid_of steps start all → laid_of steps' len fs'
 again_laid steps steps' weight start len all fs fs' f e g k cut h =
     let P : List Block → Type 0 = λ x. LaidFrom 0 x len in
     let Q : List Block → Type 0 = λ x. LaidFrom 0 x start in
@@ -154,7 +172,9 @@ again_laid steps steps' weight start len all fs fs' f e g k cut h =
     let n = (cut o2 (omega arith)).count_is in
     (subst P (sym k) (laid_push 0 len fs (again_fork f weight len) p.0 (o0, o1, omega arith) refl), omega arith)
 
-pub again_strand_path : (q : ℕ) (steps steps' : List Steps) (weight start len : ℕ) (all fs fs' : List Block) (f : Block) → len ≡ length steps' → all ≡ fs ++ f ∷ [] → fs' ≡ fs ++ again_fork f weight len ∷ [] → CutsOut f.end f.child steps steps' → laid_of steps start all → strand_path_of q steps' 0 len fs' ≡ again (strand_path_of q steps weight start all)
+pub again_strand_path : (q : ℕ) (steps steps' : List Steps) (weight start len : ℕ) (all fs fs' : List Block) (f : Block) → len ≡ length steps'
+    → all ≡ fs ++ f ∷ [] → fs' ≡ fs ++ again_fork f weight len ∷ [] → CutsOut f.end f.child steps steps' → laid_of steps start all
+    → strand_path_of q steps' 0 len fs' ≡ again (strand_path_of q steps weight start all)
 again_strand_path q steps steps' weight start len all fs fs' f e g k cut h =
     let Q : List Block → Type 0 = λ x. LaidFrom 0 x start in
     let p = laid_pop 0 start fs f (subst Q g h.0) in
@@ -166,11 +186,13 @@ again_strand_path q steps steps' weight start len all fs fs' f e g k cut h =
     let at_end = x.below q f.end (omega arith) in
     let m = upto-mono q steps f.child (length steps) (omega arith) in
     let n = part q steps start (length steps) weight in
-    same_strand_path (part q steps' len (length steps') 0) nowhere (seen_blocks q steps' fs' []) (place_with (part q steps f.from f.mid f.base) (option_map (part q steps f.mid f.end) f.longest) n ∷ seen_blocks q steps fs [])
+    same_strand_path (part q steps' len (length steps') 0) nowhere (seen_blocks q steps' fs' [])
+    (place_with (part q steps f.from f.mid f.base) (option_map (part q steps f.mid f.end) f.longest) n ∷ seen_blocks q steps fs [])
     (part_none q steps' len (length steps') e)
     (ap (λ (x : List Block). seen_blocks q steps' x []) k ∙ seen_blocks-push q steps' fs (again_fork f weight len) []
     ∙ ap (λ (p : SeenBlock). p ∷ seen_blocks q steps' fs [])
-    (place_same (part_same q steps steps' f.from f.mid f.base f.end (x.below q) (omega arith) (omega arith)) (longest_same q steps steps' f.mid f.end f.end f.longest (x.below q) (omega arith) (omega arith)) (part_is q steps' f.end len weight n refl (omega arith)))
+    (place_same (part_same q steps steps' f.from f.mid f.base f.end (x.below q) (omega arith) (omega arith))
+    (longest_same q steps steps' f.mid f.end f.end f.longest (x.below q) (omega arith) (omega arith)) (part_is q steps' f.end len weight n refl (omega arith)))
     ∙ ap (λ (x : List SeenBlock). place_with (part q steps f.from f.mid f.base) (option_map (part q steps f.mid f.end) f.longest) n ∷ x)
     (seen_blocks_same q steps steps' fs [] 0 f.from (λ y l. x.below q y (omega arith)) p.0))
     ∙ sym (ap (λ (x : List SeenBlock). again (make n x)) (ap (λ (x : List Block). seen_blocks q steps x []) g ∙ seen_blocks-push q steps fs f []))
@@ -179,13 +201,19 @@ again_strand_path q steps steps' weight start len all fs fs' f e g k cut h =
 abbrev pub taken_fork : Block → (base weight mid len : ℕ) → Block
 taken_fork f base weight mid len = record { base = base; longest = Some weight; rest = 0; from = f.from; mid = mid; end = len; child = len }
 
-pub taken_laid : (steps steps' : List Steps) (weight start len mid base : ℕ) (fs fs' : List Block) (f : Block) → LaidFrom 0 fs f.from → f.child ≡ start → start ≤ length steps → Gathers steps steps' f mid → len ≡ length steps' → fs' ≡ fs ++ taken_fork f base weight mid len ∷ [] → laid_of steps' len fs'
+pub taken_laid : (steps steps' : List Steps) (weight start len mid base : ℕ) (fs fs' : List Block) (f : Block) → LaidFrom 0 fs f.from
+    → f.child ≡ start → start ≤ length steps → Gathers steps steps' f mid → len ≡ length steps' → fs' ≡ fs ++ taken_fork f base weight mid len ∷ []
+    → laid_of steps' len fs'
 taken_laid steps steps' weight start len mid base fs fs' f l c b g e k =
     let a = g.from in let n = g.count_is in
     let P : List Block → Type 0 = λ x. LaidFrom 0 x len in
     (subst P (sym k) (laid_push 0 len fs (taken_fork f base weight mid len) l (omega arith, omega arith, omega arith) refl), omega arith)
 
-pub taken_strand_path : (q : ℕ) (steps steps' : List Steps) (weight start len mid base : ℕ) (fs fs' : List Block) (f : Block) → LaidFrom 0 fs f.from → InOrder f → f.child ≡ start → start ≤ length steps → Gathers steps steps' f mid → len ≡ length steps' → base ≡ f.base + f.rest → (plus (part q steps f.from f.mid f.base) (part q steps f.end f.child f.rest)).own < 2 ^ 64 → fs' ≡ fs ++ taken_fork f base weight mid len ∷ [] → strand_path_of q steps' 0 len fs' ≡ takes (part q steps f.from f.mid f.base) (part q steps f.end f.child f.rest) (part q steps start (length steps) weight) (seen_blocks q steps fs [])
+pub taken_strand_path : (q : ℕ) (steps steps' : List Steps) (weight start len mid base : ℕ) (fs fs' : List Block) (f : Block) → LaidFrom 0 fs f.from
+    → InOrder f → f.child ≡ start → start ≤ length steps → Gathers steps steps' f mid → len ≡ length steps' → base ≡ f.base + f.rest
+    → (plus (part q steps f.from f.mid f.base) (part q steps f.end f.child f.rest)).own < 2 ^ 64 → fs' ≡ fs ++ taken_fork f base weight mid len ∷ []
+    → strand_path_of q steps' 0 len fs' ≡ takes (part q steps f.from f.mid f.base) (part q steps f.end f.child f.rest)
+    (part q steps start (length steps) weight) (seen_blocks q steps fs [])
 taken_strand_path q steps steps' weight start len mid base fs fs' f l o c b g e w fits k =
     let o0 = o.0 in let o1 = o.1 in let o2 = o.2 in
     let u = ap (upto q steps') e in
@@ -196,7 +224,9 @@ taken_strand_path q steps steps' weight start len mid base fs fs' f l o c b g e 
     let m1 = upto-mono q steps f.from f.mid o0 in
     let m3 = upto-mono q steps f.end f.child o2 in
     let m4 = upto-mono q steps f.child (length steps) (omega arith) in
-    same_strand_path (part q steps' len (length steps') 0) nowhere (seen_blocks q steps' fs' []) (place_with (plus (part q steps f.from f.mid f.base) (part q steps f.end f.child f.rest)) (Some (part q steps start (length steps) weight)) nowhere ∷ seen_blocks q steps fs [])
+    same_strand_path (part q steps' len (length steps') 0) nowhere (seen_blocks q steps' fs' [])
+    (place_with (plus (part q steps f.from f.mid f.base) (part q steps f.end f.child f.rest))
+    (Some (part q steps start (length steps) weight)) nowhere ∷ seen_blocks q steps fs [])
     (part_none q steps' len (length steps') e)
     (ap (λ (x : List Block). seen_blocks q steps' x []) k ∙ seen_blocks-push q steps' fs (taken_fork f base weight mid len) []
     ∙ ap (λ (p : SeenBlock). p ∷ seen_blocks q steps' fs [])
@@ -210,7 +240,8 @@ taken_strand_path q steps steps' weight start len mid base fs fs' f l o c b g e 
 abbrev pub gone_fork : Block → Block
 gone_fork f = record { base = f.base; longest = f.longest; rest = 0; from = f.from; mid = f.mid; end = f.end; child = f.end }
 
-pub gone_laid : (steps steps' : List Steps) (start : ℕ) (fs fs' : List Block) (f : Block) → LaidFrom 0 fs f.from → InOrder f → f.child ≡ start → start ≤ length steps → steps' ≡ take f.child steps → fs' ≡ fs ++ gone_fork f ∷ [] → laid_of steps' f.end fs'
+pub gone_laid : (steps steps' : List Steps) (start : ℕ) (fs fs' : List Block) (f : Block) → LaidFrom 0 fs f.from → InOrder f → f.child ≡ start
+    → start ≤ length steps → steps' ≡ take f.child steps → fs' ≡ fs ++ gone_fork f ∷ [] → laid_of steps' f.end fs'
 gone_laid steps steps' start fs fs' f l o c b g k =
     let o0 = o.0 in let o1 = o.1 in let o2 = o.2 in
     let n = length-take-le f.child steps (omega arith) in
@@ -218,7 +249,9 @@ gone_laid steps steps' start fs fs' f l o c b g k =
     let P : List Block → Type 0 = λ x. LaidFrom 0 x f.end in
     (subst P (sym k) (laid_push 0 f.end fs (gone_fork f) l (o0, o1, omega arith) refl), omega arith)
 
-pub gone_strand_path : (q : ℕ) (steps steps' : List Steps) (start : ℕ) (fs fs' : List Block) (f : Block) → LaidFrom 0 fs f.from → InOrder f → f.child ≡ start → start ≤ length steps → steps' ≡ take f.child steps → fs' ≡ fs ++ gone_fork f ∷ [] → strand_path_of q steps' f.rest f.end fs' ≡ goes_on (seen q steps f) (seen_blocks q steps fs [])
+pub gone_strand_path : (q : ℕ) (steps steps' : List Steps) (start : ℕ) (fs fs' : List Block) (f : Block) → LaidFrom 0 fs f.from → InOrder f
+    → f.child ≡ start → start ≤ length steps → steps' ≡ take f.child steps → fs' ≡ fs ++ gone_fork f ∷ []
+    → strand_path_of q steps' f.rest f.end fs' ≡ goes_on (seen q steps f) (seen_blocks q steps fs [])
 gone_strand_path q steps steps' start fs fs' f l o c b g k =
     let o0 = o.0 in let o1 = o.1 in let o2 = o.2 in
     let n : length steps' ≡ f.child = ap length g ∙ length-take-le f.child steps (omega arith) in
@@ -226,19 +259,27 @@ gone_strand_path q steps steps' start fs fs' f l o c b g k =
     let u = ap (upto q steps') n in
     let lc = low f.child (omega arith) in
     let la = low f.end o2 in
-    same_strand_path (part q steps' f.end (length steps') f.rest) (part q steps f.end f.child f.rest) (seen_blocks q steps' fs' []) (place_with (part q steps f.from f.mid f.base) (option_map (part q steps f.mid f.end) f.longest) nowhere ∷ seen_blocks q steps fs [])
+    same_strand_path (part q steps' f.end (length steps') f.rest) (part q steps f.end f.child f.rest) (seen_blocks q steps' fs' [])
+    (place_with (part q steps f.from f.mid f.base) (option_map (part q steps f.mid f.end) f.longest) nowhere ∷ seen_blocks q steps fs [])
     (part_is q steps' f.end (length steps') f.rest (part q steps f.end f.child f.rest) refl (omega arith))
     (ap (λ (x : List Block). seen_blocks q steps' x []) k ∙ seen_blocks-push q steps' fs (gone_fork f) []
     ∙ ap (λ (p : SeenBlock). p ∷ seen_blocks q steps' fs [])
-    (place_same (part_same q steps steps' f.from f.mid f.base f.child low (omega arith) (omega arith)) (longest_same q steps steps' f.mid f.end f.child f.longest low (omega arith) (omega arith)) (part_none q steps' f.end f.end refl))
+    (place_same (part_same q steps steps' f.from f.mid f.base f.child low (omega arith) (omega arith))
+    (longest_same q steps steps' f.mid f.end f.child f.longest low (omega arith) (omega arith)) (part_none q steps' f.end f.end refl))
     ∙ ap (λ (x : List SeenBlock). place_with (part q steps f.from f.mid f.base) (option_map (part q steps f.mid f.end) f.longest) nowhere ∷ x)
     (seen_blocks_same q steps steps' fs [] 0 f.from (λ x h. low x (omega arith)) l))
 
 -- the block joins, and its longest child is taken out
-pub closed_laid : (steps steps' : List Steps) (start : ℕ) (fs : List Block) (f : Block) → LaidFrom 0 fs f.from → InOrder f → f.child ≡ start → start ≤ length steps → IsCutOut f.mid start steps steps' → laid_of steps' f.from fs
+pub closed_laid : (steps steps' : List Steps) (start : ℕ) (fs : List Block) (f : Block) → LaidFrom 0 fs f.from → InOrder f → f.child ≡ start
+    → start ≤ length steps → IsCutOut f.mid start steps steps' → laid_of steps' f.from fs
 closed_laid steps steps' start fs f l o c b g = let o0 = o.0 in let o1 = o.1 in let o2 = o.2 in let n = g.count_is in (l, omega arith)
 
-pub closed_strand_path : (q : ℕ) (steps steps' : List Steps) (weight weight' start : ℕ) (fs : List Block) (f : Block) → LaidFrom 0 fs f.from → InOrder f → f.child ≡ start → start ≤ length steps → IsCutOut f.mid start steps steps' → weight' ≡ f.base + weight → strand_path_of q steps' weight' f.from fs ≡ record { now = plus (part q steps f.from f.mid f.base) (part q steps start (length steps) weight); blocks = seen_blocks q steps fs [] }
+pub closed_strand_path : (q : ℕ) (steps steps' : List Steps) (weight weight' start : ℕ) (fs : List Block) (f : Block) → LaidFrom 0 fs f.from
+    → InOrder f → f.child ≡ start → start ≤ length steps → IsCutOut f.mid start steps steps' → weight' ≡ f.base + weight
+    → strand_path_of q steps' weight' f.from fs ≡ record {
+      now = plus (part q steps f.from f.mid f.base) (part q steps start (length steps) weight);
+      blocks = seen_blocks q steps fs [];
+    }
 closed_strand_path q steps steps' weight weight' start fs f l o c b g w =
     let o0 = o.0 in let o1 = o.1 in let o2 = o.2 in
     let a = g.all q in
@@ -246,17 +287,24 @@ closed_strand_path q steps steps' weight weight' start fs f l o c b g w =
     let m1 = upto-mono q steps f.from f.mid o0 in
     let m2 = upto-mono q steps f.mid start (omega arith) in
     let m4 = upto-mono q steps start (length steps) b in
-    same_strand_path (part q steps' f.from (length steps') weight') (plus (part q steps f.from f.mid f.base) (part q steps start (length steps) weight)) (seen_blocks q steps' fs []) (seen_blocks q steps fs [])
+    same_strand_path (part q steps' f.from (length steps') weight') (plus (part q steps f.from f.mid f.base)
+    (part q steps start (length steps) weight)) (seen_blocks q steps' fs []) (seen_blocks q steps fs [])
     (part_is q steps' f.from (length steps') weight' (plus (part q steps f.from f.mid f.base) (part q steps start (length steps) weight)) w (omega arith))
     (seen_blocks_same q steps steps' fs [] 0 f.from (λ x h. g.below q x (omega arith)) l)
 
 -- the block joins on its longest child
-pub kept_laid : (steps steps' : List Steps) (start : ℕ) (fs : List Block) (f : Block) → LaidFrom 0 fs f.from → InOrder f → f.child ≡ start → start ≤ length steps → steps' ≡ take f.end steps → laid_of steps' f.from fs
+pub kept_laid : (steps steps' : List Steps) (start : ℕ) (fs : List Block) (f : Block) → LaidFrom 0 fs f.from → InOrder f → f.child ≡ start
+    → start ≤ length steps → steps' ≡ take f.end steps → laid_of steps' f.from fs
 kept_laid steps steps' start fs f l o c b g =
     let o0 = o.0 in let o1 = o.1 in let o2 = o.2 in
     let n : length steps' ≡ f.end = ap length g ∙ length-take-le f.end steps (omega arith) in (l, omega arith)
 
-pub kept_strand_path : (q : ℕ) (steps steps' : List Steps) (weight' start longest : ℕ) (fs : List Block) (f : Block) → LaidFrom 0 fs f.from → InOrder f → f.child ≡ start → start ≤ length steps → steps' ≡ take f.end steps → weight' ≡ f.base + longest → strand_path_of q steps' weight' f.from fs ≡ record { now = plus (part q steps f.from f.mid f.base) (part q steps f.mid f.end longest); blocks = seen_blocks q steps fs [] }
+pub kept_strand_path : (q : ℕ) (steps steps' : List Steps) (weight' start longest : ℕ) (fs : List Block) (f : Block) → LaidFrom 0 fs f.from
+    → InOrder f → f.child ≡ start → start ≤ length steps → steps' ≡ take f.end steps → weight' ≡ f.base + longest
+    → strand_path_of q steps' weight' f.from fs ≡ record {
+      now = plus (part q steps f.from f.mid f.base) (part q steps f.mid f.end longest);
+      blocks = seen_blocks q steps fs [];
+    }
 kept_strand_path q steps steps' weight' start longest fs f l o c b g w =
     let o0 = o.0 in let o1 = o.1 in let o2 = o.2 in
     let n : length steps' ≡ f.end = ap length g ∙ length-take-le f.end steps (omega arith) in
@@ -266,7 +314,8 @@ kept_strand_path q steps steps' weight' start longest fs f l o c b g w =
     let lf = low f.from (omega arith) in
     let m1 = upto-mono q steps f.from f.mid o0 in
     let m2 = upto-mono q steps f.mid f.end o1 in
-    same_strand_path (part q steps' f.from (length steps') weight') (plus (part q steps f.from f.mid f.base) (part q steps f.mid f.end longest)) (seen_blocks q steps' fs []) (seen_blocks q steps fs [])
+    same_strand_path (part q steps' f.from (length steps') weight') (plus (part q steps f.from f.mid f.base) (part q steps f.mid f.end longest))
+    (seen_blocks q steps' fs []) (seen_blocks q steps fs [])
     (part_is q steps' f.from (length steps') weight' (plus (part q steps f.from f.mid f.base) (part q steps f.mid f.end longest)) w (omega arith))
     (seen_blocks_same q steps steps' fs [] 0 f.from (λ x h. low x (omega arith)) l)
 
@@ -280,24 +329,32 @@ laid_with r r' f e start steps laid =
     record { blocks = p.0; order = p.1; child = p.2 ∙ sym start; start = omega arith }
 
 -- the strand_path with the innermost block apart
-pub strand_path_by : (q : ℕ) (r r' : Paths) (f : Block) → r.blocks.items ≡ r'.blocks.items ++ f ∷ [] → strand_path q r ≡ make (strand_path q r).now (seen q r.steps.items f ∷ seen_blocks q r.steps.items r'.blocks.items [])
+pub strand_path_by : (q : ℕ) (r r' : Paths) (f : Block) → r.blocks.items ≡ r'.blocks.items ++ f ∷ []
+    → strand_path q r ≡ make (strand_path q r).now (seen q r.steps.items f ∷ seen_blocks q r.steps.items r'.blocks.items [])
 strand_path_by q r r' f e = ap (make (strand_path q r).now) (ap (λ (x : List Block). seen_blocks q r.steps.items x []) e ∙ seen_blocks-push q r.steps.items r'.blocks.items f [])
 
-pub fits_with : (q : ℕ) (r r' : Paths) (f : Block) → r.blocks.items ≡ r'.blocks.items ++ f ∷ [] → Fits (all_of (strand_path q r)) → Fits (all_of (make (strand_path q r).now (seen q r.steps.items f ∷ seen_blocks q r.steps.items r'.blocks.items [])))
+pub fits_with : (q : ℕ) (r r' : Paths) (f : Block) → r.blocks.items ≡ r'.blocks.items ++ f ∷ [] → Fits (all_of (strand_path q r))
+    → Fits (all_of (make (strand_path q r).now (seen q r.steps.items f ∷ seen_blocks q r.steps.items r'.blocks.items [])))
 fits_with q r r' f e h = let P : StrandPath → Type 0 = λ t. Fits (all_of t) in subst P (strand_path_by q r r' f e) h
 
 -- the ends, by the test
-pub ends_taken : (q : ℕ) (steps : List Steps) (f : Block) (n : Path) (ps : List SeenBlock) → is_longer f.longest (f.rest + n.weight) ≡ true → takes (seen q steps f).base (seen q steps f).rest n ps ≡ ends (make n (seen q steps f ∷ ps))
+pub ends_taken : (q : ℕ) (steps : List Steps) (f : Block) (n : Path) (ps : List SeenBlock) → is_longer f.longest (f.rest + n.weight) ≡ true
+    → takes (seen q steps f).base (seen q steps f).rest n ps ≡ ends (make n (seen q steps f ∷ ps))
 ends_taken q steps f n ps e = by_longest f.longest e
   where
-    by_longest : (l : Option ℕ) → is_longer l (f.rest + n.weight) ≡ true → takes (part q steps f.from f.mid f.base) (part q steps f.end f.child f.rest) n ps ≡ ends_at (part q steps f.from f.mid f.base) (option_map (part q steps f.mid f.end) l) (part q steps f.end f.child f.rest) n ps
+    by_longest : (l : Option ℕ) → is_longer l (f.rest + n.weight) ≡ true
+        → takes (part q steps f.from f.mid f.base) (part q steps f.end f.child f.rest) n ps
+        ≡ ends_at (part q steps f.from f.mid f.base) (option_map (part q steps f.mid f.end) l) (part q steps f.end f.child f.rest) n ps
     by_longest None e = refl
     by_longest (Some w) e = sym (ap (λ (b : Bool). chooses b (part q steps f.from f.mid f.base) (part q steps f.mid f.end w) (part q steps f.end f.child f.rest) n ps) e)
 
-pub ends_gone : (q : ℕ) (steps : List Steps) (f : Block) (n : Path) (ps : List SeenBlock) → is_longer f.longest (f.rest + n.weight) ≡ false → goes_on (seen q steps f) ps ≡ ends (make n (seen q steps f ∷ ps))
+pub ends_gone : (q : ℕ) (steps : List Steps) (f : Block) (n : Path) (ps : List SeenBlock) → is_longer f.longest (f.rest + n.weight) ≡ false
+    → goes_on (seen q steps f) ps ≡ ends (make n (seen q steps f ∷ ps))
 ends_gone q steps f n ps e = by_longest f.longest e
   where
-    by_longest : (l : Option ℕ) → is_longer l (f.rest + n.weight) ≡ false → goes_on (place_with (part q steps f.from f.mid f.base) (option_map (part q steps f.mid f.end) l) (part q steps f.end f.child f.rest)) ps ≡ ends_at (part q steps f.from f.mid f.base) (option_map (part q steps f.mid f.end) l) (part q steps f.end f.child f.rest) n ps
+    by_longest : (l : Option ℕ) → is_longer l (f.rest + n.weight) ≡ false
+        → goes_on (place_with (part q steps f.from f.mid f.base) (option_map (part q steps f.mid f.end) l) (part q steps f.end f.child f.rest)) ps
+        ≡ ends_at (part q steps f.from f.mid f.base) (option_map (part q steps f.mid f.end) l) (part q steps f.end f.child f.rest) n ps
     by_longest None e = cc
     by_longest (Some w) e = sym (ap (λ (b : Bool). chooses b (part q steps f.from f.mid f.base) (part q steps f.mid f.end w) (part q steps f.end f.child f.rest) n ps) e)
 

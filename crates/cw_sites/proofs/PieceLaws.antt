@@ -108,7 +108,8 @@ straight_all site here x M (e ∷ fs) =
     ∙ ap (λ (K : BlockPath). after_all site here K fs) (joined_straight site here x M e)
 
 -- THE LAW OF PIECES: a piece without a join, or with joins after a block that has spawned nothing
-pub piece_joined : (site here : ℕ) (first : Bool) (L : BlockPath) (fs : List Event) → is_split L ≡ not first → (first || no_joins fs) ≡ true → joined_on L (after_all site here (Straight nowhere) fs) ≡ after_all site here L fs
+pub piece_joined : (site here : ℕ) (first : Bool) (L : BlockPath) (fs : List Event) → is_split L ≡ not first → (first || no_joins fs) ≡ true
+    → joined_on L (after_all site here (Straight nowhere) fs) ≡ after_all site here L fs
 piece_joined site here true (Straight x) fs s n = straight_all site here x (Straight nowhere) fs ∙ ap (λ (p : Path). after_all site here (Straight p) fs) (plus-nowhere_last x)
 piece_joined site here true (Split b l x) fs s n = cc
 piece_joined site here false L fs s n = joined_all site here L (Straight nowhere) fs n ∙ ap (λ (K : BlockPath). after_all site here K fs) (extended_nowhere L)

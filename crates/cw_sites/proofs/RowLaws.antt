@@ -16,7 +16,8 @@ use Rattle.cw_sites.specs.declared.rows.Kept.{Kept}
 use Rattle.cw_sites.specs.SiteRows.{kept_of, further_of, row_of, zero_row, none_kept, summed, under, FitsRow, Becomes, OthersStay, IsReadAs, JoinsBelow, JoinsFurther, JoinsOn, JoinsRows}
 
 summed_none : (r : Row) → summed r zero_row ≡ r
-summed_none r = let a : r.calls + 0 ≡ r.calls = omega arith in let b : r.own + 0 ≡ r.own = omega arith in let z = unless_nothing (r.active == 0) in let c : r.work + unless_at (r.active == 0) 0 ≡ r.work = omega arith in let d : r.span + unless_at (r.active == 0) 0 ≡ r.span = omega arith in simp (a, b, c, d)
+summed_none r = let a : r.calls + 0 ≡ r.calls = omega arith in let b : r.own + 0 ≡ r.own = omega arith in let z = unless_nothing (r.active == 0) in
+    let c : r.work + unless_at (r.active == 0) 0 ≡ r.work = omega arith in let d : r.span + unless_at (r.active == 0) 0 ≡ r.span = omega arith in simp (a, b, c, d)
 
 -- what is kept of a site beyond the first ones
 page_item : (further : Pages Kept) (q : ℕ) → further_of further q ≡ item none_kept further q
@@ -32,7 +33,8 @@ pub record IsReached (old now : Rows) (count : ℕ) : Type 0 where
   pub count_is : length now.by_site.items ≡ count
 
 -- one more comes to the first ones, as it was
-pub kept_pushed : (xs ys : List Kept) (x : Kept) (further : Pages Kept) → ys ≡ xs ++ x ∷ [] → x ≡ item none_kept further (length xs) → (q : ℕ) → get_or ys q (further_of further q) ≡ get_or xs q (further_of further q)
+pub kept_pushed : (xs ys : List Kept) (x : Kept) (further : Pages Kept) → ys ≡ xs ++ x ∷ [] → x ≡ item none_kept further (length xs) → (q : ℕ)
+    → get_or ys q (further_of further q) ≡ get_or xs q (further_of further q)
 kept_pushed xs ys x further is at q =
     let start : length xs ≡ 0 + length xs = omega arith in
     let number : 0 + q ≡ q = omega arith in
@@ -49,16 +51,19 @@ kept_pushed xs ys x further is at q =
         ap (λ (m : ℕ). get_or (zs ++ x ∷ []) k (further_of further m)) s ∙ pushed zs (suc n) k (e ∙ ap (item none_kept further) l) ∙ sym (ap (λ (m : ℕ). get_or zs k (further_of further m)) s)
 
 -- a site has something kept in its page, and among the first ones
-pub kept_in_page : (by_site : List Kept) (old new : Pages Kept) (place : ℕ) (kept : Kept) → length by_site ≤ place → Gives none_kept old new place kept → (q : ℕ) → get_or by_site q (further_of new q) ≡ (if place == q then kept else get_or by_site q (further_of old q))
+pub kept_in_page : (by_site : List Kept) (old new : Pages Kept) (place : ℕ) (kept : Kept) → length by_site ≤ place
+    → Gives none_kept old new place kept → (q : ℕ) → get_or by_site q (further_of new q) ≡ (if place == q then kept else get_or by_site q (further_of old q))
 kept_in_page by_site old new place kept past g q = elim (cases_lt q (length by_site)) [
   | inl less ↦ get_or_default by_site q (further_of new q) (further_of old q) less ∙ sym (not_taken (place == q) kept (get_or by_site q (further_of old q)) (other q (omega arith)))
-  | inr beyond ↦ get_or_past by_site q (further_of new q) beyond ∙ page_item new q ∙ g q ∙ ap (λ (x : Kept). if place == q then kept else x) (sym (get_or_past by_site q (further_of old q) beyond ∙ page_item old q))
+  | inr beyond ↦ get_or_past by_site q (further_of new q) beyond ∙ page_item new q ∙ g q
+      ∙ ap (λ (x : Kept). if place == q then kept else x) (sym (get_or_past by_site q (further_of old q) beyond ∙ page_item old q))
 ]
   where
     other : (k : ℕ) → k < place → (place == k) ≡ false
     other k less = grind (arith, nat_tests)
 
-pub kept_here : (xs : List Kept) (place : ℕ) (kept : Kept) (others : ℕ → Kept) → place < length xs → (q : ℕ) → get_or (set xs place kept) q (others q) ≡ (if place == q then kept else get_or xs q (others q))
+pub kept_here : (xs : List Kept) (place : ℕ) (kept : Kept) (others : ℕ → Kept) → place < length xs → (q : ℕ)
+    → get_or (set xs place kept) q (others q) ≡ (if place == q then kept else get_or xs q (others q))
 kept_here xs place kept others less q = elim (cases_lt place q) [
   | inl l ↦ get_or-set_other xs place q kept (others q) (λ e. absurd (omega arith)) ∙ sym (not_taken (place == q) kept (get_or xs q (others q)) (grind (arith, nat_tests)))
   | inr m ↦ elim (cases_lt q place) [
@@ -81,7 +86,8 @@ empty_rows by_site further e none q = let n = ap length e in ap (λ (x : Kept). 
 pub none_joined : (piece ours : Rows) → JoinsBelow piece 0 ours ours
 none_joined piece ours = record { within = λ q less fits. absurd (omega arith); beyond = λ q more. refl }
 
-pub one_joined : (piece ours now new : Rows) (n : ℕ) (row : Row) → row ≡ row_of piece n → Becomes (under row) now new n → OthersStay now new n → JoinsBelow piece n ours now → JoinsBelow piece (n + 1) ours new
+pub one_joined : (piece ours now new : Rows) (n : ℕ) (row : Row) → row ≡ row_of piece n → Becomes (under row) now new n → OthersStay now new n
+    → JoinsBelow piece n ours now → JoinsBelow piece (n + 1) ours new
 one_joined piece ours now new n row is own others h = record {
   within = λ q less fits. by_site q less fits (n == q) refl;
   beyond = λ q more. others q (less_differs n q (omega arith)) ∙ h.beyond q (omega arith);
@@ -157,7 +163,16 @@ all_joined piece old new shelf shelves is none on = λ ours h q fits.
 
 -- rows that are the same are read alike
 read_same : (r s : Row) → r ≡ s → IsReadAs r s
-read_same r s e = record { calls = ap (λ (x : Row). x.calls) e; own = ap (λ (x : Row). x.own) e; work = ap (λ (x : Row). x.work) e; span = ap (λ (x : Row). x.span) e; active = ap (λ (x : Row). x.active) e; at_work = λ h. ap (λ (x : Row). x.at_work) e; at_path = λ h. ap (λ (x : Row). x.at_path) e }
+read_same r s e = record {
+  calls = ap (λ (x : Row). x.calls) e;
+  own = ap (λ (x : Row). x.own) e;
+  work = ap (λ (x : Row). x.work) e;
+  span = ap (λ (x : Row). x.span) e;
+  active = ap (λ (x : Row). x.active) e;
+  at_work = λ h. ap (λ (x : Row). x.at_work) e;
+  at_path =
+      λ h. ap (λ (x : Row). x.at_path) e;
+}
 
 pub rows_joined : (old piece mid new : Rows) → JoinsBelow piece (length piece.by_site.items) old mid → JoinsFurther piece mid new → JoinsRows old piece new
 rows_joined old piece mid new firsts further = λ q fits idle. read_same (row_of new q) (summed (row_of old q) (row_of piece q)) (further old firsts q fits)

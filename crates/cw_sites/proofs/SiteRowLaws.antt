@@ -15,7 +15,8 @@ use Rattle.cw_sites.specs.SiteRows.{worked, entered_at, entered, left_at, left, 
 use Rattle.cw_sites.specs.lemmas.SiteRows.{path_meters, calls_adds, own_leaf, own_nothing, own_adds, calls_more, own_more, left_calls, left_own}
 
 -- the block that runs goes on by so many instructions
-pub row_work : (site base busy : ℕ) (os : List Open) (es : List Event) (r : Row) (k : ℕ) → CountsSite site base busy os es r → CountsSite site base busy os (es ++ Work k ∷ []) (worked (steps_of site (here_in base os) k).own r)
+pub row_work : (site base busy : ℕ) (os : List Open) (es : List Event) (r : Row) (k : ℕ) → CountsSite site base busy os es r
+    → CountsSite site base busy os (es ++ Work k ∷ []) (worked (steps_of site (here_in base os) k).own r)
 row_work site base busy os es r k h = record {
   calls_is = let a = calls_more site os es (Work k) in let b = h.calls_is in omega arith;
   own_is = let a = own_more site base os es (Work k) in let b = h.own_is in let c = own_leaf site (here_in base os) k in omega arith;
@@ -57,7 +58,9 @@ left_same true count path r = (refl, refl)
 left_same false count path r = (refl, refl)
 
 -- an invocation of the site begins
-pub row_entered : (site base busy : ℕ) (o : Open) (os : List Open) (r : Row) (count path : ℕ) → is_counted (is_site site) o.mark ≡ true → count ≡ work_in (o ∷ os) [] → path ≡ path_in site base (o ∷ os) [] → CountsSite site base busy os o.outer r → CountsSite site base busy (o ∷ os) [] (entered count path r)
+pub row_entered : (site base busy : ℕ) (o : Open) (os : List Open) (r : Row) (count path : ℕ) → is_counted (is_site site) o.mark ≡ true
+    → count ≡ work_in (o ∷ os) [] → path ≡ path_in site base (o ∷ os) [] → CountsSite site base busy os o.outer r
+    → CountsSite site base busy (o ∷ os) [] (entered count path r)
 row_entered site base busy o os r count path e c p h =
     let n : one_if (is_counted (is_site site) o.mark) ≡ 1 = ap one_if e in
     let first = r.active == 0 in
@@ -74,7 +77,9 @@ row_entered site base busy o os r count path e c p h =
     }
 
 -- an invocation of the site ends
-pub row_left : (site base busy : ℕ) (o : Open) (os : List Open) (es : List Event) (r : Row) (count path : ℕ) → is_counted (is_site site) o.mark ≡ true → has_spawned es ≡ false → count ≡ work_in (o ∷ os) es → path ≡ path_in site base (o ∷ os) es → CountsSite site base busy (o ∷ os) es r → CountsSite site base busy os (closed o es) (left count path r)
+pub row_left : (site base busy : ℕ) (o : Open) (os : List Open) (es : List Event) (r : Row) (count path : ℕ)
+    → is_counted (is_site site) o.mark ≡ true → has_spawned es ≡ false → count ≡ work_in (o ∷ os) es → path ≡ path_in site base (o ∷ os) es
+    → CountsSite site base busy (o ∷ os) es r → CountsSite site base busy os (closed o es) (left count path r)
 row_left site base busy o os es r count path e f c p h =
     let last = r.active == 1 in
     let same = left_same last count path r in
@@ -83,6 +88,8 @@ row_left site base busy o os es r count path e f c p h =
     record {
       calls_is = same.0 ∙ h.calls_is ∙ sym (left_calls site o os es);
       own_is = same.1 ∙ h.own_is ∙ sym (left_own site base o os es);
-      work_is = subst W (ap (λ (x : ℕ). ended x (work_tally r)) (sym c) ∙ ended_work last count path r) (counts_ended work work_in (is_site site) busy work_meters o os es (work_tally r) e f h.work_is);
-      span_is = subst S (ap (λ (x : ℕ). ended x (span_tally r)) (sym p) ∙ ended_span last count path r) (counts_ended span (path_in site base) (is_site site) busy (path_meters site base) o os es (span_tally r) e f h.span_is);
+      work_is = subst W (ap (λ (x : ℕ). ended x (work_tally r)) (sym c) ∙ ended_work last count path r)
+          (counts_ended work work_in (is_site site) busy work_meters o os es (work_tally r) e f h.work_is);
+      span_is = subst S (ap (λ (x : ℕ). ended x (span_tally r)) (sym p) ∙ ended_span last count path r)
+          (counts_ended span (path_in site base) (is_site site) busy (path_meters site base) o os es (span_tally r) e f h.span_is);
     }

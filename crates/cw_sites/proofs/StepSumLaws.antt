@@ -39,7 +39,8 @@ upto-set q (x ∷ xs) zero (suc n) y h = absurd (omega arith)
 upto-set q (x ∷ xs) (suc i) zero y h = refl
 upto-set q (x ∷ xs) (suc i) (suc n) y h = let k = upto-set q xs i n y (omega arith) in omega arith
 
-pub upto_all-set : (q : ℕ) (xs : List Steps) (i : ℕ) (y d : Steps) → i < length xs → upto q (set xs i y) (length (set xs i y)) + if_site q (get_or xs i d).site (get_or xs i d).count ≡ upto q xs (length xs) + if_site q y.site y.count
+pub upto_all-set : (q : ℕ) (xs : List Steps) (i : ℕ) (y d : Steps) → i < length xs
+    → upto q (set xs i y) (length (set xs i y)) + if_site q (get_or xs i d).site (get_or xs i d).count ≡ upto q xs (length xs) + if_site q y.site y.count
 upto_all-set q [] i y d h = absurd (omega arith)
 upto_all-set q (x ∷ xs) zero y d h = omega arith
 upto_all-set q (x ∷ xs) (suc i) y d h = let k = upto_all-set q xs i y d (omega arith) in omega arith
@@ -68,12 +69,15 @@ upto-next q [] i d h = absurd (omega arith)
 upto-next q (x ∷ xs) zero d h = let z = upto-zero q xs in omega arith
 upto-next q (x ∷ xs) (suc i) d h = let k = upto-next q xs i d (omega arith) in let e : suc i + 1 ≡ suc (i + 1) = omega arith in let f = ap (upto q (x ∷ xs)) e in omega arith
 
-by_site : (b : Bool) (before all new old count sum : ℕ) → new + steps_if b old ≡ all + steps_if b sum → before + steps_if b old ≤ all → (all - before) + steps_if b count < 2 ^ 64 → (old + count < 2 ^ 64 → sum ≡ old + count) → new ≡ all + steps_if b count
+by_site : (b : Bool) (before all new old count sum : ℕ) → new + steps_if b old ≡ all + steps_if b sum → before + steps_if b old ≤ all
+    → (all - before) + steps_if b count < 2 ^ 64 → (old + count < 2 ^ 64 → sum ≡ old + count) → new ≡ all + steps_if b count
 by_site true before all new old count sum e f g h = let m = h (omega arith) in omega arith
 by_site false before all new old count sum e f g h = omega arith
 
 -- steps of the same site that are there become more
-pub upto-more : (q : ℕ) (xs : List Steps) (i start : ℕ) (s : Steps) (site count sum : ℕ) → i < length xs → start ≤ i → s ≡ get_or xs i s → s.site ≡ site → (s.count + count < 2 ^ 64 → sum ≡ s.count + count) → (whole q xs - upto q xs start) + if_site q site count < 2 ^ 64 → whole q (set xs i (record { site = site; count = sum })) ≡ whole q xs + if_site q site count
+pub upto-more : (q : ℕ) (xs : List Steps) (i start : ℕ) (s : Steps) (site count sum : ℕ) → i < length xs → start ≤ i → s ≡ get_or xs i s
+    → s.site ≡ site → (s.count + count < 2 ^ 64 → sum ≡ s.count + count) → (whole q xs - upto q xs start) + if_site q site count < 2 ^ 64
+    → whole q (set xs i (record { site = site; count = sum })) ≡ whole q xs + if_site q site count
 upto-more q xs i start s site count sum h below g e m fits =
     let a = upto_all-set q xs i (record { site = site; count = sum }) s h in
     let b = upto-next q xs i s h in
@@ -82,11 +86,14 @@ upto-more q xs i start s site count sum h below g e m fits =
     let c : if_site q (get_or xs i s).site (get_or xs i s).count ≡ if_site q site s.count = ap (λ (x : Steps). if_site q x.site x.count) (sym g) ∙ ap (λ (x : ℕ). if_site q x s.count) e in
     by_site (site == q) (upto q xs start) (whole q xs) (whole q (set xs i (record { site = site; count = sum }))) s.count count sum (omega arith) (omega arith) fits m
 
-next_by : (b : Bool) (count sum next all from more : ℕ) → more ≡ all + steps_if b count → sum ≡ all - from → from ≤ all → more - from < 2 ^ 64 → next ≡ (if b then min (sum + count) (2 ^ 64 - 1) else sum) → next ≡ more - from
+next_by : (b : Bool) (count sum next all from more : ℕ) → more ≡ all + steps_if b count → sum ≡ all - from → from ≤ all → more - from < 2 ^ 64
+    → next ≡ (if b then min (sum + count) (2 ^ 64 - 1) else sum) → next ≡ more - from
 next_by true count sum next all from more e f g h k = omega arith
 next_by false count sum next all from more e f g h k = omega arith
 
-pub own_next : (q : ℕ) (xs : List Steps) (start i to : ℕ) (s : Steps) (sum next : ℕ) → start ≤ i → i < length xs → i + 1 ≤ to → s ≡ get_or xs i s → sum ≡ upto q xs i - upto q xs start → upto q xs to - upto q xs start < 2 ^ 64 → next ≡ (if s.site == q then min (sum + s.count) (2 ^ 64 - 1) else sum) → next ≡ upto q xs (i + 1) - upto q xs start
+pub own_next : (q : ℕ) (xs : List Steps) (start i to : ℕ) (s : Steps) (sum next : ℕ) → start ≤ i → i < length xs → i + 1 ≤ to → s ≡ get_or xs i s
+    → sum ≡ upto q xs i - upto q xs start → upto q xs to - upto q xs start < 2 ^ 64
+    → next ≡ (if s.site == q then min (sum + s.count) (2 ^ 64 - 1) else sum) → next ≡ upto q xs (i + 1) - upto q xs start
 own_next q xs start i to s sum next le lt within g e small n =
     let a = upto-next q xs i s lt in
     let c = ap (λ (x : Steps). if_site q x.site x.count) (sym g) in
@@ -100,7 +107,8 @@ upto_to-set q [] i y h = absurd (omega arith)
 upto_to-set q (x ∷ xs) zero y h = let z = upto-zero q xs in omega arith
 upto_to-set q (x ∷ xs) (suc i) y h = let k = upto_to-set q xs i y (omega arith) in let e : suc i + 1 ≡ suc (i + 1) = omega arith in let f = ap (upto q (x ∷ set xs i y)) e in omega arith
 
-pub upto_past-set : (q : ℕ) (xs : List Steps) (i n : ℕ) (y d : Steps) → i < length xs → i < n → upto q (set xs i y) n + if_site q (get_or xs i d).site (get_or xs i d).count ≡ upto q xs n + if_site q y.site y.count
+pub upto_past-set : (q : ℕ) (xs : List Steps) (i n : ℕ) (y d : Steps) → i < length xs → i < n
+    → upto q (set xs i y) n + if_site q (get_or xs i d).site (get_or xs i d).count ≡ upto q xs n + if_site q y.site y.count
 upto_past-set q [] i n y d h k = absurd (omega arith)
 upto_past-set q (x ∷ xs) i zero y d h k = absurd (omega arith)
 upto_past-set q (x ∷ xs) zero (suc n) y d h k = omega arith

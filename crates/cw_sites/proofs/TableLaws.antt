@@ -85,7 +85,8 @@ row_sum : (q here n k : ℕ) (r : Row) → given_row q here k (given_row q here 
 row_sum q here n k r = ap (row_with r) (own_sum (here == q) r.own n k)
 
 strand_path_sum : (q here n k : ℕ) (t : StrandPath) → given_strand_path q here k (given_strand_path q here n t) ≡ given_strand_path q here (n + k) t
-strand_path_sum q here n k t = strand_path_same t ((t.now.weight + n) + k) (t.now.weight + (n + k)) ((t.now.own + steps_if (here == q) n) + steps_if (here == q) k) (t.now.own + steps_if (here == q) (n + k)) (omega arith) (own_sum (here == q) t.now.own n k)
+strand_path_sum q here n k t = strand_path_same t ((t.now.weight + n) + k) (t.now.weight + (n + k))
+    ((t.now.own + steps_if (here == q) n) + steps_if (here == q) k) (t.now.own + steps_if (here == q) (n + k)) (omega arith) (own_sum (here == q) t.now.own n k)
 
 row_none : (q here : ℕ) (r : Row) → r ≡ given_row q here 0 r
 row_none q here r = sym (ap (row_with r) (own_none (here == q) r.own))
@@ -111,13 +112,15 @@ both_work q base busy os r t es n k h =
       shows = subst T (strand_path_sum q here n k t) (shows_work q base os es (given_strand_path q here n t) k h.shows);
     }
 
-both_join : (q base busy : ℕ) (os : List Open) (r : Row) (t : StrandPath) (es : List Event) (n : ℕ) → has_spawned es ≡ false → BothAfter q base busy os r t es n → BothAfter q base busy os r t (es ++ Join ∷ []) n
+both_join : (q base busy : ℕ) (os : List Open) (r : Row) (t : StrandPath) (es : List Event) (n : ℕ) → has_spawned es ≡ false
+    → BothAfter q base busy os r t es n → BothAfter q base busy os r t (es ++ Join ∷ []) n
 both_join q base busy os r t es n e h = record {
   counts = row_join q base busy os es (given_row q (here_in base os) n r) h.counts;
   shows = shows_unjoined q base os es (given_strand_path q (here_in base os) n t) e h.shows;
 }
 
-both_since : (q base busy : ℕ) (os : List Open) (es fs : List Event) (r : Row) (t : StrandPath) (k : ℕ) → IsSince (has_spawned es) fs k → Both q base busy os es r t → BothAfter q base busy os r t (es ++ fs) k
+both_since : (q base busy : ℕ) (os : List Open) (es fs : List Event) (r : Row) (t : StrandPath) (k : ℕ) → IsSince (has_spawned es) fs k
+    → Both q base busy os es r t → BothAfter q base busy os r t (es ++ fs) k
 both_since q base busy os es fs r t k s h =
     let here = here_in base os in
     let P : List Event → ℕ → Type 0 = BothAfter q base busy os r t in
@@ -128,7 +131,8 @@ both_since q base busy os es fs r t k s h =
     let Q : ℕ → Type 0 = P (es ++ fs) in
     subst Q first (kept_since P (record { work = both_work q base busy os r t; join = both_join q base busy os r t }) es fs 0 k s zero_more)
 
-pub table_flushed : (base : ℕ) (busy : ℕ → ℕ) (os : List Open) (es fs : List Event) (old new : SiteTable) (count : ℕ) → Since old.noted count es fs → Small busy os (es ++ fs) → Tells base busy os es old → Flushed old new count → Tells base busy os (es ++ fs) new
+pub table_flushed : (base : ℕ) (busy : ℕ → ℕ) (os : List Open) (es fs : List Event) (old new : SiteTable) (count : ℕ) → Since old.noted count es fs
+    → Small busy os (es ++ fs) → Tells base busy os es old → Flushed old new count → Tells base busy os (es ++ fs) new
 table_flushed base busy os es fs old new count since small h f =
     let k = count - old.noted in
     let same : (q : ℕ) → steps_of q (here_in base os) k ≡ steps_of q old.here k = λ q. ap (λ (x : ℕ). steps_of q x k) (sym h.here_is) in
@@ -154,7 +158,10 @@ table_flushed base busy os es fs old new count since small h f =
     }
 
 -- an invocation begins
-entered_row : (first : Bool) (base : ℕ) (busy : ℕ → ℕ) (os : List Open) (es : List Event) (old new : SiteTable) (b : Bool) (site path q : ℕ) → (site == q) ≡ first → Small busy (record { spawned = b; mark = Some (Invocation site); outer = es } ∷ os) [] → Tells base busy os es old → ((p : ℕ) → path ≡ path_in p base (record { spawned = b; mark = Some (Invocation site); outer = es } ∷ os) []) → RowBegun old new site path → CountsSite q base (busy q) (record { spawned = b; mark = Some (Invocation site); outer = es } ∷ os) [] (row_of new.rows q)
+entered_row : (first : Bool) (base : ℕ) (busy : ℕ → ℕ) (os : List Open) (es : List Event) (old new : SiteTable) (b : Bool) (site path q : ℕ)
+    → (site == q) ≡ first → Small busy (record { spawned = b; mark = Some (Invocation site); outer = es } ∷ os) [] → Tells base busy os es old
+    → ((p : ℕ) → path ≡ path_in p base (record { spawned = b; mark = Some (Invocation site); outer = es } ∷ os) []) → RowBegun old new site path
+    → CountsSite q base (busy q) (record { spawned = b; mark = Some (Invocation site); outer = es } ∷ os) [] (row_of new.rows q)
 entered_row true base busy os es old new b site path q e small h p f =
     let s : site ≡ q = eqb-true site q e in
     let o : Open = record { spawned = b; mark = Some (Invocation site); outer = es } in
@@ -168,7 +175,11 @@ entered_row false base busy os es old new b site path q e small h p f =
     let D : Row → Type 0 = λ r. CountsSite q base (busy q) (o ∷ os) [] r in
     subst D (sym (f.others q e)) (row_other q base (busy q) o os (row_of old.rows q) e (h.rows q))
 
-pub table_entered : (base : ℕ) (busy : ℕ → ℕ) (os : List Open) (es : List Event) (old new : SiteTable) (b : Bool) (site path : ℕ) → Small busy (record { spawned = b; mark = Some (Invocation site); outer = es } ∷ os) [] → Tells base busy os es old → ((p : ℕ) → path ≡ path_in p base (record { spawned = b; mark = Some (Invocation site); outer = es } ∷ os) []) → RowBegun old new site path → ((q : ℕ) → Shows q base (record { spawned = b; mark = Some (Invocation site); outer = es } ∷ os) [] (strand_path q new.paths)) → Laid new.paths → Tells base busy (record { spawned = b; mark = Some (Invocation site); outer = es } ∷ os) [] new
+pub table_entered : (base : ℕ) (busy : ℕ → ℕ) (os : List Open) (es : List Event) (old new : SiteTable) (b : Bool) (site path : ℕ)
+    → Small busy (record { spawned = b; mark = Some (Invocation site); outer = es } ∷ os) [] → Tells base busy os es old
+    → ((p : ℕ) → path ≡ path_in p base (record { spawned = b; mark = Some (Invocation site); outer = es } ∷ os) []) → RowBegun old new site path
+    → ((q : ℕ) → Shows q base (record { spawned = b; mark = Some (Invocation site); outer = es } ∷ os) [] (strand_path q new.paths)) → Laid new.paths
+    → Tells base busy (record { spawned = b; mark = Some (Invocation site); outer = es } ∷ os) [] new
 table_entered base busy os es old new b site path small h p f s l = record {
   laid = l;
   rows = λ q. entered_row (site == q) base busy os es old new b site path q refl small h p f;
@@ -178,7 +189,10 @@ table_entered base busy os es old new b site path small h p f s l = record {
 }
 
 -- it ends
-left_row : (own : Bool) (base : ℕ) (busy : ℕ → ℕ) (os : List Open) (before es : List Event) (old new : SiteTable) (b : Bool) (site outer q : ℕ) → (old.here == q) ≡ own → has_spawned es ≡ false → Small busy (record { spawned = b; mark = Some (Invocation site); outer = before } ∷ os) es → Tells base busy (record { spawned = b; mark = Some (Invocation site); outer = before } ∷ os) es old → RowLeft old new outer → CountsSite q base (busy q) os (closed (record { spawned = b; mark = Some (Invocation site); outer = before }) es) (row_of new.rows q)
+left_row : (own : Bool) (base : ℕ) (busy : ℕ → ℕ) (os : List Open) (before es : List Event) (old new : SiteTable) (b : Bool) (site outer q : ℕ)
+    → (old.here == q) ≡ own → has_spawned es ≡ false → Small busy (record { spawned = b; mark = Some (Invocation site); outer = before } ∷ os) es
+    → Tells base busy (record { spawned = b; mark = Some (Invocation site); outer = before } ∷ os) es old → RowLeft old new outer
+    → CountsSite q base (busy q) os (closed (record { spawned = b; mark = Some (Invocation site); outer = before }) es) (row_of new.rows q)
 left_row true base busy os before es old new b site outer q e n small h f =
     let o : Open = record { spawned = b; mark = Some (Invocation site); outer = before } in
     let s : old.here ≡ q = eqb-true old.here q e in
@@ -188,14 +202,19 @@ left_row true base busy os before es old new b site outer q e n small h f =
     let path : (strand_path 0 old.paths).now.weight ≡ (now_of (block_path old.here base (o ∷ os) es)).weight = ap (λ (x : Path). x.weight) (h.paths old.here).now_is in
     let c = row_left old.here base (busy old.here) o os es (row_of old.rows old.here) old.noted (strand_path 0 old.paths).now.weight same n h.noted_is path (h.rows old.here) in
     let D : Row → Type 0 = λ r. CountsSite old.here base (busy old.here) os (closed o es) r in
-    subst P s (subst D (sym (f.own (fits_row old.here base busy os (closed o es) (left old.noted (strand_path 0 old.paths).now.weight (row_of old.rows old.here)) (small_closed busy o os es small) c))) c)
+    subst P s (subst D (sym (f.own (fits_row old.here base busy os (closed o es)
+    (left old.noted (strand_path 0 old.paths).now.weight (row_of old.rows old.here)) (small_closed busy o os es small) c))) c)
 left_row false base busy os before es old new b site outer q e n small h f =
     let o : Open = record { spawned = b; mark = Some (Invocation site); outer = before } in
     let other : (site == q) ≡ false = ap (λ (x : ℕ). x == q) (sym h.here_is) ∙ e in
     let D : Row → Type 0 = λ r. CountsSite q base (busy q) os (closed o es) r in
     subst D (sym (f.others q e)) (row_other_left q base (busy q) o os es (row_of old.rows q) other (h.rows q))
 
-pub table_left : (base : ℕ) (busy : ℕ → ℕ) (os : List Open) (before es : List Event) (old new : SiteTable) (b : Bool) (site outer : ℕ) → has_spawned es ≡ false → outer ≡ here_in base os → Small busy (record { spawned = b; mark = Some (Invocation site); outer = before } ∷ os) es → Tells base busy (record { spawned = b; mark = Some (Invocation site); outer = before } ∷ os) es old → RowLeft old new outer → ((q : ℕ) → Shows q base os (closed (record { spawned = b; mark = Some (Invocation site); outer = before }) es) (strand_path q new.paths)) → Laid new.paths → Tells base busy os (closed (record { spawned = b; mark = Some (Invocation site); outer = before }) es) new
+pub table_left : (base : ℕ) (busy : ℕ → ℕ) (os : List Open) (before es : List Event) (old new : SiteTable) (b : Bool) (site outer : ℕ)
+    → has_spawned es ≡ false → outer ≡ here_in base os → Small busy (record { spawned = b; mark = Some (Invocation site); outer = before } ∷ os) es
+    → Tells base busy (record { spawned = b; mark = Some (Invocation site); outer = before } ∷ os) es old → RowLeft old new outer
+    → ((q : ℕ) → Shows q base os (closed (record { spawned = b; mark = Some (Invocation site); outer = before }) es) (strand_path q new.paths))
+    → Laid new.paths → Tells base busy os (closed (record { spawned = b; mark = Some (Invocation site); outer = before }) es) new
 table_left base busy os before es old new b site outer n at small h f s l = record {
   laid = l;
   rows = λ q. left_row (old.here == q) base busy os before es old new b site outer q refl n small h f;
@@ -205,7 +224,10 @@ table_left base busy os before es old new b site outer n at small h f s l = reco
 }
 
 -- the block joins
-pub table_joined : (base : ℕ) (busy : ℕ → ℕ) (os : List Open) (es : List Event) (old new : SiteTable) → has_spawned es ≡ true → Small busy os es → Tells base busy os es old → (Laid old.paths → Laid new.paths) → (Laid old.paths → (q : ℕ) → Fits (whole (strand_path q old.paths)) → strand_path q new.paths ≡ joins (strand_path q old.paths)) → ((q : ℕ) → row_of new.rows q ≡ row_of old.rows q) → new.noted ≡ old.noted → new.here ≡ old.here → Tells base busy os (es ++ Join ∷ []) new
+pub table_joined : (base : ℕ) (busy : ℕ → ℕ) (os : List Open) (es : List Event) (old new : SiteTable) → has_spawned es ≡ true → Small busy os es
+    → Tells base busy os es old → (Laid old.paths → Laid new.paths) → (Laid old.paths → (q : ℕ) → Fits (whole (strand_path q old.paths))
+    → strand_path q new.paths ≡ joins (strand_path q old.paths)) → ((q : ℕ) → row_of new.rows q ≡ row_of old.rows q) → new.noted ≡ old.noted
+    → new.here ≡ old.here → Tells base busy os (es ++ Join ∷ []) new
 table_joined base busy os es old new n small h l f r m k = record {
   laid = l h.laid;
   rows = λ q. let D : Row → Type 0 = λ x. CountsSite q base (busy q) os (es ++ Join ∷ []) x in subst D (sym (r q)) (row_join q base (busy q) os es (row_of old.rows q) (h.rows q));
@@ -230,20 +252,28 @@ flushed_none t count e =
 
 -- the public calls
 
-pub call_begins : (base : ℕ) (busy : ℕ → ℕ) (os : List Open) (es fs : List Event) (old mid new : SiteTable) (count site : ℕ) → Since old.noted count es fs → Small busy (called site (es ++ fs) os) [] → Tells base busy os es old → Flushed old mid count → RowBegun mid new site (strand_path 0 mid.paths).now.weight → Tells base busy (called site (es ++ fs) os) [] new
+pub call_begins : (base : ℕ) (busy : ℕ → ℕ) (os : List Open) (es fs : List Event) (old mid new : SiteTable) (count site : ℕ)
+    → Since old.noted count es fs → Small busy (called site (es ++ fs) os) [] → Tells base busy os es old → Flushed old mid count
+    → RowBegun mid new site (strand_path 0 mid.paths).now.weight → Tells base busy (called site (es ++ fs) os) [] new
 call_begins base busy os es fs old mid new count site le small h f g =
     let es' = es ++ fs in
     let o : Open = record { spawned = false; mark = Some (Invocation site); outer = es' } in
     let m = table_flushed base busy os es fs old mid count le (small_outer busy o os [] small) h f in
     table_entered base busy os es' mid new false site (strand_path 0 mid.paths).now.weight small m (λ p. ap (λ (x : Path). x.weight) (m.paths p).now_is) g
-    (λ q. let D : StrandPath → Type 0 = λ t. Shows q base (o ∷ os) [] t in subst D (sym (ap (λ (r : Paths). strand_path q r) g.paths)) (shows_entered q base os es' (strand_path q mid.paths) (Some (Invocation site)) (m.paths q)))
+    (λ q. let D : StrandPath → Type 0 = λ t. Shows q base (o ∷ os) [] t in
+    subst D (sym (ap (λ (r : Paths). strand_path q r) g.paths)) (shows_entered q base os es' (strand_path q mid.paths) (Some (Invocation site)) (m.paths q)))
     (subst Laid (sym g.paths) m.laid)
 
-shows_spawned_by : (first : Bool) (q base : ℕ) (os : List Open) (es : List Event) (t : StrandPath) (mark : Option Mark) → has_spawned es ≡ not first → Shows q base os es t → Shows q base (record { spawned = true; mark = mark; outer = es } ∷ os) [] (spawns first t)
+shows_spawned_by : (first : Bool) (q base : ℕ) (os : List Open) (es : List Event) (t : StrandPath) (mark : Option Mark) → has_spawned es ≡ not first
+    → Shows q base os es t → Shows q base (record { spawned = true; mark = mark; outer = es } ∷ os) [] (spawns first t)
 shows_spawned_by true q base os es t mark e h = shows_spawned q base os es t mark e h
 shows_spawned_by false q base os es t mark e h = shows_spawned_again q base os es t mark e h
 
-pub spawn_begins : (base : ℕ) (busy : ℕ → ℕ) (os : List Open) (es fs : List Event) (old mid forked new : SiteTable) (count site : ℕ) (first : Bool) → Since old.noted count es fs → has_spawned es ≡ not first → Small busy (spawned site (es ++ fs) os) [] → Tells base busy os es old → Flushed old mid count → (Laid mid.paths → Laid forked.paths) → (Laid mid.paths → (q : ℕ) → strand_path q forked.paths ≡ spawns first (strand_path q mid.paths)) → ((q : ℕ) → row_of forked.rows q ≡ row_of mid.rows q) → forked.noted ≡ mid.noted → RowBegun forked new site 0 → Tells base busy (spawned site (es ++ fs) os) [] new
+pub spawn_begins : (base : ℕ) (busy : ℕ → ℕ) (os : List Open) (es fs : List Event) (old mid forked new : SiteTable) (count site : ℕ) (first : Bool)
+    → Since old.noted count es fs → has_spawned es ≡ not first → Small busy (spawned site (es ++ fs) os) [] → Tells base busy os es old
+    → Flushed old mid count → (Laid mid.paths → Laid forked.paths) → (Laid mid.paths → (q : ℕ)
+    → strand_path q forked.paths ≡ spawns first (strand_path q mid.paths)) → ((q : ℕ) → row_of forked.rows q ≡ row_of mid.rows q)
+    → forked.noted ≡ mid.noted → RowBegun forked new site 0 → Tells base busy (spawned site (es ++ fs) os) [] new
 spawn_begins base busy os es fs old mid forked new count site first le n small h f lr r rows mark g =
     let es' = es ++ fs in
     let o : Open = record { spawned = true; mark = Some (Invocation site); outer = es' } in
@@ -251,30 +281,47 @@ spawn_begins base busy os es fs old mid forked new count site first le n small h
     let R : Row → ℕ → Type 0 = λ x y. FitsRow (entered y 0 x) → row_of new.rows site ≡ entered y 0 x in
     let own : FitsRow (entered mid.noted 0 (row_of mid.rows site)) → row_of new.rows site ≡ entered mid.noted 0 (row_of mid.rows site) =
     (let A : Row → Type 0 = λ x. R x mid.noted in let B : ℕ → Type 0 = λ y. R (row_of forked.rows site) y in subst A (rows site) (subst B mark g.own)) in
-    let k : RowBegun mid (record { rows = new.rows; paths = mid.paths; noted = new.noted; here = new.here }) site 0 = record { own = own; others = λ q e. g.others q e ∙ rows q; paths = refl; noted_is = g.noted_is ∙ mark; here_is = g.here_is } in
+    let k : RowBegun mid (record { rows = new.rows; paths = mid.paths; noted = new.noted; here = new.here }) site 0 =
+    record { own = own; others = λ q e. g.others q e ∙ rows q; paths = refl; noted_is = g.noted_is ∙ mark; here_is = g.here_is } in
     let l = table_rows base busy os es' mid new site small m k in
     record {
       rows = l;
       laid = subst Laid (sym g.paths) (lr m.laid);
-      paths = λ q. let D : StrandPath → Type 0 = λ t. Shows q base (o ∷ os) [] t in subst D (sym (ap (λ (r : Paths). strand_path q r) g.paths ∙ r m.laid q)) (shows_spawned_by first q base os es' (strand_path q mid.paths) (Some (Invocation site)) (has_spawned_since es fs (count - old.noted) le.instructions ∙ n) (m.paths q));
+      paths = λ q. let D : StrandPath → Type 0 = λ t. Shows q base (o ∷ os) [] t in
+          subst D (sym (ap (λ (r : Paths). strand_path q r) g.paths ∙ r m.laid q))
+          (shows_spawned_by first q base os es' (strand_path q mid.paths) (Some (Invocation site))
+          (has_spawned_since es fs (count - old.noted) le.instructions ∙ n) (m.paths q));
       noted_is = let a = g.noted_is in let b = m.noted_is in let d = adds_none work work_adds in omega arith;
       here_is = g.here_is;
     }
   where
-    table_rows : (base : ℕ) (busy : ℕ → ℕ) (os : List Open) (es : List Event) (mid new : SiteTable) (site : ℕ) → Small busy (spawned site es os) [] → Tells base busy os es mid → RowBegun mid (record { rows = new.rows; paths = mid.paths; noted = new.noted; here = new.here }) site 0 → (q : ℕ) → CountsSite q base (busy q) (spawned site es os) [] (row_of new.rows q)
-    table_rows base busy os es mid new site small m k q = entered_row (site == q) base busy os es mid (record { rows = new.rows; paths = mid.paths; noted = new.noted; here = new.here }) true site 0 q refl small m (λ p. refl) k
+    table_rows : (base : ℕ) (busy : ℕ → ℕ) (os : List Open) (es : List Event) (mid new : SiteTable) (site : ℕ) → Small busy (spawned site es os) []
+        → Tells base busy os es mid → RowBegun mid (record { rows = new.rows; paths = mid.paths; noted = new.noted; here = new.here }) site 0 → (q : ℕ)
+        → CountsSite q base (busy q) (spawned site es os) [] (row_of new.rows q)
+    table_rows base busy os es mid new site small m k q = entered_row (site == q) base busy os es mid
+        (record { rows = new.rows; paths = mid.paths; noted = new.noted; here = new.here }) true site 0 q refl small m (λ p. refl) k
 
-pub call_ends : (base : ℕ) (busy : ℕ → ℕ) (os : List Open) (before es fs : List Event) (old mid new : SiteTable) (count site outer : ℕ) → Since old.noted count es fs → has_spawned es ≡ false → outer ≡ here_in base os → Small busy (called site before os) (es ++ fs) → Tells base busy (called site before os) es old → Flushed old mid count → RowLeft mid new outer → Tells base busy os (closed (record { spawned = false; mark = Some (Invocation site); outer = before }) (es ++ fs)) new
+pub call_ends : (base : ℕ) (busy : ℕ → ℕ) (os : List Open) (before es fs : List Event) (old mid new : SiteTable) (count site outer : ℕ)
+    → Since old.noted count es fs → has_spawned es ≡ false → outer ≡ here_in base os → Small busy (called site before os) (es ++ fs)
+    → Tells base busy (called site before os) es old → Flushed old mid count → RowLeft mid new outer
+    → Tells base busy os (closed (record { spawned = false; mark = Some (Invocation site); outer = before }) (es ++ fs)) new
 call_ends base busy os before es fs old mid new count site outer le n at small h f g =
     let o : Open = record { spawned = false; mark = Some (Invocation site); outer = before } in
     let es' = es ++ fs in
     let m = table_flushed base busy (o ∷ os) es fs old mid count le small h f in
     let n' = has_spawned_since es fs (count - old.noted) le.instructions ∙ n in
     table_left base busy os before es' mid new false site outer n' at small m g
-    (λ q. let D : StrandPath → Type 0 = λ t. Shows q base os (closed o es') t in subst D (sym (ap (λ (r : Paths). strand_path q r) g.paths)) (shows_left q base (Some (Invocation site)) before os es' (strand_path q mid.paths) n' (m.paths q)))
+    (λ q. let D : StrandPath → Type 0 = λ t. Shows q base os (closed o es') t in
+    subst D (sym (ap (λ (r : Paths). strand_path q r) g.paths)) (shows_left q base (Some (Invocation site)) before os es'
+    (strand_path q mid.paths) n' (m.paths q)))
     (subst Laid (sym g.paths) m.laid)
 
-pub spawn_ends : (base : ℕ) (busy : ℕ → ℕ) (os : List Open) (before es fs : List Event) (old mid closing new : SiteTable) (count site outer : ℕ) → Since old.noted count es fs → has_spawned es ≡ false → outer ≡ here_in base os → Small busy (spawned site before os) (es ++ fs) → Tells base busy (spawned site before os) es old → Flushed old mid count → RowLeft mid closing outer → (Laid closing.paths → Laid new.paths) → (Laid closing.paths → (q : ℕ) → Fits (whole (strand_path q closing.paths)) → strand_path q new.paths ≡ ends (strand_path q closing.paths)) → ((q : ℕ) → row_of new.rows q ≡ row_of closing.rows q) → new.noted ≡ closing.noted → new.here ≡ closing.here → Tells base busy os (closed (record { spawned = true; mark = Some (Invocation site); outer = before }) (es ++ fs)) new
+pub spawn_ends : (base : ℕ) (busy : ℕ → ℕ) (os : List Open) (before es fs : List Event) (old mid closing new : SiteTable) (count site outer : ℕ)
+    → Since old.noted count es fs → has_spawned es ≡ false → outer ≡ here_in base os → Small busy (spawned site before os) (es ++ fs)
+    → Tells base busy (spawned site before os) es old → Flushed old mid count → RowLeft mid closing outer → (Laid closing.paths → Laid new.paths)
+    → (Laid closing.paths → (q : ℕ) → Fits (whole (strand_path q closing.paths)) → strand_path q new.paths ≡ ends (strand_path q closing.paths))
+    → ((q : ℕ) → row_of new.rows q ≡ row_of closing.rows q) → new.noted ≡ closing.noted → new.here ≡ closing.here
+    → Tells base busy os (closed (record { spawned = true; mark = Some (Invocation site); outer = before }) (es ++ fs)) new
 spawn_ends base busy os before es fs old mid closing new count site outer le n at small h f g lr r rows mark here =
     let o : Open = record { spawned = true; mark = Some (Invocation site); outer = before } in
     let es' = es ++ fs in
@@ -282,12 +329,14 @@ spawn_ends base busy os before es fs old mid closing new count site outer le n a
     let n' = has_spawned_since es fs (count - old.noted) le.instructions ∙ n in
     record {
       laid = lr (subst Laid (sym g.paths) m.laid);
-      rows = λ q. let D : Row → Type 0 = λ x. CountsSite q base (busy q) os (closed o es') x in subst D (sym (rows q)) (left_row (mid.here == q) base busy os before es' mid closing true site outer q refl n' small m g);
+      rows = λ q. let D : Row → Type 0 = λ x. CountsSite q base (busy q) os (closed o es') x in
+          subst D (sym (rows q)) (left_row (mid.here == q) base busy os before es' mid closing true site outer q refl n' small m g);
       paths = λ q.
           let D : StrandPath → Type 0 = λ t. Shows q base os (closed o es') t in
           let F : StrandPath → Type 0 = λ t. Fits (whole t) in
           let fits = subst F (sym (ap (λ (r : Paths). strand_path q r) g.paths)) (fits_whole q base busy (o ∷ os) es' (strand_path q mid.paths) small (m.paths q)) in
-          subst D (sym (r (subst Laid (sym g.paths) m.laid) q fits ∙ ap ends (ap (λ (r : Paths). strand_path q r) g.paths))) (shows_ended q base (Some (Invocation site)) before os es' (strand_path q mid.paths) n' (m.paths q));
+          subst D (sym (r (subst Laid (sym g.paths) m.laid) q fits ∙ ap ends (ap (λ (r : Paths). strand_path q r) g.paths)))
+          (shows_ended q base (Some (Invocation site)) before os es' (strand_path q mid.paths) n' (m.paths q));
       noted_is = let a = g.noted_is in let c = m.noted_is in let d = left_work o os es' in omega arith;
       here_is = here ∙ g.here_is ∙ at;
     }
@@ -300,7 +349,9 @@ pub record ReadsRow (row : Row) (own : ℕ) (of : SiteRow) : Type 0 where
   pub span : row.span ≡ of.span
 
 -- the row of a site, once all has ended
-pub row_read : (site : ℕ) (busy : ℕ → ℕ) (es : List Event) (table : SiteTable) → busy site ≡ 0 → has_spawned es ≡ false → Small busy [] es → Tells 0 busy [] es table → (own : ℕ) → (Laid table.paths → (strand_path site table.paths).now.own < 2 ^ 64 → own ≡ (strand_path site table.paths).now.own) → ReadsRow (row_of table.rows site) own (site_row site (tree_of es))
+pub row_read : (site : ℕ) (busy : ℕ → ℕ) (es : List Event) (table : SiteTable) → busy site ≡ 0 → has_spawned es ≡ false → Small busy [] es
+    → Tells 0 busy [] es table → (own : ℕ) → (Laid table.paths → (strand_path site table.paths).now.own < 2 ^ 64
+    → own ≡ (strand_path site table.paths).now.own) → ReadsRow (row_of table.rows site) own (site_row site (tree_of es))
 row_read site busy es table idle n small h own o =
     let r = h.rows site in
     let w = whole_within site 0 [] es (strand_path site table.paths) (h.paths site) in
@@ -319,7 +370,11 @@ row_read site busy es table idle n small h own o =
 abbrev with_paths : SiteTable → Paths → SiteTable
 with_paths t p = record { rows = t.rows; paths = p; noted = t.noted; here = t.here }
 
-pub half_begins : (base : ℕ) (busy : ℕ → ℕ) (mark : Option Mark) (os : List Open) (es fs : List Event) (old mid : SiteTable) (paths : Paths) (count : ℕ) (first : Bool) → IsQuiet mark → Since old.noted count es fs → has_spawned es ≡ not first → Small busy os (es ++ fs) → Tells base busy os es old → Flushed old mid count → (Laid mid.paths → Laid paths) → (Laid mid.paths → (q : ℕ) → strand_path q paths ≡ spawns first (strand_path q mid.paths)) → Tells base busy (in_fork mark (es ++ fs) os) [] (with_paths mid paths)
+pub half_begins : (base : ℕ) (busy : ℕ → ℕ) (mark : Option Mark) (os : List Open) (es fs : List Event) (old mid : SiteTable) (paths : Paths)
+    (count : ℕ) (first : Bool) → IsQuiet mark → Since old.noted count es fs → has_spawned es ≡ not first → Small busy os (es ++ fs)
+    → Tells base busy os es old → Flushed old mid count → (Laid mid.paths → Laid paths)
+    → (Laid mid.paths → (q : ℕ) → strand_path q paths ≡ spawns first (strand_path q mid.paths))
+    → Tells base busy (in_fork mark (es ++ fs) os) [] (with_paths mid paths)
 half_begins base busy mark os es fs old mid paths count first quiet since n small h f l r =
     let es' = es ++ fs in
     let o : Open = record { spawned = true; mark = mark; outer = es' } in
@@ -333,7 +388,11 @@ half_begins base busy mark os es fs old mid paths count first quiet since n smal
       here_is = m.here_is ∙ sym (quiet_inside mark (here_in base os) quiet);
     }
 
-pub half_ends : (base : ℕ) (busy : ℕ → ℕ) (mark : Option Mark) (os : List Open) (before es fs : List Event) (old mid : SiteTable) (paths : Paths) (count : ℕ) → IsQuiet mark → Since old.noted count es fs → has_spawned es ≡ false → Small busy (in_fork mark before os) (es ++ fs) → Tells base busy (in_fork mark before os) es old → Flushed old mid count → (Laid mid.paths → Laid paths) → (Laid mid.paths → (q : ℕ) → Fits (whole (strand_path q mid.paths)) → strand_path q paths ≡ ends (strand_path q mid.paths)) → Tells base busy os (closed (record { spawned = true; mark = mark; outer = before }) (es ++ fs)) (with_paths mid paths)
+pub half_ends : (base : ℕ) (busy : ℕ → ℕ) (mark : Option Mark) (os : List Open) (before es fs : List Event) (old mid : SiteTable) (paths : Paths)
+    (count : ℕ) → IsQuiet mark → Since old.noted count es fs → has_spawned es ≡ false → Small busy (in_fork mark before os) (es ++ fs)
+    → Tells base busy (in_fork mark before os) es old → Flushed old mid count → (Laid mid.paths → Laid paths)
+    → (Laid mid.paths → (q : ℕ) → Fits (whole (strand_path q mid.paths)) → strand_path q paths ≡ ends (strand_path q mid.paths))
+    → Tells base busy os (closed (record { spawned = true; mark = mark; outer = before }) (es ++ fs)) (with_paths mid paths)
 half_ends base busy mark os before es fs old mid paths count quiet since n small h f l r =
     let es' = es ++ fs in
     let o : Open = record { spawned = true; mark = mark; outer = before } in

@@ -1,5 +1,6 @@
 -- A row of which cells are out is parted and put together, and so is the right to its cells. Assumes `Logic`.
-use Rattle.std.proofs.Common.{◌≡◌, ℕ, ◌+◌, ◌-◌, ◌*◌, ◌^◌, ◌≤◌, ℤ, [], ◌∷◌, ◌++◌, List, length, take, drop as drop_l, replicate, Option, Some, None, slice_get, slice_set, refl, sym, ap, ◌∙◌, subst, arith}
+use Rattle.std.proofs.Common.{◌≡◌, ℕ, ◌+◌, ◌-◌, ◌*◌, ◌^◌, ◌≤◌, ℤ, [], ◌∷◌, ◌++◌, List, length, take, drop as drop_l, replicate}
+use Rattle.std.proofs.Common.{Option, Some, None, slice_get, slice_set, refl, sym, ap, ◌∙◌, subst, arith}
 use Prim.Native.Nat.{zero, suc}
 use lib.ListN.{length-drop, length-replicate, take-append-drop}
 use Rattle.std.proofs.lemmas.Option.{slice_get_within}
@@ -159,12 +160,15 @@ module _ {M : Type 1} {𝓤 : Ura M} (𝓛 : Logic 𝓤) where
       parts_of between d = row b o (take from cells ++ (between ++ drop_l (from + length xs) cells)) (take from ds ++ (replicate (length xs) d ++ drop_l (from + length xs) ds))
 
       apart : (between : List (Option ℤ)) (d : ℕ) → length between ≡ length xs
-          → ent 𝓤 ⟦ parts_of between d ⟧ (sep 𝓤 ⟦ row b mid between (replicate (length xs) d) ⟧ (sep 𝓤 ⟦ row b end (drop_l (from + length xs) cells) (drop_l (from + length xs) ds) ⟧ ⟦ row b o (take from cells) (take from ds) ⟧))
+          → ent 𝓤 ⟦ parts_of between d ⟧ (sep 𝓤 ⟦ row b mid between (replicate (length xs) d) ⟧
+          (sep 𝓤 ⟦ row b end (drop_l (from + length xs) cells) (drop_l (from + length xs) ds) ⟧ ⟦ row b o (take from cells) (take from ds) ⟧))
       apart between d e = three b o (take from cells) between (drop_l (from + length xs) cells) (take from ds) (replicate (length xs) d) (drop_l (from + length xs) ds) mid end
           front_rights (many d ∙ sym e) (omega (arith, front)) (omega (arith, e))
 
       together : (between : List (Option ℤ)) (d : ℕ) → length between ≡ length xs
-          → ent 𝓤 (sep 𝓤 ⟦ row b mid between (replicate (length xs) d) ⟧ (sep 𝓤 ⟦ row b end (drop_l (from + length xs) cells) (drop_l (from + length xs) ds) ⟧ ⟦ row b o (take from cells) (take from ds) ⟧)) ⟦ parts_of between d ⟧
+          → ent 𝓤 (sep 𝓤 ⟦ row b mid between (replicate (length xs) d) ⟧
+          (sep 𝓤 ⟦ row b end (drop_l (from + length xs) cells) (drop_l (from + length xs) ds) ⟧ ⟦ row b o (take from cells) (take from ds) ⟧)) ⟦
+          parts_of between d ⟧
       together between d e = one b o (take from cells) between (drop_l (from + length xs) cells) (take from ds) (replicate (length xs) d) (drop_l (from + length xs) ds) mid end
           front_rights (many d ∙ sym e) (omega (arith, front)) (omega (arith, e))
 
@@ -178,12 +182,14 @@ module _ {M : Type 1} {𝓤 : Ura M} (𝓛 : Logic 𝓤) where
         let now : ds ≡ take from ds ++ (replicate (length xs) d ++ drop_l (from + length xs) ds) = alike_middle from (length xs) d ds even (omega (arith, fits, as_many)) in
         qed 𝓛 (‵ (kept_owned (block_ptr b o) cells ds) ∷ []) ∵ fsplit ! $ flt_l ! (λ small.
         rewrite ! 0 (λ l. ‵ (row b o l ds)) (middle from xs cells has fits) refl $ rewrite ! 0 (λ l. ‵ (row b o (take from cells ++ (ins xs ++ drop_l (from + length xs) cells)) l)) now refl $
-        use1 𝓛 (‵ (alike b (mid b o) xs d) ⊛ (‵ (row b (end b o) (drop_l (from + length xs) cells) (drop_l (from + length xs) ds)) ⊛ ‵ (row b o (take from cells) (take from ds)))) (apart b o (ins xs) d (length_ins xs)) $ split ! $
+        use1 𝓛 (‵ (alike b (mid b o) xs d) ⊛ (‵ (row b (end b o) (drop_l (from + length xs) cells) (drop_l (from + length xs) ds)) ⊛ ‵
+        (row b o (take from cells) (take from ds)))) (apart b o (ins xs) d (length_ins xs)) $ split ! $
         use1 𝓛 (‵ (held d (block_ptr b (mid b o)) xs (marks (ins xs)))) (to_run b (mid b o) xs d) $ flt_i ! (length xs * 8) (2 ^ 63) (omega (arith, small, fits)) $ fjoin ! $ move ! (1 ∷ []) $
         -- [the others; the run]
         use0 𝓛 (‵ (row b (mid b o) (outs (length xs)) (replicate (length xs) d))) (none_in b (mid b o) (length xs) (replicate (length xs) d)) $
         use2 𝓛 (‵ (parts_of b o (outs (length xs)) d)) (together b o (outs (length xs)) d out) $
-        rewrite ! 0 (λ l. ‵ (row b o (take from cells ++ (outs (length xs) ++ drop_l (from + length xs) cells)) l)) (sym now) refl $ rewrite ! 0 (λ l. ‵ (row b o l ds)) (sym (refill (outs (length xs)) out)) refl $
+        rewrite ! 0 (λ l. ‵ (row b o (take from cells ++ (outs (length xs) ++ drop_l (from + length xs) cells)) l)) (sym now) refl $ rewrite ! 0
+        (λ l. ‵ (row b o l ds)) (sym (refill (outs (length xs)) out)) refl $
         flt_i ! (length (patched from (outs (length xs)) cells) * 8) (2 ^ 63) (omega (arith, same, small)) $ fjoin ! $ done !)
 
     -- a run takes the place of some of the cells
@@ -195,15 +201,20 @@ module _ {M : Type 1} {𝓤 : Ura M} (𝓛 : Logic 𝓤) where
         let back : length (drop_l from cells) ≡ length cells - from = length-drop from cells in
         let whole : length between ≡ length xs = length-take-le (length xs) (drop_l from cells) (omega (arith, back, fits)) in
         let same : length (patched from (ins xs) cells) ≡ length cells = length_patched from (ins xs) cells (omega (arith, fits, length_ins xs)) in
-        let all : take from cells ++ (between ++ drop_l (from + length xs) cells) ≡ cells = ap (λ l. take from cells ++ (between ++ l)) (sym (drop-drop (length xs) from cells)) ∙ ap (λ l. take from cells ++ l) (take-append-drop (length xs) (drop_l from cells)) ∙ take-append-drop from cells in
+        let all : take from cells ++ (between ++ drop_l (from + length xs) cells) ≡ cells =
+        ap (λ l. take from cells ++ (between ++ l)) (sym (drop-drop (length xs) from cells))
+        ∙ ap (λ l. take from cells ++ l) (take-append-drop (length xs) (drop_l from cells)) ∙ take-append-drop from cells in
         let now : ds ≡ take from ds ++ (replicate (length xs) d ++ drop_l (from + length xs) ds) = alike_middle from (length xs) d ds even (omega (arith, fits, as_many)) in
         qed 𝓛 (‵ (kept_owned (block_ptr b o) cells ds) ∷ ‵ (span_owned (block_ptr b (mid b o)) xs (marks (ins xs)) d) ∷ []) ∵ fsplit ! $ flt_l ! (λ small.
         rewrite ! 0 (λ l. ‵ (row b o l ds)) (sym all) refl $ rewrite ! 0 (λ l. ‵ (row b o (take from cells ++ (between ++ drop_l (from + length xs) cells)) l)) now refl $
-        use1 𝓛 (‵ (row b (mid b o) between (replicate (length xs) d)) ⊛ (‵ (row b (end b o) (drop_l (from + length xs) cells) (drop_l (from + length xs) ds)) ⊛ ‵ (row b o (take from cells) (take from ds)))) (apart b o between d whole) $ split ! $ drop ! $
+        use1 𝓛 (‵ (row b (mid b o) between (replicate (length xs) d)) ⊛
+        (‵ (row b (end b o) (drop_l (from + length xs) cells) (drop_l (from + length xs) ds)) ⊛ ‵ (row b o (take from cells) (take from ds))))
+        (apart b o between d whole) $ split ! $ drop ! $
         -- [the others; the run]
         move ! (1 ∷ []) $ fsplit ! $ drop ! $ use1 𝓛 (‵ (alike b (mid b o) xs d)) (of_run b (mid b o) xs d) $
         use2 𝓛 (‵ (parts_of b o (ins xs) d)) (together b o (ins xs) d (length_ins xs)) $
-        rewrite ! 0 (λ l. ‵ (row b o (take from cells ++ (ins xs ++ drop_l (from + length xs) cells)) l)) (sym now) refl $ rewrite ! 0 (λ l. ‵ (row b o l ds)) (sym (refill (ins xs) (length_ins xs))) refl $
+        rewrite ! 0 (λ l. ‵ (row b o (take from cells ++ (ins xs ++ drop_l (from + length xs) cells)) l)) (sym now) refl $ rewrite ! 0
+        (λ l. ‵ (row b o l ds)) (sym (refill (ins xs) (length_ins xs))) refl $
         flt_i ! (length (patched from (ins xs) cells) * 8) (2 ^ 63) (omega (arith, same, small)) $ fjoin ! $ done !)
 
     -- half of the right to some of the cells is taken out
@@ -215,12 +226,15 @@ module _ {M : Type 1} {𝓤 : Ura M} (𝓛 : Logic 𝓤) where
         let all = middle from xs cells has fits in
         qed 𝓛 (‵ (kept_owned (block_ptr b o) cells ds) ∷ []) ∵ fsplit ! $ flt_l ! (λ small.
         rewrite ! 0 (λ l. ‵ (row b o l ds)) all refl $ rewrite ! 0 (λ l. ‵ (row b o (take from cells ++ (ins xs ++ drop_l (from + length xs) cells)) l)) now refl $
-        use1 𝓛 (‵ (alike b (mid b o) xs d) ⊛ (‵ (row b (end b o) (drop_l (from + length xs) cells) (drop_l (from + length xs) ds)) ⊛ ‵ (row b o (take from cells) (take from ds)))) (apart b o (ins xs) d (length_ins xs)) $ split ! $
+        use1 𝓛 (‵ (alike b (mid b o) xs d) ⊛ (‵ (row b (end b o) (drop_l (from + length xs) cells) (drop_l (from + length xs) ds)) ⊛ ‵
+        (row b o (take from cells) (take from ds)))) (apart b o (ins xs) d (length_ins xs)) $ split ! $
         use1 𝓛 (‵ (alike b (mid b o) xs (suc d)) ⊛ ‵ (alike b (mid b o) xs (suc d))) (halve b (mid b o) xs d) $ split ! $
         -- [a half; the other; the other cells]
-        use1 𝓛 (‵ (held (suc d) (block_ptr b (mid b o)) xs (marks (ins xs)))) (to_run b (mid b o) xs (suc d)) $ flt_i ! (length xs * 8) (2 ^ 63) (omega (arith, small, fits)) $ fjoin ! $ move ! (1 ∷ 2 ∷ []) $
+        use1 𝓛 (‵ (held (suc d) (block_ptr b (mid b o)) xs (marks (ins xs)))) (to_run b (mid b o) xs (suc d)) $ flt_i ! (length xs * 8) (2 ^ 63)
+        (omega (arith, small, fits)) $ fjoin ! $ move ! (1 ∷ 2 ∷ []) $
         use2 𝓛 (‵ (parts_of b o (ins xs) (suc d))) (together b o (ins xs) (suc d) (length_ins xs)) $
-        rewrite ! 0 (λ l. ‵ (row b o (take from cells ++ (ins xs ++ drop_l (from + length xs) cells)) l)) (sym (reset (suc d))) refl $ rewrite ! 0 (λ l. ‵ (row b o l (patched from (replicate (length xs) (suc d)) ds))) (sym all) refl $
+        rewrite ! 0 (λ l. ‵ (row b o (take from cells ++ (ins xs ++ drop_l (from + length xs) cells)) l)) (sym (reset (suc d))) refl $ rewrite ! 0
+        (λ l. ‵ (row b o l (patched from (replicate (length xs) (suc d)) ds))) (sym all) refl $
         flt_i ! (length cells * 8) (2 ^ 63) small $ fjoin ! $ done !)
 
     -- the other half comes back
@@ -232,12 +246,14 @@ module _ {M : Type 1} {𝓤 : Ura M} (𝓛 : Logic 𝓤) where
         let all = middle from xs cells has fits in
         qed 𝓛 (‵ (kept_owned (block_ptr b o) cells ds) ∷ ‵ (span_owned (block_ptr b (mid b o)) xs (marks (ins xs)) (suc d)) ∷ []) ∵ fsplit ! $ flt_l ! (λ small.
         rewrite ! 0 (λ l. ‵ (row b o l ds)) all refl $ rewrite ! 0 (λ l. ‵ (row b o (take from cells ++ (ins xs ++ drop_l (from + length xs) cells)) l)) now refl $
-        use1 𝓛 (‵ (alike b (mid b o) xs (suc d)) ⊛ (‵ (row b (end b o) (drop_l (from + length xs) cells) (drop_l (from + length xs) ds)) ⊛ ‵ (row b o (take from cells) (take from ds)))) (apart b o (ins xs) (suc d) (length_ins xs)) $ split ! $
+        use1 𝓛 (‵ (alike b (mid b o) xs (suc d)) ⊛ (‵ (row b (end b o) (drop_l (from + length xs) cells) (drop_l (from + length xs) ds)) ⊛ ‵
+        (row b o (take from cells) (take from ds)))) (apart b o (ins xs) (suc d) (length_ins xs)) $ split ! $
         -- [a half; the other cells; the run]
         move ! (2 ∷ []) $ fsplit ! $ drop ! $ use1 𝓛 (‵ (alike b (mid b o) xs (suc d))) (of_run b (mid b o) xs (suc d)) $
         use2 𝓛 (‵ (alike b (mid b o) xs d)) (heal b (mid b o) xs d) $
         use2 𝓛 (‵ (parts_of b o (ins xs) d)) (together b o (ins xs) d (length_ins xs)) $
-        rewrite ! 0 (λ l. ‵ (row b o (take from cells ++ (ins xs ++ drop_l (from + length xs) cells)) l)) (sym (reset d)) refl $ rewrite ! 0 (λ l. ‵ (row b o l (patched from (replicate (length xs) d) ds))) (sym all) refl $
+        rewrite ! 0 (λ l. ‵ (row b o (take from cells ++ (ins xs ++ drop_l (from + length xs) cells)) l)) (sym (reset d)) refl $ rewrite ! 0
+        (λ l. ‵ (row b o l (patched from (replicate (length xs) d) ds))) (sym all) refl $
         flt_i ! (length cells * 8) (2 ^ 63) small $ fjoin ! $ done !)
 
   -- a run is a row that is all in
@@ -268,14 +284,17 @@ module _ {M : Type 1} {𝓤 : Ura M} (𝓛 : Logic 𝓤) where
           rewrite ! 0 (λ l. ‵ (row b o l ds)) (at_place cells i (Some x) is) refl $ rewrite ! 0 (λ l. ‵ (row b o (take i cells ++ (Some x ∷ drop_l (suc i) cells)) l)) (at_place ds i 0 own) refl $
           use1 𝓛 (‵ (row b o (take i cells) (take i ds)) ⊛ ‵ (row b (i * 8 + o) (Some x ∷ drop_l (suc i) cells) (0 ∷ drop_l (suc i) ds)))
           (cut b (take i cells) (Some x ∷ drop_l (suc i) cells) (take i ds) (0 ∷ drop_l (suc i) ds) o (i * 8 + o) there_too (omega (arith, there))) $ split ! $ move ! (1 ∷ []) $ fsplit ! $
-          use1 𝓛 (some (λ (v : Val). given (Good number v) (‵ (fat full_share (elτ number) b (i * 8 + o) v) ⊛ ‵ (i64.own_val x (v ∷ []))))) (el_out number 𝓛 b x (i * 8 + o)) $ pick ! (λ v. learn ! (λ tv. split ! $
+          use1 𝓛 (some (λ (v : Val). given (Good number v) (‵ (fat full_share (elτ number) b (i * 8 + o) v) ⊛ ‵ (i64.own_val x (v ∷ [])))))
+          (el_out number 𝓛 b x (i * 8 + o)) $ pick ! (λ v. learn ! (λ tv. split ! $
           use1 𝓛 (‵ (froom (elτ number) b (i * 8 + o))) (𝓛.laws.at_room (elτ number) b (i * 8 + o) v) $ move ! (0 ∷ 2 ∷ 3 ∷ []) $ move ! (1 ∷ 2 ∷ []) $
-          rewrite ! 0 (λ k. ‵ (row b k (drop_l (suc i) cells) (drop_l (suc i) ds))) (let e : i * 8 + o + 8 ≡ i * 8 + 8 + o = omega arith in e) refl $ move ! (1 ∷ 0 ∷ []) $ fjoin ! $ keep ! (1 ∷ 0 ∷ []) $ done !))
+          rewrite ! 0 (λ k. ‵ (row b k (drop_l (suc i) cells) (drop_l (suc i) ds)))
+          (let e : i * 8 + o + 8 ≡ i * 8 + 8 + o = omega arith in e) refl $ move ! (1 ∷ 0 ∷ []) $ fjoin ! $ keep ! (1 ∷ 0 ∷ []) $ done !))
 
       pub number_in : (y : ℤ) (v : Val) → ent 𝓤 (sep 𝓤 (H.at full_share (elτ number) b (i * 8 + o) v) (sep 𝓤 ⟦ i64.own_val y (v ∷ []) ⟧ ⟦ beside ⟧)) ⟦ row b o (slice_set cells i (Some y)) ds ⟧
       number_in y v = qed 𝓛 (‵ (fat full_share (elτ number) b (i * 8 + o) v) ∷ ‵ (i64.own_val y (v ∷ [])) ∷ ‵ beside ∷ []) ∵
           use2 𝓛 (‵ (part_at i64 full_share y b (i * 8 + o))) (el_in number 𝓛 b y (i * 8 + o) v) $ move ! (1 ∷ []) $ fsplit ! $ move ! (1 ∷ []) $
-          rewrite ! 0 (λ k. ‵ (row b k (drop_l (suc i) cells) (drop_l (suc i) ds))) (let e : i * 8 + 8 + o ≡ i * 8 + o + 8 = omega arith in e) refl $ move ! (2 ∷ 0 ∷ []) $ fjoin ! $ move ! (1 ∷ 0 ∷ []) $
+          rewrite ! 0 (λ k. ‵ (row b k (drop_l (suc i) cells) (drop_l (suc i) ds)))
+          (let e : i * 8 + 8 + o ≡ i * 8 + o + 8 = omega arith in e) refl $ move ! (2 ∷ 0 ∷ []) $ fjoin ! $ move ! (1 ∷ 0 ∷ []) $
           use2 𝓛 (‵ (row b o (take i cells ++ (Some y ∷ drop_l (suc i) cells)) (take i ds ++ (0 ∷ drop_l (suc i) ds))))
           (glue b (take i cells) (Some y ∷ drop_l (suc i) cells) (take i ds) (0 ∷ drop_l (suc i) ds) o (i * 8 + o) there_too (omega (arith, there))) $
           rewrite ! 0 (λ l. ‵ (row b o (take i cells ++ (Some y ∷ drop_l (suc i) cells)) l)) (sym (at_place ds i 0 own)) refl $

@@ -1,5 +1,6 @@
 -- How many cells of a block are out or shared, and what is read where one is in.
-use Rattle.std.proofs.Common.{◌≡◌, ◌⊎◌, inl, inr, ℕ, ◌+◌, ◌-◌, ◌^◌, ◌<◌, ◌≤◌, ℤ, Bool, true, false, List, [], ◌∷◌, ◌++◌, length, take, drop, replicate, Option, Some, None, slice_get, slice_set, slice_index_or, IsTrue, refl, sym, ap, ap₂, ◌∙◌, subst, arith}
+use Rattle.std.proofs.Common.{◌≡◌, ◌⊎◌, inl, inr, ℕ, ◌+◌, ◌-◌, ◌^◌, ◌<◌, ◌≤◌, ℤ, Bool, true, false, List, [], ◌∷◌, ◌++◌, length, take, drop, replicate}
+use Rattle.std.proofs.Common.{Option, Some, None, slice_get, slice_set, slice_index_or, IsTrue, refl, sym, ap, ap₂, ◌∙◌, subst, arith}
 use Prim.Native.Nat.{zero, suc}
 use Rattle.std.proofs.lemmas.Option.{none-some, same_Some, slice_get_within}
 use lib.ListN.{length-replicate, length-set}
@@ -36,7 +37,8 @@ pub missing_lent : (cells : Cells) (from : ℕ) (xs : List ℤ) → Have cells f
 missing_lent cells from xs has le =
     let end : drop (from + length (outs (length xs))) cells ≡ drop (from + length xs) cells = ap (λ (k : ℕ). drop (from + k) cells) (length_outs (length xs)) in
     let now = ap (λ (l : Cells). missing (take from cells ++ (outs (length xs) ++ l))) end ∙ three (take from cells) (outs (length xs)) (drop (from + length xs) cells) in
-    let was : missing cells ≡ missing (take from cells) + (missing (ins xs) + missing (drop (from + length xs) cells)) = ap missing (middle from xs cells has le) ∙ three (take from cells) (ins xs) (drop (from + length xs) cells) in
+    let was : missing cells ≡ missing (take from cells) + (missing (ins xs) + missing (drop (from + length xs) cells)) =
+    ap missing (middle from xs cells has le) ∙ three (take from cells) (ins xs) (drop (from + length xs) cells) in
     omega (arith, now, was, missing_outs (length xs), missing_ins xs)
 
 -- what comes back is in
@@ -44,7 +46,8 @@ pub missing_back : (cells : Cells) (from : ℕ) (xs : List ℤ) → AreOut cells
 missing_back cells from xs out le =
     let end : drop (from + length (ins xs)) cells ≡ drop (from + length xs) cells = ap (λ (k : ℕ). drop (from + k) cells) (length_ins xs) in
     let now = ap (λ (l : Cells). missing (take from cells ++ (ins xs ++ l))) end ∙ three (take from cells) (ins xs) (drop (from + length xs) cells) in
-    let was : missing cells ≡ missing (take from cells) + (missing (outs (length xs)) + missing (drop (from + length xs) cells)) = ap missing (alike_middle from (length xs) None cells out le) ∙ three (take from cells) (outs (length xs)) (drop (from + length xs) cells) in
+    let was : missing cells ≡ missing (take from cells) + (missing (outs (length xs)) + missing (drop (from + length xs) cells)) =
+    ap missing (alike_middle from (length xs) None cells out le) ∙ three (take from cells) (outs (length xs)) (drop (from + length xs) cells) in
     omega (arith, now, was, missing_outs (length xs), missing_ins xs)
 
 -- another number in a place that is in
@@ -102,7 +105,8 @@ at_least e from n v ds fits le all k d is = by (cases_lt k from)
     inside : from ≤ k → (k < from + n) ⊎ (from + n ≤ k) → e ≤ d
     inside above (inl lt) =
         let j : ℕ = k - from in let at : from + j ≡ k = omega (arith, above) in
-        let same : v ≡ d = same_Some v d (sym (get_replicated n v j (omega (arith, lt, above))) ∙ sym (patched_at from (replicate n v) ds within j (omega (arith, lt, above, many))) ∙ ap (slice_get (patched from (replicate n v) ds)) at ∙ is) in
+        let same : v ≡ d = same_Some v d (sym (get_replicated n v j (omega (arith, lt, above)))
+        ∙ sym (patched_at from (replicate n v) ds within j (omega (arith, lt, above, many))) ∙ ap (slice_get (patched from (replicate n v) ds)) at ∙ is) in
         let some : e ≤ v = le (omega (arith, lt, above)) in omega (arith, some, same)
     inside above (inr after) = all k d (sym (patched_after from (replicate n v) ds within k (omega (arith, after, many))) ∙ is)
 
@@ -213,7 +217,8 @@ module _ (cells cells' : Cells) (rights rights' : List ℕ) (base base' out : �
       shared_so from n d out' are now fits le is
 
 -- so many cells that are shared are counted, unless the count is stuck
-pub counted_there : (base from n d out : ℕ) (cells : Cells) (rights : List ℕ) → Counts cells rights base out → from + n ≤ length cells → AreHalved rights from n (suc d) → (0 < n → base ≤ d) → out < 2 ^ 63 → n ≤ out
+pub counted_there : (base from n d out : ℕ) (cells : Cells) (rights : List ℕ) → Counts cells rights base out → from + n ≤ length cells
+    → AreHalved rights from n (suc d) → (0 < n → base ≤ d) → out < 2 ^ 63 → n ≤ out
 counted_there base from n d out cells rights c fits alike le small = by c.counted
   where
     by : IsCount (excess base rights) c.shared → n ≤ out

@@ -50,7 +50,8 @@ module _ {M : Type 1} {𝓤 : Ura M} (𝓛 : Logic 𝓤) where
     Lends-slots p [] fs = Lends-nothing 𝓛 ftrue l
     Lends-slots p (x ∷ xs) [] = Lends-nothing 𝓛 ftrue l
     Lends-slots p (x ∷ xs) (f ∷ fs) =
-        Lends-both 𝓛 (slot i64 f p x) (slots i64 (p +ₚ bytes_of i64) xs fs) (slot_lent i64 f p x) (slots_lent i64 (p +ₚ bytes_of i64) xs fs) l (Lends-slot f p x) (Lends-slots (p +ₚ bytes_of i64) xs fs)
+        Lends-both 𝓛 (slot i64 f p x) (slots i64 (p +ₚ bytes_of i64) xs fs) (slot_lent i64 f p x) (slots_lent i64 (p +ₚ bytes_of i64) xs fs) l
+        (Lends-slot f p x) (Lends-slots (p +ₚ bytes_of i64) xs fs)
 
     Lends-part : (q : Share) (f : Bool) (p : Ptr) (x : ℤ) → Lends 𝓛 (part_of_slot q f p x) (slot_lent i64 f p x) l
     Lends-part q true p x = Lends-lies q p x
@@ -60,7 +61,8 @@ module _ {M : Type 1} {𝓤 : Ura M} (𝓛 : Logic 𝓤) where
     Lends-parts q p [] fs = Lends-nothing 𝓛 ftrue l
     Lends-parts q p (x ∷ xs) [] = Lends-nothing 𝓛 ftrue l
     Lends-parts q p (x ∷ xs) (f ∷ fs) =
-        Lends-both 𝓛 (part_of_slot q f p x) (part_of_slots q (p +ₚ bytes_of i64) xs fs) (slot_lent i64 f p x) (slots_lent i64 (p +ₚ bytes_of i64) xs fs) l (Lends-part q f p x) (Lends-parts q (p +ₚ bytes_of i64) xs fs)
+        Lends-both 𝓛 (part_of_slot q f p x) (part_of_slots q (p +ₚ bytes_of i64) xs fs) (slot_lent i64 f p x)
+        (slots_lent i64 (p +ₚ bytes_of i64) xs fs) l (Lends-part q f p x) (Lends-parts q (p +ₚ bytes_of i64) xs fs)
 
     Lends-run : (d : ℕ) (p : Ptr) (xs : List ℤ) (fs : List Bool) → Lends 𝓛 (held d p xs fs) (slots_lent i64 p xs fs) l
     Lends-run zero p xs fs = Lends-slots p xs fs
@@ -79,9 +81,11 @@ module _ {M : Type 1} {𝓤 : Ura M} (𝓛 : Logic 𝓤) where
     Lends-in p [] ds e = Lends-nothing 𝓛 ftrue l
     Lends-in p (c ∷ cs) [] e = let e' : 0 ≡ suc (length cs) = e in absurd (omega (arith, e'))
     Lends-in p (Some x ∷ cs) (d ∷ ds) e = let e' : suc (length ds) ≡ suc (length cs) = e in
-        Lends-both 𝓛 (cell_owned p (Some x) d) (cells_in (p +ₚ bytes_of i64) cs ds) (slot_lent i64 true p x) (slots_lent i64 (p +ₚ bytes_of i64) (numbers cs) (marks cs)) l (Lends-lies (halves d) p x) (Lends-in (p +ₚ bytes_of i64) cs ds (omega (arith, e')))
+        Lends-both 𝓛 (cell_owned p (Some x) d) (cells_in (p +ₚ bytes_of i64) cs ds) (slot_lent i64 true p x)
+        (slots_lent i64 (p +ₚ bytes_of i64) (numbers cs) (marks cs)) l (Lends-lies (halves d) p x) (Lends-in (p +ₚ bytes_of i64) cs ds (omega (arith, e')))
     Lends-in p (None ∷ cs) (d ∷ ds) e = let e' : suc (length ds) ≡ suc (length cs) = e in
-        Lends-both 𝓛 ftrue (cells_in (p +ₚ bytes_of i64) cs ds) (slot_lent i64 false p (pos 0)) (slots_lent i64 (p +ₚ bytes_of i64) (numbers cs) (marks cs)) l (Lends-nothing 𝓛 ftrue l) (Lends-in (p +ₚ bytes_of i64) cs ds (omega (arith, e')))
+        Lends-both 𝓛 ftrue (cells_in (p +ₚ bytes_of i64) cs ds) (slot_lent i64 false p (pos 0))
+        (slots_lent i64 (p +ₚ bytes_of i64) (numbers cs) (marks cs)) l (Lends-nothing 𝓛 ftrue l) (Lends-in (p +ₚ bytes_of i64) cs ds (omega (arith, e')))
 
     Lends-here : (p : Ptr) (cs : List (Option ℤ)) (ds : List ℕ) → length ds ≡ length cs → Lends 𝓛 (in_block p (cells_in p cs ds)) (slots_lent i64 p (numbers cs) (marks cs)) l
     Lends-here (block_ptr b o) cs ds e = Lends-in (block_ptr b o) cs ds e

@@ -93,7 +93,9 @@ pub came_on : (reason : Type 0) (old mid new : Strand) → outs mid ≡ outs old
 came_on reason old mid new same one still h = (h.0, h.1 ∙ same, still ∙ one)
 
 -- what came of a strand that went on up to there
-pub comes_within : (most to end : ℕ) (s : Stop) (e : Event) (old mid new : Strand) → outs mid ≡ outs old → (to < end → to ≡ old.count + most) → HasCome mid to s → (spawns : Spawns) → RunsOn old mid to (hands_out spawns) s → HandsOutAt s e → ComesOr ((to < end) × (s ≡ stop.Over)) e mid new → ComesWithin most spawns e old new
+pub comes_within : (most to end : ℕ) (s : Stop) (e : Event) (old mid new : Strand) → outs mid ≡ outs old → (to < end → to ≡ old.count + most)
+    → HasCome mid to s → (spawns : Spawns) → RunsOn old mid to (hands_out spawns) s → HandsOutAt s e → ComesOr ((to < end) × (s ≡ stop.Over)) e mid new
+    → ComesWithin most spawns e old new
 comes_within most to end s (event.Spawned job) old mid new same by came spawns ran at h = (asked_at s refl at, (h.0, h.1 ∙ ap (λ l. job ∷ l) same))
   where
     asked_at : (x : Stop) → s ≡ x → HandsOutAt x (event.Spawned job) → hands_out spawns ≡ true

@@ -28,24 +28,29 @@ module _ (code : Code) (keep : CallsKeep code) (job : Job) where
   steps_to : (s : State) (count : ℕ) (outs : List Job) (w : Transition) → has_come job.extent code s ≡ false → step code s ≡ w → job.before + (count + 1) ≤ job.limit
       → advance code job (Going s count outs) ≡ went_on (turn code s) s w job.limit job.before (count + 1) outs
   steps_to s count outs w come e le =
-      ap (λ b. if b then finished outs (Joined (standing s) s.trace count) else (if nat_lt job.limit (job.before + (count + 1)) then steps.Ran (Halted OverLimit outs) else went_on (turn code s) s (step code s) job.limit job.before (count + 1) outs)) come
+      ap (λ b. if b then finished outs (Joined (standing s) s.trace count)
+      else (if nat_lt job.limit (job.before + (count + 1)) then steps.Ran (Halted OverLimit outs)
+      else went_on (turn code s) s (step code s) job.limit job.before (count + 1) outs)) come
       ∙ ap (λ b. if b then steps.Ran (Halted OverLimit outs) else went_on (turn code s) s (step code s) job.limit job.before (count + 1) outs) (not_below job.limit (job.before + (count + 1)) le)
       ∙ ap (λ x. went_on (turn code s) s x job.limit job.before (count + 1) outs) e
 
-  kept_on : (old : Strand) (t : Turn) (s s' : State) (count : ℕ) (outs : List Job) → AdvanceKeeps code job old (turned t s s' job.limit job.before count outs) → IsStrandOf code job (goes_on t s s' job.limit job.before count outs)
+  kept_on : (old : Strand) (t : Turn) (s s' : State) (count : ℕ) (outs : List Job)
+      → AdvanceKeeps code job old (turned t s s' job.limit job.before count outs) → IsStrandOf code job (goes_on t s s' job.limit job.before count outs)
   kept_on old Goes s s' count outs h = h.0
   kept_on old (HandsOut target taken) s s' count outs h = h.0
   kept_on old ComesBack s s' count outs h = h.0
 
   -- an instruction that leads on
-  pub ran : (s s' : State) (count : ℕ) (outs : List Job) (t : Turn) → turn code s ≡ t → has_come job.extent code s ≡ false → step code s ≡ On s' → job.before + (count + 1) ≤ job.limit → IsStrandOf code job (Going s count outs)
+  pub ran : (s s' : State) (count : ℕ) (outs : List Job) (t : Turn) → turn code s ≡ t → has_come job.extent code s ≡ false → step code s ≡ On s'
+      → job.before + (count + 1) ≤ job.limit → IsStrandOf code job (Going s count outs)
       → IsStrandOf code job (goes_on t s s' job.limit job.before (count + 1) outs)
   ran s s' count outs t same come e le h = subst (λ t. IsStrandOf code job (goes_on t s s' job.limit job.before (count + 1) outs)) same
       (kept_on (Going s count outs) (turn code s) s s' (count + 1) outs
       (subst (AdvanceKeeps code job (Going s count outs)) (steps_to s count outs (On s') come e le) (keep.advancing job (Going s count outs) h)))
 
   -- one that traps
-  pub fell : (s : State) (count : ℕ) (outs : List Job) (trap : Trap) (line : ℕ) (lines : List ℤ) → has_come job.extent code s ≡ false → step code s ≡ Stops trap line lines → job.before + (count + 1) ≤ job.limit → IsStrandOf code job (Going s count outs)
+  pub fell : (s : State) (count : ℕ) (outs : List Job) (trap : Trap) (line : ℕ) (lines : List ℤ) → has_come job.extent code s ≡ false
+      → step code s ≡ Stops trap line lines → job.before + (count + 1) ≤ job.limit → IsStrandOf code job (Going s count outs)
       → IsStrandOf code job (Halted (TrapIn trap line lines (count + 1)) outs)
   fell s count outs trap line lines come e le h =
       (subst (AdvanceKeeps code job (Going s count outs)) (steps_to s count outs (Stops trap line lines) come e le) (keep.advancing job (Going s count outs) h)).0
@@ -56,7 +61,9 @@ module _ (code : Code) (keep : CallsKeep code) (job : Job) where
   passed s count outs come lt h =
       let P : steps.Advanced → Type 0 = AdvanceKeeps code job (Going s count outs) in
       (subst P
-      (ap (λ b. if b then finished outs (Joined (standing s) s.trace count) else (if nat_lt job.limit (job.before + (count + 1)) then steps.Ran (Halted OverLimit outs) else went_on (turn code s) s (step code s) job.limit job.before (count + 1) outs)) come
+      (ap (λ b. if b then finished outs (Joined (standing s) s.trace count)
+      else (if nat_lt job.limit (job.before + (count + 1)) then steps.Ran (Halted OverLimit outs)
+      else went_on (turn code s) s (step code s) job.limit job.before (count + 1) outs)) come
       ∙ ap (λ b. if b then steps.Ran (Halted OverLimit outs) else went_on (turn code s) s (step code s) job.limit job.before (count + 1) outs) (below job.limit (job.before + (count + 1)) lt))
       (keep.advancing job (Going s count outs) h)).0
 
@@ -67,11 +74,14 @@ module _ (code : Code) (keep : CallsKeep code) (job : Job) where
   pub arrived : (s : State) (count : ℕ) → has_come job.extent code s ≡ true → IsStrandOf code job (Going s count []) → JobMeaning code job (Joined (standing s) s.trace count)
   arrived s count come h =
       subst (AdvanceKeeps code job (Going s count []))
-      (ap (λ b. if b then finished [] (Joined (standing s) s.trace count) else (if nat_lt job.limit (job.before + (count + 1)) then steps.Ran (Halted OverLimit []) else went_on (turn code s) s (step code s) job.limit job.before (count + 1) [])) come)
+      (ap (λ b. if b then finished [] (Joined (standing s) s.trace count)
+      else (if nat_lt job.limit (job.before + (count + 1)) then steps.Ran (Halted OverLimit [])
+      else went_on (turn code s) s (step code s) job.limit job.before (count + 1) [])) come)
       (keep.advancing job (Going s count []) h)
 
   -- its call ends
-  pub ended : (s : State) (count : ℕ) (v : Option ℤ) (arrays : Slots (List ℤ)) (t : Trace) → has_come job.extent code s ≡ false → step code s ≡ Ends v arrays t → job.before + (count + 1) ≤ job.limit → IsStrandOf code job (Going s count [])
+  pub ended : (s : State) (count : ℕ) (v : Option ℤ) (arrays : Slots (List ℤ)) (t : Trace) → has_come job.extent code s ≡ false
+      → step code s ≡ Ends v arrays t → job.before + (count + 1) ≤ job.limit → IsStrandOf code job (Going s count [])
       → JobMeaning code job (Ended v arrays t (count + 1))
   ended s count v arrays t come e le h =
       subst (AdvanceKeeps code job (Going s count [])) (steps_to s count [] (Ends v arrays t) come e le) (keep.advancing job (Going s count []) h)
@@ -85,17 +95,20 @@ module _ (code : Code) (keep : CallsKeep code) (job : Job) where
   took_back s count out outs h = keep.taking_back job (Waits s count (out ∷ outs)) h
 
   -- A STRETCH IN WHICH NOTHING STOPS THE RUN, with these rests out
-  module _ (k : Setting) (same : k.extent ≡ job.extent) (v : Verified) (is : IsFit v) (p : Parts) (levels : List Level) (outs : List Out) (lent : List Lent) (lends : Lends v is p k.base levels outs lent) (stops : Bool) where
+  module _ (k : Setting) (same : k.extent ≡ job.extent) (v : Verified) (is : IsFit v) (p : Parts) (levels : List Level) (outs : List Out)
+      (lent : List Lent) (lends : Lends v is p k.base levels outs lent) (stops : Bool) where
     pub record Led (s : State) (count : ℕ) : Type 0 where
       pub jobs_out : List Job
       pub is_of : IsStrandOf code job (Going s count jobs_out)
       pub are : AreOut p (levels_of s.around) jobs_out levels lent
 
     -- a spawned call comes back that is not at the floor
-    returned : (s1 s2 : State) (count : ℕ) (jobs_out : List Job) → HasReturned s1 s2 → calls_round k s1 ≢ floor_in lent → IsStrandOf code job (Waits s2 count jobs_out) → AreOut p (levels_of s1.around) jobs_out levels lent → Led s2 count
+    returned : (s1 s2 : State) (count : ℕ) (jobs_out : List Job) → HasReturned s1 s2 → calls_round k s1 ≢ floor_in lent
+        → IsStrandOf code job (Waits s2 count jobs_out) → AreOut p (levels_of s1.around) jobs_out levels lent → Led s2 count
     returned s1 s2 count jobs_out r ne h are =
         let many : calls_round k s1 ≡ suc (calls_in (beneath k.base r.level.around)) = ap (λ a. calls_in (beneath k.base a)) r.around ∙ calls_caller k.base r.level.waiting r.level.around in
-        let back : AreOut p (r.level ∷ levels_of r.level.around) jobs_out levels lent = subst (λ a. AreOut p (r.level ∷ levels_of a) jobs_out levels lent) r.back.around (subst (λ l. AreOut p l jobs_out levels lent) r.levels are) in
+        let back : AreOut p (r.level ∷ levels_of r.level.around) jobs_out levels lent =
+        subst (λ a. AreOut p (r.level ∷ levels_of a) jobs_out levels lent) r.back.around (subst (λ l. AreOut p l jobs_out levels lent) r.levels are) in
         let one = in_place v is p k.base r.level outs jobs_out levels lent lends (λ e. ne (many ∙ e)) back in
         record {
           jobs_out = one.others;

@@ -135,7 +135,8 @@ module _ (keep : (code : Code) → CallsKeep code) (self : Strand) (limit : ℕ)
   }
 
   module _ (apart : OutsLieApart) (new : Strand) (q : Parts) (l : Lender) (cut : HasCut self new spawn q l) where
-    pub handed : HandedOut v (ok_with c.ground c.outs) self.run.machine (under base next) (waiting_over base w c.state.around) above_it (listed v spawn.passed) loans l.first l.slots new.run.machine q.rest
+    pub handed : HandedOut v (ok_with c.ground c.outs) self.run.machine (under base next) (waiting_over base w c.state.around) above_it
+        (listed v spawn.passed) loans l.first l.slots new.run.machine q.rest
     handed = cut.out (ok_with c.ground c.outs) (under base next) (waiting_over base w c.state.around) above_it hands_it
 
     abbrev out : Out
@@ -172,8 +173,11 @@ module _ (keep : (code : Code) → CallsKeep code) (self : Strand) (limit : ℕ)
           }
 
 -- for whichever of the definitions its job is
-pub may_hand_out : ((code : Code) → CallsKeep code) → (self : Strand) (limit : ℕ) (spawn : Spawn) → HasCome self limit (stop.Spawned spawn) → ∥ MayHand (its_code self) self.run.machine (listed (its_code self) spawn.passed) (loans_of (its_code self) spawn.lent) ∥₁
+pub may_hand_out : ((code : Code) → CallsKeep code) → (self : Strand) (limit : ℕ) (spawn : Spawn) → HasCome self limit (stop.Spawned spawn)
+    → ∥ MayHand (its_code self) self.run.machine (listed (its_code self) spawn.passed) (loans_of (its_code self) spawn.lent) ∥₁
 may_hand_out keep self limit spawn h = ∥∥₁_elim (sound_of self) (hlevel) (λ s. ∥∥₁_map (h.comes s.ok s.job s.is) (λ c. may_hand keep self limit spawn s.ok s.job c))
 
-pub cut_sound : ((code : Code) → CallsKeep code) → OutsLieApart → (self new : Strand) (limit : ℕ) (spawn : Spawn) (q : Parts) (l : Lender) → HasCome self limit (stop.Spawned spawn) → HasCut self new spawn q l → ∥ IsSound q ∥₁
-cut_sound keep apart self new limit spawn q l h cut = ∥∥₁_elim (sound_of self) (hlevel) (λ s. ∥∥₁_map (h.comes s.ok s.job s.is) (λ c. sound keep self limit spawn s.ok s.job c apart new q l cut h.keeps))
+pub cut_sound : ((code : Code) → CallsKeep code) → OutsLieApart → (self new : Strand) (limit : ℕ) (spawn : Spawn) (q : Parts) (l : Lender)
+    → HasCome self limit (stop.Spawned spawn) → HasCut self new spawn q l → ∥ IsSound q ∥₁
+cut_sound keep apart self new limit spawn q l h cut = ∥∥₁_elim (sound_of self) (hlevel)
+    (λ s. ∥∥₁_map (h.comes s.ok s.job s.is) (λ c. sound keep self limit spawn s.ok s.job c apart new q l cut h.keeps))

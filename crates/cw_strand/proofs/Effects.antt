@@ -31,7 +31,8 @@ IsOver (effect.OverLimit b) = Unit {0}
 IsOver _ = ⊥
 
 -- whichever of the definitions the job is, by code that is the same
-pub meant : (job : Job) (e : Effect) → IsMeaningOf job e → (v : Verified) → code_of job.parts.value ≡ v → (is : IsFit v) (j : jobs.Job) → IsJob v is job.parts.value j → ∥ MeansIt v is job.parts.value e j ∥₁
+pub meant : (job : Job) (e : Effect) → IsMeaningOf job e → (v : Verified) → code_of job.parts.value ≡ v → (is : IsFit v) (j : jobs.Job)
+    → IsJob v is job.parts.value j → ∥ MeansIt v is job.parts.value e j ∥₁
 unfolding IsMeaningOf
 meant job e m v same =
     let P : Verified → Type 0 = λ u. (is : IsFit u) (j : jobs.Job) → IsJob u is job.parts.value j → ∥ MeansIt u is job.parts.value e j ∥₁ in

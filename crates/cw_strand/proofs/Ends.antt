@@ -67,7 +67,8 @@ module _ (self : Strand) (is : IsFit (its_code self)) (j : jobs.Job) where
       let out = no_lent (its_code self) is (its_parts self) g.base h.levels h.outs (subst (Lends (its_code self) is (its_parts self) g.base h.levels h.outs) lent h.lends) in
       subst (λ o. Remains (its_code self) (ok_with g o) self.run.machine) out h.remains
 
-  trap_held : (g : Ground (its_code self) is (its_parts self) j) (trap : Trap) (line : ℕ) (d : strands.Strand) → outs self ≡ [] → IsStrandOf code j d → HeldIn self is j g (mode.Trapped trap line) d → IsHalted (jobs.TrapIn trap line self.run.machine.lines.items self.count)
+  trap_held : (g : Ground (its_code self) is (its_parts self) j) (trap : Trap) (line : ℕ) (d : strands.Strand) → outs self ≡ [] → IsStrandOf code j d
+      → HeldIn self is j g (mode.Trapped trap line) d → IsHalted (jobs.TrapIn trap line self.run.machine.lines.items self.count)
   trap_held g trap line (Going s count out) none is_of h = absurd h
   trap_held g trap line (Waits s count out) none is_of h = absurd h
   trap_held g trap line (Halted e out) none is_of h = record {
@@ -132,7 +133,11 @@ module _ (m m' : Machine) (same : m'.blocks.items ≡ m.blocks.items) where
 
 -- as a proposition
 may_up : (m : Machine) (n : ℕ) → ∥ MayGiveUp m n ∥₁ → MayGiveUp m n
-may_up m n h = record { there = ∥∥₁_elim h le_prop (λ x. x.there); all_here = λ a lt. (λ k e. ∥∥₁_elim h ⊥_prop (λ x. (x.all_here a lt).0 k e), ∥∥₁_elim h (whole_prop (block m.blocks.items a)) (λ x. (x.all_here a lt).1)) }
+may_up m n h = record {
+  there = ∥∥₁_elim h le_prop (λ x. x.there);
+  all_here = λ a lt.
+      (λ k e. ∥∥₁_elim h ⊥_prop (λ x. (x.all_here a lt).0 k e), ∥∥₁_elim h (whole_prop (block m.blocks.items a)) (λ x. (x.all_here a lt).1));
+}
 
 module _ (keep : (code : Code) → CallsKeep code) (kept : RestsAreKept) (self : Strand) (running : IsRunning self) (none : outs self ≡ []) where
   abbrev n : ℕ
@@ -142,15 +147,18 @@ module _ (keep : (code : Code) → CallsKeep code) (kept : RestsAreKept) (self :
   as_many = sym running.keeps.rest.as_many
 
   pub may_trapped : (trap : Trap) (line : ℕ) → self.mode ≡ mode.Trapped trap line → MayGiveUp self.run.machine n
-  may_trapped trap line e = subst (MayGiveUp self.run.machine) as_many (may_up self.run.machine (length (its_parts self).rest.slices.items) (∥∥₁_elim (sound_of self) (hlevel) (λ s. ∥∥₁_map (running.holds s.ok s.job s.is) (λ d.
+  may_trapped trap line e = subst (MayGiveUp self.run.machine) as_many
+      (may_up self.run.machine (length (its_parts self).rest.slices.items) (∥∥₁_elim (sound_of self) (hlevel) (λ s. ∥∥₁_map (running.holds s.ok s.job s.is) (λ d.
       may self s.ok s.job kept (jobs.TrapIn trap line self.run.machine.lines.items self.count) (trap_of self s.ok s.job trap line e none d)))))
 
   pub may_over : self.mode ≡ mode.Over → MayGiveUp self.run.machine n
-  may_over e = subst (MayGiveUp self.run.machine) as_many (may_up self.run.machine (length (its_parts self).rest.slices.items) (∥∥₁_elim (sound_of self) (hlevel) (λ s. ∥∥₁_map (running.holds s.ok s.job s.is) (λ d.
+  may_over e = subst (MayGiveUp self.run.machine) as_many (may_up self.run.machine (length (its_parts self).rest.slices.items)
+      (∥∥₁_elim (sound_of self) (hlevel) (λ s. ∥∥₁_map (running.holds s.ok s.job s.is) (λ d.
       may self s.ok s.job kept jobs.OverLimit (over_of self s.ok s.job e none d)))))
 
   pub may_give_up : self.mode ≡ mode.GivenUp → MayGiveUp self.run.machine n
-  may_give_up e = subst (MayGiveUp self.run.machine) as_many (may_up self.run.machine (length (its_parts self).rest.slices.items) (∥∥₁_elim (sound_of self) (hlevel) (λ s. ∥∥₁_map (running.holds s.ok s.job s.is) (λ d.
+  may_give_up e = subst (MayGiveUp self.run.machine) as_many (may_up self.run.machine (length (its_parts self).rest.slices.items)
+      (∥∥₁_elim (sound_of self) (hlevel) (λ s. ∥∥₁_map (running.holds s.ok s.job s.is) (λ d.
       may self s.ok s.job kept jobs.Memory (up_of self s.ok s.job e none d)))))
 
   -- an effect tells the trap, or that the limit was passed, and gives the arrays back
@@ -168,7 +176,8 @@ module _ (keep : (code : Code) → CallsKeep code) (kept : RestsAreKept) (self :
   TellsUp (effect.GivenUp back) = GivesUp self.run.machine (length self.parts.value.rest.slices.items) back.items
   TellsUp _ = ⊥
 
-  trap_it : (trap : Trap) (line : ℕ) (e : Effect) → TellsTrap trap line e → (is : IsFit (its_code self)) (j : jobs.Job) → IsHalted self is j (jobs.TrapIn trap line self.run.machine.lines.items self.count) → MeansIt (its_code self) is (its_parts self) e j
+  trap_it : (trap : Trap) (line : ℕ) (e : Effect) → TellsTrap trap line e → (is : IsFit (its_code self)) (j : jobs.Job)
+      → IsHalted self is j (jobs.TrapIn trap line self.run.machine.lines.items self.count) → MeansIt (its_code self) is (its_parts self) e j
   trap_it trap line (effect.Ended value shown) t is j h = absurd t
   trap_it trap line (effect.Joined frame replaced shown) t is j h = absurd t
   trap_it trap line (effect.OverLimit back) t is j h = absurd t

@@ -54,7 +54,8 @@ module _ (self : Strand) (job : Job) (others : List Job) (newest : Newest self j
         ground = d.ground;
         strand = Halted jobs.Memory (outs_of d.strand);
         is_of = wants code (keep code) j d.strand d.is_of;
-        held = subst (λ m. HeldIn (record self { run = new.run; lent = new.lent; count = new.count; spares = new.spares; mode = new.mode }) is j d.ground m (Halted jobs.Memory (outs_of d.strand))) (sym lost.mode) refl;
+        held = subst (λ m. HeldIn (record self { run = new.run; lent = new.lent; count = new.count; spares = new.spares; mode = new.mode }) is j
+            d.ground m (Halted jobs.Memory (outs_of d.strand))) (sym lost.mode) refl;
       } ∣₁)
       lost.of lost.parts lost.spares
 
@@ -65,7 +66,8 @@ module _ (self : Strand) (job : Job) (others : List Job) (newest : Newest self j
         (running.rests 0 newest.lent (subst (λ l. slice_get l 0 ≡ Some newest.lent) (sym newest.are) refl)).code
 
     module _ (back : List Placed) (replaced : List (Option Placed)) (gives : GivesBack e back replaced) where
-      homes_at : (is : IsFit (its_code self)) (j : jobs.Job) (g : Ground (its_code self) is (its_parts self) j) → Stands self is j g → ∥ KeepsHomes (rest_slices self job others newest) back replaced ∥₁
+      homes_at : (is : IsFit (its_code self)) (j : jobs.Job) (g : Ground (its_code self) is (its_parts self) j) → Stands self is j g
+          → ∥ KeepsHomes (rest_slices self job others newest) back replaced ∥₁
       homes_at is j g h =
           let n = newly self job others newest is j g h in
           let jo = rest_of n.level.waiting p.limit q.before in
@@ -87,7 +89,8 @@ module _ (self : Strand) (job : Job) (others : List Job) (newest : Newest self j
       }
 
       pub stopped_runs : HasStopped self → (new : Strand) → HasPoppedHome self back replaced new → IsRunning new
-      stopped_runs stopped new home = stops_on self job others newest running stopped back replaced new (came_home self back replaced new home) (spare_as self new home.spares home.of running.spares) homes_at
+      stopped_runs stopped new home = stops_on self job others newest running stopped back replaced new (came_home self back replaced new home)
+          (spare_as self new home.spares home.of running.spares) homes_at
 
       -- A STRAND THAT WAITS
       module _ (waiting : IsWaiting self) (remain : ShownRemain) where
@@ -117,7 +120,9 @@ module _ (self : Strand) (job : Job) (others : List Job) (newest : Newest self j
           left = home.left newest.lent newest.rest newest.are
 
           pub over_runs : new.mode ≡ mode.Over
-              → ((is : IsFit (its_code self)) (j : jobs.Job) (g : Ground (its_code self) is (its_parts self) j) (h : IsHeldBack self is j g) (m : MeansIt (its_code self) is q e (out self job others newest is j g h)) → IsStrandOf code j (Halted jobs.OverLimit (rests self job others newest is j g h)))
+              → ((is : IsFit (its_code self)) (j : jobs.Job) (g : Ground (its_code self) is (its_parts self) j) (h : IsHeldBack self is j g)
+              (m : MeansIt (its_code self) is q e (out self job others newest is j g h))
+              → IsStrandOf code j (Halted jobs.OverLimit (rests self job others newest is j g h)))
               → IsRunning new
           over_runs over stops = goes_so self job others newest running new left (subst (λ n. p.before + n ≤ p.limit) (sym home.count) running.keeps.within)
               (λ is j d.
@@ -127,10 +132,13 @@ module _ (self : Strand) (job : Job) (others : List Job) (newest : Newest self j
                 ground = d.ground;
                 strand = Halted jobs.OverLimit (rests self job others newest is j d.ground h);
                 is_of = stops is j d.ground h m;
-                held = subst (λ a. HeldIn (record self { run = new.run; lent = new.lent; count = new.count; spares = new.spares; mode = new.mode }) is j d.ground a (Halted jobs.OverLimit (rests self job others newest is j d.ground h))) (sym over) (
-                  refl,
-                  stands_on self job others newest is j d.ground st back replaced (homes_in v is q (out self job others newest is j d.ground h) e back replaced gives m) new new.run.machine left (home.home newest.lent newest.rest newest.are known),
-                );
+                held = subst (λ a. HeldIn (record self { run = new.run; lent = new.lent; count = new.count; spares = new.spares; mode = new.mode })
+                    is j d.ground a (Halted jobs.OverLimit (rests self job others newest is j d.ground h))) (sym over) (
+                      refl,
+                      stands_on self job others newest is j d.ground st back replaced
+                          (homes_in v is q (out self job others newest is j d.ground h) e back replaced gives m) new new.run.machine left
+                          (home.home newest.lent newest.rest newest.are known),
+                    );
               }))
               home.of home.parts home.spares
 
@@ -153,7 +161,8 @@ module _ (self : Strand) (job : Job) (others : List Job) (newest : Newest self j
               gave_limit code (keep code) j jo h.state h.count (rests self job others newest is j g h) (waits self job others newest is j g h) m.effect (over_in v is q jo e is_over m) m.means)
 
 -- what came home, whatever the mode is then
-pub mode_back : (self : Strand) (back : List Placed) (replaced : List (Option Placed)) (popped : Strand) → HasPoppedHome self back replaced popped → HasPoppedHome self back replaced (record popped { mode = self.mode })
+pub mode_back : (self : Strand) (back : List Placed) (replaced : List (Option Placed)) (popped : Strand) → HasPoppedHome self back replaced popped
+    → HasPoppedHome self back replaced (record popped { mode = self.mode })
 mode_back self back replaced popped home = record {
   of = home.of;
   parts = home.parts;
@@ -170,7 +179,8 @@ pub never_given : (self : Strand) (job : Job) (others : List Job) (newest : Newe
 never_given self job others newest running value shown means =
     let joins = (running.rests 0 newest.lent (subst (λ l. slice_get l 0 ≡ Some newest.lent) (sym newest.are) refl)).joins in
     ∥∥₁_elim newest.lent.job.value.sound ⊥_prop (λ s.
-    ∥∥₁_elim (meant newest.lent.job.value (effect.Ended value shown) (subst (λ b. IsMeaningOf b (effect.Ended value shown)) (sym newest.job_is) means) (code_of (lent_parts newest.lent)) refl s.ok s.job s.is) ⊥_prop
+    ∥∥₁_elim (meant newest.lent.job.value (effect.Ended value shown) (subst (λ b. IsMeaningOf b (effect.Ended value shown))
+    (sym newest.job_is) means) (code_of (lent_parts newest.lent)) refl s.ok s.job s.is) ⊥_prop
     (λ m. never_ends (code_of (lent_parts newest.lent)) s.ok (lent_parts newest.lent) s.job value shown (s.is.extent ∙ ap extent_of joins) m))
 
 pub of_rest : (self : Strand) (job : Job) (others : List Job) (newest : Newest self job others) → IsRunning self → (e : Effect) → IsMeaningOf job e → IsOfRest e

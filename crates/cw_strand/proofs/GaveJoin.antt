@@ -55,7 +55,8 @@ use Rattle.cw_strand.proofs.Taken.{shows_joined}
 use Rattle.cw_strand.proofs.Gave.{meant_in}
 
 -- where the values alone are kept a meter knows no site of a rest, and is asked for none
-at_site : (code : Code) (d : Detail) (a b : ℕ) (frame : Standing) (t : Trace) (cost : ℕ) (m : Meter) → IsSite d a b → CountsEffect code d a (jobs.Joined frame t cost) m → CountsEffect code d b (jobs.Joined frame t cost) m
+at_site : (code : Code) (d : Detail) (a b : ℕ) (frame : Standing) (t : Trace) (cost : ℕ) (m : Meter) → IsSite d a b
+    → CountsEffect code d a (jobs.Joined frame t cost) m → CountsEffect code d b (jobs.Joined frame t cost) m
 at_site code Values a b frame t cost m e h = λ g q.
     let A : Detail → Type 0 = λ x. Meters x g.tags (origins.Rest a) cost [] t.events m in
     let B : Detail → Type 0 = λ x. Meters x g.tags (origins.Rest b) cost [] t.events m in
@@ -80,7 +81,8 @@ record Came (v : Verified) (is : IsFit v) (q : Parts) (j : jobs.Job) (back : Res
   pub homes : KeepsHomes q.rest.slices.items back.slices.items replaced
   pub fixed : KeepsFixed v is j.place replaced
 
-came_of : (v : Verified) (is : IsFit v) (q : Parts) (j : jobs.Job) (e : Effect) (back : Rest) (replaced : List (Option Placed)) (shown : Shown) → IsJoin e back replaced shown → MeansIt v is q e j → Came v is q j back replaced shown
+came_of : (v : Verified) (is : IsFit v) (q : Parts) (j : jobs.Job) (e : Effect) (back : Rest) (replaced : List (Option Placed)) (shown : Shown)
+    → IsJoin e back replaced shown → MeansIt v is q e j → Came v is q j back replaced shown
 came_of v is q j (effect.Ended value x) back replaced shown i m = absurd i
 came_of v is q j (effect.Trapped c l ls n b) back replaced shown i m = absurd i
 came_of v is q j (effect.OverLimit b) back replaced shown i m = absurd i
@@ -89,7 +91,8 @@ came_of v is q j (effect.GivenUp b) back replaced shown i m = absurd i
 came_of v is q j (effect.Joined f r x) back replaced shown i m =
     subst (λ z. Came v is q j back replaced z) i.2 (subst (λ z. Came v is q j back z x) i.1 (subst (λ z. Came v is q j z r.items x) i.0 (at m.effect m.means m.tells m.counts)))
   where
-    at : (d : jobs.Effect) → JobMeaning (code_view v.code) j d → Tells (code_view v.code) j q.rest (effect.Joined f r x) d → Counts (code_view v.code) q.detail q.site (effect.Joined f r x) d → Came v is q j f r.items x
+    at : (d : jobs.Effect) → JobMeaning (code_view v.code) j d → Tells (code_view v.code) j q.rest (effect.Joined f r x) d
+        → Counts (code_view v.code) q.detail q.site (effect.Joined f r x) d → Came v is q j f r.items x
     at (jobs.Ended y arrays u k) means tells counts = absurd tells
     at (jobs.TrapIn trap line lines k) means tells counts = absurd tells
     at jobs.OverLimit means tells counts = absurd tells
@@ -122,7 +125,8 @@ module _ (self : Strand) (job : Job) (others : List Job) (newest : Newest self j
   abbrev q : Parts
   q = lent_parts newest.lent
 
-  module _ (is : IsFit (its_code self)) (j : jobs.Job) (g : Ground (its_code self) is (its_parts self) j) (h : IsHeldBack self is j g) (m : MeansIt (its_code self) is q e (out self job others newest is j g h)) where
+  module _ (is : IsFit (its_code self)) (j : jobs.Job) (g : Ground (its_code self) is (its_parts self) j) (h : IsHeldBack self is j g)
+      (m : MeansIt (its_code self) is q e (out self job others newest is j g h)) where
     abbrev jo : jobs.Job
     jo = out self job others newest is j g h
 
@@ -132,7 +136,8 @@ module _ (self : Strand) (job : Job) (others : List Job) (newest : Newest self j
     came : Came v is q jo back replaced shown
     came = came_of v is q jo e back replaced shown told m
 
-    gives_it : IsGiving v (ok_with g sp.others) sp.out self.run.machine (under g.base h.state) came.frame (waits_under g.base h.state) back replaced newest.lent.home.lender.slots (slots_lent (loans_of v newest.lent.home.lent)) newest.lent.home.target
+    gives_it : IsGiving v (ok_with g sp.others) sp.out self.run.machine (under g.base h.state) came.frame
+        (waits_under g.base h.state) back replaced newest.lent.home.lender.slots (slots_lent (loans_of v newest.lent.home.lent)) newest.lent.home.target
     gives_it = giving self job others newest is j g h stay seats settles came.frame came.trace came.cost came.means back replaced came.holds came.empty came.homes came.fixed
 
     may : MayJoin self.run.machine v back replaced newest.lent.home
@@ -140,7 +145,8 @@ module _ (self : Strand) (job : Job) (others : List Job) (newest : Newest self j
 
     -- the strand goes on at the join
     module _ (keep : (code : Code) → CallsKeep code) (meters : CallsKeepMeters) (r : Run) (joined : HasJoined self.run v self.count back replaced newest.lent.home shown r)
-        (le : p.before + (self.count + shown.cost) ≤ p.limit) (new : Strand) (left : reverse new.lent.items ≡ newest.rest) (run_is : new.run ≡ r) (count_is : new.count ≡ self.count + shown.cost) (going : new.mode ≡ mode.Going) where
+        (le : p.before + (self.count + shown.cost) ≤ p.limit) (new : Strand) (left : reverse new.lent.items ≡ newest.rest) (run_is : new.run ≡ r)
+        (count_is : new.count ≡ self.count + shown.cost) (going : new.mode ≡ mode.Going) where
       abbrev rs : List jobs.Job
       rs = rests self job others newest is j g h
 
@@ -163,7 +169,10 @@ module _ (self : Strand) (job : Job) (others : List Job) (newest : Newest self j
 
       shows_now : Shows v (ok_with g sp.others) r.machine (under g.base now)
       shows_now =
-          let given = subst (Shows v (ok_with g sp.others) joined.given) (went_under g.base h.state came.frame (reads self job others newest is j g h stay seats settles came.frame came.trace came.cost came.means back replaced came.holds came.empty came.homes came.fixed)) (joined.gives v (ok_with g sp.others) sp.out (under g.base h.state) came.frame (waits_under g.base h.state) gives_it) in
+          let given = subst (Shows v (ok_with g sp.others) joined.given)
+          (went_under g.base h.state came.frame (reads self job others newest is j g h stay seats settles came.frame came.trace came.cost
+          came.means back replaced came.holds came.empty came.homes came.fixed))
+          (joined.gives v (ok_with g sp.others) sp.out (under g.base h.state) came.frame (waits_under g.base h.state) gives_it) in
           let taken = subst (λ l. HasTaken joined.given l shown.totals.items r.machine) came.shown_is.lines joined.takes in
           shows_joined v (ok_with g sp.others) joined.given r.machine shown.totals.items g.base h.state came.frame came.trace taken given came.shown_is.totals
 
@@ -178,9 +187,11 @@ module _ (self : Strand) (job : Job) (others : List Job) (newest : Newest self j
       tells_now : TellsAll code p.detail (origin_of p) (Going now (h.count + came.cost) rs) r.meter
       tells_now =
           let n = h.waited.runs.counts in
-          let was : TellsAll code p.detail (origin_of p) (Waits h.state h.count (jo ∷ rs)) self.run.meter = subst (λ k. TellsAll code p.detail (origin_of p) (Going h.state k []) self.run.meter) (sym n) h.waited.runs.shows.tells in
+          let was : TellsAll code p.detail (origin_of p) (Waits h.state h.count (jo ∷ rs)) self.run.meter =
+          subst (λ k. TellsAll code p.detail (origin_of p) (Going h.state k []) self.run.meter) (sym n) h.waited.runs.shows.tells in
           let small : j.limit ≤ MOST_LIMIT = subst (λ l. l ≤ MOST_LIMIT) (sym g.job.limit) running.keeps.range in
-          (meters code p.detail).giving (origin_of p) j jo h.state h.count came.cost rs came.frame came.trace self.run.meter shown.meter r.meter (waits self job others newest is j g h) le_def small measured
+          (meters code p.detail).giving (origin_of p) j jo h.state h.count came.cost rs came.frame came.trace self.run.meter shown.meter r.meter
+          (waits self job others newest is j g h) le_def small measured
           (subst (λ c. Rests self.run.meter shown.meter r.meter h.count c) (sym costs) (subst (λ k. Rests self.run.meter shown.meter r.meter k shown.cost) (sym n) joined.rests)) was
 
       pub goes_joined : Holds (record self { run = new.run; lent = new.lent; count = new.count; spares = new.spares; mode = new.mode }) is j
@@ -188,29 +199,33 @@ module _ (self : Strand) (job : Job) (others : List Job) (newest : Newest self j
         ground = g;
         strand = Going now (h.count + came.cost) rs;
         is_of = gave_within code (keep code) j jo h.state h.count rs (waits self job others newest is j g h) (jobs.Joined came.frame came.trace came.cost) came.means le_def;
-        held = subst (λ a. HeldIn (record self { run = new.run; lent = new.lent; count = new.count; spares = new.spares; mode = new.mode }) is j g a (Going now (h.count + came.cost) rs)) (sym going) (record {
-          levels = h.waited.others;
-          are = subst (AreOut p (levels_of h.state.around) rs h.waited.others) (sym left) (rest_out self job others newest is j g h).are;
-          runs = record {
-            counts = total;
-            outs = sp.others;
-            lends = subst (Lends v is p g.base h.waited.others sp.others) (sym left) sp.rest;
-            shows = record {
-              shows = subst (λ (x : Run). Shows v (ok_with g sp.others) x.machine (under g.base now)) (sym run_is) shows_now;
-              tells = subst (λ (x : Run). TellsAll code p.detail (origin_of p) (Going now new.count []) x.meter) (sym run_is) (subst (λ k. TellsAll code p.detail (origin_of p) (Going now k []) r.meter) total tells_now);
-            };
-            frozen = frozen self job others newest is j g h stay seats settles came.frame came.trace came.cost came.means;
-          };
-        });
+        held = subst (λ a. HeldIn (record self { run = new.run; lent = new.lent; count = new.count; spares = new.spares; mode = new.mode }) is j g a
+            (Going now (h.count + came.cost) rs)) (sym going) (record {
+              levels = h.waited.others;
+              are = subst (AreOut p (levels_of h.state.around) rs h.waited.others) (sym left) (rest_out self job others newest is j g h).are;
+              runs = record {
+                counts = total;
+                outs = sp.others;
+                lends = subst (Lends v is p g.base h.waited.others sp.others) (sym left) sp.rest;
+                shows = record {
+                  shows = subst (λ (x : Run). Shows v (ok_with g sp.others) x.machine (under g.base now)) (sym run_is) shows_now;
+                  tells = subst (λ (x : Run). TellsAll code p.detail (origin_of p) (Going now new.count []) x.meter) (sym run_is)
+                      (subst (λ k. TellsAll code p.detail (origin_of p) (Going now k []) r.meter) total tells_now);
+                };
+                frozen = frozen self job others newest is j g h stay seats settles came.frame came.trace came.cost came.means;
+              };
+            });
       }
 
   pub may_join : ∥ MayJoin self.run.machine v back replaced newest.lent.home ∥₁
   may_join = ∥∥₁_elim (sound_of self) (hlevel) (λ s. ∥∥₁_elim (running.holds s.ok s.job s.is) (hlevel) (λ d.
       let h = waiting_of self s.ok s.job waiting d in
-      ∥∥₁_map (meant_in self job others newest running e means s.ok (out self job others newest s.ok s.job d.ground h) (out_is self job others newest s.ok s.job d.ground h)) (λ m. may s.ok s.job d.ground h m)))
+      ∥∥₁_map (meant_in self job others newest running e means s.ok (out self job others newest s.ok s.job d.ground h)
+      (out_is self job others newest s.ok s.job d.ground h)) (λ m. may s.ok s.job d.ground h m)))
 
   pub join_runs : ((code : Code) → CallsKeep code) → CallsKeepMeters → (r : Run) → HasJoined self.run v self.count back replaced newest.lent.home shown r → passes_limit self shown.cost ≡ false
-      → (new : Strand) → reverse new.lent.items ≡ newest.rest → new.run ≡ r → new.count ≡ self.count + shown.cost → new.mode ≡ mode.Going → new.of ≡ self.of → new.parts ≡ self.parts → new.spares ≡ self.spares → IsRunning new
+      → (new : Strand) → reverse new.lent.items ≡ newest.rest → new.run ≡ r → new.count ≡ self.count + shown.cost → new.mode ≡ mode.Going
+      → new.of ≡ self.of → new.parts ≡ self.parts → new.spares ≡ self.spares → IsRunning new
   join_runs keep meters r joined passes new left run_is count_is going of parts spares =
       let k = not_lt_of ((p.limit - p.before) - self.count) shown.cost passes in
       let w = running.keeps.within in

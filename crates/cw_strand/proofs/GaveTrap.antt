@@ -38,7 +38,8 @@ abbrev pub IsTrap : Effect → Trap → (line : ℕ) → (lines : List ℤ) → 
 IsTrap (effect.Trapped c l ls n b) trap line lines cost back = (c ≡ trap) × (l ≡ line) × (ls.items ≡ lines) × (n ≡ cost) × (b.items ≡ back)
 IsTrap _ trap line lines cost back = ⊥
 
-trap_told : (v : Verified) (is : IsFit v) (q : Parts) (j : jobs.Job) (e : Effect) (trap : Trap) (line : ℕ) (lines : List ℤ) (cost : ℕ) (back : List Placed) (d : jobs.Effect) → IsTrap e trap line lines cost back → Tells (code_view v.code) j q.rest e d → d ≡ jobs.TrapIn trap line lines cost
+trap_told : (v : Verified) (is : IsFit v) (q : Parts) (j : jobs.Job) (e : Effect) (trap : Trap) (line : ℕ) (lines : List ℤ) (cost : ℕ)
+    (back : List Placed) (d : jobs.Effect) → IsTrap e trap line lines cost back → Tells (code_view v.code) j q.rest e d → d ≡ jobs.TrapIn trap line lines cost
 trap_told v is q j (effect.Ended value shown) trap line lines cost back d i t = absurd i
 trap_told v is q j (effect.Joined f r s) trap line lines cost back d i t = absurd i
 trap_told v is q j (effect.OverLimit b) trap line lines cost back d i t = absurd i
@@ -64,8 +65,10 @@ trap_back (effect.Trapped c l ls n b) trap line lines cost back i = (i.4, refl)
 abbrev pub printed : Strand → List ℤ → (lines : Strand) → Strand
 printed self more lines = record self { run = record self.run { machine = record self.run.machine { lines = lines.run.machine.lines } } }
 
-module _ (self : Strand) (job : Job) (others : List Job) (newest : Newest self job others) (running : IsRunning self) (waiting : IsWaiting self) (remain : ShownRemain) (e : Effect) (means : IsMeaningOf job e)
-    (trap : Trap) (line : ℕ) (lines : List ℤ) (cost : ℕ) (back : List Placed) (told : IsTrap e trap line lines cost back) (mid : Strand) (mid_is : mid ≡ printed self lines mid) (more : mid.run.machine.lines.items ≡ self.run.machine.lines.items ++ lines) where
+module _ (self : Strand) (job : Job) (others : List Job) (newest : Newest self job others) (running : IsRunning self) (waiting : IsWaiting self)
+    (remain : ShownRemain) (e : Effect) (means : IsMeaningOf job e)
+    (trap : Trap) (line : ℕ) (lines : List ℤ) (cost : ℕ) (back : List Placed) (told : IsTrap e trap line lines cost back) (mid : Strand)
+    (mid_is : mid ≡ printed self lines mid) (more : mid.run.machine.lines.items ≡ self.run.machine.lines.items ++ lines) where
   abbrev q : Parts
   q = lent_parts newest.lent
 
@@ -73,7 +76,25 @@ module _ (self : Strand) (job : Job) (others : List Job) (newest : Newest self j
   pub may_trapped : MayPopHome mid back []
   may_trapped =
       let m = may_waits self job others newest running e means back [] (trap_back e trap line lines cost back told) waiting remain in
-      subst (λ z. MayPopHome z back []) (sym mid_is) (record { newest = m.newest; older = m.older; are = m.are; code = m.code; home = λ k. ∥∥₁_map (m.home k) (λ x. record { code = x.code; ok = x.ok; out = x.out; comes = record { remains = x.comes.remains; first = x.comes.first; slots_are = x.comes.slots_are; lent_are = x.comes.lent_are; below = x.comes.below; homes = x.comes.homes } }) })
+      subst (λ z. MayPopHome z back []) (sym mid_is) (record {
+        newest = m.newest;
+        older = m.older;
+        are = m.are;
+        code = m.code;
+        home = λ k. ∥∥₁_map (m.home k) (λ x. record {
+          code = x.code;
+          ok = x.ok;
+          out = x.out;
+          comes = record {
+            remains = x.comes.remains;
+            first = x.comes.first;
+            slots_are = x.comes.slots_are;
+            lent_are = x.comes.lent_are;
+            below = x.comes.below;
+            homes = x.comes.homes;
+          };
+        });
+      })
 
   module _ (keep : (code : Code) → CallsKeep code) (new popped : Strand) (home : HasPoppedHome mid back [] popped) (passes : passes_limit self cost ≡ false)
       (new_is : new ≡ record popped { count = self.count + cost; mode = mode.Trapped trap line }) where
@@ -95,8 +116,10 @@ module _ (self : Strand) (job : Job) (others : List Job) (newest : Newest self j
     comes_home : Reaches self.run.machine (its_code self) newest.lent.home back [] new.run.machine
     comes_home = λ u ok o c.
         let known : is_lost mid.mode ≡ false = subst (λ m. is_lost m ≡ false) (sym (ap (λ (z : Strand). z.mode) mid_is ∙ waiting)) refl in
-        let h = subst (λ (z : Strand). Reaches z.run.machine (its_code z) newest.lent.home back [] popped.run.machine) mid_is (home.home newest.lent newest.rest (ap (λ (z : Strand). reverse z.lent.items) mid_is ∙ newest.are) known) in
-        subst (λ (r : Run). Remains u ok r.machine) (sym n_run) (h u ok o (record { remains = c.remains; first = c.first; slots_are = c.slots_are; lent_are = c.lent_are; below = c.below; homes = c.homes }))
+        let h = subst (λ (z : Strand). Reaches z.run.machine (its_code z) newest.lent.home back [] popped.run.machine) mid_is
+        (home.home newest.lent newest.rest (ap (λ (z : Strand). reverse z.lent.items) mid_is ∙ newest.are) known) in
+        subst (λ (r : Run). Remains u ok r.machine) (sym n_run) (h u ok o
+        (record { remains = c.remains; first = c.first; slots_are = c.slots_are; lent_are = c.lent_are; below = c.below; homes = c.homes }))
 
     pub trap_runs : IsRunning new
     trap_runs = goes_so self job others newest running new left (subst (λ n. (its_parts self).before + n ≤ (its_parts self).limit) (sym (ap (λ (z : Strand). z.count) new_is)) le)
@@ -121,9 +144,12 @@ module _ (self : Strand) (job : Job) (others : List Job) (newest : Newest self j
           ground = g;
           strand = Halted (jobs.TrapIn trap line (h.state.trace.lines ++ lines) (h.count + cost)) rs;
           is_of = is_of;
-          held = subst (λ a. HeldIn (record self { run = new.run; lent = new.lent; count = new.count; spares = new.spares; mode = new.mode }) is j g a (Halted (jobs.TrapIn trap line (h.state.trace.lines ++ lines) (h.count + cost)) rs)) (sym (ap (λ (z : Strand). z.mode) new_is)) (
-            ap (λ l. jobs.TrapIn trap line l (h.count + cost)) (sym now) ∙ ap (jobs.TrapIn trap line new.run.machine.lines.items) (sym total),
-            stands_on self job others newest is j g st back [] (homes_in (its_code self) is q jo e back [] (trap_back e trap line lines cost back told) m) new new.run.machine left comes_home,
-          );
+          held = subst (λ a. HeldIn (record self { run = new.run; lent = new.lent; count = new.count; spares = new.spares; mode = new.mode }) is j g
+              a (Halted (jobs.TrapIn trap line (h.state.trace.lines ++ lines) (h.count + cost)) rs)) (sym (ap (λ (z : Strand). z.mode) new_is)) (
+                ap (λ l. jobs.TrapIn trap line l (h.count + cost)) (sym now) ∙ ap (jobs.TrapIn trap line new.run.machine.lines.items) (sym total),
+                stands_on self job others newest is j g st back [] (homes_in (its_code self) is q jo e back [] (trap_back e trap line lines cost back told) m) new new.run.machine left comes_home,
+              );
         }))
-        (ap (λ (z : Strand). z.of) new_is ∙ home.of ∙ ap (λ (z : Strand). z.of) mid_is) (ap (λ (z : Strand). z.parts) new_is ∙ home.parts ∙ ap (λ (z : Strand). z.parts) mid_is) (ap (λ (z : Strand). z.spares) new_is ∙ home.spares ∙ ap (λ (z : Strand). z.spares) mid_is)
+        (ap (λ (z : Strand). z.of) new_is ∙ home.of ∙ ap (λ (z : Strand). z.of) mid_is)
+        (ap (λ (z : Strand). z.parts) new_is ∙ home.parts ∙ ap (λ (z : Strand). z.parts) mid_is)
+        (ap (λ (z : Strand). z.spares) new_is ∙ home.spares ∙ ap (λ (z : Strand). z.spares) mid_is)

@@ -90,7 +90,8 @@ out_starts : (code : Code) (fits : Fits code) (s : State) (limit before : ℕ) �
 out_starts code fits s limit before none g = record { seat = g.seat; call = out_alone s g.seat.func g.seat.shape none g.call; others = g.others }
 
 -- The newest job out of a strand that waits
-module _ (self : Strand) (job : Job) (others : List Job) (newest : Newest self job others) (is : IsFit (its_code self)) (j : jobs.Job) (g : Ground (its_code self) is (its_parts self) j) (h : IsHeldBack self is j g) where
+module _ (self : Strand) (job : Job) (others : List Job) (newest : Newest self job others) (is : IsFit (its_code self)) (j : jobs.Job)
+    (g : Ground (its_code self) is (its_parts self) j) (h : IsHeldBack self is j g) where
   abbrev v : Verified
   v = its_code self
 
@@ -140,7 +141,8 @@ module _ (self : Strand) (job : Job) (others : List Job) (newest : Newest self j
   none = waits.2.0.none
 
   -- what it came to at the join, by the definitions
-  module _ (stay : RestsStayInside) (seats : (code : Code) (fits : Fits code) → SeatsLie code fits) (settles : FitSettles) (frame : Standing) (t : Trace) (cost : ℕ) (means : JobMeaning code out (Joined frame t cost)) where
+  module _ (stay : RestsStayInside) (seats : (code : Code) (fits : Fits code) → SeatsLie code fits) (settles : FitSettles) (frame : Standing)
+      (t : Trace) (cost : ℕ) (means : JobMeaning code out (Joined frame t cost)) where
     shown : Shows v (lending (ok_with g sp.others) sp.out) self.run.machine (under g.base s)
     shown = (lends_it self job others newest is j g h).shows
 
@@ -174,7 +176,8 @@ module _ (self : Strand) (job : Job) (others : List Job) (newest : Newest self j
     -- and what the run was given as shares is only read at the join, too
     pub frozen : SharesFrozen v (ok_with g sp.others) (under g.base (resumed s frame t))
     frozen a lt some =
-        frozen_arrives code is.fits is.steps settles is.frozen (under g.base s) (length g.base.around) a (placed p.rest.slices.items a).items deep there.budget (job_start out) frame t there.left (record {
+        frozen_arrives code is.fits is.steps settles is.frozen (under g.base s) (length g.base.around) a
+        (placed p.rest.slices.items a).items deep there.budget (job_start out) frame t there.left (record {
           good = out_starts code is.fits (under g.base s) p.limit q.before none shown.good;
           frozen = h.waited.runs.frozen a lt some;
           here = (shown.arrays.5.has a lt some).0;
@@ -183,7 +186,8 @@ module _ (self : Strand) (job : Job) (others : List Job) (newest : Newest self j
         deep : length g.base.around ≤ length (under g.base s).around
         deep = let many = round_many g.base s.around in omega (arith, many)
 
-    module _ (back : Rest) (replaced : List (Option Placed)) (holds : HoldsFrame back frame) (empty : KeepsEmpty out q.rest back replaced) (homes : KeepsHomes q.rest.slices.items back.slices.items replaced) (fixed : KeepsFixed v is out.place replaced) where
+    module _ (back : Rest) (replaced : List (Option Placed)) (holds : HoldsFrame back frame) (empty : KeepsEmpty out q.rest back replaced)
+        (homes : KeepsHomes q.rest.slices.items back.slices.items replaced) (fixed : KeepsFixed v is out.place replaced) where
       pub reads : frame.readers ≡ s.readers
       reads = same_readers q.rest.slices.items back.slices.items replaced homes s.readers frame.readers reads_as_many out_is.holds.reads holds.reads
 
@@ -209,7 +213,8 @@ module _ (self : Strand) (job : Job) (others : List Job) (newest : Newest self j
           comes_back None s.slots q.rest.cells.items back.cells.items (λ a e. empty.cells a e) (results_under g.base s.around results) apart
           (subst (λ r. Comes q.rest.cells.items 0 (length s.slots) (results_under g.base s.around r)) (sym w) comes0.0)
       comes_at (Some k) results w apart =
-          let same : results_under g.base s.around results ≡ (k, w.0) ∷ results_under g.base s.around l.waiting.results = ap (results_under g.base s.around) w.1 ∙ under_cons g.base s.around (k, w.0) l.waiting.results in
+          let same : results_under g.base s.around results ≡ (k, w.0) ∷ results_under g.base s.around l.waiting.results =
+          ap (results_under g.base s.around) w.1 ∙ under_cons g.base s.around (k, w.0) l.waiting.results in
           subst (ComesBut (Some k) back.cells.items) (sym same) (
             (λ d. absurd (d refl)),
             comes_back (Some k) s.slots q.rest.cells.items back.cells.items (λ a e. empty.cells a e) (results_under g.base s.around l.waiting.results)
@@ -222,7 +227,8 @@ module _ (self : Strand) (job : Job) (others : List Job) (newest : Newest self j
           let same : k ≡ a = cc in
           (subst (λ r. IsNotAmong a (slots_in r)) w.1 n).0 (sym same)
 
-      pub giving : IsGiving v (ok_with g sp.others) sp.out self.run.machine (under g.base s) frame (waits_under g.base s) back replaced newest.lent.home.lender.slots (slots_lent (loans_of v newest.lent.home.lent)) newest.lent.home.target
+      pub giving : IsGiving v (ok_with g sp.others) sp.out self.run.machine (under g.base s) frame
+          (waits_under g.base s) back replaced newest.lent.home.lender.slots (slots_lent (loans_of v newest.lent.home.lent)) newest.lent.home.target
       giving =
           let it = lends_it self job others newest is j g h in
           let same = sp.is_lent.slices in

@@ -114,7 +114,8 @@ module _ (keep : (code : Code) → CallsKeep code) (self : Strand) (limit : ℕ)
     newest c r =
         let base = c.ground.base in
         let floor : floor_in lent ≡ suc (calls_in (beneath base r.level.around)) = sym c.at.1.at ∙ ap (λ a. calls_in (beneath base a)) r.around ∙ calls_caller base r.level.waiting r.level.around in
-        let are : AreOut p (r.level ∷ levels_of r.level.around) c.jobs_out c.levels lent = subst (λ a. AreOut p (r.level ∷ levels_of a) c.jobs_out c.levels lent) r.back.around (subst (λ l. AreOut p l c.jobs_out c.levels lent) r.levels c.are) in
+        let are : AreOut p (r.level ∷ levels_of r.level.around) c.jobs_out c.levels lent =
+        subst (λ a. AreOut p (r.level ∷ levels_of a) c.jobs_out c.levels lent) r.back.around (subst (λ l. AreOut p l c.jobs_out c.levels lent) r.levels c.are) in
         newest_out p r.level (levels_of c.at.1.next.around) c.jobs_out c.levels lent
         (subst (λ a. AreBack p r.level (levels_of a) c.jobs_out c.levels lent) (sym r.back.around) (is_back v is p base r.level c.outs c.jobs_out c.levels lent c.lends floor are))
 
@@ -190,7 +191,8 @@ fails keep self h = record {
 }
 
 -- one that goes on or waits: its arrays are known, and where each is to come home
-stands_before : ShownRemain → (self : Strand) (is : IsFit (its_code self)) (j : jobs.Job) (g : Ground (its_code self) is (its_parts self) j) (m : Mode) (d : strands.Strand) → stops m ≡ false → HeldIn self is j g m d
+stands_before : ShownRemain → (self : Strand) (is : IsFit (its_code self)) (j : jobs.Job) (g : Ground (its_code self) is (its_parts self) j)
+    (m : Mode) (d : strands.Strand) → stops m ≡ false → HeldIn self is j g m d
     → Stands (record self { mode = mode.GivenUp }) is j g
 stands_before remain self is j g mode.Going (Going s count out) goes h = record {
   levels = h.levels;

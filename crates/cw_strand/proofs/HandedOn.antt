@@ -41,7 +41,9 @@ use Rattle.cw_strand.proofs.Same.{spare_as}
 use Rattle.cw_strand.proofs.Cutting.{over_slots, over_arrays, spawned, handed, rest_job, below}
 
 -- the strand once its job is among those that are out
-module _ (keep : (code : Code) → CallsKeep code) (apart : OutsLieApart) (old mid : Strand) (limit : ℕ) (spawn : Spawn) (x : Lent) (cut : HasCut old mid spawn (lent_parts x) x.home.lender) (loaned : x.home.lent ≡ spawn.lent) (target : x.home.target ≡ spawn.target) (waits : x.home.floor ≡ length old.run.machine.frames.items) (after : List Lent) (are : after ≡ x ∷ reverse old.lent.items) where
+module _ (keep : (code : Code) → CallsKeep code) (apart : OutsLieApart) (old mid : Strand) (limit : ℕ) (spawn : Spawn) (x : Lent)
+    (cut : HasCut old mid spawn (lent_parts x) x.home.lender) (loaned : x.home.lent ≡ spawn.lent) (target : x.home.target ≡ spawn.target)
+    (waits : x.home.floor ≡ length old.run.machine.frames.items) (after : List Lent) (are : after ≡ x ∷ reverse old.lent.items) where
   module _ (is : IsFit (its_code old)) (j : jobs.Job) (job : KeepsJob old) (c : CameTo old limit (stop.Spawned spawn) is j) where
     abbrev v : Verified
     v = its_code old
@@ -53,7 +55,8 @@ module _ (keep : (code : Code) → CallsKeep code) (apart : OutsLieApart) (old m
     s = spawned keep old limit spawn is j c
 
     abbrev o : Out
-    o = out_of (length (beneath c.ground.base c.state.around)) x.home.lender.first old.run.machine.first_array (length (waiting_over c.ground.base s.waiting c.state.around).arrays) (slots_lent (loans_of v spawn.lent)) (lent_parts x).rest.slices.items
+    o = out_of (length (beneath c.ground.base c.state.around)) x.home.lender.first old.run.machine.first_array
+        (length (waiting_over c.ground.base s.waiting c.state.around).arrays) (slots_lent (loans_of v spawn.lent)) (lent_parts x).rest.slices.items
 
     -- as many frames are on the machine as calls wait in the spawned call
     calls_here : length old.run.machine.frames.items ≡ suc (calls_in (beneath c.ground.base c.state.around))
@@ -119,7 +122,8 @@ module _ (keep : (code : Code) → CallsKeep code) (apart : OutsLieApart) (old m
         let jb = c.ground.job.before in
         let e0 = c.at.0 in
         let next = c.at.1.next in
-        let is_of = ran (code_view v.code) (keep (code_view v.code)) j c.state next c.later c.jobs_out (HandsOut spawn.target (map (λ a. Whole a) (passed_by (code_view v.code) spawn.passed))) c.at.1.turns
+        let is_of = ran (code_view v.code) (keep (code_view v.code)) j c.state next c.later c.jobs_out
+        (HandsOut spawn.target (map (λ a. Whole a) (passed_by (code_view v.code) spawn.passed))) c.at.1.turns
         (subst (λ y. has_come y (code_view v.code) c.state ≡ false) (sym c.ground.job.extent) c.at.1.before) c.at.1.steps (omega (arith, e0, w, jl, jb)) c.is_of in
         record {
           ground = c.ground;
@@ -149,7 +153,8 @@ module _ (keep : (code : Code) → CallsKeep code) (apart : OutsLieApart) (old m
       at (suc k) q = h.rests k y q
 
   -- it is a strand of its job
-  module _ (lent : Strand) (same : reverse lent.lent.items ≡ after) (bare : AreSpare (record old { run = mid.run; lent = lent.lent; spares = lent.spares })) (h : HasCome old limit (stop.Spawned spawn)) where
+  module _ (lent : Strand) (same : reverse lent.lent.items ≡ after) (bare : AreSpare
+      (record old { run = mid.run; lent = lent.lent; spares = lent.spares })) (h : HasCome old limit (stop.Spawned spawn)) where
     pub goes_on : IsRunning (record old { run = mid.run; lent = lent.lent; spares = lent.spares })
     goes_on = record {
       keeps = record {
@@ -169,7 +174,8 @@ module _ (keep : (code : Code) → CallsKeep code) (apart : OutsLieApart) (old m
     }
 
     -- and so is the same with its parts told otherwise
-    pub goes_as : (new : Strand) → new.of ≡ old.of → new.parts ≡ old.parts → new.run ≡ mid.run → new.count ≡ old.count → new.lent ≡ lent.lent → new.spares ≡ lent.spares → new.mode ≡ old.mode → IsRunning new
+    pub goes_as : (new : Strand) → new.of ≡ old.of → new.parts ≡ old.parts → new.run ≡ mid.run → new.count ≡ old.count → new.lent ≡ lent.lent
+        → new.spares ≡ lent.spares → new.mode ≡ old.mode → IsRunning new
     goes_as new a b r n l p m = subst IsRunning (
         ap (λ z. record old { of = z; run = mid.run; lent = lent.lent; spares = lent.spares }) (sym a)
         ∙ ap (λ z. record old { of = new.of; parts = z; run = mid.run; lent = lent.lent; spares = lent.spares }) (sym b)
@@ -180,14 +186,19 @@ module _ (keep : (code : Code) → CallsKeep code) (apart : OutsLieApart) (old m
         ∙ ap (λ z. record old { of = new.of; parts = new.parts; run = new.run; count = new.count; lent = new.lent; spares = new.spares; mode = z }) (sym m)) goes_on
 
 -- the strand that the job was handed out of
-pub lent_step : ((code : Code) → CallsKeep code) → OutsLieApart → (old mid new : Strand) (limit : ℕ) (spawn : Spawn) (job : Job) (l : Lender) (x : Lent) → HasCome old limit (stop.Spawned spawn) → HasCut old mid spawn job.parts.value l
-    → x.job.value ≡ job → x.home.lender ≡ l → x.home.lent ≡ spawn.lent → x.home.target ≡ spawn.target → x.home.floor ≡ length mid.run.machine.frames.items → new.of ≡ mid.of → new.parts ≡ mid.parts → new.run ≡ mid.run → new.count ≡ mid.count → new.spares ≡ mid.spares → new.mode ≡ mid.mode → new.lent.items ≡ mid.lent.items ++ x ∷ []
+pub lent_step : ((code : Code) → CallsKeep code) → OutsLieApart → (old mid new : Strand) (limit : ℕ) (spawn : Spawn) (job : Job) (l : Lender)
+    (x : Lent) → HasCome old limit (stop.Spawned spawn) → HasCut old mid spawn job.parts.value l
+    → x.job.value ≡ job → x.home.lender ≡ l → x.home.lent ≡ spawn.lent → x.home.target ≡ spawn.target
+    → x.home.floor ≡ length mid.run.machine.frames.items → new.of ≡ mid.of → new.parts ≡ mid.parts → new.run ≡ mid.run → new.count ≡ mid.count
+    → new.spares ≡ mid.spares → new.mode ≡ mid.mode → new.lent.items ≡ mid.lent.items ++ x ∷ []
     → IsRunning new × (outs new ≡ job ∷ outs old)
 lent_step keep apart old mid new limit spawn job l x h cut same at loaned target waits of parts run count spares mode lent =
-    let cut' : HasCut old mid spawn (lent_parts x) x.home.lender = subst (λ (b : Job). HasCut old mid spawn b.parts.value x.home.lender) (sym same) (subst (λ k. HasCut old mid spawn job.parts.value k) (sym at) cut) in
+    let cut' : HasCut old mid spawn (lent_parts x) x.home.lender = subst (λ (b : Job). HasCut old mid spawn b.parts.value x.home.lender) (sym same)
+    (subst (λ k. HasCut old mid spawn job.parts.value k) (sym at) cut) in
     let are : reverse new.lent.items ≡ x ∷ reverse old.lent.items = ap reverse lent ∙ reverse_pushed mid.lent.items x ∙ ap (λ l. x ∷ reverse l) cut.lent in
     let bare : AreSpare (record old { run = mid.run; lent = new.lent; spares = new.spares }) =
     spare_as mid (record old { run = mid.run; lent = new.lent; spares = new.spares }) spares (sym cut.of) cut.spares in (
-      goes_as keep apart old mid limit spawn x cut' loaned target (waits ∙ ap length cut.stays.frames) (x ∷ reverse old.lent.items) refl new are bare h new (of ∙ cut.of) (parts ∙ cut.parts) run (count ∙ cut.count) refl refl (mode ∙ cut.mode),
+      goes_as keep apart old mid limit spawn x cut' loaned target (waits ∙ ap length cut.stays.frames)
+          (x ∷ reverse old.lent.items) refl new are bare h new (of ∙ cut.of) (parts ∙ cut.parts) run (count ∙ cut.count) refl refl (mode ∙ cut.mode),
       ap (map (λ l. l.job.value)) are ∙ ap (λ z. z ∷ outs old) same,
     )

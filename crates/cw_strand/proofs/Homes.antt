@@ -41,7 +41,8 @@ pub record Newly (v : Verified) (is : IsFit v) (p : Parts) (base : State) (level
   pub below : LieBelow others out.first
   pub rest : Lends v is p base others_levels others lent
 
-newly_of : (v : Verified) (is : IsFit v) (p : Parts) (base : State) (levels : List Level) (outs : List Out) (x : Lent) (lent : List Lent) → Lends v is p base levels outs (x ∷ lent) → Newly v is p base levels outs x lent
+newly_of : (v : Verified) (is : IsFit v) (p : Parts) (base : State) (levels : List Level) (outs : List Out) (x : Lent) (lent : List Lent)
+    → Lends v is p base levels outs (x ∷ lent) → Newly v is p base levels outs x lent
 newly_of v is p base [] [] x lent h = absurd h
 newly_of v is p base [] (o ∷ outs) x lent h = absurd h
 newly_of v is p base (l ∷ levels) [] x lent h = absurd h
@@ -99,7 +100,8 @@ module _ (self : Strand) (job : Job) (others : List Job) (newest : Newest self j
         remains = home v (ok_with g newly.others) newly.out comes;
       }
 
-  pub stands_in : (is : IsFit (its_code self)) (j : jobs.Job) (g : Ground (its_code self) is (its_parts self) j) (m : Mode) (d : strands.Strand) → stops m ≡ true → is_lost m ≡ false → HeldIn self is j g m d → Stands self is j g
+  pub stands_in : (is : IsFit (its_code self)) (j : jobs.Job) (g : Ground (its_code self) is (its_parts self) j) (m : Mode) (d : strands.Strand)
+      → stops m ≡ true → is_lost m ≡ false → HeldIn self is j g m d → Stands self is j g
   stands_in is j g mode.Going d s l h = cc
   stands_in is j g mode.Waiting d s l h = cc
   stands_in is j g mode.Memory d s l h = cc
@@ -114,8 +116,10 @@ module _ (self : Strand) (job : Job) (others : List Job) (newest : Newest self j
   stands_in is j g mode.GivenUp (Halted e out) s l h = h.1
 
   -- a strand that has stopped holds what it held
-  held_on : (is : IsFit (its_code self)) (j : jobs.Job) (g : Ground (its_code self) is (its_parts self) j) (a : Mode) (d : strands.Strand) (new : Strand) → new.count ≡ self.count → new.run.machine.lines.items ≡ self.run.machine.lines.items → stops a ≡ true
-      → (is_lost a ≡ false → Stands (record self { run = new.run; lent = new.lent; count = new.count; spares = new.spares; mode = new.mode }) is j g) → HeldIn self is j g a d → HeldIn (record self { run = new.run; lent = new.lent; count = new.count; spares = new.spares; mode = new.mode }) is j g a d
+  held_on : (is : IsFit (its_code self)) (j : jobs.Job) (g : Ground (its_code self) is (its_parts self) j) (a : Mode) (d : strands.Strand)
+      (new : Strand) → new.count ≡ self.count → new.run.machine.lines.items ≡ self.run.machine.lines.items → stops a ≡ true
+      → (is_lost a ≡ false → Stands (record self { run = new.run; lent = new.lent; count = new.count; spares = new.spares; mode = new.mode }) is j g)
+      → HeldIn self is j g a d → HeldIn (record self { run = new.run; lent = new.lent; count = new.count; spares = new.spares; mode = new.mode }) is j g a d
   held_on is j g mode.Going d new count lines s home h = cc
   held_on is j g mode.Waiting d new count lines s home h = cc
   held_on is j g (mode.Trapped c n) (Going t k out) new count lines s home h = absurd h
@@ -134,7 +138,8 @@ module _ (self : Strand) (job : Job) (others : List Job) (newest : Newest self j
 
   -- a strand after its newest job came back, whatever else it is now
   module _ (running : IsRunning self) (new : Strand) (left : reverse new.lent.items ≡ newest.rest) (within : p.before + new.count ≤ p.limit)
-      (holds : (is : IsFit (its_code self)) (j : jobs.Job) → Holds self is j → ∥ Holds (record self { run = new.run; lent = new.lent; count = new.count; spares = new.spares; mode = new.mode }) is j ∥₁) where
+      (holds : (is : IsFit (its_code self)) (j : jobs.Job) → Holds self is j
+      → ∥ Holds (record self { run = new.run; lent = new.lent; count = new.count; spares = new.spares; mode = new.mode }) is j ∥₁) where
     pub goes_spared : new.of ≡ self.of → new.parts ≡ self.parts → AreSpare new → IsRunning new
     goes_spared of parts bare =
         let same = same_strand (record self { run = new.run; lent = new.lent; count = new.count; spares = new.spares; mode = new.mode }) new of parts refl refl refl refl refl in
@@ -165,7 +170,8 @@ module _ (self : Strand) (job : Job) (others : List Job) (newest : Newest self j
 
   -- a strand that has stopped, whose newest job came home
   module _ (running : IsRunning self) (stopped : HasStopped self) (back : List Placed) (replaced : List (Option Placed)) (new : Strand) (home : CameHome self back replaced new) where
-    pub stops_on : AreSpare new → ((is : IsFit (its_code self)) (j : jobs.Job) (g : Ground (its_code self) is (its_parts self) j) → Stands self is j g → ∥ KeepsHomes rest_slices back replaced ∥₁) → IsRunning new
+    pub stops_on : AreSpare new → ((is : IsFit (its_code self)) (j : jobs.Job) (g : Ground (its_code self) is (its_parts self) j)
+        → Stands self is j g → ∥ KeepsHomes rest_slices back replaced ∥₁) → IsRunning new
     stops_on bare homes = goes_spared running new left within on home.of home.parts bare
       where
         left : reverse new.lent.items ≡ newest.rest
@@ -177,7 +183,19 @@ module _ (self : Strand) (job : Job) (others : List Job) (newest : Newest self j
         on : (is : IsFit (its_code self)) (j : jobs.Job) → Holds self is j → ∥ Holds (record self { run = new.run; lent = new.lent; count = new.count; spares = new.spares; mode = new.mode }) is j ∥₁
         on is j d = at (is_lost self.mode) refl
           where
-            held : (is_lost self.mode ≡ false → Stands (record self { run = new.run; lent = new.lent; count = new.count; spares = new.spares; mode = new.mode }) is j d.ground) → Holds (record self { run = new.run; lent = new.lent; count = new.count; spares = new.spares; mode = new.mode }) is j
+            held : (is_lost self.mode ≡ false → Stands (record self {
+              run = new.run;
+              lent = new.lent;
+              count = new.count;
+              spares = new.spares;
+              mode = new.mode;
+            }) is j d.ground) → Holds (record self {
+              run = new.run;
+              lent = new.lent;
+              count = new.count;
+              spares = new.spares;
+              mode = new.mode;
+            }) is j
             held stands = record {
               ground = d.ground;
               strand = d.strand;
@@ -196,7 +214,9 @@ pub came_home : (self : Strand) (back : List Placed) (replaced : List (Option Pl
 came_home self back replaced popped home = record { of = home.of; parts = home.parts; count = home.count; mode = home.mode; lines = home.lines; left = home.left; home = home.home }
 
 -- it was skipped
-pub skips : (self : Strand) (job : Job) (others : List Job) (newest : Newest self job others) → IsRunning self → HasStopped self → (back : List Placed) → back ≡ rest_slices self job others newest → (popped new : Strand) → HasPoppedHome self back [] popped → HasSpared popped new → IsRunning new
+pub skips : (self : Strand) (job : Job) (others : List Job) (newest : Newest self job others) → IsRunning self → HasStopped self
+    → (back : List Placed) → back ≡ rest_slices self job others newest → (popped new : Strand) → HasPoppedHome self back [] popped
+    → HasSpared popped new → IsRunning new
 skips self job others newest running stopped back e popped new home spared =
     stops_on self job others newest running stopped back [] new (record {
       of = spared.of ∙ home.of;

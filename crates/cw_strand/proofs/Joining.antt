@@ -59,7 +59,8 @@ set_other (y ∷ xs) zero (suc j) x n = refl
 set_other (y ∷ xs) (suc k) zero x n = refl
 set_other (y ∷ xs) (suc k) (suc j) x n = set_other xs k j x (λ e. n (ap suc e))
 
-pub set_joined : (old more : List Total) (k : ℕ) (v : Total) → k < length old → ((x y : Total) → slice_get old k ≡ Some x → slice_get more k ≡ Some y → v ≡ joined_total x y) → IsJoinedAt old more k (slice_set old k v)
+pub set_joined : (old more : List Total) (k : ℕ) (v : Total) → k < length old
+    → ((x y : Total) → slice_get old k ≡ Some x → slice_get more k ≡ Some y → v ≡ joined_total x y) → IsJoinedAt old more k (slice_set old k v)
 set_joined old more k v lt is = record {
   as_many = length-set old k v;
   here = λ x y e e'. set_same old k v lt ∙ ap (λ z. Some z) (is x y e e');

@@ -46,7 +46,8 @@ use Rattle.cw_strand.proofs.Course.{ended, arrived, come_alone, come_joins}
 use Rattle.cw_strand.proofs.Ends.{is_nil, no_lent}
 use Rattle.cw_strand.proofs.RunsOn.{sound_of}
 
-shown_as : (code : Code) (r : Run) (cost count : ℕ) (x : Shown) (t : Trace) → IsShown r cost x → cost ≡ count → r.machine.lines.items ≡ t.lines → HoldsTotals code r.machine.totals.items t.updates → HasShown code x t count
+shown_as : (code : Code) (r : Run) (cost count : ℕ) (x : Shown) (t : Trace) → IsShown r cost x → cost ≡ count → r.machine.lines.items ≡ t.lines
+    → HoldsTotals code r.machine.totals.items t.updates → HasShown code x t count
 shown_as code r cost count x t is e lines totals = record {
   cost = is.counted ∙ e;
   lines = ap (λ l. l.items) is.lines ∙ lines;
@@ -54,7 +55,8 @@ shown_as code r cost count x t is e lines totals = record {
 }
 
 -- with nothing round its state a strand has nothing out
-module _ (self : Strand) (p : Parts) (around : List Around) (jobs_out : List jobs.Job) (levels : List Level) (are : AreOut p (levels_of around) jobs_out levels (reverse self.lent.items)) (alone : around ≡ []) where
+module _ (self : Strand) (p : Parts) (around : List Around) (jobs_out : List jobs.Job) (levels : List Level)
+    (are : AreOut p (levels_of around) jobs_out levels (reverse self.lent.items)) (alone : around ≡ []) where
   pub bare : AreOut p [] jobs_out levels (reverse self.lent.items)
   bare = subst (λ a. AreOut p (levels_of a) jobs_out levels (reverse self.lent.items)) alone are
 
@@ -104,7 +106,8 @@ module _ (keep : (code : Code) → CallsKeep code) (self : Strand) (limit : ℕ)
         let is_of : IsStrandOf code j (Going c.state c.later []) = subst (λ l. IsStrandOf code j (Going c.state c.later l)) (bare self p c.state.around c.jobs_out c.levels c.are alone).0 c.is_of in
         record {
           effect = jobs.Ended x at.arrays at.trace (c.later + 1);
-          means = ended code (keep code) j c.state c.later x at.arrays at.trace (subst (λ y. has_come y code c.state ≡ false) (sym c.ground.job.extent) at.before) at.steps (omega (arith, e0, w, jl, jb)) is_of;
+          means = ended code (keep code) j c.state c.later x at.arrays at.trace
+              (subst (λ y. has_come y code c.state ≡ false) (sym c.ground.job.extent) at.before) at.steps (omega (arith, e0, w, jl, jb)) is_of;
           tells = (c.ground.job.extent ∙ at.is_whole, t.0, shown_as code self.run self.count (c.later + 1) shown at.trace t.1 c.at.0 at.lines at.totals);
           counts = λ g b.
               subst (λ m. Meters g.detail g.tags Main (c.later + 1) [] (whole at.trace) m) (sym t.1.meter)
@@ -209,7 +212,9 @@ module _ (keep : (code : Code) → CallsKeep code) (self : Strand) (limit : ℕ)
           EndsJob self.run.machine (length (its_parts self).rest.slices.items) frame replaced.items × IsShown r self.count shown
       TellsJoin r _ = ⊥
 
-      join_it : (r : Run) → r.meter ≡ self.run.meter → r.machine.lines.items ≡ self.run.machine.lines.items → r.machine.totals.items ≡ self.run.machine.totals.items → (e : Effect) → TellsJoin r e → (is : IsFit (its_code self)) (j : jobs.Job) → CameTo self limit stop.Joined is j → MeansIt (its_code self) is (its_parts self) e j
+      join_it : (r : Run) → r.meter ≡ self.run.meter → r.machine.lines.items ≡ self.run.machine.lines.items
+          → r.machine.totals.items ≡ self.run.machine.totals.items → (e : Effect) → TellsJoin r e → (is : IsFit (its_code self)) (j : jobs.Job)
+          → CameTo self limit stop.Joined is j → MeansIt (its_code self) is (its_parts self) e j
       join_it r m l u (effect.Ended value shown) t is j c = absurd t
       join_it r m l u (effect.Trapped a n lines cost back) t is j c = absurd t
       join_it r m l u (effect.OverLimit back) t is j c = absurd t
@@ -226,11 +231,17 @@ module _ (keep : (code : Code) → CallsKeep code) (self : Strand) (limit : ℕ)
           record {
             effect = jobs.Joined (standing c.state) c.state.trace c.later;
             means = meaning stay seats is j c;
-            tells = (ends.holds, ends.empty, shown_as code r self.count c.later shown c.state.trace t.1 c.at.0 (l ∙ at.lines) (subst (λ z. HoldsTotals code z c.state.trace.updates) (sym u) at.totals));
+            tells = (
+              ends.holds,
+              ends.empty,
+              shown_as code r self.count c.later shown c.state.trace t.1 c.at.0 (l ∙ at.lines)
+                  (subst (λ z. HoldsTotals code z c.state.trace.updates) (sym u) at.totals),
+            );
             counts = λ g b. subst (λ z. Meters g.detail g.tags (Rest p.site) c.later [] c.state.trace.events z) (sym (t.1.meter ∙ m)) (measured.counts g b);
             homes = (ends.homes, ends.fixed);
           }
 
-      pub join_means : (r : Run) → r.meter ≡ self.run.meter → r.machine.lines.items ≡ self.run.machine.lines.items → r.machine.totals.items ≡ self.run.machine.totals.items → (e : Effect) → TellsJoin r e → IsMeaningOf (its_job self) e
+      pub join_means : (r : Run) → r.meter ≡ self.run.meter → r.machine.lines.items ≡ self.run.machine.lines.items
+          → r.machine.totals.items ≡ self.run.machine.totals.items → (e : Effect) → TellsJoin r e → IsMeaningOf (its_job self) e
       unfolding IsMeaningOf
       join_means r m l u e t = λ is j job. ∥∥₁_map (h.comes is j job) (λ c. join_it r m l u e t is j c)

@@ -6,7 +6,8 @@ use Rattle.cw_model.specs.declared.syntax.CallKind.TheVariants.{Plain, Spawned}
 use Rattle.cw_model.specs.Outcome.{Trace}
 use Rattle.cw_code.specs.declared.code.Instr.{Instr}
 use Rattle.cw_code.specs.Code.{Code}
-use Rattle.cw_code.specs.Run.{Slots, Results, Taken, Waiting, Around, Caller, Block, State, Transition, On, Ends, Stops, Stuck, is_full, settled, synced, Entering, waiting_at, begun, given_back, going_on, result_of, returns_to, back, act, step}
+use Rattle.cw_code.specs.Run.{Slots, Results, Taken, Waiting, Around, Caller, Block, State, Transition, On, Ends, Stops, Stuck, is_full, settled}
+use Rattle.cw_code.specs.Run.{synced, Entering, waiting_at, begun, given_back, going_on, result_of, returns_to, back, act, step}
 use Rattle.cw_strand_laws.specs.Strands.{rest_of, spawn_job, Turn, Goes, HandsOut, ComesBack, turn, turn_back, turn_in, turn_call, turn_of}
 use Rattle.cw_strand_laws.specs.lemmas.Acts.{acts_by}
 use Rattle.cw_strand.specs.Levels.{Level, level_if, levels_of, ResultWaits, IsBackAt}
@@ -74,7 +75,8 @@ module _ (s : State) where
       levels = ap levels_of is ∙ ap (λ k. level_if k (record { waiting = w; around = around }) (levels_of around)) spawned ∙ ap (λ a. record { waiting = w; around = around } ∷ levels_of a) (sym same);
     }
 
-    gives : (kind : CallKind) (target : Option ℕ) (v : Option ℤ) (xs : Results (List ℤ)) (t : Trace) → w.kind ≡ kind → w.target ≡ target → Moved (turn_back kind) (result_of kind target v xs (going_on w around t))
+    gives : (kind : CallKind) (target : Option ℕ) (v : Option ℤ) (xs : Results (List ℤ)) (t : Trace) → w.kind ≡ kind → w.target ≡ target
+        → Moved (turn_back kind) (result_of kind target v xs (going_on w around t))
     gives Plain None v xs t k e = sym (ap levels_of is ∙ ap (λ k. level_if k (record { waiting = w; around = around }) (levels_of around)) k)
     gives Plain (Some a) None xs t k e = tt
     gives Plain (Some a) (Some x) xs t k e =
@@ -86,7 +88,16 @@ module _ (s : State) where
     gives Spawned (Some a) None xs t k e = tt
     gives Spawned (Some a) (Some x) xs t k e =
         returned (record (going_on w around t) { arrived = xs ++ w.arrived; results = (a, x) ∷ w.results }) k
-        (record { place = refl; operands = refl; slots = refl; arrays = refl; readers = refl; depth = refl; around = refl; results = subst (λ o. ResultWaits o ((a, x) ∷ w.results) w.results) (sym e) (x, refl) }) refl
+        (record {
+          place = refl;
+          operands = refl;
+          slots = refl;
+          arrays = refl;
+          readers = refl;
+          depth = refl;
+          around = refl;
+          results = subst (λ o. ResultWaits o ((a, x) ∷ w.results) w.results) (sym e) (x, refl);
+        }) refl
 
   goes_back : (around : List Around) (v : Option ℤ) (arrays : Slots (List ℤ)) (t : Trace) → s.around ≡ around → Moved (turn_in around) (back around v arrays t)
   goes_back [] v arrays t e = e

@@ -23,7 +23,9 @@ use Rattle.cw_strand.proofs.WhichOut.{floor_is}
 use Rattle.cw_strand.proofs.Course.{stretched}
 
 module _ (self : Strand) (is : IsFit (its_code self)) (j : jobs.Job) (g : Ground (its_code self) is (its_parts self) j) where
-  pub may_run : (s : State) (jobs_out : List jobs.Job) (levels : List Level) (outs : List Out) → AreOut (its_parts self) (levels_of s.around) jobs_out levels (reverse self.lent.items) → Lends (its_code self) is (its_parts self) g.base levels outs (reverse self.lent.items) → SharesFrozen (its_code self) (ok_with g outs) (under g.base s)
+  pub may_run : (s : State) (jobs_out : List jobs.Job) (levels : List Level) (outs : List Out)
+      → AreOut (its_parts self) (levels_of s.around) jobs_out levels (reverse self.lent.items)
+      → Lends (its_code self) is (its_parts self) g.base levels outs (reverse self.lent.items) → SharesFrozen (its_code self) (ok_with g outs) (under g.base s)
       → MayRun (its_code self) (ok_with g outs) (setting_of g) (floor_of self) s
   may_run s jobs_out levels outs are lends frozen =
       let floor = floor_is (its_code self) is (its_parts self) g.base s.around jobs_out levels outs (reverse self.lent.items) are lends in
@@ -48,7 +50,8 @@ module _ (self : Strand) (is : IsFit (its_code self)) (j : jobs.Job) (g : Ground
     may = may_go s count jobs_out h;
   }
 
-pub done_later : (v : Verified) (ok : _) (k : _) (floor : ℕ) (stops : Bool) (limit : ℕ) (to : Stop) (done : ℕ) (r : Run) (later : ℕ) (s : State) → StopsAt v ok k floor stops limit to done r later s → later ≤ done
+pub done_later : (v : Verified) (ok : _) (k : _) (floor : ℕ) (stops : Bool) (limit : ℕ) (to : Stop) (done : ℕ) (r : Run) (later : ℕ) (s : State)
+    → StopsAt v ok k floor stops limit to done r later s → later ≤ done
 done_later v ok k floor stops limit (stop.Spawned spawn) done r later s h = let e = h.0 in omega (arith, e)
 done_later v ok k floor stops limit stop.CameBack done r later s h = let e = h.0 in omega (arith, e)
 done_later v ok k floor stops limit stop.Joined done r later s h = let e = h.0 in omega (arith, e)
@@ -58,12 +61,14 @@ done_later v ok k floor stops limit stop.Over done r later s h = let e = h.0 in 
 done_later v ok k floor stops limit stop.NoMemory done r later s h = omega (arith, h)
 
 -- the run of a strand went on to a stop
-module _ (keep : (code : Code) → CallsKeep code) (self : Strand) (is : IsFit (its_code self)) (j : jobs.Job) (g : Ground (its_code self) is (its_parts self) j) (r : Run) (done limit : ℕ) (stops : Bool) (to : Stop) where
+module _ (keep : (code : Code) → CallsKeep code) (self : Strand) (is : IsFit (its_code self)) (j : jobs.Job)
+    (g : Ground (its_code self) is (its_parts self) j) (r : Run) (done limit : ℕ) (stops : Bool) (to : Stop) where
   abbrev after : Strand
   after = record self { run = r; count = done }
 
   pub came_to : (s : State) (count : ℕ) (jobs_out : List jobs.Job) → IsStrandOf (code_view (its_code self).code) j (Going s count jobs_out) → Ongoing self is j g s count jobs_out
-      → GoesOn (its_code self) self.run self.count limit (floor_of self) stops to done r → done ≤ limit → limit ≤ (its_parts self).limit - (its_parts self).before → (its_parts self).before ≤ (its_parts self).limit → CameTo after limit to is j
+      → GoesOn (its_code self) self.run self.count limit (floor_of self) stops to done r → done ≤ limit
+      → limit ≤ (its_parts self).limit - (its_parts self).before → (its_parts self).before ≤ (its_parts self).limit → CameTo after limit to is j
   came_to s count jobs_out is_of h goes le within low =
       let code = code_view (its_code self).code in
       let p = its_parts self in
@@ -73,7 +78,8 @@ module _ (keep : (code : Code) → CallsKeep code) (self : Strand) (is : IsFit (
       let counts = h.runs.counts in
       let jl = g.job.limit in
       let jb = g.job.before in
-      let led = stretched code (keep code) j (setting_of g) (sym g.job.extent) (its_code self) is p h.levels h.runs.outs lent h.runs.lends stops self.count came.0 s came.1 came.2 (omega (arith, later_done, le, within, low, jl, jb))
+      let led = stretched code (keep code) j (setting_of g) (sym g.job.extent)
+      (its_code self) is p h.levels h.runs.outs lent h.runs.lends stops self.count came.0 s came.1 came.2 (omega (arith, later_done, le, within, low, jl, jb))
       (record { jobs_out = jobs_out; is_of = subst (λ n. IsStrandOf code j (Going s n jobs_out)) counts is_of; are = h.are }) in
       record {
         ground = g;

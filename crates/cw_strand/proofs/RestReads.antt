@@ -27,7 +27,8 @@ frame_in (Arrives frame t left) other = frame
 frame_in _ other = other
 
 -- A run over a state that had an array of its outermost call frozen, up to a join of no block that was open then
-module _ (code : Code) (fits : Fits code) (steps : FitSteps code fits) (settles : FitSettles) (stay : FrozenStay code fits) (b : State) (depth a : ℕ) (xs : List ℤ) (deep : depth ≤ length b.around) where
+module _ (code : Code) (fits : Fits code) (steps : FitSteps code fits) (settles : FitSettles) (stay : FrozenStay code fits) (b : State) (depth a : ℕ)
+    (xs : List ℤ) (deep : depth ≤ length b.around) where
   pub record IsHeld (s : State) : Type 0 where
     pub good : GoodState code fits (under b s)
     pub frozen : IsFrozenAt code fits (outermost s.place (beneath b s.around)) depth a
@@ -39,7 +40,8 @@ module _ (code : Code) (fits : Fits code) (steps : FitSteps code fits) (settles 
       found : joins (slice_get code.instrs s.place) ≡ true
       found = ap joins is ∙ joined
 
-      deeper : (around : List Around) → (is_first around && joins (slice_get code.instrs s.place)) ≡ false → length (beneath b s.around) ≡ length around + length b.around → depth < length (beneath b s.around)
+      deeper : (around : List Around) → (is_first around && joins (slice_get code.instrs s.place)) ≡ false
+          → length (beneath b s.around) ≡ length around + length b.around → depth < length (beneath b s.around)
       deeper [] e both = absurd (true≢false (sym found ∙ e))
       deeper (x ∷ around) e both = omega (arith, deep, both)
 
@@ -52,11 +54,13 @@ module _ (code : Code) (fits : Fits code) (steps : FitSteps code fits) (settles 
   at_join : (s : State) → has_come ToJoin code s ≡ true → IsHeld s → IsFrozenAt code fits (outermost s.place b.around) depth a
   at_join s come h = at s.around come h.frozen
     where
-      at : (around : List Around) → (is_first around && joins (slice_get code.instrs s.place)) ≡ true → IsFrozenAt code fits (outermost s.place (beneath b around)) depth a → IsFrozenAt code fits (outermost s.place b.around) depth a
+      at : (around : List Around) → (is_first around && joins (slice_get code.instrs s.place)) ≡ true
+          → IsFrozenAt code fits (outermost s.place (beneath b around)) depth a → IsFrozenAt code fits (outermost s.place b.around) depth a
       at [] e k = k
       at (x ∷ around) e k = cc
 
-  pub frozen_arrives : (n : ℕ) (s : State) (frame : Standing) (t : Trace) (left : ℕ) → IsHeld s → travel ToJoin code n s ≡ Arrives frame t left → IsFrozenAt code fits (outermost frame.place b.around) depth a
+  pub frozen_arrives : (n : ℕ) (s : State) (frame : Standing) (t : Trace) (left : ℕ) → IsHeld s → travel ToJoin code n s ≡ Arrives frame t left
+      → IsFrozenAt code fits (outermost frame.place b.around) depth a
   unfolding frame_in
   frozen_arrives zero s frame t left h e = cases (has_come ToJoin code s) refl
     where
@@ -64,7 +68,8 @@ module _ (code : Code) (fits : Fits code) (steps : FitSteps code fits) (settles 
       none k = cc
 
       cases : (c : Bool) → has_come ToJoin code s ≡ c → IsFrozenAt code fits (outermost frame.place b.around) depth a
-      cases true come = subst (λ (f : Standing). IsFrozenAt code fits (outermost f.place b.around) depth a) (ap (λ c. frame_in c (standing s)) (sym (come_at ToJoin code zero s come) ∙ e)) (at_join s come h)
+      cases true come = subst (λ (f : Standing). IsFrozenAt code fits (outermost f.place b.around) depth a)
+          (ap (λ c. frame_in c (standing s)) (sym (come_at ToJoin code zero s come) ∙ e)) (at_join s come h)
       cases false come = absurd (none (sym (none_left ToJoin code s come) ∙ e))
   frozen_arrives (suc n) s frame t left h e = cases (has_come ToJoin code s) refl (λ s' k e'. frozen_arrives n s' frame t left k e')
     where
@@ -79,7 +84,8 @@ module _ (code : Code) (fits : Fits code) (steps : FitSteps code fits) (settles 
       cases : (c : Bool) → has_come ToJoin code s ≡ c
           → ((s' : State) → IsHeld s' → travel ToJoin code n s' ≡ Arrives frame t left → IsFrozenAt code fits (outermost frame.place b.around) depth a)
           → IsFrozenAt code fits (outermost frame.place b.around) depth a
-      cases true come more = subst (λ (f : Standing). IsFrozenAt code fits (outermost f.place b.around) depth a) (ap (λ c. frame_in c (standing s)) (sym (come_at ToJoin code (suc n) s come) ∙ e)) (at_join s come h)
+      cases true come more = subst (λ (f : Standing). IsFrozenAt code fits (outermost f.place b.around) depth a)
+          (ap (λ c. frame_in c (standing s)) (sym (come_at ToJoin code (suc n) s come) ∙ e)) (at_join s come h)
       cases false come more = went (step code s) refl come (lifted_step code fits steps settles ToJoin (Upon b) s come h.good) more (sym (go_one ToJoin code n s come) ∙ e)
 
 -- two lists of as many, the same by each index
@@ -122,7 +128,8 @@ module _ (slices back : List Placed) (replaced : List (Option Placed)) (homes : 
       at zero e = same_none e
       at (suc n) e = same_share (omega (arith, e))
 
-pub same_readers : (slices back : List Placed) (replaced : List (Option Placed)) → KeepsHomes slices back replaced → (old new : Readers) → length new ≡ length old → HasReaders slices old → HasReaders back new → new ≡ old
+pub same_readers : (slices back : List Placed) (replaced : List (Option Placed)) → KeepsHomes slices back replaced → (old new : Readers)
+    → length new ≡ length old → HasReaders slices old → HasReaders back new → new ≡ old
 same_readers slices back replaced homes old new many was now = same_lists new old many at
   where
     at : (r : ℕ) (xs ys : List ℤ) → slice_get new r ≡ Some xs → slice_get old r ≡ Some ys → xs ≡ ys

@@ -74,7 +74,9 @@ run_way self h e = ∥∥₁_elim (sound_of self) (hlevel) (λ s. ∥∥₁_map 
     under_way self s.ok s.job d.ground at.state at.count at.out at.held))
 
 -- and comes to a stop
-pub run_came : ((code : Code) → CallsKeep code) → (self : Strand) (r : Run) (done limit : ℕ) (stops : Bool) (to : Stop) → IsRunning self → self.mode ≡ mode.Going → GoesOn (its_code self) self.run self.count limit (floor_of self) stops to done r → done ≤ limit → limit ≤ (its_parts self).limit - (its_parts self).before
+pub run_came : ((code : Code) → CallsKeep code) → (self : Strand) (r : Run) (done limit : ℕ) (stops : Bool) (to : Stop) → IsRunning self
+    → self.mode ≡ mode.Going → GoesOn (its_code self) self.run self.count limit (floor_of self) stops to done r → done ≤ limit
+    → limit ≤ (its_parts self).limit - (its_parts self).before
     → HasCome (record self { run = r; count = done }) limit to
 run_came keep self r done limit stops to h e goes le within = record {
   going = e;
@@ -97,7 +99,8 @@ run_came keep self r done limit stops to h e goes le within = record {
 }
 
 -- something is out where a level is
-lends_some : (self : Strand) (v : _) (is : IsFit v) (p : _) (base : State) (l : Level) (levels : List Level) (out : List Out) → Lends v is p base (l ∷ levels) out (reverse self.lent.items) → outs self ≢ []
+lends_some : (self : Strand) (v : _) (is : IsFit v) (p : _) (base : State) (l : Level) (levels : List Level) (out : List Out)
+    → Lends v is p base (l ∷ levels) out (reverse self.lent.items) → outs self ≢ []
 lends_some self v is p base l levels out h e = at out (reverse self.lent.items) h e
   where
     at : (out : List Out) (lent : List Lent) → Lends v is p base (l ∷ levels) out lent → map (λ x. x.job.value) lent ≢ []
@@ -105,7 +108,8 @@ lends_some self v is p base l levels out h e = at out (reverse self.lent.items) 
     at (o ∷ out) [] k q = absurd k
     at (o ∷ out) (x ∷ lent) k q = cc
 
-waits_some : (self : Strand) (is : IsFit (its_code self)) (j : jobs.Job) (g : Ground (its_code self) is (its_parts self) j) (s : State) (count : ℕ) (out : List jobs.Job) → Waited self is j g s count out → outs self ≢ []
+waits_some : (self : Strand) (is : IsFit (its_code self)) (j : jobs.Job) (g : Ground (its_code self) is (its_parts self) j) (s : State) (count : ℕ)
+    (out : List jobs.Job) → Waited self is j g s count out → outs self ≢ []
 waits_some self is j g s count out w = lends_some self (its_code self) is (its_parts self) g.base w.level w.others w.runs.outs w.runs.lends
 
 pub waiting_some : (self : Strand) → IsRunning self → IsWaiting self → outs self ≢ []
@@ -131,7 +135,8 @@ stretch_low k code floor stops count _ s _ (Here _ _) = omega arith
 stretch_low k code floor stops count _ s _ (Further _ later _ s1 s2 before p) = let le = stretch_low k code floor stops count later s s1 before in omega (arith, le)
 
 -- a run that may do nothing does nothing
-still_at : (v : _) (ok : _) (k : _) (floor : ℕ) (stops : Bool) (limit : ℕ) (to : Stop) (done : ℕ) (r : Run) (later : ℕ) (s : State) → StopsAt v ok k floor stops limit to done r later s → done ≤ later → IsStill to
+still_at : (v : _) (ok : _) (k : _) (floor : ℕ) (stops : Bool) (limit : ℕ) (to : Stop) (done : ℕ) (r : Run) (later : ℕ) (s : State)
+    → StopsAt v ok k floor stops limit to done r later s → done ≤ later → IsStill to
 still_at v ok k floor stops limit (stop.Spawned spawn) done r later s h le = let e = h.0 in omega (arith, e, le)
 still_at v ok k floor stops limit stop.CameBack done r later s h le = let e = h.0 in omega (arith, e, le)
 still_at v ok k floor stops limit stop.Joined done r later s h le = tt
@@ -154,7 +159,8 @@ stretch_here : (k : Setting) (code : Code) (floor : ℕ) (stops : Bool) (count l
 stretch_here k code floor stops count _ s _ (Here _ _) le = refl
 stretch_here k code floor stops count _ s _ (Further _ later _ s1 s2 before p) le = let low = stretch_low k code floor stops count later s s1 before in absurd (omega (arith, low, le))
 
-module _ (self : Strand) (r : Run) (done limit : ℕ) (stops : Bool) (to : Stop) (h : IsRunning self) (e : self.mode ≡ mode.Going) (goes : GoesOn (its_code self) self.run self.count limit (floor_of self) stops to done r) where
+module _ (self : Strand) (r : Run) (done limit : ℕ) (stops : Bool) (to : Stop) (h : IsRunning self) (e : self.mode ≡ mode.Going)
+    (goes : GoesOn (its_code self) self.run self.count limit (floor_of self) stops to done r) where
   abbrev floor : ℕ
   floor = floor_of self
 
@@ -207,7 +213,8 @@ module _ (self : Strand) (r : Run) (done limit : ℕ) (stops : Bool) (to : Stop)
 -- one that stopped without an instruction goes on from there
 goes_from : (self : Strand) (limit : ℕ) (to : Stop) → HasCome self limit to
     → ((is : IsFit (its_code self)) (j : jobs.Job) (c : CameTo self limit to is j)
-    → (self.count ≡ c.later) × ShowsRun (its_code self) (ok_with c.ground c.outs) (setting_of c.ground) self.count self.run c.state × MayRun (its_code self) (ok_with c.ground c.outs) (setting_of c.ground) (floor_of self) c.state)
+    → (self.count ≡ c.later) × ShowsRun (its_code self) (ok_with c.ground c.outs) (setting_of c.ground) self.count self.run c.state
+    × MayRun (its_code self) (ok_with c.ground c.outs) (setting_of c.ground) (floor_of self) c.state)
     → IsRunning self
 goes_from self limit to h at = record {
   keeps = h.keeps;

@@ -78,7 +78,8 @@ some_none : {A : Type 0} (y : A) → Some y ≡ None → ⊥
 some_none y q = cc
 
 -- as `Vec::pop` says it
-pub pops : {A : Type 0} (old new : List A) (n m : ℕ) (r : Option A) (x : A) (xs : List A) → n ≡ length old → old ≡ new ++ option_to_list r → MatchOption r ((n ≡ 0) × (m ≡ 0)) (λ _. m + 1 ≡ n) → reverse old ≡ x ∷ xs → Popped new r x xs
+pub pops : {A : Type 0} (old new : List A) (n m : ℕ) (r : Option A) (x : A) (xs : List A) → n ≡ length old → old ≡ new ++ option_to_list r
+    → MatchOption r ((n ≡ 0) × (m ≡ 0)) (λ _. m + 1 ≡ n) → reverse old ≡ x ∷ xs → Popped new r x xs
 pops old new n m None x xs many e h are = absurd (some_long old x xs (sym many ∙ h.0) are)
 pops old new n m (Some y) x xs many e h are = popped old new (Some y) x xs e (λ q. absurd (some_none y q)) are
 
@@ -99,7 +100,8 @@ some_there [] x xs q = absurd (some_long [] x xs refl q)
 some_there (y ∷ l) x xs q = omega arith
 
 -- what is left of the jobs out
-pub others_left : (old new : Strand) (out : Job) (others : List Job) → outs old ≡ out ∷ others → ((x : Lent) (xs : List Lent) → reverse old.lent.items ≡ x ∷ xs → reverse new.lent.items ≡ xs) → outs new ≡ others
+pub others_left : (old new : Strand) (out : Job) (others : List Job) → outs old ≡ out ∷ others
+    → ((x : Lent) (xs : List Lent) → reverse old.lent.items ≡ x ∷ xs → reverse new.lent.items ≡ xs) → outs new ≡ others
 others_left old new out others e left =
     let n = newest_of old out others e in
     ap (map (λ l. l.job.value)) (left n.lent n.rest n.are) ∙ n.others_are

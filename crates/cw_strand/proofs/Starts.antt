@@ -44,7 +44,8 @@ light_prop : (d : Detail) → IsProp (IsLight d)
 light_prop Values = hlevel le_prop
 light_prop (Measures burden) = le_prop
 
-pub grounded : (v : Verified) (is : IsFit v) (p : Parts) (j : jobs.Job) (m : Machine) → IsJob v is p j → IsLight p.detail → (h : HoldsOf v is j p.rest m (job_start j)) → OnlyReads v is j p.rest m (job_start j) h → Grounded v is p j m
+pub grounded : (v : Verified) (is : IsFit v) (p : Parts) (j : jobs.Job) (m : Machine) → IsJob v is p j → IsLight p.detail
+    → (h : HoldsOf v is j p.rest m (job_start j)) → OnlyReads v is j p.rest m (job_start j) h → Grounded v is p j m
 grounded v is p j m job light h reads = at p.extent refl
   where
     at : (x : Extent) → p.extent ≡ x → Grounded v is p j m
@@ -89,7 +90,8 @@ module _ (self : Strand) (keep : (code : Code) → CallsKeep code) (meters : Cal
   abbrev p : Parts
   p = its_parts self
 
-  pub starts : IsLight p.detail → p.before ≤ p.limit → (h : HoldsOf v is j p.rest self.run.machine (job_start j)) → OnlyReads v is j p.rest self.run.machine (job_start j) h → StartsFrom (origin_of p) p.detail self.run.meter
+  pub starts : IsLight p.detail → p.before ≤ p.limit → (h : HoldsOf v is j p.rest self.run.machine (job_start j))
+      → OnlyReads v is j p.rest self.run.machine (job_start j) h → StartsFrom (origin_of p) p.detail self.run.meter
       → self.lent.items ≡ [] → self.count ≡ 0 → self.mode ≡ mode.Going → Holds self is j
   starts light low h reads meter none zero going =
       let g = grounded v is p j self.run.machine job light h reads in
@@ -106,7 +108,8 @@ module _ (self : Strand) (keep : (code : Code) → CallsKeep code) (meters : Cal
             lends = subst (λ l. Lends v is p g.ground.base [] [] l) (sym (ap reverse none)) tt;
             shows = record {
               shows = g.shows;
-              tells = subst (λ n. TellsAll (code_view v.code) p.detail (origin_of p) (Going (job_start j) n []) self.run.meter) (sym zero) ((meters (code_view v.code) p.detail).starting (origin_of p) j self.run.meter meter);
+              tells = subst (λ n. TellsAll (code_view v.code) p.detail (origin_of p) (Going (job_start j) n []) self.run.meter) (sym zero)
+                  ((meters (code_view v.code) p.detail).starting (origin_of p) j self.run.meter meter);
             };
             frozen = g.frozen;
           };
@@ -114,7 +117,8 @@ module _ (self : Strand) (keep : (code : Code) → CallsKeep code) (meters : Cal
       }
 
 -- a strand that holds nothing else
-pub begins : ((code : Code) → CallsKeep code) → CallsKeepMeters → (job : Job) (p' : Parts) (self : Strand) → self.of.value ≡ job → self.parts.value ≡ p' → self.lent.items ≡ [] → self.spares.items ≡ [] → self.count ≡ 0 → self.mode ≡ mode.Going
+pub begins : ((code : Code) → CallsKeep code) → CallsKeepMeters → (job : Job) (p' : Parts) (self : Strand) → self.of.value ≡ job
+    → self.parts.value ≡ p' → self.lent.items ≡ [] → self.spares.items ≡ [] → self.count ≡ 0 → self.mode ≡ mode.Going
     → BeginsRun job.parts.value p' self.run → Begins job self
 begins keep meters job p' self of parts none bare zero going b = record {
   of = of;

@@ -48,7 +48,8 @@ greatest_append name [] b = refl
 greatest_append name (x ∷ a) b = at (same_name name x.0) (greatest_append name a b)
   where
     at : (c : Bool) → greatest_to name (a ++ b) ≡ greater (greatest_to name a) (greatest_to name b)
-        → (if c then Some (or_greater x.1 (greatest_to name (a ++ b))) else greatest_to name (a ++ b)) ≡ greater (if c then Some (or_greater x.1 (greatest_to name a)) else greatest_to name a) (greatest_to name b)
+        → (if c then Some (or_greater x.1 (greatest_to name (a ++ b))) else greatest_to name (a ++ b))
+        ≡ greater (if c then Some (or_greater x.1 (greatest_to name a)) else greatest_to name a) (greatest_to name b)
     at true h = ap (λ z. Some (or_greater x.1 z)) h ∙ sym (greater_after x.1 (greatest_to name a) (greatest_to name b))
     at false h = h
 
@@ -102,7 +103,8 @@ appended : {A : Type 0} (b s t : List A) → b ++ (s ++ t) ≡ (b ++ (s ++ [])) 
 appended b s t = sym (append_assoc b s t) ∙ ap (λ z. (b ++ z) ++ t) (sym (append-nil s))
 
 -- a block that goes on from its join, with what the rest has shown
-pub shows_joined : (v : Verified) (ok : Ok v) (m m' : Machine) (totals : List Total) (b s : State) (frame : Standing) (t : Trace) → HasTaken m t.lines totals m' → Shows v ok m (under b (resumed s frame quiet)) → HoldsTotals (code_view v.code) totals t.updates
+pub shows_joined : (v : Verified) (ok : Ok v) (m m' : Machine) (totals : List Total) (b s : State) (frame : Standing) (t : Trace)
+    → HasTaken m t.lines totals m' → Shows v ok m (under b (resumed s frame quiet)) → HoldsTotals (code_view v.code) totals t.updates
     → Shows v ok m' (under b (resumed s frame t))
 shows_joined v ok m m' totals b s frame t taken h told =
     shows_taken v ok m m' t.lines totals taken (under b (resumed s frame quiet)) (trace_under b s.around (joined s.trace t)) t.updates h told

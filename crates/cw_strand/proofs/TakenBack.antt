@@ -39,7 +39,8 @@ pub record Split (v : Verified) (is : IsFit v) (p : Parts) (base : State) (l : L
   pub below : LieBelow others out.first
   pub rest : Lends v is p base levels others lent
 
-pub split_of : (v : Verified) (is : IsFit v) (p : Parts) (base : State) (l : Level) (levels : List Level) (outs : List Out) (x : Lent) (lent : List Lent) → Lends v is p base (l ∷ levels) outs (x ∷ lent) → Split v is p base l levels outs x lent
+pub split_of : (v : Verified) (is : IsFit v) (p : Parts) (base : State) (l : Level) (levels : List Level) (outs : List Out) (x : Lent)
+    (lent : List Lent) → Lends v is p base (l ∷ levels) outs (x ∷ lent) → Split v is p base l levels outs x lent
 split_of v is p base l levels [] x lent h = absurd h
 split_of v is p base l levels (o ∷ outs) x lent h = record { out = o; others = outs; are = refl; is_lent = h.0; below = h.1; rest = h.2 }
 
@@ -69,7 +70,8 @@ module _ (self : Strand) (job : Job) (others : List Job) (newest : Newest self j
     above : AllAbove split.others (length (under g.base s).around)
     above = outs_above v is p g.base s.around rest_out.rests others_out split.others newest.rest rest_out.are split.rest
 
-    pub lends_it : IsLending v (ok_with g split.others) split.out self.run.machine (under g.base s) newest.lent.home.lender.slots (slots_lent (loans_of v newest.lent.home.lent)) job.parts.value.rest.slices.items
+    pub lends_it : IsLending v (ok_with g split.others) split.out self.run.machine (under g.base s) newest.lent.home.lender.slots
+        (slots_lent (loans_of v newest.lent.home.lent)) job.parts.value.rest.slices.items
     lends_it = record {
       shows = subst (λ o. Shows v (ok_with g o) self.run.machine (under g.base s)) split.are h.waited.runs.shows.shows;
       above = above;
@@ -82,7 +84,9 @@ module _ (self : Strand) (job : Job) (others : List Job) (newest : Newest self j
     pub may : MayTake self.run.machine newest.lent.home.lender.slots (slots_lent (loans_of (its_code self) newest.lent.home.lent)) job.parts.value.rest.slices.items
     may = record { code = v; ok = ok_with g split.others; out = split.out; state = under g.base s; lends = lends_it }
 
-    module _ (keep : (code : Code) → CallsKeep code) (m : Machine) (takes : TakesBack self.run.machine newest.lent.home.lender.slots (slots_lent (loans_of (its_code self) newest.lent.home.lent)) job.parts.value.rest.slices.items m) (new : Strand) (left : reverse new.lent.items ≡ newest.rest) where
+    module _ (keep : (code : Code) → CallsKeep code) (m : Machine) (takes : TakesBack self.run.machine newest.lent.home.lender.slots
+        (slots_lent (loans_of (its_code self) newest.lent.home.lent)) job.parts.value.rest.slices.items m) (new : Strand)
+        (left : reverse new.lent.items ≡ newest.rest) where
       abbrev goes_with : Strand
       goes_with = record self { run = record self.run { machine = m }; lent = new.lent; spares = new.spares; mode = mode.Going }
 
@@ -113,12 +117,17 @@ module _ (self : Strand) (job : Job) (others : List Job) (newest : Newest self j
   pub job_code : IsRunning self → code_of job.parts.value ≡ its_code self
   job_code running = subst (λ (b : Job). code_of b.parts.value ≡ its_code self) newest.job_is (running.rests 0 newest.lent (subst (λ l. slice_get l 0 ≡ Some newest.lent) (sym newest.are) refl)).code
 
-  pub may_take : IsRunning self → IsWaiting self → ∥ MayTake self.run.machine newest.lent.home.lender.slots (slots_lent (loans_of (its_code self) newest.lent.home.lent)) job.parts.value.rest.slices.items ∥₁
+  pub may_take : IsRunning self → IsWaiting self → ∥ MayTake self.run.machine newest.lent.home.lender.slots
+      (slots_lent (loans_of (its_code self) newest.lent.home.lent)) job.parts.value.rest.slices.items ∥₁
   may_take running waits = ∥∥₁_elim (sound_of self) (hlevel) (λ s. ∥∥₁_map (running.holds s.ok s.job s.is) (λ d.
       may s.ok s.job d.ground (waiting_of self s.ok s.job waits d)))
 
-  module _ (keep : (code : Code) → CallsKeep code) (running : IsRunning self) (waits : IsWaiting self) (m : Machine) (takes : TakesBack self.run.machine newest.lent.home.lender.slots (slots_lent (loans_of (its_code self) newest.lent.home.lent)) job.parts.value.rest.slices.items m) (new : Strand) (left : reverse new.lent.items ≡ newest.rest) where
-    pub takes_back : AreSpare (record self { run = record self.run { machine = m }; lent = new.lent; spares = new.spares; mode = mode.Going }) → IsRunning (record self { run = record self.run { machine = m }; lent = new.lent; spares = new.spares; mode = mode.Going })
+  module _ (keep : (code : Code) → CallsKeep code) (running : IsRunning self) (waits : IsWaiting self) (m : Machine)
+      (takes : TakesBack self.run.machine newest.lent.home.lender.slots
+      (slots_lent (loans_of (its_code self) newest.lent.home.lent)) job.parts.value.rest.slices.items m) (new : Strand)
+      (left : reverse new.lent.items ≡ newest.rest) where
+    pub takes_back : AreSpare (record self { run = record self.run { machine = m }; lent = new.lent; spares = new.spares; mode = mode.Going })
+        → IsRunning (record self { run = record self.run { machine = m }; lent = new.lent; spares = new.spares; mode = mode.Going })
     takes_back bare = record {
       keeps = record {
         code = running.keeps.code;
@@ -137,8 +146,11 @@ module _ (self : Strand) (job : Job) (others : List Job) (newest : Newest self j
     }
 
     -- the same with its parts told otherwise
-    pub takes_back_to : (mid : Strand) → mid ≡ record self { run = record self.run { machine = m }; lent = mid.lent; mode = mode.Going } → reverse mid.lent.items ≡ newest.rest → HasSpared mid new → IsRunning new
+    pub takes_back_to : (mid : Strand) → mid ≡ record self { run = record self.run { machine = m }; lent = mid.lent; mode = mode.Going }
+        → reverse mid.lent.items ≡ newest.rest → HasSpared mid new → IsRunning new
     takes_back_to mid e rest spared =
         let same : record self { run = record self.run { machine = m }; lent = new.lent; spares = new.spares; mode = mode.Going } ≡ new =
-        same_strand (record self { run = record self.run { machine = m }; lent = new.lent; spares = new.spares; mode = mode.Going }) new (spared.of ∙ ap (λ (z : Strand). z.of) e) (spared.parts ∙ ap (λ (z : Strand). z.parts) e) (spared.run ∙ ap (λ (z : Strand). z.run) e) (spared.count ∙ ap (λ (z : Strand). z.count) e) refl refl (spared.mode ∙ ap (λ (z : Strand). z.mode) e) in
+        same_strand (record self { run = record self.run { machine = m }; lent = new.lent; spares = new.spares; mode = mode.Going }) new
+        (spared.of ∙ ap (λ (z : Strand). z.of) e) (spared.parts ∙ ap (λ (z : Strand). z.parts) e) (spared.run ∙ ap (λ (z : Strand). z.run) e)
+        (spared.count ∙ ap (λ (z : Strand). z.count) e) refl refl (spared.mode ∙ ap (λ (z : Strand). z.mode) e) in
         subst IsRunning same (takes_back (subst AreSpare (sym same) spared.spares))

@@ -29,7 +29,8 @@ under_more (l ∷ levels) n m le h = (let a = h.0 in omega (arith, a, le), under
 
 module _ (p : Parts) where
   -- the rests that are out are those of spawned calls round a state
-  caller_under : (kind : CallKind) (l : Level) (all : List Level) → ((jobs_out : List jobs.Job) (levels : List Level) (lent : List Lent) → AreOut p all jobs_out levels lent → AllUnder levels (length l.around))
+  caller_under : (kind : CallKind) (l : Level) (all : List Level) → ((jobs_out : List jobs.Job) (levels : List Level) (lent : List Lent)
+      → AreOut p all jobs_out levels lent → AllUnder levels (length l.around))
       → (jobs_out : List jobs.Job) (levels : List Level) (lent : List Lent) → AreOut p (level_if kind l all) jobs_out levels lent → AllUnder levels (suc (length l.around))
   caller_under Plain l all below jobs_out levels lent h = under_more levels (length l.around) (suc (length l.around)) (omega arith) (below jobs_out levels lent h)
   caller_under Spawned l all below [] levels lent h = absurd h
@@ -48,7 +49,8 @@ module _ (p : Parts) where
 
   module _ (base : State) (l : Level) (levels : List Level) (x : Lent) (lent : List Lent) where
     -- those behind the newest are of calls round that
-    caller_tail : (kind : CallKind) (w : Waiting) (around : List Around) → ((jobs_out : List jobs.Job) → AreOut p (levels_of around) jobs_out (l ∷ levels) (x ∷ lent) → AllUnder levels (length l.around))
+    caller_tail : (kind : CallKind) (w : Waiting) (around : List Around)
+        → ((jobs_out : List jobs.Job) → AreOut p (levels_of around) jobs_out (l ∷ levels) (x ∷ lent) → AllUnder levels (length l.around))
         → (jobs_out : List jobs.Job) → AreOut p (level_if kind (record { waiting = w; around = around }) (levels_of around)) jobs_out (l ∷ levels) (x ∷ lent) → AllUnder levels (length l.around)
     caller_tail Plain w around below jobs_out h = below jobs_out h
     caller_tail Spawned w around below [] h = absurd h
@@ -100,8 +102,10 @@ floor_round base floor bottom (Block o ∷ around) h = let le = floor_round base
 floor_round base floor bottom (Caller w ∷ around) (inl h) = let e = h.waits in let n = calls_caller base w around in omega (arith, e, n)
 floor_round base floor bottom (Caller w ∷ around) (inr h) = let le = floor_round base floor bottom around h in let n = calls_caller base w around in omega (arith, le, n)
 
-pub calls_under : (p : Parts) (base : State) (l : Level) (levels : List Level) (x : Lent) (lent : List Lent) (around : List Around) (jobs_out : List jobs.Job) → AreOut p (levels_of around) jobs_out (l ∷ levels) (x ∷ lent) → suc (calls_in (beneath base l.around)) ≤ calls_in (beneath base around)
-calls_under p base l levels x lent around jobs_out h = floor_round base (suc (calls_in (beneath base l.around))) (suc (length (beneath base l.around))) around (floor_out p base l levels x lent around jobs_out h)
+pub calls_under : (p : Parts) (base : State) (l : Level) (levels : List Level) (x : Lent) (lent : List Lent) (around : List Around)
+    (jobs_out : List jobs.Job) → AreOut p (levels_of around) jobs_out (l ∷ levels) (x ∷ lent) → suc (calls_in (beneath base l.around)) ≤ calls_in (beneath base around)
+calls_under p base l levels x lent around jobs_out h = floor_round base (suc (calls_in (beneath base l.around)))
+    (suc (length (beneath base l.around))) around (floor_out p base l levels x lent around jobs_out h)
 
 same_level : (o o' : Out) → Some o ≡ Some o' → o.level ≡ o'.level
 same_level o o' e = let q : o ≡ o' = cc in ap (λ (z : Out). z.level) q
@@ -110,7 +114,8 @@ all_above : (o : Out) (outs : List Out) (n : ℕ) → o.level < n → AllAbove o
 all_above o outs n lt h zero o' e = let same = same_level o o' e in omega (arith, lt, same)
 all_above o outs n lt h (suc k) o' e = h k o' e
 
-pub lends_above : (v : Verified) (is : IsFit v) (p : Parts) (base : State) (levels : List Level) (outs : List Out) (lent : List Lent) (n : ℕ) → AllUnder levels n → Lends v is p base levels outs lent → AllAbove outs (n + length base.around)
+pub lends_above : (v : Verified) (is : IsFit v) (p : Parts) (base : State) (levels : List Level) (outs : List Out) (lent : List Lent) (n : ℕ)
+    → AllUnder levels n → Lends v is p base levels outs lent → AllAbove outs (n + length base.around)
 lends_above v is p base [] [] [] n u h = λ j o e. cc
 lends_above v is p base [] [] (x ∷ lent) n u h = absurd h
 lends_above v is p base [] (o ∷ outs) lent n u h = absurd h
@@ -126,7 +131,8 @@ pub record HasFloor (base : State) (around : List Around) (outs : List Out) (len
   pub ends : IsFloor base (floor_in lent) bottom around
   pub above : AllAbove outs bottom
 
-pub floor_is : (v : Verified) (is : IsFit v) (p : Parts) (base : State) (around : List Around) (jobs_out : List jobs.Job) (levels : List Level) (outs : List Out) (lent : List Lent) → AreOut p (levels_of around) jobs_out levels lent → Lends v is p base levels outs lent → HasFloor base around outs lent
+pub floor_is : (v : Verified) (is : IsFit v) (p : Parts) (base : State) (around : List Around) (jobs_out : List jobs.Job) (levels : List Level)
+    (outs : List Out) (lent : List Lent) → AreOut p (levels_of around) jobs_out levels lent → Lends v is p base levels outs lent → HasFloor base around outs lent
 floor_is v is p base around jobs_out [] [] [] are h = record { bottom = length base.around; ends = no_floor base around; above = λ j o e. cc }
 floor_is v is p base around jobs_out [] [] (x ∷ lent) are h = absurd h
 floor_is v is p base around jobs_out [] (o ∷ outs) lent are h = absurd h
@@ -144,7 +150,9 @@ floor_is v is p base around jobs_out (l ∷ levels) (o ∷ outs) (x ∷ lent) ar
 }
 
 -- what is out lies above a state
-pub outs_above : (v : Verified) (is : IsFit v) (p : Parts) (base : State) (around : List Around) (jobs_out : List jobs.Job) (levels : List Level) (outs : List Out) (lent : List Lent) → AreOut p (levels_of around) jobs_out levels lent → Lends v is p base levels outs lent → AllAbove outs (length (beneath base around))
+pub outs_above : (v : Verified) (is : IsFit v) (p : Parts) (base : State) (around : List Around) (jobs_out : List jobs.Job) (levels : List Level)
+    (outs : List Out) (lent : List Lent) → AreOut p (levels_of around) jobs_out levels lent → Lends v is p base levels outs lent
+    → AllAbove outs (length (beneath base around))
 outs_above v is p base around jobs_out levels outs lent are h = λ k o e.
     let lt = lends_above v is p base levels outs lent (length around) (out_under p around jobs_out levels lent are) h k o e in
     let many = round_many base around in
@@ -153,7 +161,9 @@ outs_above v is p base around jobs_out levels outs lent are h = λ k o e.
 -- the newest spawned call, which has returned, is the floor
 module _ (v : Verified) (is : IsFit v) (p : Parts) (base : State) (l : Level) (outs : List Out) where
   -- its rest is out where as many calls wait in it
-  pub is_back : (jobs_out : List jobs.Job) (levels : List Level) (lent : List Lent) → Lends v is p base levels outs lent → floor_in lent ≡ suc (calls_in (beneath base l.around)) → AreOut p (l ∷ levels_of l.around) jobs_out levels lent → AreBack p l (levels_of l.around) jobs_out levels lent
+  pub is_back : (jobs_out : List jobs.Job) (levels : List Level) (lent : List Lent) → Lends v is p base levels outs lent
+      → floor_in lent ≡ suc (calls_in (beneath base l.around)) → AreOut p (l ∷ levels_of l.around) jobs_out levels lent
+      → AreBack p l (levels_of l.around) jobs_out levels lent
   is_back [] levels lent h e are = absurd are
   is_back (job ∷ jobs_out) levels lent h e (inr are) = are
   is_back (job ∷ jobs_out) [] [] h e (inl are) = absurd (omega (arith, e))
@@ -183,7 +193,8 @@ module _ (v : Verified) (is : IsFit v) (p : Parts) (base : State) (l : Level) (o
     pub same : jobs_out ≡ job ∷ others
     pub are : AreOut p (levels_of l.around) others levels lent
 
-  pub in_place : (jobs_out : List jobs.Job) (levels : List Level) (lent : List Lent) → Lends v is p base levels outs lent → (suc (calls_in (beneath base l.around)) ≡ floor_in lent → ⊥) → AreOut p (l ∷ levels_of l.around) jobs_out levels lent → InPlace jobs_out levels lent
+  pub in_place : (jobs_out : List jobs.Job) (levels : List Level) (lent : List Lent) → Lends v is p base levels outs lent
+      → (suc (calls_in (beneath base l.around)) ≡ floor_in lent → ⊥) → AreOut p (l ∷ levels_of l.around) jobs_out levels lent → InPlace jobs_out levels lent
   in_place [] levels lent h ne are = absurd are
   in_place (job ∷ jobs_out) levels lent h ne (inl are) = record { job = job; others = jobs_out; same = refl; are = are }
   in_place (job ∷ jobs_out) [] lent h ne (inr are) = absurd are
@@ -200,7 +211,8 @@ pub record Back (p : Parts) (l : Level) (all : List Level) (jobs_out : List jobs
   pub is : jobs_out ≡ rest_in p l x ∷ rests
   pub are : AreOut p all rests others lent
 
-pub back_of : (p : Parts) (l : Level) (all : List Level) (jobs_out : List jobs.Job) (others : List Level) (x : Lent) (lent : List Lent) → AreBack p l all jobs_out (l ∷ others) (x ∷ lent) → Back p l all jobs_out others x lent
+pub back_of : (p : Parts) (l : Level) (all : List Level) (jobs_out : List jobs.Job) (others : List Level) (x : Lent) (lent : List Lent)
+    → AreBack p l all jobs_out (l ∷ others) (x ∷ lent) → Back p l all jobs_out others x lent
 back_of p l all [] others x lent h = absurd h
 back_of p l all (job ∷ jobs_out) others x lent h = record { rests = jobs_out; is = ap (λ j. j ∷ jobs_out) h.1; are = h.2 }
 
@@ -210,7 +222,8 @@ pub record NewestOut (p : Parts) (l : Level) (all : List Level) (jobs_out : List
   pub are : levels ≡ l ∷ others
   pub back : AreBack p l all jobs_out (l ∷ others) lent
 
-pub newest_out : (p : Parts) (l : Level) (all : List Level) (jobs_out : List jobs.Job) (levels : List Level) (lent : List Lent) → AreBack p l all jobs_out levels lent → NewestOut p l all jobs_out levels lent
+pub newest_out : (p : Parts) (l : Level) (all : List Level) (jobs_out : List jobs.Job) (levels : List Level) (lent : List Lent)
+    → AreBack p l all jobs_out levels lent → NewestOut p l all jobs_out levels lent
 newest_out p l all [] levels lent h = absurd h
 newest_out p l all (job ∷ jobs_out) [] lent h = absurd h
 newest_out p l all (job ∷ jobs_out) (l' ∷ levels) [] h = absurd h

@@ -17,7 +17,8 @@ module _ (code : Code) (job : Job) where
   pub meaning_stands : (e : Effect) → JobMeaning code job e → StandsFor code job e
   meaning_stands e (Same h) = within_stands e (course code job job.limit) (exact job.extent code job.limit (job_start job)) h
   meaning_stands e (Passed over h) =
-      let all : Exact (job.limit - job.before) (course code job) Beyond = subst (λ c. Exact (job.limit - job.before) (course code job) c) h (exact job.extent code (job.limit - job.before) (job_start job)) in
+      let all : Exact (job.limit - job.before) (course code job) Beyond =
+      subst (λ c. Exact (job.limit - job.before) (course code job) c) h (exact job.extent code (job.limit - job.before) (job_start job)) in
       subst (StandsFor code job) (sym over) (λ m le. all m (omega (arith, le)))
   meaning_stands e (Short short) = subst (StandsFor code job) (sym short) tt
 

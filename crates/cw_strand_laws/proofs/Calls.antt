@@ -21,10 +21,12 @@ module _ (code : Code) (job : Job) where
       ends [] e k = k refl
       ends (out ∷ os) e k = tt
 
-      moves : (w : Transition) → has_come job.extent code s ≡ false → step code s ≡ w → job.before + (count + 1) ≤ job.limit → AdvanceKeeps code job (Going s count outs) (went_on (turn code s) s w job.limit job.before (count + 1) outs)
+      moves : (w : Transition) → has_come job.extent code s ≡ false → step code s ≡ w → job.before + (count + 1) ≤ job.limit
+          → AdvanceKeeps code job (Going s count outs) (went_on (turn code s) s w job.limit job.before (count + 1) outs)
       moves (On s') c e le = by_turn (turn code s) (runs code job s s' count outs h c e le)
         where
-          by_turn : (t : Turn) → IsStrandOf code job (goes_on t s s' job.limit job.before (count + 1) outs) → AdvanceKeeps code job (Going s count outs) (turned t s s' job.limit job.before (count + 1) outs)
+          by_turn : (t : Turn) → IsStrandOf code job (goes_on t s s' job.limit job.before (count + 1) outs)
+              → AdvanceKeeps code job (Going s count outs) (turned t s s' job.limit job.before (count + 1) outs)
           by_turn Goes k = (k, refl)
           by_turn (HandsOut target taken) k = (k, refl, le)
           by_turn ComesBack k = (k, refl)
@@ -43,13 +45,15 @@ module _ (code : Code) (job : Job) where
       come true c = ends outs (Joined (standing s) s.trace count) (λ none. arrives code job s count outs h c)
       come false c = test (nat_lt job.limit (job.before + (count + 1))) c refl
 
-  gives_ok : (strand : Strand) (out : Job) (others : List Job) (e : Effect) → IsStrandOf code job strand → WaitsFor strand out others → JobMeaning code out e → IsStrandOf code job (give job strand e) × (outs_of (give job strand e) ≡ others)
+  gives_ok : (strand : Strand) (out : Job) (others : List Job) (e : Effect) → IsStrandOf code job strand → WaitsFor strand out others
+      → JobMeaning code out e → IsStrandOf code job (give job strand e) × (outs_of (give job strand e) ≡ others)
   gives_ok (Going s count outs) out others e h w m = absurd w
   gives_ok (Waits s count outs) out others e h w m =
       subst (λ os. IsStrandOf code job (give job (Waits s count os) e) × (outs_of (give job (Waits s count os) e) ≡ others)) (sym w)
       (test (nat_lt job.limit (job.before + (count + cost_of e))) refl (subst (λ os. IsStrandOf code job (Waits s count os)) w h))
     where
-      given : (f : Effect) → JobMeaning code out f → job.before + (count + cost_of f) ≤ job.limit → IsStrandOf code job (Waits s count (out ∷ others)) → IsStrandOf code job (given_to s count others f) × (outs_of (given_to s count others f) ≡ others)
+      given : (f : Effect) → JobMeaning code out f → job.before + (count + cost_of f) ≤ job.limit
+          → IsStrandOf code job (Waits s count (out ∷ others)) → IsStrandOf code job (given_to s count others f) × (outs_of (given_to s count others f) ≡ others)
       given (Joined frame t cost) n le k = (gives code job out s count others frame t cost k n le, refl)
       given (Ended v arrays t cost) n le k = absurd (rest_not_ended code out v arrays t cost (ap (λ (o : Job). o.extent) k.2.0.same) n)
       given (TrapIn trap line lines cost) n le k = (gives_stop code job out s count others (TrapIn trap line lines cost) k n tt le, refl)

@@ -136,9 +136,11 @@ module _ (x : Extent) (code : Code) where
       went (Stops trap line lines) h more = tt
       went Stuck h more = tt
 
-      cases : (c : Bool) → has_come x code s ≡ c → ((s' : State) → Paid (work_in s'.trace.events + outside s'.around) n (travel x code n s')) → Paid (work_in s.trace.events + outside s.around) (suc n) (travel x code (suc n) s)
+      cases : (c : Bool) → has_come x code s ≡ c → ((s' : State) → Paid (work_in s'.trace.events + outside s'.around) n (travel x code n s'))
+          → Paid (work_in s.trace.events + outside s.around) (suc n) (travel x code (suc n) s)
       cases true e more = subst (Paid (work_in s.trace.events + outside s.around) (suc n)) (sym (come_at x code (suc n) s e)) (let f = first_alone s e in omega (arith, f))
-      cases false e more = subst (Paid (work_in s.trace.events + outside s.around) (suc n)) (sym (go_one x code n s e)) (went (step code s) (act_shows (work_in s.trace.events + outside s.around + 1) code s (slice_get code.instrs s.place) refl) more)
+      cases false e more = subst (Paid (work_in s.trace.events + outside s.around) (suc n)) (sym (go_one x code n s e))
+          (went (step code s) (act_shows (work_in s.trace.events + outside s.around + 1) code s (slice_get code.instrs s.place) refl) more)
 
 pub costs_are_work : CostsAreWork
 costs_are_work code job e m = by_effect e (meaning_stands code job e m)

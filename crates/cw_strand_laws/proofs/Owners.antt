@@ -8,7 +8,8 @@ use Rattle.cw_code.specs.Code.{Code}
 use Rattle.cw_strand_laws.specs.Jobs.{Job, Memory}
 use Rattle.cw_strand_laws.specs.Strands.{Strand}
 use Rattle.cw_strand_laws.specs.Steps.{started, give, skip, take_back, out_of_memory}
-use Rattle.cw_strand_laws.specs.Worlds.{Place, Undecided, Kept, Offered, Runs, Made, Settled, Spent, World, placed, joined_by, Has, Next, Run, Spawn, Offer, Inline, Begin, Skip, Resume, End, Settle, Give, Want, GiveUp, After, Now, Later, world_of, IsAmong, Falls, OwnersAreSingle}
+use Rattle.cw_strand_laws.specs.Worlds.{Place, Undecided, Kept, Offered, Runs, Made, Settled, Spent, World, placed, joined_by, Has, Next, Run, Spawn, Offer, Inline, Begin}
+use Rattle.cw_strand_laws.specs.Worlds.{Skip, Resume, End, Settle, Give, Want, GiveUp, After, Now, Later, world_of, IsAmong, Falls, OwnersAreSingle}
 use Rattle.cw_strand_laws.proofs.WorldLaws.{one_there}
 
 -- which strand handed each number out
@@ -54,7 +55,8 @@ below_head n k (m ∷ numbers) h a = elim a [
   | inr b ↦ (let lt : m < n = h.0 in let less = below_head m k numbers h.1 b in omega (arith, lt, less))
 ]
 
-listed_on : (parents : List ℕ) (places places' : List Place) (i : ℕ) (numbers : List ℕ) → ((n : ℕ) → IsAmong n numbers → IsOpen (slice_get places n) → IsOpen (slice_get places' n)) → Listed parents places i numbers → Listed parents places' i numbers
+listed_on : (parents : List ℕ) (places places' : List Place) (i : ℕ) (numbers : List ℕ)
+    → ((n : ℕ) → IsAmong n numbers → IsOpen (slice_get places n) → IsOpen (slice_get places' n)) → Listed parents places i numbers → Listed parents places' i numbers
 listed_on parents places places' i [] k h = tt
 listed_on parents places places' i (n ∷ numbers) k h = (h.0, k n (inl refl) h.1, listed_on parents places places' i numbers (λ m a. k m (inr a)) h.2)
 
@@ -97,7 +99,8 @@ module _ (world : World) (owned : Owned world) where
   }
 
   -- the newest job out is spent
-  spend_owned : (i n worker : ℕ) (job : Job) (strand new : Strand) (numbers : List ℕ) → Has world i job (Runs worker strand (n ∷ numbers)) → Owned (placed (placed world n Spent) i (Runs worker new numbers))
+  spend_owned : (i n worker : ℕ) (job : Job) (strand new : Strand) (numbers : List ℕ) → Has world i job (Runs worker strand (n ∷ numbers))
+      → Owned (placed (placed world n Spent) i (Runs worker new numbers))
   spend_owned i n worker job strand new numbers has = record {
     parents = owned.parents;
     even = owned.even;
@@ -121,10 +124,21 @@ module _ (world : World) (owned : Owned world) where
       mine : (k worker' : ℕ) (strand' : Strand) (numbers' : List ℕ) → k ≡ i → Runs worker' strand' numbers' ≡ Runs worker new numbers
           → Listed owned.parents (slice_set (slice_set world.places n Spent) i (Runs worker new numbers)) k numbers' × Falls numbers'
       mine k worker' strand' numbers' same e =
-          let numbers_same : numbers' ≡ numbers = ap (λ p. elim p [ Runs w s ns ↦ ns | Undecided w ↦ numbers | Kept w ↦ numbers | Offered w ↦ numbers | Made w f ↦ numbers | Settled f ↦ numbers | Spent ↦ numbers ]) e in
+          let numbers_same : numbers' ≡ numbers = ap (λ p. elim p [
+            | Runs w s ns ↦ ns
+            | Undecided w ↦ numbers
+            | Kept w ↦ numbers
+            | Offered w ↦ numbers
+            | Made w f ↦ numbers
+            | Settled f ↦ numbers
+            | Spent ↦ numbers
+          ]) e in
           subst (λ ns. Listed owned.parents (slice_set (slice_set world.places n Spent) i (Runs worker new numbers)) k ns × Falls ns) (sym numbers_same)
-          (subst (λ j. Listed owned.parents (slice_set (slice_set world.places n Spent) i (Runs worker new numbers)) j numbers × Falls numbers) (sym same)
-          (listed_on owned.parents world.places (slice_set (slice_set world.places n Spent) i (Runs worker new numbers)) i numbers (λ m a h. still m (λ f. absurd (let less = below_head n m numbers now.1 a in omega (arith, less, f))) h) now.0.2, tail_falls n numbers now.1))
+          (subst (λ j. Listed owned.parents (slice_set (slice_set world.places n Spent) i (Runs worker new numbers)) j numbers × Falls numbers) (sym same) (
+            listed_on owned.parents world.places (slice_set (slice_set world.places n Spent) i (Runs worker new numbers)) i numbers
+                (λ m a h. still m (λ f. absurd (let less = below_head n m numbers now.1 a in omega (arith, less, f))) h) now.0.2,
+            tail_falls n numbers now.1,
+          ))
 
       others : (k worker' : ℕ) (job' : Job) (strand' : Strand) (numbers' : List ℕ) → k ≢ i → Has world k job' (Runs worker' strand' numbers')
           → Listed owned.parents (slice_set (slice_set world.places n Spent) i (Runs worker new numbers)) k numbers' × Falls numbers'
@@ -160,7 +174,8 @@ spawn_owned : (world : World) (i worker : ℕ) (job out : Job) (strand new : Str
 spawn_owned world i worker job out strand new numbers owned has = record {
   parents = parents;
   even = length-append owned.parents (i ∷ []) ∙ ap (λ n. n + 1) owned.even ∙ sym (length-append world.jobs (out ∷ []));
-  even' = length-append owned.parents (i ∷ []) ∙ ap (λ n. n + 1) owned.even' ∙ sym (length-append world.places (Undecided worker ∷ [])) ∙ sym (length-set added i (Runs worker new (length world.jobs ∷ numbers)));
+  even' = length-append owned.parents (i ∷ []) ∙ ap (λ n. n + 1) owned.even' ∙ sym (length-append world.places (Undecided worker ∷ []))
+      ∙ sym (length-set added i (Runs worker new (length world.jobs ∷ numbers)));
   listed = λ k worker' job' strand' numbers' has'. elim (set_cases added i k (Runs worker new (length world.jobs ∷ numbers)) (Runs worker' strand' numbers') has'.place_is) [
     | inl p ↦ mine k worker' strand' numbers' p.0 p.1
     | inr p ↦ elim (added_gives world.places k (Undecided worker) (Runs worker' strand' numbers') p.1) [
@@ -187,7 +202,9 @@ spawn_owned world i worker job out strand new numbers owned has = record {
     carried k numbers' good = (
       listed_on (owned.parents ++ i ∷ []) world.places (slice_set (world.places ++ Undecided worker ∷ []) i (Runs worker new (length world.jobs ∷ numbers))) k numbers'
           (λ n a h. open_set (world.places ++ Undecided worker ∷ []) i n (Runs worker new (length world.jobs ∷ numbers)) (λ e. runs_spent worker new (length world.jobs ∷ numbers) e)
-          (subst IsOpen (sym (left_there world.places (Undecided worker) n (let lt = slice_get_within owned.parents n k (parent_in owned.parents world.places k n numbers' a good.0) in let e = owned.even' in omega (arith, lt, e)))) h))
+          (subst IsOpen (sym (left_there world.places (Undecided worker) n
+          (let lt = slice_get_within owned.parents n k (parent_in owned.parents world.places k n numbers' a good.0) in let e = owned.even' in
+          omega (arith, lt, e)))) h))
           (parents_on owned.parents i world.places k numbers' good.0),
       good.1,
     )
@@ -196,16 +213,19 @@ spawn_owned world i worker job out strand new numbers owned has = record {
     undecided_spent e = cc
 
     opens : IsOpen (slice_get (world.places ++ Undecided worker ∷ []) (length world.jobs))
-    opens = subst IsOpen (sym (ap (slice_get (world.places ++ Undecided worker ∷ [])) (sym owned.even ∙ owned.even') ∙ get_last world.places (Undecided worker))) (none_spent (Undecided worker) undecided_spent)
+    opens = subst IsOpen (sym (ap (slice_get (world.places ++ Undecided worker ∷ [])) (sym owned.even ∙ owned.even')
+        ∙ get_last world.places (Undecided worker))) (none_spent (Undecided worker) undecided_spent)
 
     mine : (k worker' : ℕ) (strand' : Strand) (numbers' : List ℕ) → k ≡ i → Runs worker' strand' numbers' ≡ Runs worker new (length world.jobs ∷ numbers)
         → Listed (owned.parents ++ i ∷ []) (slice_set (world.places ++ Undecided worker ∷ []) i (Runs worker new (length world.jobs ∷ numbers))) k numbers' × Falls numbers'
     mine k worker' strand' numbers' same e =
         let good = owned.listed i worker job strand numbers has in
         let old = carried i numbers good in
-        let numbers_same : numbers' ≡ length world.jobs ∷ numbers = ap (λ p. elim p [ Runs w s ns ↦ ns | Undecided w ↦ numbers | Kept w ↦ numbers | Offered w ↦ numbers | Made w f ↦ numbers | Settled f ↦ numbers | Spent ↦ numbers ]) e in
+        let numbers_same : numbers' ≡ length world.jobs ∷ numbers = ap (λ p. elim p
+        [ Runs w s ns ↦ ns | Undecided w ↦ numbers | Kept w ↦ numbers | Offered w ↦ numbers | Made w f ↦ numbers | Settled f ↦ numbers | Spent ↦ numbers ]) e in
         subst (λ ns. Listed (owned.parents ++ i ∷ []) (slice_set (world.places ++ Undecided worker ∷ []) i (Runs worker new (length world.jobs ∷ numbers))) k ns × Falls ns) (sym numbers_same)
-        (subst (λ j. Listed (owned.parents ++ i ∷ []) (slice_set (world.places ++ Undecided worker ∷ []) i (Runs worker new (length world.jobs ∷ numbers))) j (length world.jobs ∷ numbers) × Falls (length world.jobs ∷ numbers)) (sym same) (
+        (subst (λ j. Listed (owned.parents ++ i ∷ []) (slice_set (world.places ++ Undecided worker ∷ []) i
+        (Runs worker new (length world.jobs ∷ numbers))) j (length world.jobs ∷ numbers) × Falls (length world.jobs ∷ numbers)) (sym same) (
           (
             ap (slice_get (owned.parents ++ i ∷ [])) (sym owned.even) ∙ get_last owned.parents i,
             open_set (world.places ++ Undecided worker ∷ []) i (length world.jobs) (Runs worker new (length world.jobs ∷ numbers)) (λ f. runs_spent worker new (length world.jobs ∷ numbers) f) opens,
@@ -232,9 +252,14 @@ module _ (code : Code) where
   first_owned : (job : Job) → Owned (world_of job)
   first_owned job = record { parents = 0 ∷ []; even = refl; even' = refl; listed = λ k worker job' strand numbers has. first k worker strand numbers has.place_is }
     where
-      first : (k worker : ℕ) (strand : Strand) (numbers : List ℕ) → slice_get (Runs 0 (started job) [] ∷ []) k ≡ Some (Runs worker strand numbers) → Listed (0 ∷ []) (Runs 0 (started job) [] ∷ []) k numbers × Falls numbers
+      first : (k worker : ℕ) (strand : Strand) (numbers : List ℕ) → slice_get (Runs 0 (started job) [] ∷ []) k ≡ Some (Runs worker strand numbers)
+          → Listed (0 ∷ []) (Runs 0 (started job) [] ∷ []) k numbers × Falls numbers
       first zero worker strand numbers e =
-          let none : [] ≡ numbers = ap (λ o. elim o [ None ↦ [] | Some p ↦ elim p [ Runs w s ns ↦ ns | Undecided w ↦ [] | Kept w ↦ [] | Offered w ↦ [] | Made w f ↦ [] | Settled f ↦ [] | Spent ↦ [] ] ]) e in
+          let none : [] ≡ numbers = ap (λ o. elim o [
+            | None ↦ []
+            | Some p ↦ elim p
+                [ Runs w s ns ↦ ns | Undecided w ↦ [] | Kept w ↦ [] | Offered w ↦ [] | Made w f ↦ [] | Settled f ↦ [] | Spent ↦ [] ]
+          ]) e in
           subst (λ ns. Listed (0 ∷ []) (Runs 0 (started job) [] ∷ []) zero ns × Falls ns) none (tt, tt)
       first (suc k) worker strand numbers e = cc
 
@@ -247,7 +272,8 @@ owners_are_single code root world after =
     let owned = after_owned code root world after in
     record {
       one = λ i j n worker worker' job job' strand strand' outs outs' has has' a a'.
-          one_there (slice_get owned.parents n) i j (parent_in owned.parents world.places i n outs a (owned.listed i worker job strand outs has).0) (parent_in owned.parents world.places j n outs' a' (owned.listed j worker' job' strand' outs' has').0);
+          one_there (slice_get owned.parents n) i j (parent_in owned.parents world.places i n outs a (owned.listed i worker job strand outs has).0)
+          (parent_in owned.parents world.places j n outs' a' (owned.listed j worker' job' strand' outs' has').0);
       once = λ i worker job strand outs has. (owned.listed i worker job strand outs has).1;
       still = λ i n worker job strand outs has a. open_in owned.parents world.places i n outs a (owned.listed i worker job strand outs has).0;
     }

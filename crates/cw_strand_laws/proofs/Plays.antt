@@ -5,8 +5,10 @@ use Rattle.cw_code.specs.Code.{Code}
 use Rattle.cw_strand_laws.specs.Jobs.{Job, Effect}
 use Rattle.cw_strand_laws.specs.Strands.{Strand, Going, Waits, Halted}
 use Rattle.cw_strand_laws.specs.Steps.{Advanced, Ran, Handed, AtSync, Finished, Unfit, advance}
-use Rattle.cw_strand_laws.specs.Worlds.{Place, Undecided, Kept, Offered, Runs, Made, Settled, Spent, World, effect_in, Has, Next, Run, Spawn, Offer as Offers, Inline as Inlines, Begin as Begins, Skip as Skips, End, Settle as Settles, Give as Gives, Want as Wants, GiveUp as GivesUp, Resume as Resumes, After, Now, Later}
-use Rattle.cw_strand_laws.specs.Events.{Event, Advance, Offer, Inline, Begin, Skip, Settle, Give, Want, GiveUp, TakeBack, advanced, skips, takes_back, gives, with_job, at, happens, number_of, apply, and_apply, play, PlaysCome}
+use Rattle.cw_strand_laws.specs.Worlds.{Place, Undecided, Kept, Offered, Runs, Made, Settled, Spent, World, effect_in, Has, Next, Run, Spawn, Offer as Offers, Inline as Inlines}
+use Rattle.cw_strand_laws.specs.Worlds.{Begin as Begins, Skip as Skips, End, Settle as Settles, Give as Gives, Want as Wants, GiveUp as GivesUp, Resume as Resumes, After, Now, Later}
+use Rattle.cw_strand_laws.specs.Events.{Event, Advance, Offer, Inline, Begin, Skip, Settle, Give, Want, GiveUp, TakeBack, advanced, skips}
+use Rattle.cw_strand_laws.specs.Events.{takes_back, gives, with_job, at, happens, number_of, apply, and_apply, play, PlaysCome}
 
 some_world : (a b : World) → Some a ≡ Some b → a ≡ b
 some_world a b e = ap (λ o. elim o [ Some c ↦ c | None ↦ a ]) e
@@ -15,7 +17,8 @@ some_world a b e = ap (λ o. elim o [ Some c ↦ c | None ↦ a ]) e
 absurd_none : {A : Type 0} (world : World) → None ≡ Some world → A
 absurd_none world e = cc
 
-with_has : {A : Type 0} (world : World) (i : ℕ) (go : Job → Place → Option World) (next : World) → at world i go ≡ Some next → ((job : Job) (place : Place) → Has world i job place → go job place ≡ Some next → A) → A
+with_has : {A : Type 0} (world : World) (i : ℕ) (go : Job → Place → Option World) (next : World) → at world i go ≡ Some next
+    → ((job : Job) (place : Place) → Has world i job place → go job place ≡ Some next → A) → A
 with_has {A} world i go next e k = cases (slice_get world.jobs i) (slice_get world.places i) refl refl e
   where
     cases : (j : Option Job) (p : Option Place) → slice_get world.jobs i ≡ j → slice_get world.places i ≡ p → with_job j p go ≡ Some next → A
@@ -27,7 +30,8 @@ module _ (code : Code) (world next : World) where
   moved : (next' : World) → next' ≡ next → Next code world next' → Next code world next
   moved next' e n = subst (λ w. Next code world w) e n
 
-  comes_by : (i worker : ℕ) (job : Job) (strand : Strand) (outs : List ℕ) → Has world i job (Runs worker strand outs) → advanced world i worker outs (advance code job strand) ≡ Some next → Next code world next
+  comes_by : (i worker : ℕ) (job : Job) (strand : Strand) (outs : List ℕ) → Has world i job (Runs worker strand outs)
+      → advanced world i worker outs (advance code job strand) ≡ Some next → Next code world next
   comes_by i worker job strand outs has e = cases (advance code job strand) refl e
     where
       cases : (a : Advanced) → advance code job strand ≡ a → advanced world i worker outs a ≡ Some next → Next code world next
@@ -37,7 +41,8 @@ module _ (code : Code) (world next : World) where
       cases (Finished e') f h = moved _ (some_world _ next h) (End world i worker job strand outs e' has f)
       cases Unfit f h = absurd_none next h
 
-  comes_skip : (i n worker : ℕ) (job out : Job) (strand : Strand) (outs : List ℕ) (place : Place) → Has world i job (Runs worker strand (n ∷ outs)) → Has world n out place → skips world i n worker strand outs place ≡ Some next → Next code world next
+  comes_skip : (i n worker : ℕ) (job out : Job) (strand : Strand) (outs : List ℕ) (place : Place) → Has world i job (Runs worker strand (n ∷ outs))
+      → Has world n out place → skips world i n worker strand outs place ≡ Some next → Next code world next
   comes_skip i n worker job out (Halted e jobs) outs (Kept w) has has' h = moved _ (some_world _ next h) (Skips world i n worker job out (Halted e jobs) outs (Kept w) has tt has' tt)
   comes_skip i n worker job out (Halted e jobs) outs (Offered w) has has' h = moved _ (some_world _ next h) (Skips world i n worker job out (Halted e jobs) outs (Offered w) has tt has' tt)
   comes_skip i n worker job out (Halted e jobs) outs (Undecided w) has has' h = absurd_none next h
@@ -48,7 +53,8 @@ module _ (code : Code) (world next : World) where
   comes_skip i n worker job out (Going s count jobs) outs place has has' h = absurd_none next h
   comes_skip i n worker job out (Waits s count jobs) outs place has has' h = absurd_none next h
 
-  comes_back : (i n worker : ℕ) (job out : Job) (strand : Strand) (outs : List ℕ) (place : Place) → Has world i job (Runs worker strand (n ∷ outs)) → Has world n out place → takes_back world i n worker strand outs place ≡ Some next → Next code world next
+  comes_back : (i n worker : ℕ) (job out : Job) (strand : Strand) (outs : List ℕ) (place : Place) → Has world i job (Runs worker strand (n ∷ outs))
+      → Has world n out place → takes_back world i n worker strand outs place ≡ Some next → Next code world next
   comes_back i n worker job out (Waits s count jobs) outs (Kept w) has has' h = moved _ (some_world _ next h) (Resumes world i n worker job out (Waits s count jobs) outs (Kept w) has tt has' tt)
   comes_back i n worker job out (Waits s count jobs) outs (Offered w) has has' h = moved _ (some_world _ next h) (Resumes world i n worker job out (Waits s count jobs) outs (Offered w) has tt has' tt)
   comes_back i n worker job out (Waits s count jobs) outs (Undecided w) has has' h = absurd_none next h
@@ -59,7 +65,9 @@ module _ (code : Code) (world next : World) where
   comes_back i n worker job out (Going s count jobs) outs place has has' h = absurd_none next h
   comes_back i n worker job out (Halted e jobs) outs place has has' h = absurd_none next h
 
-  comes_give : (i n worker : ℕ) (job out : Job) (strand : Strand) (outs : List ℕ) (place : Place) (o : Option Effect) → Has world i job (Runs worker strand (n ∷ outs)) → Has world n out place → effect_in place ≡ o → gives world i n worker job strand outs o ≡ Some next → Next code world next
+  comes_give : (i n worker : ℕ) (job out : Job) (strand : Strand) (outs : List ℕ) (place : Place) (o : Option Effect)
+      → Has world i job (Runs worker strand (n ∷ outs)) → Has world n out place → effect_in place ≡ o
+      → gives world i n worker job strand outs o ≡ Some next → Next code world next
   comes_give i n worker job out (Waits s count jobs) outs place (Some e) has has' is h = moved _ (some_world _ next h) (Gives world i n worker job out (Waits s count jobs) outs place e has tt has' is)
   comes_give i n worker job out (Halted e' jobs) outs place (Some e) has has' is h = moved _ (some_world _ next h) (Gives world i n worker job out (Halted e' jobs) outs place e has tt has' is)
   comes_give i n worker job out (Going s count jobs) outs place (Some e) has has' is h = absurd_none next h

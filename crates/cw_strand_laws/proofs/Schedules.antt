@@ -8,8 +8,10 @@ use Rattle.cw_code.specs.declared.code.Func.{Func}
 use Rattle.cw_code.specs.Code.{Code}
 use Rattle.cw_code.specs.Run.{State, Transition, On, Ends, Stops, Stuck, Entering, begun, step, RunOutcome, go_on, steps, first_state, first_transition, reducers_of, code_serial}
 use Rattle.cw_code.specs.lemmas.Runs.{joined_quiet}
-use Rattle.cw_strand_laws.specs.Jobs.{Extent, WholeCall, Came, Arrives, Returns, Falls, Beyond, Lost, moved, travel, Job, job_start, course, root_job, Effect, Joined, Memory, IsOf, JobMeaning, Same, Passed, Short, answered}
-use Rattle.cw_strand_laws.specs.Strands.{Strand, Going, Waits, Halted, outs_of, Reached, Started, Ran as Instruction, Fell, TooMuch, NoMemory, Given, GivenTooMuch, GivenStop, Skipped, Dropped, Makes, Arrived, Returned, Stopped, GivenUp}
+use Rattle.cw_strand_laws.specs.Jobs.{Extent, WholeCall, Came, Arrives, Returns, Falls, Beyond, Lost, moved, travel, Job, job_start, course}
+use Rattle.cw_strand_laws.specs.Jobs.{root_job, Effect, Joined, Memory, IsOf, JobMeaning, Same, Passed, Short, answered}
+use Rattle.cw_strand_laws.specs.Strands.{Strand, Going, Waits, Halted, outs_of, Reached, Started, Ran as Instruction, Fell, TooMuch, NoMemory, Given}
+use Rattle.cw_strand_laws.specs.Strands.{GivenTooMuch, GivenStop, Skipped, Dropped, Makes, Arrived, Returned, Stopped, GivenUp}
 use Rattle.cw_strand_laws.specs.Promises.{IsStrandOf}
 use Rattle.cw_strand_laws.specs.RestLaws.{onwards, call_job, Cut, Kept, RootsAreSerial, SchedulesAreSerial}
 use Rattle.cw_strand_laws.proofs.Travels.{travel_under}
@@ -23,7 +25,8 @@ module _ (code : Code) where
     reached_ok job strand (Fell _ s count outs trap line lines h e same le) = falls code job s count outs trap line lines (reached_ok job (Going s count outs) h) e same le
     reached_ok job strand (TooMuch _ s count outs h e above) = passes code job s count outs (reached_ok job (Going s count outs) h) e above
     reached_ok job strand (NoMemory _ strand' h) = wants_memory code job strand' (outs_of strand') (reached_ok job strand' h)
-    reached_ok job strand (Given _ out s count outs frame t cost h m le) = gives code job out s count outs frame t cost (reached_ok job (Waits s count (out ∷ outs)) h) (makes_ok out (Joined frame t cost) m) le
+    reached_ok job strand (Given _ out s count outs frame t cost h m le) =
+        gives code job out s count outs frame t cost (reached_ok job (Waits s count (out ∷ outs)) h) (makes_ok out (Joined frame t cost) m) le
     reached_ok job strand (GivenTooMuch _ out s count outs e h m above) = gives_over code job out s count outs e (reached_ok job (Waits s count (out ∷ outs)) h) (makes_ok out e m) above
     reached_ok job strand (GivenStop _ out s count outs e h m stop le) = gives_stop code job out s count outs e (reached_ok job (Waits s count (out ∷ outs)) h) (makes_ok out e m) stop le
     reached_ok job strand (Skipped _ out e outs h) = reached_ok job (Halted e (out ∷ outs)) h

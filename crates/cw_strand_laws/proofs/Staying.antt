@@ -9,7 +9,8 @@ use Rattle.cw_code.specs.Fits.{Fits}
 use Rattle.cw_code.specs.Run.{Around, State, Transition, On, Ends, Stops, Stuck, step}
 use Rattle.cw_code.specs.Good.{GoodState, GoodTransition, FitSteps}
 use Rattle.cw_code.specs.Staying.{IsInside, outermost, FitStays}
-use Rattle.cw_strand_laws.specs.Jobs.{ToJoin, joins, is_first, has_come, Standing, standing, Came, Arrives, Returns, Falls, Beyond, Lost, moved, travel, Job, job_start, course, Joined, IsOf, JobMeaning, Same, Passed, Short}
+use Rattle.cw_strand_laws.specs.Jobs.{ToJoin, joins, is_first, has_come, Standing, standing, Came, Arrives, Returns, Falls, Beyond, Lost}
+use Rattle.cw_strand_laws.specs.Jobs.{moved, travel, Job, job_start, course, Joined, IsOf, JobMeaning, Same, Passed, Short}
 use Rattle.cw_strand_laws.specs.Over.{under, transition_under}
 use Rattle.cw_strand_laws.specs.lemmas.Under.{act_under}
 use Rattle.cw_strand_laws.specs.lemmas.Budgets.{come_at, none_left, go_one}
@@ -35,7 +36,8 @@ module _ (code : Code) (fits : Fits code) (steps_well : FitSteps code fits) (sta
       cases [] e = subst (λ a. IsInside f (outermost s.place (under b (record s { around = a })).around)) e here.1
       cases (a ∷ around) e = absurd (false≢true (sym (ap (λ x. is_first x && joins (slice_get code.instrs s.place)) e) ∙ h))
 
-  goes : (s : State) (w : Transition) → step code s ≡ w → (is_first s.around && joins (slice_get code.instrs s.place)) ≡ false → Here s → (n : ℕ) → ((s' : State) → Here s' → Comes (travel ToJoin code n s')) → Comes (moved w n (λ s'. travel ToJoin code n s'))
+  goes : (s : State) (w : Transition) → step code s ≡ w → (is_first s.around && joins (slice_get code.instrs s.place)) ≡ false → Here s → (n : ℕ)
+      → ((s' : State) → Here s' → Comes (travel ToJoin code n s')) → Comes (moved w n (λ s'. travel ToJoin code n s'))
   goes s (On s') e h here n more =
       let over : step code (under b s) ≡ On (under b s') = act_under b ToJoin code s (slice_get code.instrs s.place) h ∙ ap (transition_under b) e in
       more s' (subst (GoodTransition code fits) over (steps_well (under b s) here.0), stays k f (under b s) (under b s') is here.0 over here.1)

@@ -7,10 +7,13 @@ use Rattle.cw_model.specs.declared.syntax.CallKind.TheVariants.{Plain, Spawned}
 use Rattle.cw_model.specs.Outcome.{Trace}
 use Rattle.cw_code.specs.declared.code.Instr.{Instr}
 use Rattle.cw_code.specs.Code.{Code}
-use Rattle.cw_code.specs.Run.{Slots, Results, Waiting, Around, Caller, Block, State, Transition, On, Ends, Stops, Stuck, synced, is_full, settled, Entering, begun, given_back, going_on, result_of, returns_to, back, act, step}
+use Rattle.cw_code.specs.Run.{Slots, Results, Waiting, Around, Caller, Block, State, Transition, On, Ends, Stops, Stuck, synced, is_full}
+use Rattle.cw_code.specs.Run.{settled, Entering, begun, given_back, going_on, result_of, returns_to, back, act, step}
 use Rattle.cw_code.specs.lemmas.Runs.{joined_quiet}
-use Rattle.cw_strand_laws.specs.Jobs.{Extent, ToJoin, has_come, Standing, standing, Came, Arrives, Falls, Beyond, moved, travel, Job, job_start, course, Effect, Ended, Joined, TrapIn, OverLimit, Memory, JobMeaning}
-use Rattle.cw_strand_laws.specs.Strands.{Strand, Going, Waits, Halted, rest_at, Turn, Goes, HandsOut, ComesBack, turn_back, turn_in, turn_call, turn_of, turn, spawn_job, goes_on, resumed, HasStopped, stopped_after, dropped, cost_of}
+use Rattle.cw_strand_laws.specs.Jobs.{Extent, ToJoin, has_come, Standing, standing, Came, Arrives, Falls, Beyond, moved, travel, Job}
+use Rattle.cw_strand_laws.specs.Jobs.{job_start, course, Effect, Ended, Joined, TrapIn, OverLimit, Memory, JobMeaning}
+use Rattle.cw_strand_laws.specs.Strands.{Strand, Going, Waits, Halted, rest_at, Turn, Goes, HandsOut, ComesBack, turn_back, turn_in, turn_call}
+use Rattle.cw_strand_laws.specs.Strands.{turn_of, turn, spawn_job, goes_on, resumed, HasStopped, stopped_after, dropped, cost_of}
 use Rattle.cw_strand_laws.specs.Promises.{Takes, OutAt, Outs, IsOutHere, OutsHere, ComesTo, IsStrandOf}
 use Rattle.cw_strand_laws.specs.RestLaws.{onwards}
 use Rattle.cw_strand_laws.specs.lemmas.Acts.{acts_by}
@@ -19,7 +22,8 @@ use Rattle.cw_strand_laws.proofs.Travels.{travel_under}
 use Rattle.cw_strand_laws.proofs.Budgets.{meaning_stands, stands_short}
 
 -- a greater bound does no harm
-out_later : (limit b c : ℕ) (w : Waiting) (kind : CallKind) (below below' : List Job → Type 0) (outs : List Job) → b ≤ c → ((others : List Job) → below others → below' others) → OutAt limit b w kind below outs → OutAt limit c w kind below' outs
+out_later : (limit b c : ℕ) (w : Waiting) (kind : CallKind) (below below' : List Job → Type 0) (outs : List Job) → b ≤ c
+    → ((others : List Job) → below others → below' others) → OutAt limit b w kind below outs → OutAt limit c w kind below' outs
 out_later limit b c w Plain below below' outs le more h = more outs h
 out_later limit b c w Spawned below below' [] le more h = h
 out_later limit b c w Spawned below below' (out ∷ outs) le more h = (record { same = h.0.same; low = (let low = h.0.low in omega (arith, le, low)); none = h.0.none }, more outs h.1)
@@ -69,7 +73,8 @@ module _ (limit bound : ℕ) (outs : List Job) (from : State) where
   back_out (Block o ∷ around) v arrays t h = tt
   back_out (Caller w ∷ around) v arrays t h = by_arrays (given_back w.taken arrays)
     where
-      newest : (s : State) → s ≡ record (going_on w around s.trace) { results = s.results; arrived = s.arrived } → (os : List Job) → OutAt limit bound w Spawned (λ others. Outs limit bound around others) os → OutsHere limit bound s os
+      newest : (s : State) → s ≡ record (going_on w around s.trace) { results = s.results; arrived = s.arrived } → (os : List Job)
+          → OutAt limit bound w Spawned (λ others. Outs limit bound around others) os → OutsHere limit bound s os
       newest s e [] j = absurd j
       newest s e (out ∷ os) j = subst (λ s'. OutsHere limit bound s' (out ∷ os)) (sym e) (record { same = j.0.same; low = j.0.low; none = j.0.none }, j.1)
 
@@ -77,7 +82,8 @@ module _ (limit bound : ℕ) (outs : List Job) (from : State) where
           → OutsAfter limit bound outs from (turn_back kind) (result_of kind target v' results (going_on w around u))
       cases Plain None v' results u k = k
       cases Plain (Some a) None results u k = tt
-      cases Plain (Some a) (Some x) results u k = either_out Goes (is_full (slice_get w.slots a)) (On (record (going_on w around u) { arrays = settled results w.arrays; slots = slice_set w.slots a (Some x) })) Stuck k tt
+      cases Plain (Some a) (Some x) results u k = either_out Goes (is_full (slice_get w.slots a))
+          (On (record (going_on w around u) { arrays = settled results w.arrays; slots = slice_set w.slots a (Some x) })) Stuck k tt
       cases Spawned None v' results u k = newest (record (going_on w around u) { arrived = results ++ w.arrived }) refl outs k
       cases Spawned (Some a) None results u k = tt
       cases Spawned (Some a) (Some x) results u k = newest (record (going_on w around u) { results = (a, x) ∷ w.results; arrived = results ++ w.arrived }) refl outs k
@@ -109,7 +115,8 @@ module _ (code : Code) where
   out_under : (y : Extent) (s : State) (limit bound : ℕ) (out : Job) (n : ℕ) → IsOutHere limit bound s out → travel y code n s ≡ onwards code y s (course code out n)
   out_under y s limit bound out n h = rest_under y s limit out.before n h.none ∙ ap (λ (job : Job). onwards code y s (course code job n)) (sym h.same)
 
-  out_takes : (y : Extent) (s : State) (limit bound : ℕ) (out : Job) (cost : ℕ) (later : ℕ → Came) → IsOutHere limit bound s out → Takes cost (course code out) later → Takes cost (λ n. travel y code n s) (λ n. onwards code y s (later n))
+  out_takes : (y : Extent) (s : State) (limit bound : ℕ) (out : Job) (cost : ℕ) (later : ℕ → Came) → IsOutHere limit bound s out
+      → Takes cost (course code out) later → Takes cost (λ n. travel y code n s) (λ n. onwards code y s (later n))
   out_takes y s limit bound out cost later h t = record {
     next = λ n. out_under y s limit bound out (cost + n) h ∙ ap (onwards code y s) (t.next n);
     short = λ m lt. out_under y s limit bound out m h ∙ ap (onwards code y s) (t.short m lt);
@@ -120,7 +127,8 @@ module _ (code : Code) where
     pub starts : job.before ≤ job.limit → IsStrandOf code job (Going (job_start job) 0 [])
     starts le = (omega (arith, le), takes_none 0 (course code job) (course code job) refl (λ n. refl), tt)
 
-    leads_on : (s : State) (count : ℕ) (w : Transition) → ComesTo code job count s → has_come job.extent code s ≡ false → step code s ≡ w → Takes (count + 1) (course code job) (λ n. moved w n (λ s'. travel job.extent code n s'))
+    leads_on : (s : State) (count : ℕ) (w : Transition) → ComesTo code job count s → has_come job.extent code s ≡ false → step code s ≡ w
+        → Takes (count + 1) (course code job) (λ n. moved w n (λ s'. travel job.extent code n s'))
     leads_on s count w leads e same =
         takes_then count 1 (course code job) (λ n. travel job.extent code n s) (λ n. moved w n (λ s'. travel job.extent code n s')) leads (takes_step job.extent code s w e same)
 
@@ -129,22 +137,26 @@ module _ (code : Code) where
         → IsStrandOf code job (goes_on (turn code s) s s' job.limit job.before (count + 1) outs)
     runs s s' count outs h e same le =
         turned (turn code s) (subst (OutsAfter job.limit (job.before + (count + 1)) outs s (turn code s)) same
-        (act_out job.limit (job.before + (count + 1)) outs code s (slice_get code.instrs s.place) (outs_later job.limit (job.before + count) (job.before + (count + 1)) s.around outs (omega arith) h.2)))
+        (act_out job.limit (job.before + (count + 1)) outs code s (slice_get code.instrs s.place)
+        (outs_later job.limit (job.before + count) (job.before + (count + 1)) s.around outs (omega arith) h.2)))
       where
         turned : (turn : Turn) → OutsAfter job.limit (job.before + (count + 1)) outs s turn (On s') → IsStrandOf code job (goes_on turn s s' job.limit job.before (count + 1) outs)
         turned Goes k = (le, leads_on s count (On s') h.1 e same, k)
         turned (HandsOut target taken) k = (le, leads_on s count (On s') h.1 e same, k)
         turned ComesBack k = (le, leads_on s count (On s') h.1 e same, k)
 
-    pub falls : (s : State) (count : ℕ) (outs : List Job) (trap : _) (line : ℕ) (lines : List ℤ) → IsStrandOf code job (Going s count outs) → has_come job.extent code s ≡ false → step code s ≡ Stops trap line lines
+    pub falls : (s : State) (count : ℕ) (outs : List Job) (trap : _) (line : ℕ) (lines : List ℤ) → IsStrandOf code job (Going s count outs)
+        → has_come job.extent code s ≡ false → step code s ≡ Stops trap line lines
         → job.before + (count + 1) ≤ job.limit → IsStrandOf code job (Halted (TrapIn trap line lines (count + 1)) outs)
     falls s count outs trap line lines h e same le = (le, leads_on s count (Stops trap line lines) h.1 e same)
 
     -- nothing has ended within so many instructions
-    over_so : (count : ℕ) (later : ℕ → Came) → job.before ≤ job.limit → Takes count (course code job) later → job.limit < job.before + count → (m : ℕ) → job.before + m ≤ job.limit → course code job m ≡ Beyond
+    over_so : (count : ℕ) (later : ℕ → Came) → job.before ≤ job.limit → Takes count (course code job) later → job.limit < job.before + count
+        → (m : ℕ) → job.before + m ≤ job.limit → course code job m ≡ Beyond
     over_so count later le t above m within = t.short m (omega (arith, above, within))
 
-    pub passes : (s : State) (count : ℕ) (outs : List Job) → IsStrandOf code job (Going s count outs) → has_come job.extent code s ≡ false → job.limit < job.before + (count + 1) → IsStrandOf code job (Halted OverLimit outs)
+    pub passes : (s : State) (count : ℕ) (outs : List Job) → IsStrandOf code job (Going s count outs) → has_come job.extent code s ≡ false
+        → job.limit < job.before + (count + 1) → IsStrandOf code job (Halted OverLimit outs)
     passes s count outs h e above =
         let le : job.before + count ≤ job.limit = h.0 in
         (omega (arith, le), over_so (count + 1) (λ n. moved (step code s) n (λ s'. travel job.extent code n s')) (omega (arith, le)) (leads_on s count (step code s) h.1 e refl) above)
@@ -186,7 +198,8 @@ module _ (code : Code) where
         )
 
     pub gives_stop : (out : Job) (s : State) (count : ℕ) (outs : List Job) (e : Effect)
-        → IsStrandOf code job (Waits s count (out ∷ outs)) → JobMeaning code out e → HasStopped e → job.before + (count + cost_of e) ≤ job.limit → IsStrandOf code job (Halted (stopped_after s count e) outs)
+        → IsStrandOf code job (Waits s count (out ∷ outs)) → JobMeaning code out e → HasStopped e → job.before + (count + cost_of e) ≤ job.limit
+        → IsStrandOf code job (Halted (stopped_after s count e) outs)
     gives_stop out s count outs (Ended v arrays t cost) h m stop le = absurd stop
     gives_stop out s count outs (Joined frame t cost) h m stop le = absurd stop
     gives_stop out s count outs (TrapIn trap line lines cost) h m stop le =
@@ -226,7 +239,8 @@ module _ (code : Code) where
           short = h.1.short;
         })
 
-    pub returns : (s : State) (count : ℕ) (outs : List Job) (v : Option ℤ) (arrays : Slots (List ℤ)) (t : Trace) → IsStrandOf code job (Going s count outs) → has_come job.extent code s ≡ false → step code s ≡ Ends v arrays t → job.before + (count + 1) ≤ job.limit
+    pub returns : (s : State) (count : ℕ) (outs : List Job) (v : Option ℤ) (arrays : Slots (List ℤ)) (t : Trace)
+        → IsStrandOf code job (Going s count outs) → has_come job.extent code s ≡ false → step code s ≡ Ends v arrays t → job.before + (count + 1) ≤ job.limit
         → JobMeaning code job (Ended v arrays t (count + 1))
     returns s count outs v arrays t h e same le = stands_meaning code job (Ended v arrays t (count + 1)) le (leads_on s count (Ends v arrays t) h.1 e same)
 

@@ -16,8 +16,10 @@ use Rattle.cw_code.specs.lemmas.Runs.{same_state}
 use Rattle.cw_strand_laws.specs.Jobs.{Extent, WholeCall, ToJoin, joins, is_first, has_come, standing, Job, job_start, course, root_job, Effect, Ended, Joined, TrapIn, OverLimit, Memory, JobMeaning}
 use Rattle.cw_strand_laws.specs.Strands.{Strand, Going, Waits, Halted, outs_of, rest_at, Turn, turn_back, turn_in, turn_call, turn_of, turn, cost_of}
 use Rattle.cw_strand_laws.specs.Promises.{IsOutHere, Outs, OutsHere, IsStrandOf}
-use Rattle.cw_strand_laws.specs.Steps.{started, Advanced, Ran as Instruction, Handed, AtSync, Finished, Unfit, finished, turned, went_on, advance, given_to, give, skip, take_back, out_of_memory, WaitsFor}
-use Rattle.cw_strand_laws.specs.Worlds.{Place, Undecided, Kept, Offered, Runs, Made, Settled, Spent, World, IsUnrun, IsWaiting, placed, joined_by, Has, Next, Run, Spawn, Offer, Inline, Begin, Skip, Resume, End, Settle, Give, Want, GiveUp, After, Now, Later, world_of, NoneIsUnfit}
+use Rattle.cw_strand_laws.specs.Steps.{started, Advanced, Ran as Instruction, Handed, AtSync, Finished, Unfit, finished, turned}
+use Rattle.cw_strand_laws.specs.Steps.{went_on, advance, given_to, give, skip, take_back, out_of_memory, WaitsFor}
+use Rattle.cw_strand_laws.specs.Worlds.{Place, Undecided, Kept, Offered, Runs, Made, Settled, Spent, World, IsUnrun, IsWaiting, placed, joined_by, Has, Next, Run, Spawn}
+use Rattle.cw_strand_laws.specs.Worlds.{Offer, Inline, Begin, Skip, Resume, End, Settle, Give, Want, GiveUp, After, Now, Later, world_of, NoneIsUnfit}
 use Rattle.cw_strand_laws.specs.lemmas.Acts.{acts_by}
 use Rattle.cw_strand_laws.specs.lemmas.Rests.{GoesOn, act_goes}
 use Rattle.cw_strand_laws.proofs.Budgets.{meaning_stands}
@@ -87,7 +89,8 @@ module _ (code : Code) (fits : Fits code) (steps_well : FitSteps code fits) (set
             cases : (kind : CallKind) → e.kind ≡ kind → FitTurn s count outs (turn_call kind e.target e.taken) (On (begun s e))
             cases Plain k s' same g = g
             cases Spawned k s' same g = (
-              hands_fit code fits steps_well settles job.extent base s e job.limit (job.before + (count + 1)) k (subst (λ (s2 : State). GoodState code fits (lifted base s2)) (same_state s' (begun s e) (sym same)) g),
+              hands_fit code fits steps_well settles job.extent base s e job.limit (job.before + (count + 1)) k
+                  (subst (λ (s2 : State). GoodState code fits (lifted base s2)) (same_state s' (begun s e) (sym same)) g),
               g,
             )
 
@@ -118,7 +121,8 @@ module _ (code : Code) (fits : Fits code) (steps_well : FitSteps code fits) (set
         moves (Stops trap line lines) e g = tt
         moves Stuck e g = g
 
-        test : (b : Bool) → has_come job.extent code s ≡ false → FitAdvanced base (if b then Instruction (Halted OverLimit outs) else went_on (turn code s) s (step code s) job.limit job.before (count + 1) outs)
+        test : (b : Bool) → has_come job.extent code s ≡ false → FitAdvanced base
+            (if b then Instruction (Halted OverLimit outs) else went_on (turn code s) s (step code s) job.limit job.before (count + 1) outs)
         test true c = tt
         test false c = moves (step code s) refl (lifted_step code fits steps_well settles job.extent base s c good)
 
@@ -133,11 +137,13 @@ module _ (code : Code) (fits : Fits code) (steps_well : FitSteps code fits) (set
         let k = subst (λ ops. Good f shape (record s { operands = ops })) none h in
         record { as_many = k.as_many; ints = k.ints; arrays = k.arrays; readers = k.readers; cuts = k.cuts }
 
-    out_starts : (x : Extent) (b : Base x) (s : State) (limit before : ℕ) → s.operands ≡ [] → GoodState code fits (lifted b s) → GoodState code fits (under (lifted b s) (job_start (rest_at s limit before)))
+    out_starts : (x : Extent) (b : Base x) (s : State) (limit before : ℕ) → s.operands ≡ [] → GoodState code fits (lifted b s)
+        → GoodState code fits (under (lifted b s) (job_start (rest_at s limit before)))
     out_starts x Alone s limit before none g = record { seat = g.seat; call = out_alone s g.seat.func g.seat.shape none g.call; others = g.others }
     out_starts x (Upon b) s limit before none g = record { seat = g.seat; call = out_alone (under b s) g.seat.func g.seat.shape none g.call; others = g.others }
 
-    give_fits : (strand : Strand) (out : Job) (others : List Job) (e : Effect) → IsStrandOf code job strand → WaitsFor strand out others → JobMeaning code out e → FitStrand base strand → FitStrand base (give job strand e)
+    give_fits : (strand : Strand) (out : Job) (others : List Job) (e : Effect) → IsStrandOf code job strand → WaitsFor strand out others
+        → JobMeaning code out e → FitStrand base strand → FitStrand base (give job strand e)
     give_fits (Going s count outs) out others e h w m g = absurd w
     give_fits (Halted e' outs) out others e h w m g = halted outs
       where
@@ -268,7 +274,8 @@ module _ (code : Code) (fits : Fits code) (steps_well : FitSteps code fits) (set
   next_fit world next (Give _ i n worker job out strand numbers place e has waits has' is) ok fit =
       let now = ok.each i job (Runs worker strand (n ∷ numbers)) has in
       set_fit (placed world n Spent) i job (Runs worker (give job strand e) numbers) (spent_fit world n fit) has.job_is
-      (gave world.jobs job out n numbers strand e waits has'.job_is (effect_means code world.jobs out place e is (ok.each n out place has')) now.0 now.1 (fit i job (Runs worker strand (n ∷ numbers)) has))
+      (gave world.jobs job out n numbers strand e waits has'.job_is (effect_means code world.jobs out place e is (ok.each n out place has')) now.0
+      now.1 (fit i job (Runs worker strand (n ∷ numbers)) has))
   next_fit world next (Want _ i worker job strand numbers has) ok fit =
       let h = fit i job (Runs worker strand numbers) has in set_fit world i job (Runs worker (out_of_memory strand) numbers) fit has.job_is (record { base = h.base; fit = tt })
   next_fit world next (GiveUp _ i worker job place has unrun) ok fit = set_fit world i job (Made worker Memory) fit has.job_is tt
@@ -296,5 +303,6 @@ module _ (code : Code) (fits : Fits code) (steps_well : FitSteps code fits) (set
 
 pub none_is_unfit : ((code : Code) (fits : Fits code) → FitSteps code fits) → FitSettles → ((code : Code) (fits : Fits code) → FitBegins code fits) → NoneIsUnfit
 none_is_unfit steps settles begins code fits f args limit world i worker job strand outs found count after has e =
-    let ok = after_fit code fits (steps code fits) settles (begins code fits) (root_job f args limit) world (omega arith) (root_fits code fits (steps code fits) settles (begins code fits) f args limit found count) after in
+    let ok = after_fit code fits (steps code fits) settles (begins code fits) (root_job f args limit) world (omega arith)
+    (root_fits code fits (steps code fits) settles (begins code fits) f args limit found count) after in
     advanced code fits (steps code fits) settles (begins code fits) job strand Unfit (ok.1 i job (Runs worker strand outs) has) (ok.0.each i job (Runs worker strand outs) has).0 e

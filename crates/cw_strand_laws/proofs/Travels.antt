@@ -81,8 +81,22 @@ module _ (code : Code) where
         cases WholeCall around k e = cc
         cases ToJoin [] k e =
             join_puts_in y n (under b (record s { around = [] })) k
-            ∙ ap (λ slots. travel y code n (record s { around = b.around; slots = slots; arrays = settled (s.arrived ++ b.arrived) s.arrays; results = []; arrived = []; trace = joined b.trace s.trace })) (settled_append s.results b.results s.slots)
-            ∙ ap (λ arrays. travel y code n (record s { around = b.around; slots = settled b.results (settled s.results s.slots); arrays = arrays; results = []; arrived = []; trace = joined b.trace s.trace })) (settled_append s.arrived b.arrived s.arrays)
+            ∙ ap (λ slots. travel y code n (record s {
+              around = b.around;
+              slots = slots;
+              arrays = settled (s.arrived ++ b.arrived) s.arrays;
+              results = [];
+              arrived = [];
+              trace = joined b.trace s.trace;
+            })) (settled_append s.results b.results s.slots)
+            ∙ ap (λ arrays. travel y code n (record s {
+              around = b.around;
+              slots = settled b.results (settled s.results s.slots);
+              arrays = arrays;
+              results = [];
+              arrived = [];
+              trace = joined b.trace s.trace;
+            })) (settled_append s.arrived b.arrived s.arrays)
             ∙ ap (λ depth. travel y code n (record s {
               depth = depth;
               around = b.around;
@@ -132,8 +146,10 @@ module _ (code : Code) where
             ∙ ap (onwards code y b) (sym (not_taken (has_come x code s) (Arrives (standing s) s.trace zero) Beyond e))
     travel_under (suc n) s may d = cases (has_come x code s) refl (λ s' d'. travel_under n s' may d')
       where
-        cases : (c : Bool) → has_come x code s ≡ c → ((s' : State) → Based b.depth s' → travel y code n (under b s') ≡ onwards code y b (travel x code n s')) → travel y code (suc n) (under b s) ≡ onwards code y b (travel x code (suc n) s)
-        cases true e more = arrives_under (suc n) s e d ∙ ap (onwards code y b) (sym (taken (has_come x code s) (Arrives (standing s) s.trace (suc n)) (moved (step code s) n (λ s'. travel x code n s')) e))
+        cases : (c : Bool) → has_come x code s ≡ c → ((s' : State) → Based b.depth s'
+            → travel y code n (under b s') ≡ onwards code y b (travel x code n s')) → travel y code (suc n) (under b s) ≡ onwards code y b (travel x code (suc n) s)
+        cases true e more = arrives_under (suc n) s e d ∙ ap (onwards code y b)
+            (sym (taken (has_come x code s) (Arrives (standing s) s.trace (suc n)) (moved (step code s) n (λ s'. travel x code n s')) e))
         cases false e more =
             let allowed = goes_under s e may in
             not_taken (has_come y code (under b s)) (Arrives (standing (under b s)) (under b s).trace (suc n)) (moved (step code (under b s)) n (λ s'. travel y code n s')) (stays_under s allowed)

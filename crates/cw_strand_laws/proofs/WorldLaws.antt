@@ -9,7 +9,8 @@ use Rattle.cw_strand_laws.specs.Jobs.{Job, root_job, Effect, Memory, JobMeaning,
 use Rattle.cw_strand_laws.specs.Strands.{Strand, Going, Waits, Halted, outs_of}
 use Rattle.cw_strand_laws.specs.Promises.{IsStrandOf}
 use Rattle.cw_strand_laws.specs.Steps.{started, give, skip, take_back, out_of_memory, WaitsFor, AdvanceKeeps}
-use Rattle.cw_strand_laws.specs.Worlds.{Place, Undecided, Kept, Offered, Runs, Made, Settled, Spent, World, IsUnrun, effect_in, HasStopped, HasEnded, IsWaiting, placed, joined_by, Has, Next, Run, Spawn, Offer, Inline, Begin, Skip, Resume, End, Settle, Give, Want, GiveUp, After, Now, Later, world_of, WorldsAreSerial, EffectsMean}
+use Rattle.cw_strand_laws.specs.Worlds.{Place, Undecided, Kept, Offered, Runs, Made, Settled, Spent, World, IsUnrun, effect_in, HasStopped, HasEnded, IsWaiting, placed, joined_by, Has, Next, Run}
+use Rattle.cw_strand_laws.specs.Worlds.{Spawn, Offer, Inline, Begin, Skip, Resume, End, Settle, Give, Want, GiveUp, After, Now, Later, world_of, WorldsAreSerial, EffectsMean}
 use Rattle.cw_strand_laws.proofs.Calls.{calls_keep}
 use Rattle.cw_strand_laws.proofs.Schedules.{root_serial}
 
@@ -110,7 +111,8 @@ module _ (code : Code) where
         | inr p ↦ place_on code world.jobs job job' place' (ok.each k job' place' (record { job_is = p; place_is = at }))
       ]
 
-  strand_in : (world : World) (i worker : ℕ) (job : Job) (strand : Strand) (numbers : List ℕ) → WorldOk code world → Has world i job (Runs worker strand numbers) → IsStrandOf code job strand × Named world.jobs numbers (outs_of strand)
+  strand_in : (world : World) (i worker : ℕ) (job : Job) (strand : Strand) (numbers : List ℕ) → WorldOk code world
+      → Has world i job (Runs worker strand numbers) → IsStrandOf code job strand × Named world.jobs numbers (outs_of strand)
   strand_in world i worker job strand numbers ok has = ok.each i job (Runs worker strand numbers) has
 
   may_begin : (jobs : List Job) (job : Job) (place : Place) → IsUnrun place → PlaceOk code jobs job place → job.before ≤ job.limit
@@ -152,7 +154,8 @@ module _ (code : Code) where
       newest : (os : List Job) → outs_of strand ≡ os → Named jobs (n ∷ numbers) os → PlaceOk code jobs job (Runs worker (give job strand e) numbers)
       newest [] same k = absurd k
       newest (out' ∷ outs) same k =
-          let kept = (calls_keep code).giving job strand out' outs e h.0 (waits_for strand out' outs waits same) (subst (λ j. JobMeaning code j e) (one_there (slice_get jobs n) out out' is k.0) means) in
+          let kept = (calls_keep code).giving job strand out' outs e h.0 (waits_for strand out' outs waits same)
+          (subst (λ j. JobMeaning code j e) (one_there (slice_get jobs n) out out' is k.0) means) in
           (kept.0, subst (λ l. Named jobs numbers l) (sym kept.1) k.1)
 
   pub next_ok : (world next : World) → Next code world next → WorldOk code world → WorldOk code next
@@ -172,16 +175,19 @@ module _ (code : Code) where
   next_ok world next (Begin _ i worker job place has unrun) ok =
       place_ok world i job place (Runs worker (started job) []) ok has ((calls_keep code).starting job (may_begin world.jobs job place unrun (ok.each i job place has)), tt)
   next_ok world next (Skip _ i n worker job out strand numbers place has stopped has' unrun) ok =
-      set_ok (placed world n Spent) i job (Runs worker (skip strand) numbers) (spent_ok world n ok) has.job_is (skipped world.jobs job worker n numbers strand stopped (strand_in world i worker job strand (n ∷ numbers) ok has))
+      set_ok (placed world n Spent) i job (Runs worker (skip strand) numbers) (spent_ok world n ok) has.job_is
+      (skipped world.jobs job worker n numbers strand stopped (strand_in world i worker job strand (n ∷ numbers) ok has))
   next_ok world next (Resume _ i n worker job out strand numbers place has ended has' unrun) ok =
-      set_ok (placed world n Spent) i job (Runs worker (take_back strand) numbers) (spent_ok world n ok) has.job_is (took_back world.jobs job worker n numbers strand ended (strand_in world i worker job strand (n ∷ numbers) ok has))
+      set_ok (placed world n Spent) i job (Runs worker (take_back strand) numbers) (spent_ok world n ok) has.job_is
+      (took_back world.jobs job worker n numbers strand ended (strand_in world i worker job strand (n ∷ numbers) ok has))
   next_ok world next (End _ i worker job strand numbers e has same) ok =
       let now = strand_in world i worker job strand numbers ok has in
       place_ok world i job (Runs worker strand numbers) (Made worker e) ok has (subst (AdvanceKeeps code job strand) same ((calls_keep code).advancing job strand now.0))
   next_ok world next (Settle _ i worker job e has) ok = place_ok world i job (Made worker e) (Settled e) ok has (ok.each i job (Made worker e) has)
   next_ok world next (Give _ i n worker job out strand numbers place e has waits has' is) ok =
       set_ok (placed world n Spent) i job (Runs worker (give job strand e) numbers) (spent_ok world n ok) has.job_is
-      (given world.jobs job out worker n numbers strand e waits has'.job_is (effect_means world.jobs out place e is (ok.each n out place has')) (strand_in world i worker job strand (n ∷ numbers) ok has))
+      (given world.jobs job out worker n numbers strand e waits has'.job_is (effect_means world.jobs out place e is (ok.each n out place has'))
+      (strand_in world i worker job strand (n ∷ numbers) ok has))
   next_ok world next (Want _ i worker job strand numbers has) ok =
       let now = strand_in world i worker job strand numbers ok has in
       place_ok world i job (Runs worker strand numbers) (Runs worker (out_of_memory strand) numbers) ok has ((calls_keep code).wanting job strand now.0, now.1)

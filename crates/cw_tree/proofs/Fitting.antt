@@ -1,5 +1,6 @@
 -- In a resolved program that keeps the limits and the rules of names and types, each slot and each index fits.
-use Rattle.std.proofs.Common.{◌≡◌, ℕ, suc, ◌<◌, ◌≤◌, max, nat_lt, nat_le, Bool, true, false, not, ◌&&◌, ◌||◌, if◌then◌else◌, List, [], ◌∷◌, ◌++◌, length, drop, map, filter, flat_map, Option, Some, None, option_map, refl, sym, ap, ◌∙◌, arith, true≢false}
+use Rattle.std.proofs.Common.{◌≡◌, ℕ, suc, ◌<◌, ◌≤◌, max, nat_lt, nat_le, Bool, true, false, not, ◌&&◌, ◌||◌, if◌then◌else◌, List, [], ◌∷◌, ◌++◌, length}
+use Rattle.std.proofs.Common.{drop, map, filter, flat_map, Option, Some, None, option_map, refl, sym, ap, ◌∙◌, arith, true≢false}
 use Rattle.std.specs.List.{list_all}
 use Rattle.std.proofs.lemmas.List.{length-map, length_push}
 use Rattle.std.proofs.lemmas.List.Folds.{list_all-append}
@@ -12,7 +13,8 @@ use Rattle.cw_model.specs.Syntax as model
 use Rattle.cw_model.specs.Syntax.{Name, Param, Reducer, Program}
 use Rattle.cw_model.specs.Answers.{main_name}
 use Rattle.cw_model.specs.Sizes.{first_places, regions_in, regions_in_block, regions_of, function_limits, limit_faults}
-use Rattle.cw_model.specs.Typing.{Known, is_known, is_int, is_array, is_writable, is_new, is_fine, are_arguments, called, is_target, is_call, is_reducer, Returns, Nowhere, WithInt, Alone, may_return, declares, surely_returns, ends_block, is_head_of_loop, is_cut, faults_in, faults_in_block, known_of, is_head, faults_of, type_faults}
+use Rattle.cw_model.specs.Typing.{Known, is_known, is_int, is_array, is_writable, is_new, is_fine, are_arguments, called, is_target, is_call, is_reducer, Returns, Nowhere, WithInt, Alone}
+use Rattle.cw_model.specs.Typing.{may_return, declares, surely_returns, ends_block, is_head_of_loop, is_cut, faults_in, faults_in_block, known_of, is_head, faults_of, type_faults}
 use Rattle.cw_model.specs.lemmas.Kept.{left_none, right_none, kept}
 use Rattle.cw_tree.specs.Resolved as spec
 use Rattle.cw_tree.specs.Bounds.{Counts, is_below, fits_expr, fits_argument, fits_target, fits_return, fits_head, fits_parts, fits_stmt, fits_block, counts_of, fits_function, is_fitting}
@@ -118,7 +120,8 @@ int_param : (x : Name) (ps : List Param) → is_int (known_of ps) x ≡ true →
 int_param x [] h = cc
 int_param x (p ∷ ps) h = first (is_int (known_of ps) x) refl (int_param x ps)
   where
-    more : is_among x (map (λ (q : Param). q.name) (filter (λ (q : Param). not (wants_array q)) ps)) ≡ true → (s : Bool) → (if s then true else is_among x (map (λ (q : Param). q.name) (filter (λ (q : Param). not (wants_array q)) ps))) ≡ true
+    more : is_among x (map (λ (q : Param). q.name) (filter (λ (q : Param). not (wants_array q)) ps)) ≡ true → (s : Bool)
+        → (if s then true else is_among x (map (λ (q : Param). q.name) (filter (λ (q : Param). not (wants_array q)) ps))) ≡ true
     more e true = refl
     more e false = e
 
@@ -141,7 +144,8 @@ array_param : (x : Name) (ps : List Param) → is_array (known_of ps) x ≡ true
 array_param x [] h = cc
 array_param x (p ∷ ps) h = first (is_array (known_of ps) x) refl (array_param x ps)
   where
-    more : is_among x (map (λ (q : Param). q.name) (filter (λ (q : Param). wants_array q) ps)) ≡ true → (s : Bool) → (if s then true else is_among x (map (λ (q : Param). q.name) (filter (λ (q : Param). wants_array q) ps))) ≡ true
+    more : is_among x (map (λ (q : Param). q.name) (filter (λ (q : Param). wants_array q) ps)) ≡ true → (s : Bool)
+        → (if s then true else is_among x (map (λ (q : Param). q.name) (filter (λ (q : Param). wants_array q) ps))) ≡ true
     more e true = refl
     more e false = e
 
@@ -310,7 +314,8 @@ fit_parts : (program : Program) (n : Counts) (known : Known) (l : spec.Locals) �
 fit_parts program n known l a r x e left right new h =
     let i = is_writable known x in
     let f = is_fine known e in
-    let two = first_true (i && f) (is_new program known left) (first_true ((i && f) && is_new program known left) (is_new program known right) (first_true (((i && f) && is_new program known left) && is_new program known right) (not (same_name left right)) h)) in
+    let two = first_true (i && f) (is_new program known left) (first_true ((i && f) && is_new program known left) (is_new program known right)
+    (first_true (((i && f) && is_new program known left) && is_new program known right) (not (same_name left right)) h)) in
     let one = length_push l.arrays left in
     both (both (both (slot_below x l.arrays n.arrays (a.arrays x (writable_array known x (first_true i f two))) r.arrays) (fit_expr n known l a r e (second_true i f two)))
     (below (length l.arrays) n.arrays (omega (arith, new, one)))) (below (length (l.arrays ++ left ∷ [])) n.arrays new)
@@ -512,7 +517,8 @@ module _ (program : Program) (n : Counts) (tables : Tables program n) where
         let r = has_room n l i j (spec.resolved_stmt (spec.lists_of program) l (model.AssignElement x d e)) stands needs in
         let k = kept ((is_writable known x && is_fine known d) && is_fine known e) line h in
         let two = first_true (is_writable known x && is_fine known d) (is_fine known e) k in
-        both (both (slot_below x l.arrays n.arrays (a.arrays x (writable_array known x (first_true (is_writable known x) (is_fine known d) two))) r.arrays) (fit_expr n known l a r d (second_true (is_writable known x) (is_fine known d) two)))
+        both (both (slot_below x l.arrays n.arrays (a.arrays x (writable_array known x (first_true (is_writable known x) (is_fine known d) two)))
+        r.arrays) (fit_expr n known l a r d (second_true (is_writable known x) (is_fine known d) two)))
         (fit_expr n known l a r e (second_true (is_writable known x && is_fine known d) (is_fine known e) k))
     fit_stmt returns known l i j a stands line (model.Reduce how s e) needs tagged h =
         let r = has_room n l i j (spec.resolved_stmt (spec.lists_of program) l (model.Reduce how s e)) stands needs in
@@ -548,8 +554,11 @@ module _ (program : Program) (n : Counts) (tables : Tables program n) where
         let w = stands.ints in
         let z = stands.arrays in
         both (both (fit_expr n known l a r e (kept (is_fine known e) line (left_none test (first ++ second) h)))
-        (fit_block returns known l i j a stands b (omega (arith, p', u), omega (arith, q', v)) (tags_front (spec.tags_of program) (regions_in_block b) (regions_in_block c) tagged) (left_none first second (right_none test (first ++ second) h))))
-        (fit_block returns known l (spec.ints_in_block i block) (spec.arrays_in_block j block) a (record { ints = omega (arith, p, w); arrays = omega (arith, q, z) }) c needs (tags_rear (spec.tags_of program) (regions_in_block b) (regions_in_block c) tagged) (right_none first second (right_none test (first ++ second) h)))
+        (fit_block returns known l i j a stands b (omega (arith, p', u), omega (arith, q', v))
+        (tags_front (spec.tags_of program) (regions_in_block b) (regions_in_block c) tagged) (left_none first second (right_none test (first ++ second) h))))
+        (fit_block returns known l (spec.ints_in_block i block) (spec.arrays_in_block j block) a
+        (record { ints = omega (arith, p, w); arrays = omega (arith, q, z) }) c needs
+        (tags_rear (spec.tags_of program) (regions_in_block b) (regions_in_block c) tagged) (right_none first second (right_none test (first ++ second) h)))
     fit_stmt returns known l i j a stands line (model.While e b) needs tagged h =
         let r = has_room n l i j (spec.resolved_stmt (spec.lists_of program) l (model.While e b)) stands needs in
         let test = unless (is_fine known e) line in
@@ -565,7 +574,8 @@ module _ (program : Program) (n : Counts) (tables : Tables program n) where
         let w = stands.arrays in
         let one = length_push l.ints x in
         both (fit_head program n known l a r x y z from to grain over block (omega (arith, p, u)) (kept (is_head_of_loop program known x y z from to grain over) line (left_none test inner h)))
-        (fit_block Nowhere ((x, name_kind.Integer) ∷ known) (spec.with_int x l) (max i (suc (length l.ints))) j (agree_int known l x a) (record { ints = omega (arith, one); arrays = w }) b needs tagged (right_none test inner h))
+        (fit_block Nowhere ((x, name_kind.Integer) ∷ known) (spec.with_int x l) (max i (suc (length l.ints))) j (agree_int known l x a)
+        (record { ints = omega (arith, one); arrays = w }) b needs tagged (right_none test inner h))
     fit_stmt returns known l i j a stands line (model.Scope b) needs tagged h = fit_block Nowhere known l i j a stands b needs tagged h
     fit_stmt returns known l i j a stands line (model.Cut x e left right b) needs tagged h =
         let r = has_room n l i j (spec.resolved_stmt (spec.lists_of program) l (model.Cut x e left right b)) stands needs in
@@ -579,10 +589,13 @@ module _ (program : Program) (n : Counts) (tables : Tables program n) where
         let w = stands.ints in
         let two = length_push (l.arrays ++ left ∷ []) right in
         both (fit_parts program n known l a r x e left right (omega (arith, p, u)) (kept (is_cut program known x e left right) line (left_none test inner h)))
-        (fit_block Nowhere ((right, name_kind.Array) ∷ (left, name_kind.Array) ∷ known) l' i k (agree_array ((left, name_kind.Array) ∷ known) (spec.with_array left l) right (agree_array known l left a)) (record { ints = w; arrays = omega (arith, two) }) b needs tagged (right_none test inner h))
+        (fit_block Nowhere ((right, name_kind.Array) ∷ (left, name_kind.Array) ∷ known) l' i k
+        (agree_array ((left, name_kind.Array) ∷ known) (spec.with_array left l) right (agree_array known l left a))
+        (record { ints = w; arrays = omega (arith, two) }) b needs tagged (right_none test inner h))
     fit_stmt returns known l i j a stands line (model.Region tag b) needs tagged h =
         let there = tagged tag (front_among tag (map (λ (d : Name × ℕ). d.0) (regions_in_block b))) in
-        both (slot_below tag (spec.tags_of program) n.tags there tables.tags) (fit_block Nowhere known l i j a stands b needs (tags_rear (spec.tags_of program) ((tag, line) ∷ []) (regions_in_block b) tagged) h)
+        both (slot_below tag (spec.tags_of program) n.tags there tables.tags)
+        (fit_block Nowhere known l i j a stands b needs (tags_rear (spec.tags_of program) ((tag, line) ∷ []) (regions_in_block b) tagged) h)
     fit_stmt returns known l i j a stands line (model.Print e) needs tagged h =
         fit_expr n known l a (has_room n l i j (spec.resolved_stmt (spec.lists_of program) l (model.Print e)) stands needs) e (kept (is_fine known e) line h)
     fit_stmt returns known l i j a stands line (model.Return e) needs tagged h =
@@ -602,7 +615,8 @@ module _ (program : Program) (n : Counts) (tables : Tables program n) where
         let q = more_arrays_in (spec.arrays_in j stmt) block in
         let u = needs.0 in
         let v = needs.1 in
-        both (fit_stmt returns known l i j a stands line s (omega (arith, p, u), omega (arith, q, v)) (tags_front (spec.tags_of program) (regions_in line s) (regions_in_block b) tagged) (left_none here (last ++ after) h))
+        both (fit_stmt returns known l i j a stands line s (omega (arith, p, u), omega (arith, q, v))
+        (tags_front (spec.tags_of program) (regions_in line s) (regions_in_block b) tagged) (left_none here (last ++ after) h))
         (fit_block returns (declares s known) (spec.locals_after l s) (spec.ints_in i stmt) (spec.arrays_in j stmt) (agree_after known l s a)
         (record { ints = ints_grown (spec.lists_of program) l i s stands.ints; arrays = arrays_grown (spec.lists_of program) l j s stands.arrays }) b needs
         (tags_rear (spec.tags_of program) (regions_in line s) (regions_in_block b) tagged) (right_none last after (right_none here (last ++ after) h)))
@@ -614,7 +628,8 @@ counts_in program f = counts_of (spec.resolved program) (spec.resolved_function 
 tables_of : (program : Program) (f : model.Function) → Tables program (counts_in program f)
 tables_of program f =
     let names : length (spec.function_names program.functions) ≡ length program.functions = length-map program.functions (λ (g : model.Function). g.name) in
-    let tree : length (map (spec.resolved_function (spec.lists_of program)) program.functions) ≡ length program.functions = length-map program.functions (spec.resolved_function (spec.lists_of program)) in
+    let tree : length (map (spec.resolved_function (spec.lists_of program)) program.functions) ≡ length program.functions =
+    length-map program.functions (spec.resolved_function (spec.lists_of program)) in
     let reducers : length (spec.reducer_names program.reducers) ≡ length program.reducers = length-map program.reducers (λ (r : Reducer). r.name) in
     record { functions = omega (arith, names, tree); reducers = omega (arith, reducers); tags = omega arith }
 
@@ -641,14 +656,18 @@ fit_functions program [] few tagged h = refl
 fit_functions program (f ∷ fs) few tagged h =
     let here = regions_in_block f.body in
     let rest = flat_map (λ (g : model.Function). regions_in_block g.body) fs in
-    both (fit_function program f (left_none (function_limits f) (flat_map function_limits fs) few) (tags_front (spec.tags_of program) here rest tagged) (left_none (faults_of program f) (flat_map (faults_of program) fs) h))
-    (fit_functions program fs (right_none (function_limits f) (flat_map function_limits fs) few) (tags_rear (spec.tags_of program) here rest tagged) (right_none (faults_of program f) (flat_map (faults_of program) fs) h))
+    both (fit_function program f (left_none (function_limits f) (flat_map function_limits fs) few)
+    (tags_front (spec.tags_of program) here rest tagged) (left_none (faults_of program f) (flat_map (faults_of program) fs) h))
+    (fit_functions program fs (right_none (function_limits f) (flat_map function_limits fs) few) (tags_rear (spec.tags_of program) here rest tagged)
+    (right_none (faults_of program f) (flat_map (faults_of program) fs) h))
 
 -- each slot and each index of a resolved program fits
 pub resolved_fits : (program : Program) → limit_faults program ≡ [] → type_faults program ≡ [] → is_fitting (spec.resolved program) ≡ true
 resolved_fits program few h =
     let main = is_among main_name (spec.function_names program.functions) in
-    let tree : length (map (spec.resolved_function (spec.lists_of program)) program.functions) ≡ length program.functions = length-map program.functions (spec.resolved_function (spec.lists_of program)) in
+    let tree : length (map (spec.resolved_function (spec.lists_of program)) program.functions) ≡ length program.functions =
+    length-map program.functions (spec.resolved_function (spec.lists_of program)) in
     let names : length (spec.function_names program.functions) ≡ length program.functions = length-map program.functions (λ (g : model.Function). g.name) in
     both (fit_functions program program.functions (heads_small program few) (all_tagged program) (function_faults program h))
-    (slot_below main_name (spec.function_names program.functions) (length (map (spec.resolved_function (spec.lists_of program)) program.functions)) (kept main 1 (left_none (unless main 1) _ h)) (omega (arith, tree, names)))
+    (slot_below main_name (spec.function_names program.functions) (length (map (spec.resolved_function (spec.lists_of program)) program.functions))
+    (kept main 1 (left_none (unless main 1) _ h)) (omega (arith, tree, names)))

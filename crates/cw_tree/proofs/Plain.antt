@@ -9,7 +9,8 @@ use Rattle.cw_model.specs.Names.{same_name, is_among}
 use Rattle.cw_model.specs.Syntax as model
 use Rattle.cw_model.specs.Syntax.{Name, Program}
 use Rattle.cw_model.specs.Answers.{main_name}
-use Rattle.cw_model.specs.Typing.{Known, Returns, Nowhere, is_fine, is_new, is_writable, is_head_of_loop, is_cut, is_head, repeated_names, type_faults, faults_in, faults_in_block, faults_of, declares, surely_returns, ends_block, known_of, WithInt, Alone}
+use Rattle.cw_model.specs.Typing.{Known, Returns, Nowhere, is_fine, is_new, is_writable, is_head_of_loop, is_cut, is_head, repeated_names, type_faults}
+use Rattle.cw_model.specs.Typing.{faults_in, faults_in_block, faults_of, declares, surely_returns, ends_block, known_of, WithInt, Alone}
 use Rattle.cw_model.specs.lemmas.Kept.{left_none, right_none, kept}
 use Rattle.cw_tree.specs.Resolved as Resolved
 use Rattle.cw_model.specs.declared.syntax.NameKind.TheVariants as name_kind
@@ -48,7 +49,8 @@ plain_of_argument l ps (model.Binary o d e) = plain_of_expr l (model.Binary o d 
 
 plain_of_arguments : (l : Resolved.Locals) (ps : List model.Param) (es : List model.Expr) → map Resolved.plain_argument (Resolved.resolved_arguments l ps es) ≡ es
 plain_of_arguments l ps [] = refl
-plain_of_arguments l ps (e ∷ es) = ap (λ z. z ∷ map Resolved.plain_argument (Resolved.resolved_arguments l (drop 1 ps) es)) (plain_of_argument l ps e) ∙ ap (λ zs. e ∷ zs) (plain_of_arguments l (drop 1 ps) es)
+plain_of_arguments l ps (e ∷ es) = ap (λ z. z ∷ map Resolved.plain_argument (Resolved.resolved_arguments l (drop 1 ps) es))
+    (plain_of_argument l ps e) ∙ ap (λ zs. e ∷ zs) (plain_of_arguments l (drop 1 ps) es)
 
 plain_of_target : (names : List Name) (t : Option Name) → option_map (λ u. u.name) (option_map (Resolved.use_of names) t) ≡ t
 plain_of_target names None = refl
@@ -72,7 +74,8 @@ head_names program known x y z from to grain over h =
     let e = is_fine known to in
     let f = nat_le 1 grain in
     let g = nat_le grain MOST_GRAIN in
-    let most = first_true ((((a && b) && c) && d) && e) f (first_true (((((a && b) && c) && d) && e) && f) g (first_true ((((((a && b) && c) && d) && e) && f) && g) (list_all (λ n. is_writable known n) over) h)) in
+    let most = first_true ((((a && b) && c) && d) && e) f (first_true (((((a && b) && c) && d) && e) && f) g
+    (first_true ((((((a && b) && c) && d) && e) && f) && g) (list_all (λ n. is_writable known n) over) h)) in
     let three = first_true ((a && b) && c) d (first_true (((a && b) && c) && d) e most) in
     (sym ((bytes_eq-Decides y x).0 (second_true a b (first_true (a && b) c three))), sym ((bytes_eq-Decides z x).0 (second_true (a && b) c three)))
 
@@ -101,13 +104,15 @@ mutual
       let q = plain_of_block program returns known lists l b (right_none (unless (is_fine known e) line) (faults_in_block program returns known b) h) in cc
   plain_of_stmt program returns known lists l line (model.For x y z from to grain over b) h =
       let inner = faults_in_block program Nowhere ((x, name_kind.Integer) ∷ known) b in
-      let same = head_names program known x y z from to grain over (kept (is_head_of_loop program known x y z from to grain over) line (left_none (unless (is_head_of_loop program known x y z from to grain over) line) inner h)) in
+      let same = head_names program known x y z from to grain over (kept (is_head_of_loop program known x y z from to grain over) line
+      (left_none (unless (is_head_of_loop program known x y z from to grain over) line) inner h)) in
       let is_y : x ≡ y = same.0 in
       let is_z : x ≡ z = same.1 in
       let p = plain_of_expr l from in
       let q = plain_of_expr l to in
       let o = plain_of_uses l.arrays over in
-      let r = plain_of_block program Nowhere ((x, name_kind.Integer) ∷ known) lists (Resolved.with_int x l) b (right_none (unless (is_head_of_loop program known x y z from to grain over) line) inner h) in cc
+      let r = plain_of_block program Nowhere ((x, name_kind.Integer) ∷ known) lists (Resolved.with_int x l) b
+      (right_none (unless (is_head_of_loop program known x y z from to grain over) line) inner h) in cc
   plain_of_stmt program returns known lists l line (model.Scope b) h = ap model.Scope (plain_of_block program Nowhere known lists l b h)
   plain_of_stmt program returns known lists l line (model.Cut a e left right b) h =
       let p = plain_of_expr l e in
@@ -135,7 +140,8 @@ plain_of_functions program lists (f ∷ fs) h =
     (left_none (faults_of program f) (flat_map (faults_of program) fs) h) in
     let body = plain_of_block program (if f.gives_int then WithInt else Alone) (known_of f.params) lists (Resolved.locals_of f.params) f.body here in
     let rest = plain_of_functions program lists fs (right_none (faults_of program f) (flat_map (faults_of program) fs) h) in
-    ap (λ b. (let g : model.Function = record { name = f.name; line = f.line; gives_int = f.gives_int; params = f.params; body = b } in g) ∷ map Resolved.plain_function (map (Resolved.resolved_function lists) fs)) body
+    ap (λ b. (let g : model.Function = record { name = f.name; line = f.line; gives_int = f.gives_int; params = f.params; body = b } in g)
+    ∷ map Resolved.plain_function (map (Resolved.resolved_function lists) fs)) body
     ∙ ap (λ gs. f ∷ gs) rest
 
 pub function_faults : (program : Program) → type_faults program ≡ [] → flat_map (faults_of program) program.functions ≡ []

@@ -9,7 +9,8 @@ use Rattle.cw_model.specs.Syntax as model
 use Rattle.cw_model.specs.Syntax.{Name, Program}
 use Rattle.cw_model.specs.Typing.{type_faults}
 use Rattle.cw_tree.specs.Resolved as spec
-use Rattle.cw_tree.specs.Slots.{is_use, same_uses, same_names, is_right_expr, is_right_argument, are_right_arguments, is_right_target, is_right_return, is_right_head, is_right_cut, is_right_stmt, is_right_block, is_right_function, is_resolved}
+use Rattle.cw_tree.specs.Slots.{is_use, same_uses, same_names, is_right_expr, is_right_argument, are_right_arguments, is_right_target}
+use Rattle.cw_tree.specs.Slots.{is_right_return, is_right_head, is_right_cut, is_right_stmt, is_right_block, is_right_function, is_resolved}
 use Rattle.cw_tree.proofs.Plain.{plain_of_resolved}
 
 pub both : {a b : Bool} → a ≡ true → b ≡ true → (a && b) ≡ true

@@ -39,8 +39,10 @@ new_all : (program : Program) (known : Known) (ps : List Param) →
 new_all program known [] = refl
 new_all program known (p ∷ ps) =
     ap (λ b. not (is_among p.name (known_names known) || is_among p.name (globals program)) && b) (new_all program ((p.name, p.kind) ∷ known) ps)
-    ∙ ap (λ b. not (is_among p.name (known_names known) || is_among p.name (globals program)) && (b && (differ (names_of ps) && none_global (globals program) ps))) (apart_more p.name (known_names known) (names_of ps))
-    ∙ mixed (is_among p.name (known_names known)) (is_among p.name (globals program)) (apart (known_names known) (names_of ps)) (is_among p.name (names_of ps)) (differ (names_of ps)) (list_any (λ (q : Param). is_among q.name (globals program)) ps)
+    ∙ ap (λ b. not (is_among p.name (known_names known) || is_among p.name (globals program))
+    && (b && (differ (names_of ps) && none_global (globals program) ps))) (apart_more p.name (known_names known) (names_of ps))
+    ∙ mixed (is_among p.name (known_names known)) (is_among p.name (globals program)) (apart (known_names known) (names_of ps))
+    (is_among p.name (names_of ps)) (differ (names_of ps)) (list_any (λ (q : Param). is_among q.name (globals program)) ps)
   where
     mixed : (a b c d e f : Bool) → (not (a || b) && ((c && not d) && (e && not f))) ≡ ((not a && c) && ((not d && e) && not (b || f)))
     mixed true b c d e f = refl

@@ -1,5 +1,6 @@
 -- The newest of a name, in a list and in a map.
-use Rattle.std.proofs.Common.{◌≡◌, ℕ, ◌+◌, Bool, true, false, if◌then◌else◌, cond, bytes_eq, List, [], ◌∷◌, ◌++◌, length, map, drop, ◌-◌, Option, Some, None, is_some, option_map, MatchOption, Contains, refl, sym, ap, ◌∙◌, Bor, arith, OnOk, OnErr, Result, Ok, Err, subst}
+use Rattle.std.proofs.Common.{◌≡◌, ℕ, ◌+◌, Bool, true, false, if◌then◌else◌, cond, bytes_eq, List, [], ◌∷◌, ◌++◌, length, map, drop, ◌-◌, Option, Some, None}
+use Rattle.std.proofs.Common.{is_some, option_map, MatchOption, Contains, refl, sym, ap, ◌∙◌, Bor, arith, OnOk, OnErr, Result, Ok, Err, subst}
 use Rattle.std.proofs.lemmas.List.Elements.{Contains-append_left, Contains-append_right}
 use Rattle.std.proofs.lemmas.Slice.Eq.{bytes_eq-Decides}
 use Rattle.std.proofs.lemmas.Map.Text.{hash_map_updates_str}

@@ -1,5 +1,6 @@
 -- The place of a name, where one more name comes.
-use Rattle.std.proofs.Common.{arith, ◌≡◌, ℕ, suc, ◌+◌, ◌<◌, ◌^◌, Bool, true, false, if◌then◌else◌, cond, bytes_eq, List, [], ◌∷◌, ◌++◌, length, Option, Some, None, IfSome, option_map, is_some, refl, sym, ap, ◌∙◌, Bor, length-append, map}
+use Rattle.std.proofs.Common.{arith, ◌≡◌, ℕ, suc, ◌+◌, ◌<◌, ◌^◌, Bool, true, false, if◌then◌else◌, cond, bytes_eq, List, [], ◌∷◌, ◌++◌, length}
+use Rattle.std.proofs.Common.{Option, Some, None, IfSome, option_map, is_some, refl, sym, ap, ◌∙◌, Bor, length-append, map}
 use Rattle.std.proofs.lemmas.Slice.Eq.{bytes_eq-Decides}
 use Rattle.std.proofs.lemmas.Map.Text.{hash_map_updates_str}
 use Rattle.std.proofs.lemmas.List.{map-append}
@@ -23,7 +24,8 @@ pub slot_is_place : (x : Name) (names : List Name) → slot_of x names ≡ place
 slot_is_place x [] = refl
 slot_is_place x (y ∷ names) = first (slot_is_place x names) (same_name x y)
   where
-    first : slot_of x names ≡ place_or (place_of x names) (length names) → (b : Bool) → (if b then 0 else suc (slot_of x names)) ≡ place_or (if b then Some 0 else option_map suc (place_of x names)) (suc (length names))
+    first : slot_of x names ≡ place_or (place_of x names) (length names) → (b : Bool)
+        → (if b then 0 else suc (slot_of x names)) ≡ place_or (if b then Some 0 else option_map suc (place_of x names)) (suc (length names))
     first h true = refl
     first h false = ap suc h ∙ later (place_of x names) (length names)
 
@@ -51,7 +53,9 @@ push_if : (x : Name) (names : List Name) (y : Name) → place_of x (names ++ y �
 push_if x [] y = refl
 push_if x (z ∷ names) y = first (push_if x names y) (same_name x z)
   where
-    first : place_of x (names ++ y ∷ []) ≡ after_push (place_of x names) (same_name x y) (length names) → (b : Bool) → (if b then Some 0 else option_map suc (place_of x (names ++ y ∷ []))) ≡ after_push (if b then Some 0 else option_map suc (place_of x names)) (same_name x y) (suc (length names))
+    first : place_of x (names ++ y ∷ []) ≡ after_push (place_of x names) (same_name x y) (length names) → (b : Bool)
+        → (if b then Some 0 else option_map suc (place_of x (names ++ y ∷ [])))
+        ≡ after_push (if b then Some 0 else option_map suc (place_of x names)) (same_name x y) (suc (length names))
     first h true = refl
     first h false = ap (option_map suc) h ∙ later_push (place_of x names) (same_name x y) (length names)
 

@@ -30,7 +30,9 @@ brings_self (false ∷ row) = brings_self row
 
 each_brings_self : (xs : List Outer) → each_brings xs xs ≡ false
 each_brings_self [] = refl
-each_brings_self (x ∷ xs) = or_from (round_brings x x) (each_brings xs xs) (or_from (brings x.empty x.empty) (brings x.gone x.gone || brings x.frozen x.frozen) (brings_self x.empty) (or_from (brings x.gone x.gone) (brings x.frozen x.frozen) (brings_self x.gone) (brings_self x.frozen))) (each_brings_self xs)
+each_brings_self (x ∷ xs) = or_from (round_brings x x) (each_brings xs xs)
+    (or_from (brings x.empty x.empty) (brings x.gone x.gone || brings x.frozen x.frozen) (brings_self x.empty)
+    (or_from (brings x.gone x.gone) (brings x.frozen x.frozen) (brings_self x.gone) (brings_self x.frozen))) (each_brings_self xs)
 
 is_alike_self : (x : Outer) → is_alike x x ≡ true
 is_alike_self x = is_alike_of x x refl refl refl refl
@@ -90,7 +92,8 @@ tells_both xs ys e = at (are_alike xs ys) (each_brings xs ys) (each_brings ys xs
 none : (names : Names) (last : ℕ) (blocks : List Outer) → HasNumber names last 0 blocks
 none names last blocks = (omega arith, λ lt. absurd (omega (arith, lt)))
 
-pub after_meeting : (names : Names) (last a b : ℕ) (xs ys : List Outer) (m : Meeting) → m ≡ meeting_of xs ys → HasNumber names last a xs → HasNumber names last b ys → HasNumber names last (number_after m a b) (either_each xs ys)
+pub after_meeting : (names : Names) (last a b : ℕ) (xs ys : List Outer) (m : Meeting) → m ≡ meeting_of xs ys → HasNumber names last a xs
+    → HasNumber names last b ys → HasNumber names last (number_after m a b) (either_each xs ys)
 after_meeting names last a b xs ys meeting.Apart e h k = none names last (either_each xs ys)
 after_meeting names last a b xs ys meeting.Stays e h k = subst (HasNumber names last a) (sym (each_stays xs ys (tells_stays xs ys e).1)) h
 after_meeting names last a b xs ys meeting.Comes e h k =
@@ -142,7 +145,8 @@ named_there names n m blocks lt = ap (λ b. if b then blocks else names m) (not_
 has_still : (names : Names) (last last' n m : ℕ) (blocks xs : List Outer) → last < n → last ≤ last' → HasNumber names last m xs → HasNumber (with_name names n blocks) last' m xs
 has_still names last last' n m blocks xs new more h = (omega (arith, h.0, more), λ lt. h.1 lt ∙ sym (named_there names n m blocks (omega (arith, h.0, new))))
 
-pub numbered_still : (names : Names) (shapes : Shapes) (numbers : List ℕ) (last last' n : ℕ) (blocks : List Outer) → last < n → last ≤ last' → AreNumbered names shapes numbers last → AreNumbered (with_name names n blocks) shapes numbers last'
+pub numbered_still : (names : Names) (shapes : Shapes) (numbers : List ℕ) (last last' n : ℕ) (blocks : List Outer) → last < n → last ≤ last'
+    → AreNumbered names shapes numbers last → AreNumbered (with_name names n blocks) shapes numbers last'
 numbered_still names shapes numbers last last' n blocks new more h = λ k s e. has_still names last last' n (number_of numbers k) blocks s.outer new more (h k s e)
 
 pub pair_still : (names : Names) (last last' n : ℕ) (blocks : List Outer) (p : Option Pair) → last < n → last ≤ last' → IsPair names last p → IsPair (with_name names n blocks) last' p
@@ -150,7 +154,8 @@ pair_still names last last' n blocks None new more h = h
 pair_still names last last' n blocks (Some p) new more h = (
   omega (arith, h.0, more),
   omega (arith, h.1, more),
-  h.2 ∙ sym (ap (λ l. meeting_of l (with_name names n blocks p.found)) (named_there names n p.there blocks (omega (arith, h.0, new))) ∙ ap (meeting_of (names p.there)) (named_there names n p.found blocks (omega (arith, h.1, new)))),
+  h.2 ∙ sym (ap (λ l. meeting_of l (with_name names n blocks p.found)) (named_there names n p.there blocks (omega (arith, h.0, new)))
+      ∙ ap (meeting_of (names p.there)) (named_there names n p.found blocks (omega (arith, h.1, new)))),
 )
 
 pub has_new : (names : Names) (last n : ℕ) (blocks : List Outer) → n ≤ last → HasNumber (with_name names n blocks) last n blocks
@@ -196,7 +201,8 @@ joined_outer t s r e = at (can_meet t s) e
     at false e = cc
 
 -- what is known once a place has another shape and its number
-pub known_set : (names : Names) (items items' : List (Option Found)) (numbers numbers' : List ℕ) (last last' k n : ℕ) (y : Option Found) (r : Found) → items' ≡ slice_set (slice_set items k y) k (Some r) → numbers' ≡ slice_set numbers k n → last' ≡ last →
+pub known_set : (names : Names) (items items' : List (Option Found)) (numbers numbers' : List ℕ) (last last' k n : ℕ) (y : Option Found) (r : Found)
+    → items' ≡ slice_set (slice_set items k y) k (Some r) → numbers' ≡ slice_set numbers k n → last' ≡ last →
     AreNumbered names (shapes_of items) numbers last → HasNumber names last n (rounds_of r.outer.value) → AreNumbered names (shapes_of items') numbers' last'
 known_set names items items' numbers numbers' last last' k n y r e f g h i =
     let set = numbered_set names (shapes_of items) numbers last k n (shape_view r) h i in
@@ -208,7 +214,8 @@ pub pair_same : (names : Names) (last last' : ℕ) (p p' : Option Pair) → last
 pair_same names last last' p p' e f h = subst (λ l. IsPair names l p') (sym e) (subst (IsPair names last) (sym f) h)
 
 -- what is known once what an instruction leaves has a number
-pub known_next : (code : Code) (s : Search) (n : Numbers) (k number : ℕ) (i : Instr) (t : Shape) (left : Found) → IsKnown s → slice_get (shapes_of s.found.items) k ≡ Some (Some t) → IsNext k i number s.numbers n → shape_view left ≡ leaves code t i →
+pub known_next : (code : Code) (s : Search) (n : Numbers) (k number : ℕ) (i : Instr) (t : Shape) (left : Found) → IsKnown s
+    → slice_get (shapes_of s.found.items) k ≡ Some (Some t) → IsNext k i number s.numbers n → shape_view left ≡ leaves code t i →
     IsKnownWith number left (record s { numbers = n })
 known_next code s n k number i t left known at next is =
     ⊎_elim (λ (h : (s.numbers.last < number) × (number ≤ n.last)). new h.0 h.1) (λ (h : (number ≡ 0) ⊎ ((keeps_blocks i ≡ true) × (number ≡ number_of s.numbers.places.items k))).

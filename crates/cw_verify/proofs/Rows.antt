@@ -1,5 +1,6 @@
 -- Rows of slots: rows that meet, and slots that are marked one after another.
-use Rattle.std.proofs.Common.{◌≡◌, ℕ, zero, suc, ◌+◌, ◌<◌, ◌≤◌, Bool, true, false, not, ◌||◌, ◌&&◌, if◌then◌else◌, nat_eq, nat_lt, List, [], ◌∷◌, Some, length, get_or, refl, sym, ap, ◌∙◌, ⊎_elim, arith}
+use Rattle.std.proofs.Common.{◌≡◌, ℕ, zero, suc, ◌+◌, ◌<◌, ◌≤◌, Bool, true, false, not, ◌||◌, ◌&&◌, if◌then◌else◌, nat_eq}
+use Rattle.std.proofs.Common.{nat_lt, List, [], ◌∷◌, Some, length, get_or, refl, sym, ap, ◌∙◌, ⊎_elim, arith}
 use Rattle.std.specs.Prelude.{take, drop, slice_get, slice_set}
 use Rattle.std.proofs.lemmas.List.{length-set, length-replicate}
 use Rattle.std.proofs.lemmas.Bool.{cases_eq, or_parts}
@@ -97,7 +98,8 @@ same_either true xs = refl
 same_either false xs = refl
 
 -- one slot more
-pub either_more : (xs ys : Row) (a : ℕ) (d : Bool) → a < length ys → either_empty xs (take (suc a) ys) ≡ (if get_or ys a d then slice_set (either_empty xs (take a ys)) a true else either_empty xs (take a ys))
+pub either_more : (xs ys : Row) (a : ℕ) (d : Bool) → a < length ys → either_empty xs (take (suc a) ys)
+    ≡ (if get_or ys a d then slice_set (either_empty xs (take a ys)) a true else either_empty xs (take a ys))
 either_more xs [] a d lt = absurd (omega (arith, lt))
 either_more [] (y ∷ ys) a d lt = same_either (get_or (y ∷ ys) a d) []
 either_more (x ∷ xs) (y ∷ ys) zero d lt = ap (λ l. (x || y) ∷ l) (either_none xs) ∙ both x y
@@ -109,7 +111,8 @@ either_more (x ∷ xs) (y ∷ ys) zero d lt = ap (λ l. (x || y) ∷ l) (either_
     both false false = refl
 either_more (x ∷ xs) (y ∷ ys) (suc a) d lt = ap (λ l. (x || y) ∷ l) (either_more xs ys a d (omega (arith, lt))) ∙ out (get_or ys a d)
   where
-    out : (b : Bool) → (x || y) ∷ (if b then slice_set (either_empty xs (take a ys)) a true else either_empty xs (take a ys)) ≡ (if b then (x || y) ∷ slice_set (either_empty xs (take a ys)) a true else (x || y) ∷ either_empty xs (take a ys))
+    out : (b : Bool) → (x || y) ∷ (if b then slice_set (either_empty xs (take a ys)) a true else either_empty xs (take a ys))
+        ≡ (if b then (x || y) ∷ slice_set (either_empty xs (take a ys)) a true else (x || y) ∷ either_empty xs (take a ys))
     out true = refl
     out false = refl
 

@@ -1,5 +1,6 @@
 -- What a step of a search changes, and what it keeps.
-use Rattle.std.proofs.Common.{◌≡◌, ◌⊎◌, inl, inr, ⊎_elim, ℕ, zero, suc, ◌+◌, ◌-◌, ◌<◌, ◌≤◌, Bool, true, false, ◌||◌, Option, Some, None, List, [], ◌∷◌, length, get_or, refl, sym, ap, ◌∙◌, subst, arith}
+use Rattle.std.proofs.Common.{◌≡◌, ◌⊎◌, inl, inr, ⊎_elim, ℕ, zero, suc, ◌+◌, ◌-◌, ◌<◌, ◌≤◌, Bool, true, false, ◌||◌, Option}
+use Rattle.std.proofs.Common.{Some, None, List, [], ◌∷◌, length, get_or, refl, sym, ap, ◌∙◌, subst, arith}
 use Rattle.std.specs.Prelude.{replicate, slice_get, slice_set, option_map, Result, Ok, Err}
 use Rattle.std.proofs.lemmas.List.{length-map, length-replicate, map-set, set-set}
 use Rattle.std.proofs.lemmas.Option.{slice_get_within, slice_get-map, slice_get-get_or, same_Some}
@@ -15,7 +16,8 @@ use Rattle.cw_code.specs.lemmas.Slots.{each_covers_itself}
 use Rattle.cw_verify.specs.declared.found.Found.{Found}
 use Rattle.cw_verify.specs.declared.numbers.Numbers.{Numbers}
 use Rattle.cw_verify.specs.declared.search.Search.{Search}
-use Rattle.cw_verify.specs.Table.{Shapes, shape_view, shapes_of, may_act, joined, come_at, come, visited, unmarked_at, unmarked_in, unreached, IsIn, IsNoted, Notes, left_to_do, Spread, Tells, table_of, IsDone, IsSearch, Fails, AllNamed, blocks_of}
+use Rattle.cw_verify.specs.Table.{Shapes, shape_view, shapes_of, may_act, joined, come_at, come, visited, unmarked_at, unmarked_in, unreached, IsIn}
+use Rattle.cw_verify.specs.Table.{IsNoted, Notes, left_to_do, Spread, Tells, table_of, IsDone, IsSearch, Fails, AllNamed, blocks_of}
 use Rattle.cw_verify.proofs.Tables.{may_ready, may_thawed, leads_at, Visited, visits, visit_done, leads_grown, done_grown, held}
 
 -- places as shapes
@@ -46,7 +48,8 @@ unreached_same (Some u ∷ shapes) zero t s e = refl
 unreached_same (None ∷ shapes) (suc k) t s e = ap suc (unreached_same shapes k t s e)
 unreached_same (Some u ∷ shapes) (suc k) t s e = unreached_same shapes k t s e
 
-unmarked_less : (shapes : Shapes) (k : ℕ) (t s : Shape) → slice_get shapes k ≡ Some (Some t) → unmarked_at (Some s) < unmarked_at (Some t) → unmarked_in (slice_set shapes k (Some s)) < unmarked_in shapes
+unmarked_less : (shapes : Shapes) (k : ℕ) (t s : Shape) → slice_get shapes k ≡ Some (Some t) → unmarked_at (Some s) < unmarked_at (Some t)
+    → unmarked_in (slice_set shapes k (Some s)) < unmarked_in shapes
 unmarked_less [] k t s e lt = cc
 unmarked_less (o ∷ shapes) zero t s e lt = let same : o ≡ Some t = same_Some o (Some t) e in omega (arith, lt, ap unmarked_at same)
 unmarked_less (o ∷ shapes) (suc k) t s e lt = omega (arith, unmarked_less shapes k t s e lt)
@@ -91,7 +94,8 @@ module _ (shapes : Shapes) (k : ℕ) (s : Shape) (work work' : List ℕ) (n : Is
 pub spread_both : (a b c : Shapes) (u v w : List ℕ) (p q : Bool) → length b ≡ length a → Spread a b u v p → Spread b c v w q → Spread a c u w (p || q)
 spread_both a b c u v w p q n h k = record {
   kept = λ j i. k.kept j (h.kept j i);
-  noted = λ j. ⊎_elim (λ (e : slice_get c j ≡ slice_get b j). ⊎_elim (λ (d : slice_get b j ≡ slice_get a j). inl (e ∙ d)) (λ (i : IsIn j v). inr (k.kept j i)) (h.noted j)) (λ (i : IsIn j w). inr i) (k.noted j);
+  noted = λ j. ⊎_elim (λ (e : slice_get c j ≡ slice_get b j). ⊎_elim (λ (d : slice_get b j ≡ slice_get a j). inl (e ∙ d))
+      (λ (i : IsIn j v). inr (k.kept j i)) (h.noted j)) (λ (i : IsIn j w). inr i) (k.noted j);
   from = λ j i. ⊎_elim (λ (e : IsIn j v). h.from j e) (λ (lt : j < length b). inr (omega (arith, lt, n))) (k.from j i);
   fewer = omega (arith, h.fewer, k.fewer);
   reaches = either p q h.reaches k.reaches;
@@ -110,7 +114,8 @@ spread_both a b c u v w p q n h k = record {
 
 -- a shape has come to a place that had none
 pub come_new : (items : List (Option Found)) (work work' : List ℕ) (k : ℕ) (y o d : Option Found) (r : Found) → IsNoted k work work' → k < length items → o ≡ get_or items k d → o ≡ None →
-    (come (shapes_of items) k (shape_view r) ≡ Some (shapes_of (slice_set (slice_set items k y) k (Some r)))) × Spread (shapes_of items) (shapes_of (slice_set (slice_set items k y) k (Some r))) work work' true
+    (come (shapes_of items) k (shape_view r) ≡ Some (shapes_of (slice_set (slice_set items k y) k (Some r))))
+    × Spread (shapes_of items) (shapes_of (slice_set (slice_set items k y) k (Some r))) work work' true
 come_new items work work' k y o d r n lt e none =
     let at = shapes_at items k o d lt e ∙ ap (λ x. Some (option_map shape_view x)) none in
     let set = shapes_set items k y (Some r) in (
@@ -119,7 +124,8 @@ come_new items work work' k y o d r n lt e none =
     )
 
 -- and to one that had one
-pub come_more : (items : List (Option Found)) (work work' : List ℕ) (k : ℕ) (y o d : Option Found) (t r : Found) (s : Shape) (more : Bool) → Notes more k work work' → k < length items → o ≡ get_or items k d → o ≡ Some t → joined (Some (shape_view t)) s ≡ Some (shape_view r) →
+pub come_more : (items : List (Option Found)) (work work' : List ℕ) (k : ℕ) (y o d : Option Found) (t r : Found) (s : Shape) (more : Bool)
+    → Notes more k work work' → k < length items → o ≡ get_or items k d → o ≡ Some t → joined (Some (shape_view t)) s ≡ Some (shape_view r) →
     (more ≡ false → shape_view r ≡ shape_view t) → (more ≡ true → unmarked_at (Some (shape_view r)) < unmarked_at (Some (shape_view t))) →
     (come (shapes_of items) k s ≡ Some (shapes_of (slice_set (slice_set items k y) k (Some r)))) × Spread (shapes_of items) (shapes_of (slice_set (slice_set items k y) k (Some r))) work work' false
 come_more items work work' k y o d t r s more n lt e some is same fewer = (
@@ -133,14 +139,18 @@ come_more items work work' k y o d t r s more n lt e some is same fewer = (
     set : shapes_of (slice_set (slice_set items k y) k (Some r)) ≡ slice_set (shapes_of items) k (Some (shape_view r))
     set = shapes_set items k y (Some r)
 
-    by : (more : Bool) → Notes more k work work' → (more ≡ false → shape_view r ≡ shape_view t) → (more ≡ true → unmarked_at (Some (shape_view r)) < unmarked_at (Some (shape_view t))) → Spread (shapes_of items) (slice_set (shapes_of items) k (Some (shape_view r))) work work' false
+    by : (more : Bool) → Notes more k work work' → (more ≡ false → shape_view r ≡ shape_view t)
+        → (more ≡ true → unmarked_at (Some (shape_view r)) < unmarked_at (Some (shape_view t)))
+        → Spread (shapes_of items) (slice_set (shapes_of items) k (Some (shape_view r))) work work' false
     by true n h l = spread_more (shapes_of items) k (shape_view r) work work' n (shape_view t) at (l refl)
     by false n h l =
         let kept = set_same (shapes_of items) k (Some (shape_view t)) at in
-        subst (λ l. Spread (shapes_of items) l work work' false) (sym (ap (λ x. slice_set (shapes_of items) k (Some x)) (h refl) ∙ kept)) (subst (λ w. Spread (shapes_of items) (shapes_of items) work w false) (sym n) (spread_none (shapes_of items) work))
+        subst (λ l. Spread (shapes_of items) l work work' false) (sym (ap (λ x. slice_set (shapes_of items) k (Some x)) (h refl) ∙ kept))
+        (subst (λ w. Spread (shapes_of items) (shapes_of items) work w false) (sym n) (spread_none (shapes_of items) work))
 
 -- a search goes on with a place that was noted
-pub visit_search : (code : Code) (f : Func) (old new : Shapes) (work rest work' : List ℕ) (k : ℕ) (i : Instr) (reached : Bool) → f.end ≤ length code.instrs → AllNamed code f → IsSearch code f old work → IsNoted k rest work →
+pub visit_search : (code : Code) (f : Func) (old new : Shapes) (work rest work' : List ℕ) (k : ℕ) (i : Instr) (reached : Bool)
+    → f.end ≤ length code.instrs → AllNamed code f → IsSearch code f old work → IsNoted k rest work →
     slice_get code.instrs (f.start + k) ≡ Some i → visited code f.start old k i ≡ Some new → Spread old new rest work' reached → IsSearch code f new work'
 visit_search code f old new work rest work' k i reached inside named h e is v spread = record {
   whole = omega (arith, h.whole, made.as_many);
@@ -182,13 +192,15 @@ closed_is_table code f shapes inside h = record {
   goes = λ place s i e is. (both place s i e is).1;
 }
   where
-    both : (place : ℕ) (s : Shape) (i : Instr) → table_of f.start shapes place ≡ Some s → slice_get code.instrs place ≡ Some i → (may_act code s i ≡ true) × FlowsIntoEach (table_of f.start shapes) (leaves code s i) (nexts place i)
+    both : (place : ℕ) (s : Shape) (i : Instr) → table_of f.start shapes place ≡ Some s → slice_get code.instrs place ≡ Some i
+        → (may_act code s i ≡ true) × FlowsIntoEach (table_of f.start shapes) (leaves code s i) (nexts place i)
     both place s i e is =
         let p = held f.start shapes place s e in
         let same : f.start + (place - f.start) ≡ place = omega (arith, p.0) in
         let is' : slice_get code.instrs (f.start + (place - f.start)) ≡ Some i = ap (slice_get code.instrs) same ∙ is in
         let lt = slice_get_within shapes (place - f.start) (Some s) p.1 in
-        let d : IsDone code f.start shapes (place - f.start) = ⊎_elim (λ (q : IsIn (place - f.start) []). absurd (nowhere q)) (λ (d : IsDone code f.start shapes (place - f.start)). d) (h.done (place - f.start) lt) in
+        let d : IsDone code f.start shapes (place - f.start) = ⊎_elim (λ (q : IsIn (place - f.start) []). absurd (nowhere q))
+        (λ (d : IsDone code f.start shapes (place - f.start)). d) (h.done (place - f.start) lt) in
         subst (λ n. (may_act code s i ≡ true) × FlowsIntoEach (table_of f.start shapes) (leaves code s i) (nexts n i)) same (d s i p.1 is')
 
 -- why there is no answer
@@ -215,10 +227,12 @@ nothing zero k s e = cc
 nothing (suc n) zero s e = cc
 nothing (suc n) (suc k) s e = nothing n k s e
 
-pub begins : (code : Code) (f : Func) (shapes : Shapes) (work : List ℕ) → f.start < f.end → shapes ≡ Some (first_shape f) ∷ replicate (f.end - f.start - 1) None → IsNoted 0 [] work → IsSearch code f shapes work
+pub begins : (code : Code) (f : Func) (shapes : Shapes) (work : List ℕ) → f.start < f.end
+    → shapes ≡ Some (first_shape f) ∷ replicate (f.end - f.start - 1) None → IsNoted 0 [] work → IsSearch code f shapes work
 begins code f shapes work order e w = subst (λ l. IsSearch code f l work) (sym e) (record {
   whole = omega (arith, order, length-replicate {A = Option Shape} (f.end - f.start - 1) None);
-  starts = subst (λ p. FlowsInto (table_of f.start first) p (first_shape f)) zero_more (leads_at f.start first 0 (first_shape f) (first_shape f) refl refl (each_covers_itself (blocks_of (first_shape f))));
+  starts = subst (λ p. FlowsInto (table_of f.start first) p (first_shape f)) zero_more
+      (leads_at f.start first 0 (first_shape f) (first_shape f) refl refl (each_covers_itself (blocks_of (first_shape f))));
   below = λ t table k s q. below t table k s q;
   small = λ k q. at_most_one k q;
   done = λ k lt. done k;
@@ -244,7 +258,8 @@ begins code f shapes work order e w = subst (λ l. IsSearch code f l work) (sym 
     done (suc k) = inr (λ s i q is. absurd (nothing (f.end - f.start - 1) k s q))
 
 -- the first place is all that a search begins with
-pub begun : (items : List (Option Found)) (first : Found) (n : ℕ) (f : Func) → items ≡ Some first ∷ replicate n None → shape_view first ≡ first_shape f → shapes_of items ≡ Some (first_shape f) ∷ replicate n None
+pub begun : (items : List (Option Found)) (first : Found) (n : ℕ) (f : Func) → items ≡ Some first ∷ replicate n None
+    → shape_view first ≡ first_shape f → shapes_of items ≡ Some (first_shape f) ∷ replicate n None
 begun items first n f e is = ap shapes_of e ∙ ap (λ s. Some s ∷ shapes_of (replicate n None)) is ∙ ap (λ l. Some (first_shape f) ∷ l) (none n)
   where
     none : (n : ℕ) → shapes_of (replicate n None) ≡ replicate n None

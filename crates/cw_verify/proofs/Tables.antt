@@ -1,5 +1,6 @@
 -- A table that is found step by step has no more than any table of the function.
-use Rattle.std.proofs.Common.{◌≡◌, ⊎_elim, ℕ, zero, suc, ◌+◌, ◌-◌, ◌<◌, ◌≤◌, Bool, true, false, ◌&&◌, nat_le, nat_eq, if◌then◌else◌, Option, Some, None, List, [], ◌∷◌, length, refl, sym, ap, ◌∙◌, subst, arith}
+use Rattle.std.proofs.Common.{◌≡◌, ⊎_elim, ℕ, zero, suc, ◌+◌, ◌-◌, ◌<◌, ◌≤◌, Bool, true, false, ◌&&◌, nat_le, nat_eq}
+use Rattle.std.proofs.Common.{if◌then◌else◌, Option, Some, None, List, [], ◌∷◌, length, refl, sym, ap, ◌∙◌, subst, arith}
 use Rattle.std.specs.Prelude.{map, is_none, slice_get, slice_set, option_map}
 use Rattle.std.proofs.lemmas.List.{length-set}
 use Rattle.std.proofs.lemmas.Option.{slice_get_within, same_Some}
@@ -16,9 +17,13 @@ use Rattle.cw_code.specs.Code.{Code}
 use Rattle.cw_code.specs.declared.code.Loan.{Loan}
 use Rattle.cw_code.specs.declared.code.Loan.TheVariants.{Array, Reader}
 use Rattle.cw_code.specs.Run.{passed_by, lent_by}
-use Rattle.cw_code.specs.Fits.{Row, Outer, empty_rows, gone_rows, frozen_rows, params_of, names_well, Shape, is_full_in, full_in_all, has_slot, has_array, has_arrays, has_loan, has_loans, has_target, has_arguments, none_open, can_close, has_parts, can_uncut, is_no_half, is_no_part, are_no_parts, none_frozen, slots_uncut, changes, changes_back, slots_lent, with_target, with_gone, with_passed, with_uncut, none_empty, closed_shape, uncut_shape, is_ready, is_thawed, leaves, nexts, Covers, CoversEach, Table, FlowsInto, FlowsIntoEach, IsTable}
+use Rattle.cw_code.specs.Fits.{Row, Outer, empty_rows, gone_rows, frozen_rows, params_of, names_well, Shape, is_full_in, full_in_all, has_slot, has_array, has_arrays}
+use Rattle.cw_code.specs.Fits.{has_loan, has_loans, has_target, has_arguments, none_open, can_close, has_parts, can_uncut, is_no_half, is_no_part, are_no_parts}
+use Rattle.cw_code.specs.Fits.{none_frozen, slots_uncut, changes, changes_back, slots_lent, with_target, with_gone, with_passed, with_uncut, none_empty, closed_shape}
+use Rattle.cw_code.specs.Fits.{uncut_shape, is_ready, is_thawed, leaves, nexts, Covers, CoversEach, Table, FlowsInto, FlowsIntoEach, IsTable}
 use Rattle.cw_code.specs.lemmas.Slots.{covers_full, covers_length, covers_itself, covers_set, each_covers_itself, each_covers_after}
-use Rattle.cw_verify.specs.Table.{Shapes, either_empty, either_each, same_cut, is_alike, are_alike, blocks_of, can_meet, met, may_act, joined, come_at, come, then_come, come_all, next_distances, visited_at, visited, shape_at, table_of, Below, Grows, IsDone}
+use Rattle.cw_verify.specs.Table.{Shapes, either_empty, either_each, same_cut, is_alike, are_alike, blocks_of, can_meet, met, may_act, joined, come_at, come}
+use Rattle.cw_verify.specs.Table.{then_come, come_all, next_distances, visited_at, visited, shape_at, table_of, Below, Grows, IsDone}
 use Rattle.cw_verify.proofs.Decided.{let_through, both_less}
 
 -- rows that cover
@@ -80,7 +85,8 @@ cut_of (Some c) (Some d) h =
 cut_same : (c : Option Halves) → same_cut c c ≡ true
 cut_same None = refl
 cut_same (Some h) =
-    both_true (nat_eq h.array h.array) (nat_eq h.left h.left && nat_eq h.right h.right) (equal h.array h.array refl) (both_true (nat_eq h.left h.left) (nat_eq h.right h.right) (equal h.left h.left refl) (equal h.right h.right refl))
+    both_true (nat_eq h.array h.array) (nat_eq h.left h.left && nat_eq h.right h.right) (equal h.array h.array refl)
+    (both_true (nat_eq h.left h.left) (nat_eq h.right h.right) (equal h.left h.left refl) (equal h.right h.right refl))
 
 -- the same, block by block
 each_either : (xs ys zs : List Outer) → CoversEach xs ys → CoversEach xs zs → CoversEach xs (either_each ys zs)
@@ -88,7 +94,13 @@ each_either [] [] zs c d = tt
 each_either [] (y ∷ ys) zs c d = absurd c
 each_either (x ∷ xs) [] zs c d = absurd c
 each_either (x ∷ xs) (y ∷ ys) [] c d = absurd d
-each_either (x ∷ xs) (y ∷ ys) (z ∷ zs) c d = (covers_either x.empty y.empty z.empty c.0 d.0, covers_either x.gone y.gone z.gone c.1 d.1, covers_either x.frozen y.frozen z.frozen c.2 d.2, c.3, each_either xs ys zs c.4 d.4)
+each_either (x ∷ xs) (y ∷ ys) (z ∷ zs) c d = (
+  covers_either x.empty y.empty z.empty c.0 d.0,
+  covers_either x.gone y.gone z.gone c.1 d.1,
+  covers_either x.frozen y.frozen z.frozen c.2 d.2,
+  c.3,
+  each_either xs ys zs c.4 d.4,
+)
 
 each_first : (ys zs : List Outer) → CoversEach (either_each ys zs) ys
 each_first [] zs = tt
@@ -121,15 +133,21 @@ is_alike_of y z a b f c =
     let cuts = subst (λ d. same_cut y.cut d ≡ true) c (cut_same y.cut) in
     let last = both_true (nat_eq (length y.frozen) (length z.frozen)) (same_cut y.cut z.cut) (equal (length y.frozen) (length z.frozen) f) cuts in
     let rest = both_true (nat_eq (length y.gone) (length z.gone)) (nat_eq (length y.frozen) (length z.frozen) && same_cut y.cut z.cut) (equal (length y.gone) (length z.gone) b) last in
-    both_true (nat_eq (length y.empty) (length z.empty)) (nat_eq (length y.gone) (length z.gone) && (nat_eq (length y.frozen) (length z.frozen) && same_cut y.cut z.cut)) (equal (length y.empty) (length z.empty) a) rest
+    both_true (nat_eq (length y.empty) (length z.empty)) (nat_eq (length y.gone) (length z.gone)
+    && (nat_eq (length y.frozen) (length z.frozen) && same_cut y.cut z.cut)) (equal (length y.empty) (length z.empty) a) rest
 
 each_second : (ys zs : List Outer) → are_alike ys zs ≡ true → CoversEach (either_each ys zs) zs
 each_second [] [] e = tt
 each_second [] (z ∷ zs) e = cc
 each_second (y ∷ ys) [] e = cc
 each_second (y ∷ ys) (z ∷ zs) e =
-    let a = alike y z (first_true (is_alike y z) (are_alike ys zs) e) in
-    (either_second y.empty z.empty a.as_wide, either_second y.gone z.gone a.as_wide_gone, either_second y.frozen z.frozen a.as_wide_frozen, a.same, each_second ys zs (second_true (is_alike y z) (are_alike ys zs) e))
+    let a = alike y z (first_true (is_alike y z) (are_alike ys zs) e) in (
+      either_second y.empty z.empty a.as_wide,
+      either_second y.gone z.gone a.as_wide_gone,
+      either_second y.frozen z.frozen a.as_wide_frozen,
+      a.same,
+      each_second ys zs (second_true (is_alike y z) (are_alike ys zs) e),
+    )
 
 -- blocks that the same blocks cover are alike
 each_alike : (xs ys zs : List Outer) → CoversEach xs ys → CoversEach xs zs → are_alike ys zs ≡ true
@@ -140,7 +158,9 @@ each_alike (x ∷ xs) [] zs c d = absurd c
 each_alike (x ∷ xs) (y ∷ ys) [] c d = absurd d
 each_alike (x ∷ xs) (y ∷ ys) (z ∷ zs) c d =
     both_true (is_alike y z) (are_alike ys zs)
-    (is_alike_of y z (sym (covers_length x.empty y.empty c.0) ∙ covers_length x.empty z.empty d.0) (sym (covers_length x.gone y.gone c.1) ∙ covers_length x.gone z.gone d.1) (sym (covers_length x.frozen y.frozen c.2) ∙ covers_length x.frozen z.frozen d.2) (sym c.3 ∙ d.3))
+    (is_alike_of y z (sym (covers_length x.empty y.empty c.0) ∙ covers_length x.empty z.empty d.0)
+    (sym (covers_length x.gone y.gone c.1) ∙ covers_length x.gone z.gone d.1)
+    (sym (covers_length x.frozen y.frozen c.2) ∙ covers_length x.frozen z.frozen d.2) (sym c.3 ∙ d.3))
     (each_alike xs ys zs c.4 d.4)
 
 each_full : (xs ys : List Outer) (a : ℕ) → CoversEach xs ys → full_in_all (empty_rows xs) a ≡ true → full_in_all (empty_rows ys) a ≡ true
@@ -148,26 +168,30 @@ each_full [] [] a c h = refl
 each_full [] (y ∷ ys) a c h = absurd c
 each_full (x ∷ xs) [] a c h = absurd c
 each_full (x ∷ xs) (y ∷ ys) a c h =
-    both_less (is_full_in (slice_get x.empty a)) (full_in_all (empty_rows xs) a) (is_full_in (slice_get y.empty a)) (full_in_all (empty_rows ys) a) (covers_full x.empty y.empty a c.0) (each_full xs ys a c.4) h
+    both_less (is_full_in (slice_get x.empty a)) (full_in_all (empty_rows xs) a) (is_full_in (slice_get y.empty a)) (full_in_all (empty_rows ys) a)
+    (covers_full x.empty y.empty a c.0) (each_full xs ys a c.4) h
 
 each_there : (xs ys : List Outer) (a : ℕ) → CoversEach xs ys → full_in_all (gone_rows xs) a ≡ true → full_in_all (gone_rows ys) a ≡ true
 each_there [] [] a c h = refl
 each_there [] (y ∷ ys) a c h = absurd c
 each_there (x ∷ xs) [] a c h = absurd c
 each_there (x ∷ xs) (y ∷ ys) a c h =
-    both_less (is_full_in (slice_get x.gone a)) (full_in_all (gone_rows xs) a) (is_full_in (slice_get y.gone a)) (full_in_all (gone_rows ys) a) (covers_full x.gone y.gone a c.1) (each_there xs ys a c.4) h
+    both_less (is_full_in (slice_get x.gone a)) (full_in_all (gone_rows xs) a) (is_full_in (slice_get y.gone a)) (full_in_all (gone_rows ys) a)
+    (covers_full x.gone y.gone a c.1) (each_there xs ys a c.4) h
 
 each_thawed : (xs ys : List Outer) (a : ℕ) → CoversEach xs ys → full_in_all (frozen_rows xs) a ≡ true → full_in_all (frozen_rows ys) a ≡ true
 each_thawed [] [] a c h = refl
 each_thawed [] (y ∷ ys) a c h = absurd c
 each_thawed (x ∷ xs) [] a c h = absurd c
 each_thawed (x ∷ xs) (y ∷ ys) a c h =
-    both_less (is_full_in (slice_get x.frozen a)) (full_in_all (frozen_rows xs) a) (is_full_in (slice_get y.frozen a)) (full_in_all (frozen_rows ys) a) (covers_full x.frozen y.frozen a c.2) (each_thawed xs ys a c.4) h
+    both_less (is_full_in (slice_get x.frozen a)) (full_in_all (frozen_rows xs) a) (is_full_in (slice_get y.frozen a))
+    (full_in_all (frozen_rows ys) a) (covers_full x.frozen y.frozen a c.2) (each_thawed xs ys a c.4) h
 
 all_thawed : (xs ys : List Outer) (slots : List ℕ) → CoversEach xs ys → none_frozen (frozen_rows xs) slots ≡ true → none_frozen (frozen_rows ys) slots ≡ true
 all_thawed xs ys [] c h = refl
 all_thawed xs ys (a ∷ slots) c h =
-    both_less (full_in_all (frozen_rows xs) a) (none_frozen (frozen_rows xs) slots) (full_in_all (frozen_rows ys) a) (none_frozen (frozen_rows ys) slots) (each_thawed xs ys a c) (all_thawed xs ys slots c) h
+    both_less (full_in_all (frozen_rows xs) a) (none_frozen (frozen_rows xs) slots) (full_in_all (frozen_rows ys) a)
+    (none_frozen (frozen_rows ys) slots) (each_thawed xs ys a c) (all_thawed xs ys slots c) h
 
 back_thawed : (xs ys : List Outer) → CoversEach xs ys → none_frozen (frozen_rows xs) (changes_back xs) ≡ true → none_frozen (frozen_rows ys) (changes_back ys) ≡ true
 back_thawed [] [] c h = refl
@@ -191,7 +215,8 @@ each_close (x ∷ xs) (y ∷ ys) c = ap is_none c.3
 each_parts : (xs ys : List Outer) (cut : Option Halves) → CoversEach xs ys → has_parts (gone_rows xs) cut ≡ true → has_parts (gone_rows ys) cut ≡ true
 each_parts xs ys None c h = cc
 each_parts xs ys (Some d) c h =
-    both_less (full_in_all (gone_rows xs) d.left) (full_in_all (gone_rows xs) d.right) (full_in_all (gone_rows ys) d.left) (full_in_all (gone_rows ys) d.right) (each_there xs ys d.left c) (each_there xs ys d.right c) h
+    both_less (full_in_all (gone_rows xs) d.left) (full_in_all (gone_rows xs) d.right) (full_in_all (gone_rows ys) d.left)
+    (full_in_all (gone_rows ys) d.right) (each_there xs ys d.left c) (each_there xs ys d.right c) h
 
 each_uncut : (xs ys : List Outer) → CoversEach xs ys → can_uncut xs ≡ true → can_uncut ys ≡ true
 each_uncut [] [] c h = cc
@@ -292,8 +317,10 @@ module _ (code : Code) (big small : Shape) (e : big.operands ≡ small.operands)
       let n = params_of (slice_get code.funcs f.function) in
       let passed = passed_by code f.passed in
       let loans = lent_by code f.lent in
-      both_less (has_arguments kind n big.operands && (has_target big f.target && has_arrays big passed)) (has_loans big loans) (has_arguments kind n small.operands && (has_target small f.target && has_arrays small passed)) (has_loans small loans)
-      (both_less (has_arguments kind n big.operands) (has_target big f.target && has_arrays big passed) (has_arguments kind n small.operands) (has_target small f.target && has_arrays small passed) (arguments_less kind n)
+      both_less (has_arguments kind n big.operands && (has_target big f.target && has_arrays big passed)) (has_loans big loans)
+      (has_arguments kind n small.operands && (has_target small f.target && has_arrays small passed)) (has_loans small loans)
+      (both_less (has_arguments kind n big.operands) (has_target big f.target && has_arrays big passed) (has_arguments kind n small.operands)
+      (has_target small f.target && has_arrays small passed) (arguments_less kind n)
       (both_less (has_target big f.target) (has_arrays big passed) (has_target small f.target) (has_arrays small passed) (target_less f.target) (arrays_less passed))) (loans_less loans) h
   ready_less (instr.Recur kind f) h =
       let n = params_of (slice_get code.funcs f.function) in
@@ -313,13 +340,15 @@ module _ (code : Code) (big small : Shape) (e : big.operands ≡ small.operands)
   ready_less (instr.Cut d line) h =
       let slots = d.array ∷ d.left ∷ d.right ∷ [] in
       both_less (has_arrays big slots && nat_le 1 big.operands) (are_no_parts d big.outer) (has_arrays small slots && nat_le 1 small.operands) (are_no_parts d small.outer)
-      (both_less (has_arrays big slots) (nat_le 1 big.operands) (has_arrays small slots) (nat_le 1 small.operands) (arrays_less slots) (some_less 1)) (λ k. sym (each_no_parts big.outer small.outer d c.4) ∙ k) h
+      (both_less (has_arrays big slots) (nat_le 1 big.operands) (has_arrays small slots) (nat_le 1 small.operands) (arrays_less slots) (some_less 1))
+      (λ k. sym (each_no_parts big.outer small.outer d c.4) ∙ k) h
   ready_less instr.EndCut h = both_less (nat_eq 0 big.operands) (can_uncut big.outer) (nat_eq 0 small.operands) (can_uncut small.outer) none_less (each_uncut big.outer small.outer c.4) h
   ready_less instr.Sync h = none_less h
   ready_less instr.Close h = both_less (nat_eq 0 big.operands) (can_close big.outer) (nat_eq 0 small.operands) (can_close small.outer) none_less (λ k. sym (each_close big.outer small.outer c.4) ∙ k) h
   ready_less instr.Print h = some_less 1 h
   ready_less (instr.Reduce k) h = some_less 1 h
-  ready_less instr.ReturnValue h = both_less (nat_le 1 big.operands) (none_open big.outer) (nat_le 1 small.operands) (none_open small.outer) (some_less 1) (λ k. sym (each_open big.outer small.outer c.4) ∙ k) h
+  ready_less instr.ReturnValue h = both_less (nat_le 1 big.operands) (none_open big.outer) (nat_le 1 small.operands) (none_open small.outer)
+      (some_less 1) (λ k. sym (each_open big.outer small.outer c.4) ∙ k) h
   ready_less instr.Return h = sym (each_open big.outer small.outer c.4) ∙ h
   ready_less _ h = refl
 
@@ -365,7 +394,13 @@ module _ (code : Code) (big small : Shape) (e : big.operands ≡ small.operands)
   leaves_less (instr.SkipIfZero n) = record { as_many = ap (λ n. n - 1) e; covers = c }
   leaves_less (instr.Call kind f) = record {
     as_many = ap (λ n. n - params_of (slice_get code.funcs f.function)) e;
-    covers = (covers_target kind f.target big.empty small.empty c.0, covers_passed kind (passed_by code f.passed) big.gone small.gone c.1, covers_passed kind (slots_lent (lent_by code f.lent)) big.frozen small.frozen c.2, refl, c.4);
+    covers = (
+      covers_target kind f.target big.empty small.empty c.0,
+      covers_passed kind (passed_by code f.passed) big.gone small.gone c.1,
+      covers_passed kind (slots_lent (lent_by code f.lent)) big.frozen small.frozen c.2,
+      refl,
+      c.4,
+    );
   }
   leaves_less (instr.Recur kind f) = record {
     as_many = ap (λ n. n - params_of (slice_get code.funcs f.function)) e;
@@ -390,7 +425,8 @@ table_at start shapes k =
     let same : start + k - start ≡ k = omega arith in
     taken (nat_le start (start + k)) (shape_at (slice_get shapes (start + k - start))) None (at_most start (start + k) (omega arith)) ∙ ap (λ j. shape_at (slice_get shapes j)) same
 
-pub leads_at : (start : ℕ) (shapes : Shapes) (k : ℕ) (there s : Shape) → slice_get shapes k ≡ Some (Some there) → there.operands ≡ s.operands → CoversEach (blocks_of there) (blocks_of s) → FlowsInto (table_of start shapes) (start + k) s
+pub leads_at : (start : ℕ) (shapes : Shapes) (k : ℕ) (there s : Shape) → slice_get shapes k ≡ Some (Some there) → there.operands ≡ s.operands
+    → CoversEach (blocks_of there) (blocks_of s) → FlowsInto (table_of start shapes) (start + k) s
 leads_at start shapes k there s e n c = leads_of (table_of start shapes) (start + k) there s (table_at start shapes k ∙ ap shape_at e) n c
 
 -- a shape has come to a place
@@ -490,7 +526,8 @@ come_goes start shapes k s t below l lt e = at (slice_get shapes k) refl e
         let same : old.there ≡ l.there = same_Some old.there l.there (sym old.found ∙ l.found) in
         let n : u.operands ≡ s.operands = sym old.as_many ∙ ap (λ (y : Shape). y.operands) same ∙ l.as_many in
         let covers : CoversEach (blocks_of l.there) (blocks_of u) = subst (λ (y : Shape). CoversEach (blocks_of y) (blocks_of u)) same (covers_all old) in
-        never (can_meet u s) (both_true (nat_eq u.operands s.operands) (are_alike (blocks_of u) (blocks_of s)) (equal u.operands s.operands n) (each_alike (blocks_of l.there) (blocks_of u) (blocks_of s) covers (covers_all l))) (met u s) e
+        never (can_meet u s) (both_true (nat_eq u.operands s.operands) (are_alike (blocks_of u) (blocks_of s)) (equal u.operands s.operands n)
+        (each_alike (blocks_of l.there) (blocks_of u) (blocks_of s) covers (covers_all l))) (met u s) e
       where
         never : (b : Bool) → b ≡ true → (x : Shape) → option_map (λ t. slice_set shapes k (Some t)) (if b then Some x else None) ≡ None → ⊥
         never true h x e = cc
@@ -540,7 +577,8 @@ came_all start [] shapes s new from e =
     subst (λ l. CameAll start shapes [] s l) same (record { as_many = refl; grows = grows_refl start shapes; lead = tt; below = λ t b l. b })
 came_all start (p ∷ ps) shapes s new from e = by (λ mid e'. came_all start ps mid s new from.1 e') (come shapes (p - start) s) refl e
   where
-    by : ((mid : Shapes) → come_all mid (map (λ q. q - start) ps) s ≡ Some new → CameAll start mid ps s new) → (o : Option Shapes) → come shapes (p - start) s ≡ o → then_come o (λ t. come_all t (map (λ q. q - start) ps) s) ≡ Some new → CameAll start shapes (p ∷ ps) s new
+    by : ((mid : Shapes) → come_all mid (map (λ q. q - start) ps) s ≡ Some new → CameAll start mid ps s new) → (o : Option Shapes)
+        → come shapes (p - start) s ≡ o → then_come o (λ t. come_all t (map (λ q. q - start) ps) s) ≡ Some new → CameAll start shapes (p ∷ ps) s new
     by go None f e = cc
     by go (Some mid) f e =
         let rest = go mid e in
@@ -554,11 +592,15 @@ came_all start (p ∷ ps) shapes s new from e = by (λ mid e'. came_all start ps
         }
 
 -- shapes that a table takes can come to several places
-all_come : (start : ℕ) (ps : List ℕ) (shapes : Shapes) (s : Shape) (t : Table) → AllFrom start ps → ((p : ℕ) (x : Shape) → FlowsInto t p x → p < start + length shapes) → Below start shapes t → FlowsIntoEach t s ps → come_all shapes (map (λ p. p - start) ps) s ≡ None → ⊥
+all_come : (start : ℕ) (ps : List ℕ) (shapes : Shapes) (s : Shape) (t : Table) → AllFrom start ps
+    → ((p : ℕ) (x : Shape) → FlowsInto t p x → p < start + length shapes) → Below start shapes t → FlowsIntoEach t s ps
+    → come_all shapes (map (λ p. p - start) ps) s ≡ None → ⊥
 all_come start [] shapes s t from within below l e = cc
 all_come start (p ∷ ps) shapes s t from within below l e = by (λ mid w b e'. all_come start ps mid s t from.1 w b l.1 e') (come shapes (p - start) s) refl e
   where
-    by : ((mid : Shapes) → ((q : ℕ) (x : Shape) → FlowsInto t q x → q < start + length mid) → Below start mid t → come_all mid (map (λ q. q - start) ps) s ≡ None → ⊥) → (o : Option Shapes) → come shapes (p - start) s ≡ o → then_come o (λ t. come_all t (map (λ q. q - start) ps) s) ≡ None → ⊥
+    by : ((mid : Shapes) → ((q : ℕ) (x : Shape) → FlowsInto t q x → q < start + length mid) → Below start mid t
+        → come_all mid (map (λ q. q - start) ps) s ≡ None → ⊥) → (o : Option Shapes) → come shapes (p - start) s ≡ o
+        → then_come o (λ t. come_all t (map (λ q. q - start) ps) s) ≡ None → ⊥
     by go None f e =
         let same : start + (p - start) ≡ p = omega (arith, from.0) in
         come_goes start shapes (p - start) s t below (subst (λ q. FlowsInto t q s) (sym same) l.0) (omega (arith, within p s l.0, from.0)) f
@@ -576,17 +618,20 @@ nexts_from code f place instr.Return le n = tt
 nexts_from code f place _ le n = (omega (arith, le), tt)
 
 -- a visit of a place that has a shape
-pub visited_ready : (code : Code) (start : ℕ) (shapes : Shapes) (k : ℕ) (i : Instr) (s : Shape) → slice_get shapes k ≡ Some (Some s) → may_act code s i ≡ true → visited code start shapes k i ≡ come_all shapes (next_distances start k i) (leaves code s i)
+pub visited_ready : (code : Code) (start : ℕ) (shapes : Shapes) (k : ℕ) (i : Instr) (s : Shape) → slice_get shapes k ≡ Some (Some s)
+    → may_act code s i ≡ true → visited code start shapes k i ≡ come_all shapes (next_distances start k i) (leaves code s i)
 visited_ready code start shapes k i s e h = ap (visited_at code start shapes k i) e ∙ taken (may_act code s i) (come_all shapes (next_distances start k i) (leaves code s i)) None h
 
 -- a visit of a place whose instruction may not act
 visited_none : (code : Code) (start : ℕ) (shapes : Shapes) (k : ℕ) (i : Instr) (s : Shape) → slice_get shapes k ≡ Some (Some s) → may_act code s i ≡ false → visited code start shapes k i ≡ None
 visited_none code start shapes k i s e h = ap (visited_at code start shapes k i) e ∙ not_taken (may_act code s i) (come_all shapes (next_distances start k i) (leaves code s i)) None h
 
-pub visited_unready : (code : Code) (start : ℕ) (shapes : Shapes) (k : ℕ) (i : Instr) (s : Shape) → slice_get shapes k ≡ Some (Some s) → is_ready code s i ≡ false → visited code start shapes k i ≡ None
+pub visited_unready : (code : Code) (start : ℕ) (shapes : Shapes) (k : ℕ) (i : Instr) (s : Shape) → slice_get shapes k ≡ Some (Some s)
+    → is_ready code s i ≡ false → visited code start shapes k i ≡ None
 visited_unready code start shapes k i s e h = visited_none code start shapes k i s e (unready code s i h)
 
-pub visited_frozen : (code : Code) (start : ℕ) (shapes : Shapes) (k : ℕ) (i : Instr) (s : Shape) → slice_get shapes k ≡ Some (Some s) → is_thawed code s i ≡ false → visited code start shapes k i ≡ None
+pub visited_frozen : (code : Code) (start : ℕ) (shapes : Shapes) (k : ℕ) (i : Instr) (s : Shape) → slice_get shapes k ≡ Some (Some s)
+    → is_thawed code s i ≡ false → visited code start shapes k i ≡ None
 visited_frozen code start shapes k i s e h = visited_none code start shapes k i s e (frozen code s i h)
 
 -- what is had once an instruction was visited
@@ -605,8 +650,10 @@ module _ (code : Code) (f : Func) (shapes : Shapes) (k : ℕ) (i : Instr) (is : 
       let ready = table.ready (f.start + k) l.there i l.found is in
       let thawed = table.thawed (f.start + k) l.there i l.found is in
       let goes = table.goes (f.start + k) l.there i l.found is in
-      let less = leaves_less code l.there s l.as_many (covers_all l) i in
-      (acts_less code l.there s l.as_many (covers_all l) i (may_both code l.there i ready thawed), all_less t (nexts (f.start + k) i) (leaves code l.there i) (leaves code s i) less.as_many less.covers goes)
+      let less = leaves_less code l.there s l.as_many (covers_all l) i in (
+        acts_less code l.there s l.as_many (covers_all l) i (may_both code l.there i ready thawed),
+        all_less t (nexts (f.start + k) i) (leaves code l.there i) (leaves code s i) less.as_many less.covers goes,
+      )
 
   from : AllFrom f.start (nexts (f.start + k) i)
   from = nexts_from code f (f.start + k) i (omega arith) named
@@ -641,7 +688,8 @@ module _ (code : Code) (f : Func) (shapes : Shapes) (k : ℕ) (i : Instr) (is : 
           (sym (taken (may_act code s i) (come_all shapes (next_distances f.start k i) (leaves code s i)) None h.0) ∙ e)
 
   -- an instruction that was visited has what it needs, and the places after it have what it leaves
-  pub visit_done : (s : Shape) (new : Shapes) → slice_get shapes k ≡ Some (Some s) → visited code f.start shapes k i ≡ Some new → (may_act code s i ≡ true) × FlowsIntoEach (table_of f.start new) (leaves code s i) (nexts (f.start + k) i)
+  pub visit_done : (s : Shape) (new : Shapes) → slice_get shapes k ≡ Some (Some s) → visited code f.start shapes k i ≡ Some new
+      → (may_act code s i ≡ true) × FlowsIntoEach (table_of f.start new) (leaves code s i) (nexts (f.start + k) i)
   visit_done s new found e = by (may_act code s i) refl (sym (ap (visited_at code f.start shapes k i) found) ∙ e)
     where
       by : (b : Bool) → may_act code s i ≡ b → come_after b s ≡ Some new → (may_act code s i ≡ true) × FlowsIntoEach (table_of f.start new) (leaves code s i) (nexts (f.start + k) i)
@@ -656,7 +704,9 @@ held start shapes place s e = by (nat_le start place) refl e
     by true b e = (le_of start place b, had (slice_get shapes (place - start)) e)
 
 -- a place that was done is done still, once others have more
-pub done_grown : (code : Code) (f : Func) (old new : Shapes) (k : ℕ) → ((i : Instr) → slice_get code.instrs (f.start + k) ≡ Some i → names_well code f (f.start + k) i ≡ true) → Grows f.start old new → slice_get new k ≡ slice_get old k → IsDone code f.start old k → IsDone code f.start new k
+pub done_grown : (code : Code) (f : Func) (old new : Shapes) (k : ℕ)
+    → ((i : Instr) → slice_get code.instrs (f.start + k) ≡ Some i → names_well code f (f.start + k) i ≡ true) → Grows f.start old new
+    → slice_get new k ≡ slice_get old k → IsDone code f.start old k → IsDone code f.start new k
 done_grown code f old new k named grows same h = λ s i e is.
     let d = h s i (sym same ∙ e) is in
     (d.0, all_grown f.start old new (leaves code s i) (nexts (f.start + k) i) (nexts_from code f (f.start + k) i (omega arith) (named i is)) grows d.1)

@@ -11,6 +11,7 @@ pub own : IsNumeralModel (λ ds. list_all is_digit ds ≡ true) decimal_value
 own = numerals_by_fold _ (search rules) (λ n ds. fold (λ m b. 10 * m + (b - 48)) n ds) (search rules)
 
 -- what a parse of digits tells
-pub tells : {E : Type 0} (text : List ℕ) (r : Result ℕ E) → list_all is_digit text ≡ true → OkIff r ((0 < length text) × (decimal_value text < 2 ^ 64)) (decimal_value text) → SomeIff (result_ok r) (IsNumber text) (decimal_value text)
+pub tells : {E : Type 0} (text : List ℕ) (r : Result ℕ E) → list_all is_digit text ≡ true
+    → OkIff r ((0 < length text) × (decimal_value text < 2 ^ 64)) (decimal_value text) → SomeIff (result_ok r) (IsNumber text) (decimal_value text)
 tells text (Ok x) d h = ((d, h.0.0, h.0.1), h.1)
 tells text (Err e) d h = λ n. h (n.1, n.2)

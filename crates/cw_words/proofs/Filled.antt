@@ -7,7 +7,11 @@ use Rattle.std.specs.Str.{bytes_eq, chars}
 use Rattle.std.proofs.lemmas.Slice.Eq.{bytes_eq-Decides}
 use Rattle.clap.specs.Lexer.{long_of, short_of}
 use Rattle.clap.specs.Matches.{count_text}
-use Rattle.clap.specs.Walk.{Held, Outcome, Row, Rule, Step, Text, Waiting, Walk, idle, option, positional, done, waits, plain, refused, next, trailing, subcommand, value, at_row, without, more_values, with_values, new_count, with_count, used_as, used_by_id, used, action_of, reading_by, values_or_missing, settled, settled_rows, reacted, pushed, option_met, flag_met, long_met, short_met, attached_value, bundle_step, bundle_met, arg_by_id, arg_by_index, arg_by_long, arg_by_short, takes_values, option_word, plain_word, after_flag, long_or_other, short_or_plain, subcommand_or_other, subcommand_met, is_pending, takes_several, to_positional, after_step, walked, walked_from, with_default, default_rows, finished, has_row, first_of, count_of}
+use Rattle.clap.specs.Walk.{Held, Outcome, Row, Rule, Step, Text, Waiting, Walk, idle, option, positional, done, waits, plain, refused, next, trailing, subcommand, value, at_row}
+use Rattle.clap.specs.Walk.{without, more_values, with_values, new_count, with_count, used_as, used_by_id, used, action_of, reading_by, values_or_missing, settled, settled_rows}
+use Rattle.clap.specs.Walk.{reacted, pushed, option_met, flag_met, long_met, short_met, attached_value, bundle_step, bundle_met, arg_by_id, arg_by_index, arg_by_long, arg_by_short}
+use Rattle.clap.specs.Walk.{takes_values, option_word, plain_word, after_flag, long_or_other, short_or_plain, subcommand_or_other, subcommand_met, is_pending, takes_several}
+use Rattle.clap.specs.Walk.{to_positional, after_step, walked, walked_from, with_default, default_rows, finished, has_row, first_of, count_of}
 use Rattle.clap.specs.Facts.{explicit_source}
 use Rattle.clap.specs.Takes.{is_given}
 use Rattle.clap.specs.declared.builder.value_parser.Reading.{Reading}
@@ -98,7 +102,8 @@ found test (x ∷ xs) y e = go (test x) refl e (found test xs y)
     go true t h later = let same : x ≡ y = cc in subst (λ z. test z ≡ true) same t
     go false t h later = later h
 
-filled_by_id : (o : Option Rule) (id : Text) (values : List Text) (rows : List Row) → ((a : Rule) → o ≡ Some a → bytes_eq a.id id ≡ true) → (IsSource id → HasFirst values) → Filled rows → Filled (used_by_id o values rows)
+filled_by_id : (o : Option Rule) (id : Text) (values : List Text) (rows : List Row) → ((a : Rule) → o ≡ Some a → bytes_eq a.id id ≡ true)
+    → (IsSource id → HasFirst values) → Filled rows → Filled (used_by_id o values rows)
 filled_by_id None id values rows same v h = h
 filled_by_id (Some a) id values rows same v h =
     let is_id : a.id ≡ id = (bytes_eq-Decides a.id id).0 (same a refl) in
@@ -143,7 +148,8 @@ good_long c (Some a) v h n g = go (takes_values a)
     go true = good_option c a v h n g
     go false = good_flag c a v h n g
 
-good_short : (c : List Rule) (o : Option Rule) (rest : Text) (h : Held) (then_met : Held → Held × Outcome) → NotSource o → ((k : Held) → Good k → Good (then_met k).0) → Good h → Good (short_met c o rest h then_met).0
+good_short : (c : List Rule) (o : Option Rule) (rest : Text) (h : Held) (then_met : Held → Held × Outcome) → NotSource o
+    → ((k : Held) → Good k → Good (then_met k).0) → Good h → Good (short_met c o rest h then_met).0
 good_short c None rest h then_met n t g = g
 good_short c (Some a) rest h then_met n t g = go (takes_values a)
   where

@@ -1,5 +1,6 @@
 -- The walk over words that start with no hyphen.
-use Rattle.std.proofs.Common.{◌≡◌, ◌∙◌, ◌<◌, ◌^◌, ◌==◌, ◌++◌, ap, ap₂, sym, refl, subst, arith, ℕ, cond, slice_get, nat_eq, suc, Bool, false, List, [], ◌∷◌, drop, length, Option, Some, None, codes, unwrap_or, is_some}
+use Rattle.std.proofs.Common.{◌≡◌, ◌∙◌, ◌<◌, ◌^◌, ◌==◌, ◌++◌, ap, ap₂, sym, refl, subst, arith, ℕ, cond, slice_get, nat_eq, suc, Bool}
+use Rattle.std.proofs.Common.{false, List, [], ◌∷◌, drop, length, Option, Some, None, codes, unwrap_or, is_some}
 use Rattle.std.specs.List.{All, fold}
 use Rattle.std.specs.Prelude.{if◌then◌else◌}
 use Rattle.std.specs.Option.{option_map_or}
@@ -9,7 +10,8 @@ use Rattle.std.proofs.lemmas.List.{append-nil, append_assoc}
 use Rattle.clap.specs.Kinds.{Kinds, or_else, range_kinds, values_kinds}
 use Rattle.clap.specs.Lexer.{usize_max, long_of, short_of}
 use Rattle.clap.specs.declared.builder.value_parser.ValueParser.TheVariants as vp
-use Rattle.clap.specs.Walk.{first_of, long_or_other, short_or_plain, trailing, Held, Row, Rule, Step, Text, Waiting, Walk, idle, positional, option, walked, walk, walk_from, nothing_held, settled, finished, plain_word, subcommand_met, subcommand_or_other, after_step}
+use Rattle.clap.specs.Walk.{first_of, long_or_other, short_or_plain, trailing, Held, Row, Rule, Step, Text, Waiting, Walk, idle, positional, option, walked}
+use Rattle.clap.specs.Walk.{walk, walk_from, nothing_held, settled, finished, plain_word, subcommand_met, subcommand_or_other, after_step}
 use Rattle.clap.specs.Simple.{App, Shape, built, names_of, entered, new_shape, subcommand_of}
 use Rattle.clap.specs.Faults.{flag_word_fault, bundle_fault, other_fault, turn_fault, walk_fault, step_fault, settle_fault, defaults_fault, check_fault, entered_fault}
 use Rattle.clap.proofs.OnLiterals.{clap_on_literals}
@@ -421,7 +423,8 @@ command_faults verb.Sites rest none = ap₂ top_level (top_walk verb.Sites rest)
 command_faults verb.Gain rest none = ap₂ top_level (top_walk verb.Gain rest) (top_fault verb.Gain rest) ∙ ap (λ k. or_else k []) none
 command_faults verb.Greedy rest none = ap₂ top_level (top_walk verb.Greedy rest) (top_fault verb.Greedy rest) ∙ ap (λ k. or_else k []) none
 
-pub command_rows : (m : Verb) (rest : List Text) → subcommand_of command_line (command_name m ∷ rest) ≡ Some (command_name m, finished (shape_of m).rules (walk (shape_of m).rules [] nothing_held rest).held)
+pub command_rows : (m : Verb) (rest : List Text) → subcommand_of command_line (command_name m ∷ rest)
+    ≡ Some (command_name m, finished (shape_of m).rules (walk (shape_of m).rules [] nothing_held rest).held)
 command_rows verb.Check rest = ap (λ w. entered line w.stopped) (top_walk verb.Check rest)
 command_rows verb.Run rest = ap (λ w. entered line w.stopped) (top_walk verb.Run rest)
 command_rows verb.Scale rest = ap (λ w. entered line w.stopped) (top_walk verb.Scale rest)

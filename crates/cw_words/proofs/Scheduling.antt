@@ -96,7 +96,8 @@ args_fault g p file (v ∷ vs) plain =
     ap₂ (λ k w. or_else k (walk_fault greedy [] w vs)) (first_turn g p file v (plain 0 v (omega arith))) (first_step g p file v (plain 0 v (omega arith)))
     ∙ rest_fault g p file v [] vs (all_rest v vs plain)
 
-begun_walk : (g : Option Text) (p file : Text) (args : List Text) → IsPlain p → IsPlain file → All IsPlain args → fold (walked greedy.rules []) (at idle 1 (before g)) (p ∷ file ∷ args) ≡ end g p file args
+begun_walk : (g : Option Text) (p file : Text) (args : List Text) → IsPlain p → IsPlain file → All IsPlain args
+    → fold (walked greedy.rules []) (at idle 1 (before g)) (p ∷ file ∷ args) ≡ end g p file args
 begun_walk g p file args plain plain_file plains =
     ap (λ w. fold (walked greedy.rules []) w (file ∷ args)) (processors_step g p plain)
     ∙ ap (λ w. fold (walked greedy.rules []) w args) (source_step g p file plain_file) ∙ args_walk g p file args plains

@@ -6,10 +6,12 @@ use Rattle.std.specs.List.{fold}
 use Rattle.std.specs.Str.{bytes_eq, chars}
 use Rattle.clap.specs.Lexer.{long_of, short_of}
 use Rattle.clap.specs.Kinds.{Kinds, or_else}
-use Rattle.clap.specs.Walk.{has_long, has_short, subcommand_met, Held, Outcome, Row, Rule, Step, Text, Walk, Names, idle, plain, trailing, walk, walked, walk_from, nothing_held, after_step, subcommand_or_other, long_or_other, short_or_plain, after_flag, bundle_step, bundle_met, arg_by_long, arg_by_short, finished, settled, first_of}
+use Rattle.clap.specs.Walk.{has_long, has_short, subcommand_met, Held, Outcome, Row, Rule, Step, Text, Walk, Names, idle, plain, trailing, walk, walked, walk_from, nothing_held, after_step}
+use Rattle.clap.specs.Walk.{subcommand_or_other, long_or_other, short_or_plain, after_flag, bundle_step, bundle_met, arg_by_long, arg_by_short, finished, settled, first_of}
 use Rattle.clap.specs.Simple.{Shape, new_rule, entered, names_of}
 use Rattle.clap.specs.Takes.{is_given}
-use Rattle.clap.specs.Faults.{other_fault, turn_fault, walk_fault, step_fault, flag_word_fault, bundle_fault, flags_fault, bundle_step_fault, long_fault, short_fault, check_fault, defaults_fault, entered_fault, settle_fault}
+use Rattle.clap.specs.Faults.{other_fault, turn_fault, walk_fault, step_fault, flag_word_fault, bundle_fault, flags_fault}
+use Rattle.clap.specs.Faults.{bundle_step_fault, long_fault, short_fault, check_fault, defaults_fault, entered_fault, settle_fault}
 use Rattle.clap.specs.declared.error.ErrorKind.TheVariants as kind
 use Rattle.cw_words.specs.Command.{command_name}
 use Rattle.cw_words.specs.Requests.{AreRead, Words, faults, words_in}
@@ -123,7 +125,8 @@ abbrev walked_by : Option Text → Text → Walk
 walked_by o word = after_step rules word start (subcommand_or_other rules o idle 1 word nothing_held).0 (subcommand_or_other rules o idle 1 word nothing_held).1
 
 dashes_stop : (word : Text) (words : List Text) (b : Bool)
-    → or_else (if b then none_of else flag_word_fault rules false (long_of word) word nothing_held) (step_of (if b then (nothing_held, trailing 1) else long_or_other rules idle word (long_of word) nothing_held)) ≡ []
+    → or_else (if b then none_of else flag_word_fault rules false (long_of word) word nothing_held)
+    (step_of (if b then (nothing_held, trailing 1) else long_or_other rules idle word (long_of word) nothing_held)) ≡ []
     → (met : Held × Step) → met ≡ (if b then (nothing_held, trailing 1) else long_or_other rules idle word (long_of word) nothing_held)
     → walk_fault line.top names (after_step rules word start met.0 met.1) words ≡ [] → Stops (walk_on (after_step rules word start met.0 met.1) words)
 dashes_stop word words true e met is h =
@@ -143,9 +146,11 @@ by_name (Some name) word words (inr (inr is)) e h = absurd (no (subst (λ o. tur
     no : turn_by (Some (codes "help")) word ≡ [] → ⊥
     no t = cc
 
-subcommand_is : (word : Text) → (subcommand_met names idle word ≡ None) ⊎ (((m : Verb) × (subcommand_met names idle word ≡ Some (command_name m))) ⊎ (subcommand_met names idle word ≡ Some (codes "help")))
+subcommand_is : (word : Text) → (subcommand_met names idle word ≡ None)
+    ⊎ (((m : Verb) × (subcommand_met names idle word ≡ Some (command_name m))) ⊎ (subcommand_met names idle word ≡ Some (codes "help")))
 subcommand_is word =
-    go (bytes_eq (codes "check") word) (bytes_eq (codes "run") word) (bytes_eq (codes "scale") word) (bytes_eq (codes "sites") word) (bytes_eq (codes "gain") word) (bytes_eq (codes "greedy") word) (bytes_eq (codes "help") word)
+    go (bytes_eq (codes "check") word) (bytes_eq (codes "run") word) (bytes_eq (codes "scale") word)
+    (bytes_eq (codes "sites") word) (bytes_eq (codes "gain") word) (bytes_eq (codes "greedy") word) (bytes_eq (codes "help") word)
   where
     met : Bool → Text → Option (Text × List Text) → Option (Text × List Text)
     met b name rest = cond (b || false) (Some (name, [])) rest
@@ -173,7 +178,9 @@ stops (word ∷ words) h = let parts = both_none (turn_by (subcommand_met names 
 
 -- ---- the words after the command
 
-number_or_help : (a b c d e : Bool) → NotSource (cond a (Some (first (drop 2 run.rules))) (cond b (Some (first (drop 3 run.rules))) (cond c (Some (first (drop 4 run.rules))) (cond d (Some (first (drop 5 run.rules))) (cond e (Some (first (drop 6 run.rules))) None)))))
+number_or_help : (a b c d e : Bool) → NotSource (cond a (Some (first (drop 2 run.rules)))
+    (cond b (Some (first (drop 3 run.rules))) (cond c (Some (first (drop 4 run.rules)))
+    (cond d (Some (first (drop 5 run.rules))) (cond e (Some (first (drop 6 run.rules))) None)))))
 number_or_help true b c d e = λ is. cc
 number_or_help false true c d e = λ is. cc
 number_or_help false false true d e = λ is. cc
@@ -187,11 +194,14 @@ help_or_none false = tt
 
 no_number_of_source : NamesNoSource run.rules
 no_number_of_source = (
-  (λ name. number_or_help (has_long (first (drop 2 run.rules)) name) (has_long (first (drop 3 run.rules)) name) (has_long (first (drop 4 run.rules)) name) (has_long (first (drop 5 run.rules)) name) (has_long (first (drop 6 run.rules)) name)),
+  (λ name. number_or_help (has_long (first (drop 2 run.rules)) name) (has_long (first (drop 3 run.rules)) name)
+      (has_long (first (drop 4 run.rules)) name) (has_long (first (drop 5 run.rules)) name) (has_long (first (drop 6 run.rules)) name)),
   (λ x. number_or_help false false false false (has_short (first (drop 6 run.rules)) x)),
 )
 
-top_or_help : (a b c d e f : Bool) → NotSource (cond a (Some (first (drop 2 gain.rules))) (cond b (Some (first (drop 3 gain.rules))) (cond c (Some (first (drop 4 gain.rules))) (cond d (Some (first (drop 5 gain.rules))) (cond e (Some (first (drop 6 gain.rules))) (cond f (Some (first (drop 7 gain.rules))) None))))))
+top_or_help : (a b c d e f : Bool) → NotSource (cond a (Some (first (drop 2 gain.rules)))
+    (cond b (Some (first (drop 3 gain.rules))) (cond c (Some (first (drop 4 gain.rules)))
+    (cond d (Some (first (drop 5 gain.rules))) (cond e (Some (first (drop 6 gain.rules))) (cond f (Some (first (drop 7 gain.rules))) None))))))
 top_or_help true b c d e f = λ is. cc
 top_or_help false true c d e f = λ is. cc
 top_or_help false false true d e f = λ is. cc
@@ -215,7 +225,9 @@ no_flag_of_source verb.Run = no_number_of_source
 no_flag_of_source verb.Scale = no_number_of_source
 no_flag_of_source verb.Sites = no_number_of_source
 no_flag_of_source verb.Gain = (
-  (λ name. top_or_help (has_long (first (drop 2 gain.rules)) name) (has_long (first (drop 3 gain.rules)) name) (has_long (first (drop 4 gain.rules)) name) (has_long (first (drop 5 gain.rules)) name) (has_long (first (drop 6 gain.rules)) name) (has_long (first (drop 7 gain.rules)) name)),
+  (λ name. top_or_help (has_long (first (drop 2 gain.rules)) name) (has_long (first (drop 3 gain.rules)) name)
+      (has_long (first (drop 4 gain.rules)) name) (has_long (first (drop 5 gain.rules)) name) (has_long (first (drop 6 gain.rules)) name)
+      (has_long (first (drop 7 gain.rules)) name)),
   (λ x. top_or_help false false false false false (has_short (first (drop 7 gain.rules)) x)),
 )
 no_flag_of_source verb.Greedy = (
@@ -267,7 +279,8 @@ some_text None h = cc
 some_text (Some t) h = (t, refl)
 
 -- the level of a command, where the words enter it
-at_level : (s : Shape) (rest : List Text) → level s (walk s.rules [] nothing_held rest) false (walk_fault s [] start rest) [] (settle_fault s.rules s.args_override_self (walk s.rules [] nothing_held rest).held) ≡ []
+at_level : (s : Shape) (rest : List Text) → level s (walk s.rules [] nothing_held rest) false (walk_fault s [] start rest) []
+    (settle_fault s.rules s.args_override_self (walk s.rules [] nothing_held rest).held) ≡ []
     → check_fault s (finished s.rules (walk s.rules [] nothing_held rest).held) false ≡ []
 at_level s rest h =
     let end = walk s.rules [] nothing_held rest in
@@ -293,7 +306,8 @@ entered_is verb.Greedy rest = refl
 pub taken : (given : List Text) → faults given ≡ [] → (words : Words) × AreRead given words
 taken given h =
     let w = walk_on start given in
-    let top = level_passes line.top w (is_some (entered line w.stopped)) (walk_fault line.top names start given) (entered_fault line w.stopped) (settle_fault rules line.top.args_override_self w.held) h in
+    let top = level_passes line.top w (is_some (entered line w.stopped)) (walk_fault line.top names start given) (entered_fault line w.stopped)
+    (settle_fault rules line.top.args_override_self w.held) h in
     elim (stops given top.0) [
       | inl none ↦ absurd (stopped_somewhere (finished rules w.held) w none top.2)
       | inr at_command ↦
@@ -301,7 +315,8 @@ taken given h =
           let rest = at_command.1 in
           let below : entered_fault line (Some (command_name m, rest)) ≡ [] = subst (λ (v : Walk). entered_fault line v.stopped ≡ []) at_command.2 top.1 in
           let rows = finished (shape_of m).rules (walk (shape_of m).rules [] nothing_held rest).held in
-          let source = some_text (first_of (codes "FILE") rows) (given_first rows (filled_finished (shape_of m).rules rest start (no_flag_of_source m) (tt, tt)) (source_given m rows (below_of m rest below))) in (
+          let source = some_text (first_of (codes "FILE") rows)
+          (given_first rows (filled_finished (shape_of m).rules rest start (no_flag_of_source m) (tt, tt)) (source_given m rows (below_of m rest below))) in (
             words_in m source.0 rows,
             record {
               rows = rows;

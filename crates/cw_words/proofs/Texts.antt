@@ -27,7 +27,9 @@ or_none None none e = ap lent e
 or_none (Some s) none e = refl
 
 -- the texts of an argument, or none
-pub texts_given : (found : Found) (id : List ℕ) (r : Option (Bor (List (Bor (List ℕ))))) (none given : Bor (List (Bor (List ℕ)))) → option_map (λ s. lent s.now) r ≡ option_map raw_values (matched_of found id) → none.now ≡ [] → given ≡ unwrap_or r none → lent given.now ≡ texts_of (rows_of found) id
+pub texts_given : (found : Found) (id : List ℕ) (r : Option (Bor (List (Bor (List ℕ))))) (none given : Bor (List (Bor (List ℕ))))
+    → option_map (λ s. lent s.now) r ≡ option_map raw_values (matched_of found id) → none.now ≡ [] → given ≡ unwrap_or r none
+    → lent given.now ≡ texts_of (rows_of found) id
 texts_given found id r none given e n g = ap (λ s. lent s.now) g ∙ or_none r none n ∙ ap (λ o. unwrap_or o []) (e ∙ raw_values-rows found id)
 
 pub values_given : (ts : List (Bor (List ℕ))) (texts : List (List ℕ)) (vs : List ℤ) → lent ts ≡ texts → vs ≡ map (λ t. pos (decimal_value t.now)) ts → vs ≡ values_of texts
@@ -45,7 +47,8 @@ texts_proper ts texts e a = let P : List (List ℕ) → Type 0 = λ xs. All IsAr
     all_lent (t ∷ ts) a (suc k) d lt = all_lent ts (λ j e less. a (suc j) e (omega (arith, less))) k d (omega (arith, lt))
 
 -- the text for an option, or the usual one
-pub word_given : (found : Found) (name text : Text) (r : Option (Bor (List ℕ))) (usual given : Bor (List ℕ)) → option_map (λ s. s.now) r ≡ first_value found name → usual.now ≡ text → given ≡ unwrap_or r usual → given.now ≡ unwrap_or (first_of name (rows_of found)) text
+pub word_given : (found : Found) (name text : Text) (r : Option (Bor (List ℕ))) (usual given : Bor (List ℕ))
+    → option_map (λ s. s.now) r ≡ first_value found name → usual.now ≡ text → given ≡ unwrap_or r usual → given.now ≡ unwrap_or (first_of name (rows_of found)) text
 word_given found name text r usual given e u g = ap (λ s. s.now) g ∙ or_usual r usual u ∙ ap (λ o. unwrap_or o text) (e ∙ first_value-rows found name)
   where
     or_usual : (r : Option (Bor (List ℕ))) (usual : Bor (List ℕ)) → usual.now ≡ text → (unwrap_or r usual).now ≡ unwrap_or (option_map (λ s. s.now) r) text
@@ -53,7 +56,8 @@ word_given found name text r usual given e u g = ap (λ s. s.now) g ∙ or_usual
     or_usual (Some s) usual u = refl
 
 -- that for a number
-pub number_given : (found : Found) (row : NumberRow) (r : Option (Bor (List ℕ))) (usual given : Bor (List ℕ)) → option_map (λ s. s.now) r ≡ first_value found row.name → usual.now ≡ row.usual → given ≡ unwrap_or r usual → given.now ≡ number_text (rows_of found) row
+pub number_given : (found : Found) (row : NumberRow) (r : Option (Bor (List ℕ))) (usual given : Bor (List ℕ))
+    → option_map (λ s. s.now) r ≡ first_value found row.name → usual.now ≡ row.usual → given ≡ unwrap_or r usual → given.now ≡ number_text (rows_of found) row
 number_given found row = word_given found row.name row.usual
 
 -- the first text of an argument
@@ -76,7 +80,8 @@ unless_weaker P Q fault.Write w h = h
 unless_weaker P Q fault.Strands w h = h
 
 -- the options of numbers that the words write
-pub options_given : (v : Verb) (m : Mode) (limit charge processors top workers l b p t w : ℕ) (edges : Edges) (word : Text) → m ≡ mode_with v processors top → limit ≡ l → charge ≡ b → edges_name edges ≡ word → processors ≡ p → top ≡ t → workers ≡ w
+pub options_given : (v : Verb) (m : Mode) (limit charge processors top workers l b p t w : ℕ) (edges : Edges) (word : Text)
+    → m ≡ mode_with v processors top → limit ≡ l → charge ≡ b → edges_name edges ≡ word → processors ≡ p → top ≡ t → workers ≡ w
     → AreOptionsOf v (l ∷ b ∷ p ∷ t ∷ w ∷ []) word (record { mode = m; limit = limit; burden = record { charge = charge; edges = edges } }) workers
 options_given v m limit charge processors top workers l b p t w edges word is limit_is charge_is edges_are processors_is top_is workers_is =
     (is ∙ ap (λ n. mode_with v n top) processors_is ∙ ap (mode_with v p) top_is, limit_is, charge_is, edges_are, workers_is)

@@ -30,7 +30,8 @@ sum_none f (suc n) = let r : sum_over f (replicate n []) ≡ 0 = sum_none f n in
 abbrev pub first_scene : (root : Job) (post : Posted) (workers : ℕ) → Scene
 first_scene root post workers = record { jobs = root ∷ []; begun = (Goes post ∷ []) ∷ idle (workers - 1); board = opened workers }
 
-first_works : (root : Job) (post : Posted) → post.number ≡ 0 → its_job post.strand ≡ root → IsRunning post.strand → outs post.strand ≡ [] → post.outs ≡ [] → post.at_join ≡ false → IsBefore post.strand → Works (root ∷ []) post
+first_works : (root : Job) (post : Posted) → post.number ≡ 0 → its_job post.strand ≡ root → IsRunning post.strand → outs post.strand ≡ []
+    → post.outs ≡ [] → post.at_join ≡ false → IsBefore post.strand → Works (root ∷ []) post
 first_works root post n of running none none' flag before =
     record {
       running = running;
@@ -82,8 +83,10 @@ pub first_root : (root : Job) (post : Posted) (workers : ℕ) → post.number �
 first_root root post workers number = number
 
 -- it begins so, whatever scene shows it
-pub begins : (v : Verified) (args : List ℤ) (n : ℕ) (burden : Burden) (workers : ℕ) (w : World) (root : Job) (post : Posted) → 0 < workers → IsRoot v args n burden root.parts.value → arc_value w.code ≡ v
-    → scene w ≡ first_scene root post workers → post.number ≡ 0 → its_job post.strand ≡ root → IsRunning post.strand → outs post.strand ≡ [] → post.outs ≡ [] → post.at_join ≡ false → IsGoing post.strand → post.strand.count ≡ 0 → IsBefore post.strand
+pub begins : (v : Verified) (args : List ℤ) (n : ℕ) (burden : Burden) (workers : ℕ) (w : World) (root : Job) (post : Posted) → 0 < workers
+    → IsRoot v args n burden root.parts.value → arc_value w.code ≡ v
+    → scene w ≡ first_scene root post workers → post.number ≡ 0 → its_job post.strand ≡ root → IsRunning post.strand → outs post.strand ≡ []
+    → post.outs ≡ [] → post.at_join ≡ false → IsGoing post.strand → post.strand.count ≡ 0 → IsBefore post.strand
     → IsStarted v args n burden workers w
 begins v args n burden workers w root post some is code scene_is number of running none none' flag goes undone before =
     record {

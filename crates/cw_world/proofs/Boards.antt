@@ -66,10 +66,12 @@ pub record Found {X : Type 0} (p : X → Bool) (xs : List X) (k : ℕ) : Type 0 
   pub passes : p item ≡ true
 
 at_head : {X : Type 0} (p : X → Bool) (x : X) (xs : List X) → p x ≡ true → Found p (x ∷ xs) (position_or_len p (x ∷ xs))
-at_head p x xs e = let zero_is : 0 ≡ position_or_len p (x ∷ xs) = sym (ap (λ b. cond (not b) (1 + position_or_len p xs) 0) e) in subst (λ k. Found p (x ∷ xs) k) zero_is (record { item = x; is = refl; passes = e })
+at_head p x xs e = let zero_is : 0 ≡ position_or_len p (x ∷ xs) = sym (ap (λ b. cond (not b) (1 + position_or_len p xs) 0) e) in
+    subst (λ k. Found p (x ∷ xs) k) zero_is (record { item = x; is = refl; passes = e })
 
 in_tail : {X : Type 0} (p : X → Bool) (x : X) (xs : List X) → p x ≡ false → Found p xs (position_or_len p xs) → Found p (x ∷ xs) (position_or_len p (x ∷ xs))
-in_tail p x xs e f = let more : 1 + position_or_len p xs ≡ position_or_len p (x ∷ xs) = sym (ap (λ b. cond (not b) (1 + position_or_len p xs) 0) e) in let one : suc (position_or_len p xs) ≡ 1 + position_or_len p xs = omega arith in
+in_tail p x xs e f = let more : 1 + position_or_len p xs ≡ position_or_len p (x ∷ xs) =
+    sym (ap (λ b. cond (not b) (1 + position_or_len p xs) 0) e) in let one : suc (position_or_len p xs) ≡ 1 + position_or_len p xs = omega arith in
     subst (λ k. Found p (x ∷ xs) k) (one ∙ more) (record { item = f.item; is = f.is; passes = f.passes })
 
 tail_lt : {X : Type 0} (p : X → Bool) (x : X) (xs : List X) → p x ≡ false → position_or_len p (x ∷ xs) < length (x ∷ xs) → position_or_len p xs < length xs

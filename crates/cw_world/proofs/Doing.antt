@@ -43,7 +43,8 @@ turned_scene s w x x' but begun' board board' less laid same b =
     (laid ∙ (ap (λ (l : List (List Stage)). with_top l w x') less ∙ ap (λ (y : Stage). with_top (but_top s.begun w) w y) same)) b
 
 -- it was laid back
-pub put_back : (s : Scene) (w : ℕ) (x x' : Stage) (jobs' : List Job) (but begun' : List (List Stage)) (board' : Boarded) → top s w ≡ Some x → but ≡ but_top s.begun w → begun' ≡ with_top but w x' → x' ≡ x
+pub put_back : (s : Scene) (w : ℕ) (x x' : Stage) (jobs' : List Job) (but begun' : List (List Stage)) (board' : Boarded) → top s w ≡ Some x
+    → but ≡ but_top s.begun w → begun' ≡ with_top but w x' → x' ≡ x
     → jobs' ≡ s.jobs → board' ≡ s.board → scene_of jobs' begun' board' ≡ s
 put_back s w x x' jobs' but begun' board' at less laid same j b =
     scene_is jobs' s.jobs begun' s.begun board' s.board j
@@ -82,16 +83,19 @@ pub record Lacking (p : Posted) (older : List Out) (rest : Job) : Type 0 where
   pub are : outs p.strand ≡ rest ∷ others
   pub even : length older ≡ length others
 
-pub lacks_back : (v : Verified) (s : Scene) (w : ℕ) (p : Posted) (older : List Out) (o : Out) (rest : Job) → Sound v s → Works s.jobs p → p.outs ≡ older ++ o ∷ [] → IsBack s.board w o rest → Lacking p older rest
+pub lacks_back : (v : Verified) (s : Scene) (w : ℕ) (p : Posted) (older : List Out) (o : Out) (rest : Job) → Sound v s → Works s.jobs p
+    → p.outs ≡ older ++ o ∷ [] → IsBack s.board w o rest → Lacking p older rest
 lacks_back v s w p older o rest h works are back =
     let n = newest_out_of s.jobs p older o works are in
     let same : n.job ≡ rest = same_of s.jobs (out_number o) n.job rest n.named_is (back_job v s w o rest h n.this back) in
     record { others = n.others; are = n.is ∙ ap (λ j. j ∷ n.others) same; even = is_even s.jobs older n.others n.older_are }
 
 -- what it comes to, told of the job that came back
-pub comes_of : (v : Verified) (s : Scene) (w : ℕ) (p q : Posted) (older : List Out) (o : Out) (rest : Job) (ended : Option Effect) → Sound v s → Works s.jobs p → p.outs ≡ older ++ o ∷ [] → IsBack s.board w o rest
+pub comes_of : (v : Verified) (s : Scene) (w : ℕ) (p q : Posted) (older : List Out) (o : Out) (rest : Job) (ended : Option Effect) → Sound v s
+    → Works s.jobs p → p.outs ≡ older ++ o ∷ [] → IsBack s.board w o rest
     → ((others : List Job) → outs p.strand ≡ rest ∷ others → Comes ended (record { number = p.number; strand = p.strand; at_join = p.at_join; outs = older }) q others)
-    → (job : Job) (others : List Job) → outs p.strand ≡ job ∷ others → IsJobOf s.jobs (out_number o) job → Comes ended (record { number = p.number; strand = p.strand; at_join = p.at_join; outs = older }) q others
+    → (job : Job) (others : List Job) → outs p.strand ≡ job ∷ others → IsJobOf s.jobs (out_number o) job
+    → Comes ended (record { number = p.number; strand = p.strand; at_join = p.at_join; outs = older }) q others
 comes_of v s w p q older o rest ended h works are back f job others is named_is =
     let n = newest_out_of s.jobs p older o works are in
     let same : job ≡ rest = same_of s.jobs (out_number o) job rest named_is (back_job v s w o rest h n.this back) in
@@ -124,14 +128,16 @@ gives v s p older n place e h works are cell =
     record { out = k.job; others = k.others; are = k.is; means = subst (λ j. IsMeaningOf j e) same m.means; even = is_even s.jobs older k.others k.older_are }
 
 -- the newest of a list is popped
-pub popped : {A : Type 0} (q q' : Vec A Global) (r : Option A) → q.items ≡ q'.items ++ option_to_list r → MatchOption r ((vec_len q ≡ 0) × (vec_len q' ≡ 0)) (λ _. vec_len q' + 1 ≡ vec_len q) → newest q.items ≡ r
+pub popped : {A : Type 0} (q q' : Vec A Global) (r : Option A) → q.items ≡ q'.items ++ option_to_list r
+    → MatchOption r ((vec_len q ≡ 0) × (vec_len q' ≡ 0)) (λ _. vec_len q' + 1 ≡ vec_len q) → newest q.items ≡ r
 popped q q' None items cases = ap newest (nil_from_length q.items (sym q.ok.0 ∙ cases.0))
 popped q q' (Some x) items cases = ap newest items ∙ newest_pushed q'.items x
 
 pub popped_are : {A : Type 0} (q q' : Vec A Global) (r : Option A) (x : A) → q.items ≡ q'.items ++ option_to_list r → r ≡ Some x → q.items ≡ q'.items ++ x ∷ []
 popped_are q q' r x items is = items ∙ ap (λ o. q'.items ++ option_to_list o) is
 
-pub popped_room : {A : Type 0} (q q' : Vec A Global) (r : Option A) (x : A) → r ≡ Some x → MatchOption r ((vec_len q ≡ 0) × (vec_len q' ≡ 0)) (λ _. vec_len q' + 1 ≡ vec_len q) → vec_capacity q' ≡ vec_capacity q → vec_len q' < vec_capacity q'
+pub popped_room : {A : Type 0} (q q' : Vec A Global) (r : Option A) (x : A) → r ≡ Some x
+    → MatchOption r ((vec_len q ≡ 0) × (vec_len q' ≡ 0)) (λ _. vec_len q' + 1 ≡ vec_len q) → vec_capacity q' ≡ vec_capacity q → vec_len q' < vec_capacity q'
 popped_room q q' None x is cases cap = let never : ⊥ = cc in absurd never
 popped_room q q' (Some y) x is cases cap = omega (arith, cases, cap, q.ok.1)
 
@@ -170,7 +176,8 @@ pub if_some : {A : Type 0} (P : A → Type 0) (r : Option A) (x : A) → r ≡ S
 if_some P r x is h = subst (λ o. IfSome o P) is h
 
 -- a job that was stolen begins
-pub stolen_to : (v : Verified) (jobs : List Job) (p q : Posted) (ended : Option Effect) (x : Stage) (n : ℕ) (job : Job) → IsJobOf jobs n job → p.number ≡ n → its_job p.strand ≡ job → p.outs ≡ [] → outs p.strand ≡ []
+pub stolen_to : (v : Verified) (jobs : List Job) (p q : Posted) (ended : Option Effect) (x : Stage) (n : ℕ) (job : Job) → IsJobOf jobs n job
+    → p.number ≡ n → its_job p.strand ≡ job → p.outs ≡ [] → outs p.strand ≡ []
     → Comes ended p q (outs p.strand) → IsBegun v q ended x → ComesTo v jobs p [] x
 stolen_to v jobs p q ended x n job is number of none none' comes b =
     let is_named : IsJobOf jobs p.number (its_job p.strand) = ap (slice_get jobs) number ∙ (is ∙ ap (λ j. Some j) (sym of)) in
@@ -215,7 +222,8 @@ set_back ls v o e =
     ∙ (ap (λ l. slice_set ls v (o ∷ l)) (of_worker_set ls v (but_oldest (of_worker ls v)) lt)
     ∙ (ap (slice_set ls v) (sym (oldest_is (of_worker ls v) o e)) ∙ set_same ls v))
 
-pub retake_some : (b : Boarded) (w : ℕ) (p : Posted) (t : Option Stage) (r : Option Out) (o : Out) → t ≡ Some (Goes p) → newest p.outs ≡ r → r ≡ Some o → can_retake b w (newest_out t) ≡ true → can_retake b w (Some o) ≡ true
+pub retake_some : (b : Boarded) (w : ℕ) (p : Posted) (t : Option Stage) (r : Option Out) (o : Out) → t ≡ Some (Goes p) → newest p.outs ≡ r
+    → r ≡ Some o → can_retake b w (newest_out t) ≡ true → can_retake b w (Some o) ≡ true
 retake_some b w p t r o is same some e = sym (ap (can_retake b w) some) ∙ retake_out b w p t r is same e
 
 pub offer_there : (v : Verified) (s : Scene) (w : ℕ) (p : Posted) → Sound v s → top s w ≡ Some (Goes p) → w < length s.board.offers

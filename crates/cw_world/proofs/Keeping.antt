@@ -93,7 +93,8 @@ offer_keeps : (s s' : Scene) (w : ℕ) → Offers s s' w → KeepsMemory (event.
 offer_keeps s s' w d h =
     let p = d.at.at.post in
     let has = top_has s w (Goes p) h d.at.at.is in
-    inl (subst (λ (t : Scene). LacksNone t) (sym d.is) (turned_none s w (with_outs p (d.at.older ++ out.Offered d.number ∷ [])) (offered s.board w (record { number = d.number; job = d.job })) h has h.1))
+    inl (subst (λ (t : Scene). LacksNone t) (sym d.is) (turned_none s w (with_outs p (d.at.older ++ out.Offered d.number ∷ []))
+    (offered s.board w (record { number = d.number; job = d.job })) h has h.1))
 
 inline_keeps : (s s' : Scene) (w : ℕ) → Inlines s s' w → KeepsMemory (event.Inline w) s s'
 inline_keeps s s' w d h =
@@ -168,7 +169,8 @@ started_none v args n burden workers w h = (
   subst (λ (b : Boarded). Each CellHasSome b.cells) (sym h.board) tt,
 )
 
-later : (e : Event) (events : List Event) (old new : World) (l : Leads (e ∷ events) old new) → LacksNone (scene new) ⊎ LeadsToLack events l.0 new → LacksNone (scene new) ⊎ LeadsToLack (e ∷ events) old new
+later : (e : Event) (events : List Event) (old new : World) (l : Leads (e ∷ events) old new) → LacksNone (scene new) ⊎ LeadsToLack events l.0 new
+    → LacksNone (scene new) ⊎ LeadsToLack (e ∷ events) old new
 later e events old new l (inl none) = inl none
 later e events old new l (inr k) = inr (l.0, l.1, inr k)
 

@@ -68,14 +68,16 @@ module _ {A : Type 0} (f : A → ℕ) where
   over_less : (ls : List (List A)) (w : ℕ) (x : A) → newest (of_worker ls w) ≡ Some x → sum_over f (slice_set ls w (but_newest (of_worker ls w))) + f x ≡ sum_over f ls
   over_less ls w x e =
       let lt = there ls w x e in
-      let a : sum_over f (slice_set ls w (but_newest (of_worker ls w))) + sum_of f (of_worker ls w) ≡ sum_over f ls + sum_of f (but_newest (of_worker ls w)) = over_set ls w (but_newest (of_worker ls w)) lt in
+      let a : sum_over f (slice_set ls w (but_newest (of_worker ls w))) + sum_of f (of_worker ls w)
+      ≡ sum_over f ls + sum_of f (but_newest (of_worker ls w)) = over_set ls w (but_newest (of_worker ls w)) lt in
       let b : sum_of f (of_worker ls w) ≡ sum_of f (but_newest (of_worker ls w)) + f x = sum_newest (of_worker ls w) x e in
       omega (arith, a, b)
 
   over_first : (ls : List (List A)) (w : ℕ) (x : A) → oldest (of_worker ls w) ≡ Some x → sum_over f (slice_set ls w (but_oldest (of_worker ls w))) + f x ≡ sum_over f ls
   over_first ls w x e =
       let lt = first_there ls w x e in
-      let a : sum_over f (slice_set ls w (but_oldest (of_worker ls w))) + sum_of f (of_worker ls w) ≡ sum_over f ls + sum_of f (but_oldest (of_worker ls w)) = over_set ls w (but_oldest (of_worker ls w)) lt in
+      let a : sum_over f (slice_set ls w (but_oldest (of_worker ls w))) + sum_of f (of_worker ls w)
+      ≡ sum_over f ls + sum_of f (but_oldest (of_worker ls w)) = over_set ls w (but_oldest (of_worker ls w)) lt in
       let b : sum_of f (of_worker ls w) ≡ sum_of f (but_oldest (of_worker ls w)) + f x = sum_oldest (of_worker ls w) x e in
       omega (arith, a, b)
 
@@ -115,7 +117,8 @@ pub record Evens (p : Posted) (os : List Out) (old new : Boarded) : Type 0 where
       ≡ (sum_over (offered_at n) old.offers + sum_of (settled_at n) old.cells) + (sum_of (held_at n) p.outs + sum_of (out_at n) os)
   pub fewer : (n : ℕ) → sum_of (out_at n) os ≤ sum_of (out_at n) p.outs
 
-pub turned_placed : (s : Scene) (w : ℕ) (p : Posted) (os : List Out) (x : Stage) (board : Boarded) → OnePlace s → top s w ≡ Some (Goes p) → GoesOn p os x → Evens p os s.board board → OnePlace (turned s w x board)
+pub turned_placed : (s : Scene) (w : ℕ) (p : Posted) (os : List Out) (x : Stage) (board : Boarded) → OnePlace s → top s w ≡ Some (Goes p)
+    → GoesOn p os x → Evens p os s.board board → OnePlace (turned s w x board)
 turned_placed s w p os x board o e g v =
     let old : Stage = Goes p in
     record {
@@ -215,7 +218,8 @@ offer_placed s s' w lt o d =
           let h' : sum_of (held_at n) p.outs ≡ sum_of (held_at n) d.at.older + once n d.number = pushed_held n p d.at.older old are in
           let u : sum_of (out_at n) os ≡ sum_of (out_at n) d.at.older + once n d.number = sum_pushed (out_at n) d.at.older new in
           let u' : sum_of (out_at n) p.outs ≡ sum_of (out_at n) d.at.older + once n d.number = pushed_out n p d.at.older old are in
-          let b : sum_over (offered_at n) (slice_set s.board.offers w (of_worker s.board.offers w ++ x ∷ [])) ≡ sum_over (offered_at n) s.board.offers + once n d.number = over_more (offered_at n) s.board.offers w x lt in
+          let b : sum_over (offered_at n) (slice_set s.board.offers w (of_worker s.board.offers w ++ x ∷ []))
+          ≡ sum_over (offered_at n) s.board.offers + once n d.number = over_more (offered_at n) s.board.offers w x lt in
           omega (arith, h, h', u, u', b);
       fewer = λ n.
           let u : sum_of (out_at n) os ≡ sum_of (out_at n) d.at.older + once n d.number = sum_pushed (out_at n) d.at.older new in
@@ -253,7 +257,8 @@ retake_evens s w p older (out.Offered m) are back =
       counts = λ n.
           let h : sum_of (held_at n) p.outs ≡ sum_of (held_at n) older + 0 = pushed_held n p older (out.Offered m) are in
           let u : sum_of (out_at n) p.outs ≡ sum_of (out_at n) older + once n m = pushed_out n p older (out.Offered m) are in
-          let b : sum_over (offered_at n) (slice_set s.board.offers w (but_newest (of_worker s.board.offers w))) + once n f.0.number ≡ sum_over (offered_at n) s.board.offers = over_less (offered_at n) s.board.offers w f.0 f.1 in
+          let b : sum_over (offered_at n) (slice_set s.board.offers w (but_newest (of_worker s.board.offers w))) + once n f.0.number
+          ≡ sum_over (offered_at n) s.board.offers = over_less (offered_at n) s.board.offers w f.0 f.1 in
           let same : once n f.0.number ≡ once n m = ap (once n) f.2 in
           omega (arith, h, u, b, same);
       fewer = λ n. let u : sum_of (out_at n) p.outs ≡ sum_of (out_at n) older + once n m = pushed_out n p older (out.Offered m) are in omega (arith, u);
@@ -293,7 +298,8 @@ steal_placed v s s' w victim o d =
       placed = λ n.
           let run : sum_over (run_by n) (with_top s.begun w x) ≡ sum_over (run_by n) s.begun + run_by n x = over_more (run_by n) s.begun w x d.there in
           let held : sum_over (held_by n) (with_top s.begun w x) ≡ sum_over (held_by n) s.begun + held_by n x = over_more (held_by n) s.begun w x d.there in
-          let b : sum_over (offered_at n) (slice_set s.board.offers victim (but_oldest (of_worker s.board.offers victim))) + once n d.offer.number ≡ sum_over (offered_at n) s.board.offers = over_first (offered_at n) s.board.offers victim d.offer d.oldest_is in
+          let b : sum_over (offered_at n) (slice_set s.board.offers victim (but_oldest (of_worker s.board.offers victim))) + once n d.offer.number
+          ≡ sum_over (offered_at n) s.board.offers = over_first (offered_at n) s.board.offers victim d.offer d.oldest_is in
           let same : once n p.number ≡ once n d.offer.number = ap (once n) d.begins.0 in
           omega (arith, run, held, b, same, out_is n, goes_run n p [] x g, goes_held n p [] x g, o.placed n);
       single = λ n. omega (arith, out_is n, o.single n);

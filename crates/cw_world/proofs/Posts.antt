@@ -117,7 +117,8 @@ steps_on (Some e) old mid new jobs jobs' n os of ran s done j =
 
 -- it waits
 pub steps_to_join : (old new : Posted) (jobs jobs' : List Job) → new.number ≡ old.number → new.outs ≡ old.outs → its_job new.strand ≡ its_job old.strand
-    → length old.outs ≡ length (outs old.strand) → new.at_join ≡ true → KeptBy step.AtSync old.strand new.strand → DoesOneMore None old.strand new.strand → jobs' ≡ jobs → Steps (Ok None) old new jobs jobs'
+    → length old.outs ≡ length (outs old.strand) → new.at_join ≡ true → KeptBy step.AtSync old.strand new.strand
+    → DoesOneMore None old.strand new.strand → jobs' ≡ jobs → Steps (Ok None) old new jobs jobs'
 steps_to_join old new jobs jobs' n os of even flag k one j =
     let some : new.outs ≢ [] = λ none. some_out old.outs (outs old.strand) even k.2 (sym os ∙ none) in
     inl (
@@ -135,7 +136,8 @@ steps_to_join old new jobs jobs' n os of even flag k one j =
 
 -- it has handed a job out
 pub steps_to_spawn : (old new : Posted) (jobs jobs' : List Job) (job : Job) → new.number ≡ old.number → new.outs ≡ old.outs ++ out.Undecided (length jobs) job ∷ []
-    → its_job new.strand ≡ its_job old.strand → StandsRight new → KeptBy (step.Spawned job) old.strand new.strand → IsGoing new.strand → new.strand.count ≡ old.strand.count + 1 → jobs' ≡ jobs ++ job ∷ [] → Steps (Ok None) old new jobs jobs'
+    → its_job new.strand ≡ its_job old.strand → StandsRight new → KeptBy (step.Spawned job) old.strand new.strand → IsGoing new.strand
+    → new.strand.count ≡ old.strand.count + 1 → jobs' ≡ jobs ++ job ∷ [] → Steps (Ok None) old new jobs jobs'
 steps_to_spawn old new jobs jobs' job n os of stands k goes one j =
     inr (record {
       job = job;

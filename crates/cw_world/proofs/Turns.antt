@@ -51,7 +51,8 @@ counted_with v q ended x e old b (inl same) = inl (counted v q ended x old.count
 counted_with v q ended x e old b (inr t) = inr (t.0, counted v q ended x (old.count + cost_in e) b t.1)
 
 ran_on : (v : Verified) (s : Scene) (w : ℕ) (p q : Posted) (jobs' : List Job) (begun' : List (List Stage)) (x : Stage) → top s w ≡ Some (Goes p) → Works s.jobs p
-    → Stays p q p.outs (outs p.strand) → jobs' ≡ s.jobs → DoesOneMore None p.strand q.strand → (lacks_memory x ≡ true → MayLack p.strand) → x ≡ Goes q → begun' ≡ with_top (but_top s.begun w) w x → Runs v s (scene_of jobs' begun' s.board) w
+    → Stays p q p.outs (outs p.strand) → jobs' ≡ s.jobs → DoesOneMore None p.strand q.strand → (lacks_memory x ≡ true → MayLack p.strand)
+    → x ≡ Goes q → begun' ≡ with_top (but_top s.begun w) w x → Runs v s (scene_of jobs' begun' s.board) w
 ran_on v s w p q jobs' begun' x at works stays same one lacks b is =
     record {
       at = record { post = p; is = at };
@@ -63,7 +64,8 @@ ran_on v s w p q jobs' begun' x at works stays same one lacks b is =
     }
 
 ran_out : (v : Verified) (s : Scene) (w : ℕ) (p q : Posted) (e : Effect) (jobs' : List Job) (begun' : List (List Stage)) (x : Stage) → top s w ≡ Some (Goes p) → Works s.jobs p
-    → Comes (Some e) p q [] → jobs' ≡ s.jobs → DoesOneMore (Some e) p.strand q.strand → (lacks_memory x ≡ true → MayLack p.strand) → IsBegun v q (Some e) x → begun' ≡ with_top (but_top s.begun w) w x → Runs v s (scene_of jobs' begun' s.board) w
+    → Comes (Some e) p q [] → jobs' ≡ s.jobs → DoesOneMore (Some e) p.strand q.strand → (lacks_memory x ≡ true → MayLack p.strand)
+    → IsBegun v q (Some e) x → begun' ≡ with_top (but_top s.begun w) w x → Runs v s (scene_of jobs' begun' s.board) w
 ran_out v s w p q e jobs' begun' x at works c same one lacks b is =
     record {
       at = record { post = p; is = at };
@@ -124,7 +126,8 @@ goes_same p mid os (Answered r) n of g = (sym n ∙ g.0, g.1)
 
 -- its newest job out is back
 pub came_back : (v : Verified) (jobs : List Job) (p q : Posted) (older : List Out) (o : Out) (flag : Bool) (ended : Option Effect) (x : Stage) → Works jobs p → p.outs ≡ older ++ o ∷ []
-    → ((job : Job) (others : List Job) → outs p.strand ≡ job ∷ others → IsJobOf jobs (out_number o) job → Comes ended (record { number = p.number; strand = p.strand; at_join = flag; outs = older }) q others)
+    → ((job : Job) (others : List Job) → outs p.strand ≡ job ∷ others → IsJobOf jobs (out_number o) job
+    → Comes ended (record { number = p.number; strand = p.strand; at_join = flag; outs = older }) q others)
     → IsBegun v q ended x → ComesTo v jobs p older x
 came_back v jobs p q older o flag ended x works are comes b =
     let n = newest_out_of jobs p older o works are in
@@ -133,7 +136,8 @@ came_back v jobs p q older o flag ended x works are comes b =
     (goes_same p mid older x refl refl c.0, c.1)
 
 pub back_whole : (v : Verified) (jobs : List Job) (p q : Posted) (older : List Out) (o : Out) (flag : Bool) (ended : Option Effect) → HasRoot v jobs → Works jobs p → p.outs ≡ older ++ o ∷ []
-    → ((job : Job) (others : List Job) → outs p.strand ≡ job ∷ others → IsJobOf jobs (out_number o) job → Comes ended (record { number = p.number; strand = p.strand; at_join = flag; outs = older }) q others)
+    → ((job : Job) (others : List Job) → outs p.strand ≡ job ∷ others → IsJobOf jobs (out_number o) job
+    → Comes ended (record { number = p.number; strand = p.strand; at_join = flag; outs = older }) q others)
     → q.number ≡ 0 → IfSome ended (λ e. ∥ IsOfWhole v e ∥₁)
 back_whole v jobs p q older o flag ended r works are comes z =
     let n = newest_out_of jobs p older o works are in

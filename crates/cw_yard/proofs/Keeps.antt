@@ -1,5 +1,6 @@
 -- Each step at a cell keeps the rule.
-use Rattle.std.proofs.Common.{◌≡◌, ◌≢◌, ◌⊎◌, ◌<◌, ◌≤◌, ◌+◌, ℕ, zero, suc, Bool, true, false, eqb, List, [], ◌∷◌, ◌++◌, length, set, sym, refl, ap, ◌∙◌, subst, inl, inr, ⊎_elim, arith, Option, Some, None, eq-eqb, ne_eqb, length-set, map, replicate}
+use Rattle.std.proofs.Common.{◌≡◌, ◌≢◌, ◌⊎◌, ◌<◌, ◌≤◌, ◌+◌, ℕ, zero, suc, Bool, true, false, eqb, List, [], ◌∷◌, ◌++◌, length, set, sym, refl, ap}
+use Rattle.std.proofs.Common.{◌∙◌, subst, inl, inr, ⊎_elim, arith, Option, Some, None, eq-eqb, ne_eqb, length-set, map, replicate}
 use Rattle.std.proofs.lemmas.List.{length-map, length-replicate}
 use mathlib.Core.Option.{none, some, some-injective, some-ne-none}
 use mathlib.Core.Logic.{dite}
@@ -103,7 +104,8 @@ Used old id = (j : ℕ) → j ≢ id → old.0 ≡ j → old.1 ≢ free
 
 funded : (b : ℕ → Spot) (c id : ℕ) (x : Spot) (j : ℕ) (u : CellView) → j ≢ id → Used (b c) id → Funds b j u → Funds (upd b c x) j u
 funded b c id x j Idle apart used h = tt
-funded b c id x j (Rest k) apart used h = λ i le. at_upd b c x i (λ z. (z.0 ≡ j) × (z.1 ≡ free)) (λ e. let old = subst (λ m. ((b m).0 ≡ j) × ((b m).1 ≡ free)) e (h i le) in absurd (used j apart old.0 old.1)) (λ _. h i le)
+funded b c id x j (Rest k) apart used h = λ i le. at_upd b c x i (λ z. (z.0 ≡ j) × (z.1 ≡ free))
+    (λ e. let old = subst (λ m. ((b m).0 ≡ j) × ((b m).1 ≡ free)) e (h i le) in absurd (used j apart old.0 old.1)) (λ _. h i le)
 funded b c id x j (Owner d k) apart used h = tt
 funded b c id x j (Duty d t n job) apart used h = tt
 
@@ -123,7 +125,8 @@ quiet old x id f g j (Duty c b n job) apart e = g j b n job apart e
 others : (s : St) (h : Kept s) (c id : ℕ) (x : Spot) (v : CellView) → Fits x id v → ((cell_of v ≢ c) → Fits (h.0 (cell_of v)) id v) → Quiet (h.0 c) x id
     → (j : ℕ) (u : CellView) → get_elem? (set s.views id v) j ≡ some u → (cell_of u ≡ c → Fits x j u) × (cell_of u ≢ c → Fits (h.0 (cell_of u)) j u)
 others s h c id x v fit far q j u e =
-    ⊎_elim (λ (p : (j ≡ id) × (v ≡ u)). subst (λ (z : ℕ × CellView). (cell_of z.1 ≡ c → Fits x z.0 z.1) × (cell_of z.1 ≢ c → Fits (h.0 (cell_of z.1)) z.0 z.1)) (λ i. (sym p.0 i, p.1 i)) ((λ _. fit), far))
+    ⊎_elim (λ (p : (j ≡ id) × (v ≡ u)). subst (λ (z : ℕ × CellView). (cell_of z.1 ≡ c → Fits x z.0 z.1)
+    × (cell_of z.1 ≢ c → Fits (h.0 (cell_of z.1)) z.0 z.1)) (λ i. (sym p.0 i, p.1 i)) ((λ _. fit), far))
     (λ (p : (j ≢ id) × (get_elem? s.views j ≡ some u)). let was = h.2 j u p.1 in ((λ is. q j u p.0 (subst (λ k. Fits (h.0 k) j u) is was)), λ _. was)) (at_set s.views id j v u e)
 
 moved : (s : St) (h : Kept s) (slots c id n : ℕ) (x : Spot) (v : CellView) (hs : List Slot) (y : Slot) → c < slots → length s.homes ≡ slots
@@ -132,7 +135,8 @@ moved : (s : St) (h : Kept s) (slots c id n : ℕ) (x : Spot) (v : CellView) (hs
     → Kept record { words = set s.words c n; homes = hs; views = set s.views id v }
 moved s h slots c id n x v hs y lt len same hc he lies fit far q used fund =
     let here = h.1 c (subst (λ m. c < m) (sym len) lt) in
-    placed s h c n x (set s.words c n) hs (set s.views id v) y same (set_at s.words c here.0 n here.2) (λ k ne. set_else s.words c k n ne) hc he lies (others s h c id x v fit far q) (funds_all s h c id x v used fund)
+    placed s h c n x (set s.words c n) hs (set s.views id v) y same (set_at s.words c here.0 n here.2) (λ k ne. set_else s.words c k n ne) hc he lies
+    (others s h c id x v fit far q) (funds_all s h c id x v used fund)
 
 -- the owner's steps: no other owner, and no duty, is at this cell
 alone : (old x : Spot) (id : ℕ) → old.0 ≡ id → ((b : Bool) (n : ℕ) (j : Job) (d : ℕ) → old.1 ≢ serving b n j d) → Quiet old x id
@@ -153,7 +157,8 @@ opens k n j is slots id c lt s h len at _ =
       Owner c (Held n j),
       keeps,
       tt,
-      moved s h slots c id (slice_index s.words c) (id, held n j) (Owner c (Held n j)) s.homes (some None) lt len refl (here.3 ∙ ap some lies.1) (λ _ _. refl) (index_of s.words c here.0 here.2 ∙ lies.0, refl) (refl, refl) (λ no. absurd (no refl))
+      moved s h slots c id (slice_index s.words c) (id, held n j) (Owner c (Held n j)) s.homes (some None) lt len refl (here.3 ∙ ap some lies.1)
+          (λ _ _. refl) (index_of s.words c here.0 here.2 ∙ lies.0, refl) (refl, refl) (λ no. absurd (no refl))
           (alone (h.0 c) (id, held n j) id mine.0 (λ b m k d e. absurd (serves free _ b m k d mine.1 e))) (own_used (h.0 c) id mine.0) tt,
       (λ n' j' e. ap (λ i. (Owner c i, [])) (sym is ∙ e)),
     )
@@ -175,7 +180,8 @@ frees_back slots id c n m j k lt s h len at _ =
       Owner c Free,
       keeps,
       tt,
-      moved s h slots c id (slice_index s.words c) (id, free) (Owner c Free) s.homes (some None) lt len refl (here.3 ∙ ap some lies.1) (λ _ _. refl) (index_of s.words c here.0 here.2 ∙ lies.0, refl) (refl, refl) (λ far. absurd (far refl))
+      moved s h slots c id (slice_index s.words c) (id, free) (Owner c Free) s.homes (some None) lt len refl (here.3 ∙ ap some lies.1) (λ _ _. refl)
+          (index_of s.words c here.0 here.2 ∙ lies.0, refl) (refl, refl) (λ far. absurd (far refl))
           (alone (h.0 c) (id, free) id mine.0 (λ b m' k' d e. serves (held n j) _ b m' k' d mine.1.0 e)) (own_used (h.0 c) id mine.0) tt,
       (refl, (mine.1.1, mine.1.2)),
     )
@@ -187,7 +193,8 @@ frees_taken slots id c n j lt s h len at _ =
       Owner c Free,
       gives,
       tt,
-      frees s h slots id c (Owner c Free) (taken n j) (set s.homes c (some None)) lt len mine.0 mine.1 (λ b m' k' d e. e) (length-set s.homes c (some None)) (set_at s.homes c here.1 (some None) here.3)
+      frees s h slots id c (Owner c Free) (taken n j) (set s.homes c (some None)) lt len mine.0 mine.1 (λ b m' k' d e. e)
+          (length-set s.homes c (some None)) (set_at s.homes c here.1 (some None) here.3)
           (λ k ne. set_else s.homes c k (some None) ne),
       (refl, tt),
     )
@@ -260,7 +267,8 @@ module _ (slots id c m : ℕ) (j : Job) (lt : c < slots) (s : St) (h : Kept s) (
     Owner c (Out m j),
     keeps,
     tt,
-    moved s h slots c id (slice_index s.words c) (h.0 c) (Owner c (Out m j)) s.homes here.1 lt len refl here.3 (λ _ _. refl) (subst (λ z. Lies z here.1 (h.0 c).1) (sym (index_of s.words c here.0 here.2)) here.4)
+    moved s h slots c id (slice_index s.words c) (h.0 c) (Owner c (Out m j)) s.homes here.1 lt len refl here.3 (λ _ _. refl)
+        (subst (λ z. Lies z here.1 (h.0 c).1) (sym (index_of s.words c here.0 here.2)) here.4)
         (h.2 id (Owner c (Out m j)) at) (λ far. absurd (far refl)) (λ _ _ _ e. e) (own_used (h.0 c) id (h.2 id (Owner c (Out m j)) at).0) tt,
     ((λ two. absurd (less two)), λ _. refl),
   )

@@ -103,7 +103,8 @@ no_outs n m ((k, out) ∷ es) h = absurd (nil_no_cons (n, k) (outs (suc n) es) (
 no_outs n m ((k, retaken) ∷ es) h = no_outs (suc n) (suc m) es h
 no_outs n m ((k, stolen p) ∷ es) h = no_outs (suc n) (suc m) es h
 
-skip : (n : ℕ) (ps : List Name) (q : Name) (e : Entry) (es : List Entry) (ps' : List Name) → ((xs ys : List Entry) → outs (suc n) (among xs q.1 retaken ys) ≡ ps → outs n (e ∷ among xs q.1 retaken ys) ≡ ps') → Last es (suc n) ps q → Last (e ∷ es) n ps' q
+skip : (n : ℕ) (ps : List Name) (q : Name) (e : Entry) (es : List Entry) (ps' : List Name)
+    → ((xs ys : List Entry) → outs (suc n) (among xs q.1 retaken ys) ≡ ps → outs n (e ∷ among xs q.1 retaken ys) ≡ ps') → Last es (suc n) ps q → Last (e ∷ es) n ps' q
 skip n ps q e es ps' f l = record {
   before = e ∷ l.before;
   after = l.after;
@@ -182,7 +183,8 @@ if_same-snoc true x y l = refl
 if_same-snoc false x y l = refl
 
 pub thefts_steal : (p n : ℕ) (xs : List Entry) (j : Lot) (ys : List Entry) → NoneStolen ys → thefts p n (among xs j (stolen p) ys) ≡ thefts p n (among xs j out ys) ++ (n + length xs, j) ∷ []
-thefts_steal p n [] j ys none = let e : n ≡ n + 0 = omega arith in if_same-self p (n, j) (thefts p (suc n) ys) ∙ (λ i. (e i, j) ∷ none_thefts p (suc n) ys none i) ∙ ap (λ l. l ++ (n + 0, j) ∷ []) (sym (none_thefts p (suc n) ys none))
+thefts_steal p n [] j ys none = let e : n ≡ n + 0 = omega arith in if_same-self p (n, j) (thefts p (suc n) ys)
+    ∙ (λ i. (e i, j) ∷ none_thefts p (suc n) ys none i) ∙ ap (λ l. l ++ (n + 0, j) ∷ []) (sym (none_thefts p (suc n) ys none))
 thefts_steal p n ((k, out) ∷ xs) j ys none = thefts_steal p (suc n) xs j ys none ∙ ap (λ m. thefts p (suc n) (among xs j out ys) ++ (m, j) ∷ []) (on n (length xs))
 thefts_steal p n ((k, retaken) ∷ xs) j ys none = thefts_steal p (suc n) xs j ys none ∙ ap (λ m. thefts p (suc n) (among xs j out ys) ++ (m, j) ∷ []) (on n (length xs))
 thefts_steal p n ((k, stolen q) ∷ xs) j ys none = ap (if_same (eqb q p) (n, k)) (thefts_steal p (suc n) xs j ys none ∙ ap (λ m. thefts p (suc n) (among xs j out ys) ++ (m, j) ∷ []) (on n (length xs)))
@@ -211,4 +213,5 @@ pub below : (p n : ℕ) (xs : List Entry) (j : Lot) (ys : List Entry) → NoneSt
 below p n [] j ys none = subst (Each (λ (x : Name). x.0 < n + 0)) (sym (none_thefts p (suc n) ys none)) tt
 below p n ((k, out) ∷ xs) j ys none = all_weaker (suc n + length xs) (n + suc (length xs)) _ (omega arith) (below p (suc n) xs j ys none)
 below p n ((k, retaken) ∷ xs) j ys none = all_weaker (suc n + length xs) (n + suc (length xs)) _ (omega arith) (below p (suc n) xs j ys none)
-below p n ((k, stolen q) ∷ xs) j ys none = if_same-all (eqb q p) (n, k) _ (n + suc (length xs)) (omega arith) (all_weaker (suc n + length xs) (n + suc (length xs)) _ (omega arith) (below p (suc n) xs j ys none))
+below p n ((k, stolen q) ∷ xs) j ys none = if_same-all (eqb q p) (n, k) _ (n + suc (length xs)) (omega arith)
+    (all_weaker (suc n + length xs) (n + suc (length xs)) _ (omega arith) (below p (suc n) xs j ys none))

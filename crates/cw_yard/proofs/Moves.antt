@@ -18,8 +18,10 @@ use Rattle.cw_yard.specs.declared.task.Item.TheVariants.{Mark, Work}
 use Rattle.cw_yard.specs.declared.task.Offer.{Offer}
 use Rattle.cw_yard.specs.declared.task.DequeView.{DequeView}
 use Rattle.cw_yard.specs.declared.task.DequeView.TheVariants.{Fresh, Marked, Owner, Thief}
-use Rattle.cw_yard.specs.Ledger.{Each, Name, name_of, table_of, out, retaken, stolen, Entry, outs, thefts, FrontFirst, offer, lot, shown, Fits, Running, Dealt, MayPush, pushed, Retakes, Steals, IsOwner, IsThief, number, marked}
-use Rattle.cw_yard.proofs.Ledgers.{outs-snoc, front-snoc, thefts-snoc, among, last_out, all_back, front_after, front_retake, thefts_retake, first_out, front_steal, thefts_steal, thefts_other, shown_steal, below, nil_no_cons, nil_no_snoc, head_or, tail_of}
+use Rattle.cw_yard.specs.Ledger.{Each, Name, name_of, table_of, out, retaken, stolen, Entry, outs, thefts, FrontFirst, offer, lot, shown}
+use Rattle.cw_yard.specs.Ledger.{Fits, Running, Dealt, MayPush, pushed, Retakes, Steals, IsOwner, IsThief, number, marked}
+use Rattle.cw_yard.proofs.Ledgers.{outs-snoc, front-snoc, thefts-snoc, among, last_out, all_back, front_after, front_retake, thefts_retake, first_out}
+use Rattle.cw_yard.proofs.Ledgers.{front_steal, thefts_steal, thefts_other, shown_steal, below, nil_no_cons, nil_no_snoc, head_or, tail_of}
 
 plus_none : (n : ℕ) → 0 + n ≡ n
 plus_none n = omega arith
@@ -43,7 +45,8 @@ running items views p v plays at d =
     (λ a. absurd (subst Plays (sym (one_view (Marked a.0) v p (subst (λ l. get_elem? l p ≡ some v) a.2 at))) plays)) s)
     (λ r. r) d
 
-refit : (z : TableId) (owner : ℕ) (ledger after : List Entry) (port : ℕ) → ((q : ℕ) → q ≢ port → thefts q 0 after ≡ thefts q 0 ledger) → ((q : ℕ) → q ≢ port → q ≡ owner → map shown after ≡ map shown ledger)
+refit : (z : TableId) (owner : ℕ) (ledger after : List Entry) (port : ℕ) → ((q : ℕ) → q ≢ port → thefts q 0 after ≡ thefts q 0 ledger)
+    → ((q : ℕ) → q ≢ port → q ≡ owner → map shown after ≡ map shown ledger)
     → (p : ℕ) (v : DequeView) → p ≢ port → Fits z owner ledger p v → Fits z owner after p v
 refit z owner ledger after port same own p Fresh apart h = h
 refit z owner ledger after port same own p (Marked t) apart h = h
@@ -70,7 +73,8 @@ pushes port (Owner t os) k may items views d at =
     let after : List Entry = ledger ++ (lot k, out) ∷ [] in
     let w : DequeView = Owner t (os ++ offer (lot k) false ∷ []) in
     let n : number k ≡ 0 + length ledger = may.1 ∙ ap length mine.2 ∙ length-map ledger shown ∙ sym (plus_none (length ledger)) in
-    let names = map-append name_of items (Work k ∷ []) ∙ (λ i. r.3 i ++ Some (n i, lot k) ∷ []) ∙ sym (ap (map (λ x. Some x)) (outs-snoc 0 ledger (lot k)) ∙ map-append (λ x. Some x) (outs 0 ledger) ((0 + length ledger, lot k) ∷ [])) in (
+    let names = map-append name_of items (Work k ∷ []) ∙ (λ i. r.3 i ++ Some (n i, lot k) ∷ [])
+    ∙ sym (ap (map (λ x. Some x)) (outs-snoc 0 ledger (lot k)) ∙ map-append (λ x. Some x) (outs 0 ledger) ((0 + length ledger, lot k) ∷ [])) in (
       w,
       inr (
         r.0,
@@ -79,7 +83,12 @@ pushes port (Owner t os) k may items views d at =
         names,
         each_pushed (λ x. table_of x ≡ r.0) items (Work k) r.4 (may.0 ∙ mine.0),
         front-snoc ledger (lot k) r.5,
-        refits r.0 r.1 ledger after views port w r.6 (mine.0, mine.1, ap (λ l. l ++ offer (lot k) false ∷ []) mine.2 ∙ sym (map-append shown ledger ((lot k, out) ∷ []))) (λ q _. thefts-snoc q 0 ledger (lot k))
+        refits r.0 r.1 ledger after views port w r.6 (
+          mine.0,
+          mine.1,
+          ap (λ l. l ++ offer (lot k) false ∷ []) mine.2
+              ∙ sym (map-append shown ledger ((lot k, out) ∷ [])),
+        ) (λ q _. thefts-snoc q 0 ledger (lot k))
             (λ q apart is. absurd (apart (is ∙ sym mine.1))),
       ),
       refl,
@@ -185,7 +194,8 @@ steals port (Thief t ss) k items views own at r ps is names =
         r.4.1,
         front_steal port 0 l.before (lot k) l.after l.none_out front,
         refits r.0 r.1 r.2 after views port w r.6 (mine.0, (λ i. ss_is i ++ (l.number i, lot k) ∷ []) ∙ sym (thefts_steal port 0 l.before (lot k) l.after none))
-            (λ q apart. thefts_other port q 0 l.before (lot k) l.after (λ e. apart (sym e)) ∙ ap (thefts q 0) (sym l.is)) (λ q _ _. shown_steal port l.before (lot k) l.after ∙ ap (map shown) (sym l.is)),
+            (λ q apart. thefts_other port q 0 l.before (lot k) l.after (λ e. apart (sym e)) ∙ ap (thefts q 0) (sym l.is))
+            (λ q _ _. shown_steal port l.before (lot k) l.after ∙ ap (map shown) (sym l.is)),
       ),
       (
         k,

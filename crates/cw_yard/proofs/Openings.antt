@@ -69,10 +69,13 @@ begins z (Owner t os) h = (t, ap (λ l. Owner t l) h.1)
 begins z (Thief t ss) h = absurd h
 
 -- a fresh deque may have guests
-pub may_guest : (z : TableId) (owns : List OwnDeque) (k : ℕ) (w : OwnDeque) → Each (IsFresh z) owns → k < length owns → w ≡ get_or owns k w → (t : Token (Option Left) CellView) × (worker_view w ≡ Owner t [])
+pub may_guest : (z : TableId) (owns : List OwnDeque) (k : ℕ) (w : OwnDeque) → Each (IsFresh z) owns → k < length owns → w ≡ get_or owns k w
+    → (t : Token (Option Left) CellView) × (worker_view w ≡ Owner t [])
 may_guest z owns k w h lt is = begins z (worker_view w) (each_at (IsFresh z) owns k w h (slice_get_read owns (length owns) k w refl lt is)).0
 
-pub deques_set : (y : Yard) (owns : List OwnDeque) (k : ℕ) (old new : OwnDeque) → k < length owns → old ≡ get_or owns k old → worker_deque new ≡ worker_deque old → worker_flavor new ≡ worker_flavor old → worker_view new ≡ worker_view old → ServesDeques y owns → ServesDeques y (set owns k new)
+pub deques_set : (y : Yard) (owns : List OwnDeque) (k : ℕ) (old new : OwnDeque) → k < length owns → old ≡ get_or owns k old
+    → worker_deque new ≡ worker_deque old → worker_flavor new ≡ worker_flavor old → worker_view new ≡ worker_view old → ServesDeques y owns
+    → ServesDeques y (set owns k new)
 deques_set y owns k old new lt is same flavor seen h =
     let at = slice_get_read owns (length owns) k old refl lt is in
     let fresh = each_at (IsFresh (table_of y)) owns k old h.1 at in (
@@ -90,7 +93,8 @@ stealing z (Marked t) w h e = absurd h
 stealing z (Owner t os) w h e = subst (StealsAt z) (sym e) h.0
 stealing z (Thief t ss) w h e = absurd h
 
-pub passes_snoc : (y : Yard) (owns : List OwnDeque) (es : List ThiefPass) (e : ThiefPass) (k : ℕ) (old : OwnDeque) → ServesDeques y owns → length es ≡ k → k < length owns → old ≡ get_or owns k old → IsPassOf (worker_deque old) e → view e ≡ as_thief (worker_view old)
+pub passes_snoc : (y : Yard) (owns : List OwnDeque) (es : List ThiefPass) (e : ThiefPass) (k : ℕ) (old : OwnDeque) → ServesDeques y owns
+    → length es ≡ k → k < length owns → old ≡ get_or owns k old → IsPassOf (worker_deque old) e → view e ≡ as_thief (worker_view old)
     → HasPasses y es → HasPasses y (es ++ e ∷ [])
 passes_snoc y owns es e k old d n lt is pass seen h j o x f g =
     let at = slice_get_read owns (length owns) k old refl lt is in
@@ -108,7 +112,8 @@ owns_at z (Owner t os) h = h.0
 owns_at z (Thief t ss) h = absurd h
 
 -- a pass at a fresh deque has stolen nothing
-pub new_pass : (z : TableId) (owns : List OwnDeque) (k : ℕ) (w : OwnDeque) (e : ThiefPass) → Each (IsFresh z) owns → k < length owns → w ≡ get_or owns k w → view e ≡ as_thief (worker_view w) → stolen (view e) ≡ []
+pub new_pass : (z : TableId) (owns : List OwnDeque) (k : ℕ) (w : OwnDeque) (e : ThiefPass) → Each (IsFresh z) owns → k < length owns
+    → w ≡ get_or owns k w → view e ≡ as_thief (worker_view w) → stolen (view e) ≡ []
 new_pass z owns k w e h lt is seen = let o = may_guest z owns k w h lt is in ap stolen (seen ∙ ap as_thief o.1)
 
 nothing_offered : (z : TableId) (v : DequeView) → Begins z v → offered v ≡ []

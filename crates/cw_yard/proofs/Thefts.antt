@@ -38,7 +38,8 @@ abbrev pub or_else : {A : Type 0} → A → Option A → A
 or_else d None = d
 or_else d (Some x) = x
 
-pub thieved : (z : TableId) (v w : DequeView) (k : Task) → StealsAt z v → Steals v (Work k ∷ []) w → (k.duty.table_id ≡ z) × (job_in (duty_deal k.duty.me.0) ≡ Some k.job) × Rises (stolen v) k.job (stolen w)
+pub thieved : (z : TableId) (v w : DequeView) (k : Task) → StealsAt z v → Steals v (Work k ∷ []) w
+    → (k.duty.table_id ≡ z) × (job_in (duty_deal k.duty.me.0) ≡ Some k.job) × Rises (stolen v) k.job (stolen w)
 thieved z Fresh w k at h = absurd at
 thieved z (Marked t) w k at h = absurd at
 thieved z (Owner t os) w k at h = absurd at

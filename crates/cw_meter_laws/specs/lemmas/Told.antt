@@ -57,7 +57,8 @@ module _ (P : List Open → List Event → Type 0) (from : Origin) where
   Tells code _ os es = P os (meters.ticked es)
 
   -- a block ends
-  resumed : (s : State) (o : Opened) (around : List Around) → s.around ≡ Block o ∷ around → (arrays : Slots (List ℤ)) → BlockEnds (opens_round from s.around) s.trace.events → After P from (resumes (record (put_in s) { arrays = arrays }) o around)
+  resumed : (s : State) (o : Opened) (around : List Around) → s.around ≡ Block o ∷ around → (arrays : Slots (List ℤ))
+      → BlockEnds (opens_round from s.around) s.trace.events → After P from (resumes (record (put_in s) { arrays = arrays }) o around)
   resumed s o around same arrays h =
       subst (λ e. P (opens_round from around) (meters.ticked (o.events ++ e ∷ []))) (block_event_is o.tag (tree_of s.trace.events))
       (h (record { spawned = false; mark = block_mark o.tag; outer = o.events }) (opens_round from around) (ap (opens_round from) same) refl)

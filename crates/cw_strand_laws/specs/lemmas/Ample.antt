@@ -63,7 +63,8 @@ either false x y h k = k
 pub advances : (code : Code) (job : Job) (strand : Strand) → AmpleStrand strand → AmpleStep (advance code job strand)
 advances code job (Going s count outs) h =
     either (has_come job.extent code s) (finished outs (Joined (standing s) s.trace count)) _ (finishes outs (Joined (standing s) s.trace count) tt)
-    (either (nat_lt job.limit (job.before + (count + 1))) (Ran (Halted OverLimit outs)) (went_on (turn code s) s (step code s) job.limit job.before (count + 1) outs) tt (goes (turn code s) s (step code s) job.limit job.before (count + 1) outs))
+    (either (nat_lt job.limit (job.before + (count + 1))) (Ran (Halted OverLimit outs))
+    (went_on (turn code s) s (step code s) job.limit job.before (count + 1) outs) tt (goes (turn code s) s (step code s) job.limit job.before (count + 1) outs))
 advances code job (Waits s count outs) h = tt
 advances code job (Halted e []) h = h
 advances code job (Halted e (out ∷ outs)) h = tt

@@ -10,7 +10,8 @@ use Rattle.cw_strand_laws.specs.Steps.{started, Advanced, Ran, Handed, AtSync, F
 use Rattle.cw_strand_laws.specs.Worlds.{Place, Undecided, Kept, Offered, Runs, Made, Settled, Spent, World, placed, joined_by}
 use Rattle.cw_strand_laws.specs.lemmas.Ample.{Ample, AmpleStrand, AmplePlace, AmpleWorld, AmpleStep, advances, gives, set_ample}
 use Rattle.cw_world.specs.core.Board.{oldest, of_worker}
-use Rattle.cw_world.specs.core.Table.{Event, Run, Offer, Inline, Retake, Steal, Settle, Collect, Sched, Idle, Busy, Over, top, effect_of, run_or_made, put, advanced, got_back, stole, stolen_by, collected, effect_at, does, perform, is_possible, tried, world_run, first_sched}
+use Rattle.cw_world.specs.core.Table.{Event, Run, Offer, Inline, Retake, Steal, Settle, Collect, Sched, Idle, Busy, Over, top, effect_of, run_or_made, put, advanced}
+use Rattle.cw_world.specs.core.Table.{got_back, stole, stolen_by, collected, effect_at, does, perform, is_possible, tried, world_run, first_sched}
 use Rattle.cw_world.specs.core.Laws.{OnePlace, is_short}
 use Rattle.cw_world.proofs.core.Events.{with_top, tries}
 
@@ -56,7 +57,8 @@ module _ (code : Code) (s : Sched) (one : OnePlace s) (all : AmpleWorld s.world)
   spent : (n : ℕ) → AmpleWorld (placed s.world n Spent)
   spent n = set_ample s.world n Spent all tt
 
-  collects : (w i n : ℕ) (job : Job) (strand : Strand) (outs : List ℕ) (o : Option Place) → AmpleStrand strand → slice_get s.world.places n ≡ o → AmpleWorld (collected code false s w i n job strand outs (effect_at o)).world
+  collects : (w i n : ℕ) (job : Job) (strand : Strand) (outs : List ℕ) (o : Option Place) → AmpleStrand strand → slice_get s.world.places n ≡ o
+      → AmpleWorld (collected code false s w i n job strand outs (effect_at o)).world
   collects w i n job strand outs None h f = all
   collects w i n job strand outs (Some (Made v e)) h f = put_ample code (placed s.world n Spent) w i job (give job strand e) outs (spent n) (gives job strand e h (all n (Made v e) f))
   collects w i n job strand outs (Some (Settled e)) h f = put_ample code (placed s.world n Spent) w i job (give job strand e) outs (spent n) (gives job strand e h (all n (Settled e) f))
@@ -106,7 +108,8 @@ module _ (code : Code) (s : Sched) (one : OnePlace s) (all : AmpleWorld s.world)
   at_idle (Collect w) = all
 
   performs : (w : ℕ) (event : Event) → AmpleWorld (does code false s event (top s w)).world
-  performs w event = with_top s one w (λ t. AmpleWorld (does code false s event t).world) (at_idle event) (λ i job strand outs js at has. at_top event i job strand outs (all i (Runs w strand outs) has.place_is))
+  performs w event = with_top s one w (λ t. AmpleWorld (does code false s event t).world) (at_idle event)
+      (λ i job strand outs js at has. at_top event i job strand outs (all i (Runs w strand outs) has.place_is))
       (λ i e job js at has. at_over event i e (all i (Made w e) has.place_is))
 
   tries_ample : (event : Event) → AmpleWorld (tried code false s event).world

@@ -10,9 +10,13 @@ use Rattle.cw_code.specs.Code.{Code}
 use Rattle.cw_strand_laws.specs.Jobs.{Job, Effect, Joined, has_come, standing}
 use Rattle.cw_strand_laws.specs.Strands.{Strand, Going, Waits, Halted}
 use Rattle.cw_strand_laws.specs.Steps.{started, Advanced, Ran, Handed, AtSync, Finished, Unfit, advance, give, out_of_memory}
-use Rattle.cw_strand_laws.specs.Worlds.{Place, Undecided, Kept, Offered, Runs, Made, Settled, Spent, World, IsUnrun, IsWaiting, placed, joined_by, Has, Next, Run as Runs_on, Spawn as Spawns, Offer as Offers, Inline as Inlines, Begin as Begins, Skip as Skips, Resume as Resumes, End as Ends, Settle as Settles, Give as Gives, Want as Wants, After, Now, Later, world_of}
+use Rattle.cw_strand_laws.specs.Worlds.{Place, Undecided, Kept, Offered, Runs, Made, Settled, Spent, World, IsUnrun, IsWaiting, placed, joined_by, Has, Next}
+use Rattle.cw_strand_laws.specs.Worlds.{Run as Runs_on, Spawn as Spawns, Offer as Offers, Inline as Inlines, Begin as Begins, Skip as Skips, Resume as Resumes}
+use Rattle.cw_strand_laws.specs.Worlds.{End as Ends, Settle as Settles, Give as Gives, Want as Wants, After, Now, Later, world_of}
 use Rattle.cw_world.specs.core.Board.{Board, newest, oldest, but_oldest, but_newest, of_worker, or_none, offer, retake, collect}
-use Rattle.cw_world.specs.core.Table.{Event, Run, Offer, Inline, Retake, Steal, Settle, Collect, Sched, Top, Idle, Busy, Over, top_at, top_of, top, at_join, is_at_join, is_undecided, is_at_spawn, is_kept_by, is_settled, is_same, can_retake, is_possible, effect_of, run_or_made, put, told, noted, advanced, ran, got_back, retaken, short_of, stole, stolen_by, settled, collected, effect_at, does, perform, tried, newest_out, place_of, world_run, none_begun, first_sched, counted}
+use Rattle.cw_world.specs.core.Table.{Event, Run, Offer, Inline, Retake, Steal, Settle, Collect, Sched, Top, Idle, Busy, Over, top_at, top_of, top, at_join, is_at_join, is_undecided, is_at_spawn}
+use Rattle.cw_world.specs.core.Table.{is_kept_by, is_settled, is_same, can_retake, is_possible, effect_of, run_or_made, put, told, noted, advanced, ran, got_back, retaken, short_of, stole}
+use Rattle.cw_world.specs.core.Table.{stolen_by, settled, collected, effect_at, does, perform, tried, newest_out, place_of, world_run, none_begun, first_sched, counted}
 use Rattle.cw_world.specs.core.Laws.{one_if, times, is_with, is_offered_by, OnePlace, EachInOnePlace, RunsCome, EventsAreSteps}
 use Rattle.cw_world.proofs.core.Tally.{set_here, set_there, set_twice, still_some, some_there, beside, pushed_times, newest_times, oldest_times, more_times, same, grows, adds, drops}
 
@@ -84,7 +88,8 @@ module _ (s : Sched) (one : OnePlace s) (w : ℕ) (P : Top → Type 0) where
   with_top idle busy over = by_list (slice_get s.begun w) refl
     where
       by_places : (i : ℕ) (js : List ℕ) → slice_get s.begun w ≡ Some (i ∷ js) → (j : Option Job) (p : Option Place) → slice_get s.world.jobs i ≡ j → slice_get s.world.places i ≡ p → P (top_at i j p)
-      by_places i js e (Some job) (Some (Runs w' strand outs)) f g = busy i job strand outs js e (record { job_is = f; place_is = g ∙ ap (λ v. Some (Runs v strand outs)) (same_worker i w' js (Runs w' strand outs) e g refl) })
+      by_places i js e (Some job) (Some (Runs w' strand outs)) f g = busy i job strand outs js e
+          (record { job_is = f; place_is = g ∙ ap (λ v. Some (Runs v strand outs)) (same_worker i w' js (Runs w' strand outs) e g refl) })
       by_places i js e (Some job) (Some (Made w' x)) f g = over i x job js e (record { job_is = f; place_is = g ∙ ap (λ v. Some (Made v x)) (same_worker i w' js (Made w' x) e g refl) })
       by_places i js e _ _ f g = idle
 
@@ -133,7 +138,8 @@ module _ (code : Code) where
     unchanged = record { one = one; come = Now }
 
     -- one place becomes another that lies alike
-    alike : (i : ℕ) (old new : Place) → slice_get s.world.places i ≡ Some old → ((v : ℕ) → is_with v (Some new) ≡ is_with v (Some old)) → ((v : ℕ) → is_offered_by v (Some new) ≡ is_offered_by v (Some old))
+    alike : (i : ℕ) (old new : Place) → slice_get s.world.places i ≡ Some old → ((v : ℕ) → is_with v (Some new) ≡ is_with v (Some old))
+        → ((v : ℕ) → is_offered_by v (Some new) ≡ is_offered_by v (Some old))
         → OnePlace (told s (placed s.world i new))
     alike i old new at a b = record {
       even = one.even ∙ sym (length-set s.world.places i new);
@@ -142,9 +148,11 @@ module _ (code : Code) where
       offered = same is_offered_by s.board.lists s.world.places one.offered i old new at b;
     }
 
-    put_fine : (w i : ℕ) (job : Job) (old strand : Strand) (outs outs' : List ℕ) → Has s.world i job (Runs w old outs) → After code s.world (placed s.world i (Runs w strand outs')) → Fine s (told s (put code s.world w i job strand outs'))
+    put_fine : (w i : ℕ) (job : Job) (old strand : Strand) (outs outs' : List ℕ) → Has s.world i job (Runs w old outs)
+        → After code s.world (placed s.world i (Runs w strand outs')) → Fine s (told s (put code s.world w i job strand outs'))
     put_fine w i job old strand outs outs' has after = record {
-      one = alike i (Runs w old outs) (run_or_made w strand outs' (effect_of code job strand)) has.place_is (rom_with w strand outs' (effect_of code job strand)) (rom_off w strand outs' (effect_of code job strand));
+      one = alike i (Runs w old outs) (run_or_made w strand outs' (effect_of code job strand)) has.place_is
+          (rom_with w strand outs' (effect_of code job strand)) (rom_off w strand outs' (effect_of code job strand));
       come = puts_come s.world s.world w i job strand outs' (Runs w old outs) has.job_is has.place_is after;
     }
 
@@ -152,11 +160,14 @@ module _ (code : Code) where
         → Fine s (noted s (placed (joined_by s.world out (Undecided w)) i (Runs w new (length s.world.jobs ∷ outs))) (counted s.board))
     spawn_fine w i job out strand new outs has f = record {
       one = record {
-        even = length-append s.world.jobs (out ∷ []) ∙ ap (λ n. n + 1) one.even ∙ sym (length-append s.world.places (Undecided w ∷ [])) ∙ sym (length-set (s.world.places ++ Undecided w ∷ []) i (Runs w new (length s.world.jobs ∷ outs)));
+        even = length-append s.world.jobs (out ∷ []) ∙ ap (λ n. n + 1) one.even ∙ sym (length-append s.world.places (Undecided w ∷ []))
+            ∙ sym (length-set (s.world.places ++ Undecided w ∷ []) i (Runs w new (length s.world.jobs ∷ outs)));
         workers = one.workers;
-        begun = same is_with s.begun (s.world.places ++ Undecided w ∷ []) (grows is_with s.begun s.world.places one.begun (Undecided w) (λ v. refl)) i (Runs w strand outs) (Runs w new (length s.world.jobs ∷ outs))
+        begun = same is_with s.begun (s.world.places ++ Undecided w ∷ []) (grows is_with s.begun s.world.places one.begun (Undecided w) (λ v. refl))
+            i (Runs w strand outs) (Runs w new (length s.world.jobs ∷ outs))
             (get_before s.world.places (Undecided w) i (Runs w strand outs) has.place_is) (λ v. refl);
-        offered = same is_offered_by s.board.lists (s.world.places ++ Undecided w ∷ []) (grows is_offered_by s.board.lists s.world.places one.offered (Undecided w) (λ v. refl)) i (Runs w strand outs) (Runs w new (length s.world.jobs ∷ outs))
+        offered = same is_offered_by s.board.lists (s.world.places ++ Undecided w ∷ [])
+            (grows is_offered_by s.board.lists s.world.places one.offered (Undecided w) (λ v. refl)) i (Runs w strand outs) (Runs w new (length s.world.jobs ∷ outs))
             (get_before s.world.places (Undecided w) i (Runs w strand outs) has.place_is) (λ v. refl);
       };
       come = step s.world _ (Spawns s.world i w job out strand new outs has f);
@@ -188,7 +199,8 @@ module _ (code : Code) where
         even = one.even ∙ sym (length-set s.world.places n (Offered w));
         workers = one.workers ∙ sym (length-set s.board.lists w (of_worker s.board.lists w ++ n ∷ []));
         begun = same is_with s.begun s.world.places one.begun n (Undecided w) (Offered w) at (λ v. refl);
-        offered = adds is_offered_by s.board.lists s.world.places one.offered w n (of_worker s.board.lists w) (of_worker s.board.lists w ++ n ∷ []) (Undecided w) (Offered w) (has_list w js e) at (λ v. refl) (λ v. refl)
+        offered = adds is_offered_by s.board.lists s.world.places one.offered w n (of_worker s.board.lists w) (of_worker s.board.lists w ++ n ∷ [])
+            (Undecided w) (Offered w) (has_list w js e) at (λ v. refl) (λ v. refl)
             (λ m. pushed_times m n (of_worker s.board.lists w));
       };
       come = let found = there n (Undecided w) at in step s.world _ (Offers s.world n w found.0 found.1);
@@ -201,7 +213,8 @@ module _ (code : Code) where
     }
 
     -- the newest job out is spent, and its strand goes on
-    spent_fine : (w i n : ℕ) (job : Job) (strand new : Strand) (outs outs' : List ℕ) (place : Place) (board : Board) → Has s.world i job (Runs w strand outs) → slice_get s.world.places n ≡ Some place → i ≢ n
+    spent_fine : (w i n : ℕ) (job : Job) (strand new : Strand) (outs outs' : List ℕ) (place : Place) (board : Board)
+        → Has s.world i job (Runs w strand outs) → slice_get s.world.places n ≡ Some place → i ≢ n
         → ((v : ℕ) → is_with v (Some place) ≡ false) → length s.begun ≡ length board.lists
         → ((v m : ℕ) → times m (of_worker board.lists v) ≡ one_if (is_offered_by v (slice_get (slice_set s.world.places n Spent) m)))
         → After code s.world (placed (placed s.world n Spent) i (Runs w new outs'))
@@ -210,9 +223,12 @@ module _ (code : Code) where
       one = record {
         even = one.even ∙ sym (length-set s.world.places n Spent) ∙ sym (length-set (slice_set s.world.places n Spent) i (run_or_made w new outs' (effect_of code job new)));
         workers = workers;
-        begun = same is_with s.begun (slice_set s.world.places n Spent) (same is_with s.begun s.world.places one.begun n place Spent at (λ v. sym (none v))) i (Runs w strand outs) (run_or_made w new outs' (effect_of code job new))
+        begun = same is_with s.begun (slice_set s.world.places n Spent)
+            (same is_with s.begun s.world.places one.begun n place Spent at (λ v. sym (none v))) i (Runs w strand outs)
+            (run_or_made w new outs' (effect_of code job new))
             was (rom_with w new outs' (effect_of code job new));
-        offered = same is_offered_by board.lists (slice_set s.world.places n Spent) offered i (Runs w strand outs) (run_or_made w new outs' (effect_of code job new)) was (rom_off w new outs' (effect_of code job new));
+        offered = same is_offered_by board.lists (slice_set s.world.places n Spent) offered i (Runs w strand outs)
+            (run_or_made w new outs' (effect_of code job new)) was (rom_off w new outs' (effect_of code job new));
       };
       come = puts_come s.world (placed s.world n Spent) w i job new outs' (Runs w strand outs) has.job_is was after;
     }
@@ -221,25 +237,33 @@ module _ (code : Code) where
         was = set_there s.world.places n i Spent other ∙ has.place_is
 
     -- where the newest job out has not begun
-    back_comes : (w i n : ℕ) (job : Job) (strand : Strand) (outs : List ℕ) (place : Place) → Has s.world i job (Runs w strand (n ∷ outs)) → at_join strand ≡ true → slice_get s.world.places n ≡ Some place → IsUnrun place
+    back_comes : (w i n : ℕ) (job : Job) (strand : Strand) (outs : List ℕ) (place : Place) → Has s.world i job (Runs w strand (n ∷ outs))
+        → at_join strand ≡ true → slice_get s.world.places n ≡ Some place → IsUnrun place
         → After code s.world (placed (placed s.world n Spent) i (Runs w (got_back strand) outs))
     back_comes w i n job (Going state count jobs) outs place has j at unrun = cc
-    back_comes w i n job (Waits state count jobs) outs place has j at unrun = let found = there n place at in step s.world _ (Resumes s.world i n w job found.0 (Waits state count jobs) outs place has tt found.1 unrun)
+    back_comes w i n job (Waits state count jobs) outs place has j at unrun = let found = there n place at in
+        step s.world _ (Resumes s.world i n w job found.0 (Waits state count jobs) outs place has tt found.1 unrun)
     back_comes w i n job (Halted e jobs) outs place has j at unrun = let found = there n place at in step s.world _ (Skips s.world i n w job found.0 (Halted e jobs) outs place has tt found.1 unrun)
 
-    different : (w i n : ℕ) (job : Job) (strand : Strand) (outs : List ℕ) (place : Place) → Has s.world i job (Runs w strand outs) → slice_get s.world.places n ≡ Some place → ((v : ℕ) → is_with v (Some place) ≡ false) → i ≢ n
+    different : (w i n : ℕ) (job : Job) (strand : Strand) (outs : List ℕ) (place : Place) → Has s.world i job (Runs w strand outs)
+        → slice_get s.world.places n ≡ Some place → ((v : ℕ) → is_with v (Some place) ≡ false) → i ≢ n
     different w i n job strand outs place has at none e = true≢false (sym (eq-eqb w w refl) ∙ ap (is_with w) (sym has.place_is ∙ ap (slice_get s.world.places) e ∙ at) ∙ none w)
 
     kept_fine : (w i n : ℕ) (job : Job) (strand : Strand) (outs : List ℕ) → Has s.world i job (Runs w strand (n ∷ outs)) → at_join strand ≡ true → slice_get s.world.places n ≡ Some (Kept w)
         → Fine s (noted s (put code (placed s.world n Spent) w i job (got_back strand) outs) s.board)
-    kept_fine w i n job strand outs has j at = spent_fine w i n job strand (got_back strand) (n ∷ outs) outs (Kept w) s.board has at (different w i n job strand (n ∷ outs) (Kept w) has at (λ v. refl)) (λ v. refl) one.workers
+    kept_fine w i n job strand outs has j at = spent_fine w i n job strand (got_back strand) (n ∷ outs) outs (Kept w) s.board has at
+        (different w i n job strand (n ∷ outs) (Kept w) has at (λ v. refl)) (λ v. refl) one.workers
         (same is_offered_by s.board.lists s.world.places one.offered n (Kept w) Spent at (λ v. refl)) (back_comes w i n job strand outs (Kept w) has j at tt)
 
-    got_fine : (w i n : ℕ) (job : Job) (strand : Strand) (outs js : List ℕ) → slice_get s.begun w ≡ Some js → Has s.world i job (Runs w strand (n ∷ outs)) → at_join strand ≡ true → newest (of_worker s.board.lists w) ≡ Some n → slice_get s.world.places n ≡ Some (Offered w)
+    got_fine : (w i n : ℕ) (job : Job) (strand : Strand) (outs js : List ℕ) → slice_get s.begun w ≡ Some js
+        → Has s.world i job (Runs w strand (n ∷ outs)) → at_join strand ≡ true → newest (of_worker s.board.lists w) ≡ Some n
+        → slice_get s.world.places n ≡ Some (Offered w)
         → Fine s (noted s (put code (placed s.world n Spent) w i job (got_back strand) outs) (retake w n s.board))
-    got_fine w i n job strand outs js e has j last at = spent_fine w i n job strand (got_back strand) (n ∷ outs) outs (Offered w) (retake w n s.board) has at (different w i n job strand (n ∷ outs) (Offered w) has at (λ v. refl)) (λ v. refl)
+    got_fine w i n job strand outs js e has j last at = spent_fine w i n job strand (got_back strand) (n ∷ outs) outs (Offered w)
+        (retake w n s.board) has at (different w i n job strand (n ∷ outs) (Offered w) has at (λ v. refl)) (λ v. refl)
         (one.workers ∙ sym (length-set s.board.lists w (but_newest (of_worker s.board.lists w))))
-        (drops is_offered_by s.board.lists s.world.places one.offered w n (of_worker s.board.lists w) (but_newest (of_worker s.board.lists w)) (Offered w) Spent (has_list w js e) at (λ v. refl) (λ v. refl)
+        (drops is_offered_by s.board.lists s.world.places one.offered w n (of_worker s.board.lists w) (but_newest (of_worker s.board.lists w))
+        (Offered w) Spent (has_list w js e) at (λ v. refl) (λ v. refl)
         (λ m. newest_times m n (of_worker s.board.lists w) last)) (back_comes w i n job strand outs (Offered w) has j at tt)
 
     -- what stands in a worker's list is offered by it
@@ -247,7 +271,8 @@ module _ (code : Code) where
     listed w n k e = offered_is w (slice_get s.world.places n) (counted_true (is_offered_by w (slice_get s.world.places n)) k
         (let self : one_if (nat_eq n n) ≡ 1 = ap one_if (eq-eqb n n refl) in let o = one.offered w n in omega (arith, e, self, o)))
 
-    retake_fine : (w i n : ℕ) (job : Job) (strand : Strand) (outs js : List ℕ) → slice_get s.begun w ≡ Some js → Has s.world i job (Runs w strand (n ∷ outs)) → at_join strand && can_retake s w (Some n) ≡ true
+    retake_fine : (w i n : ℕ) (job : Job) (strand : Strand) (outs js : List ℕ) → slice_get s.begun w ≡ Some js
+        → Has s.world i job (Runs w strand (n ∷ outs)) → at_join strand && can_retake s w (Some n) ≡ true
         → Fine s (noted s (put code (placed s.world n Spent) w i job (got_back strand) outs) (retaken w n (slice_get s.world.places n) s.board))
     retake_fine w i n job strand outs js e has h =
         let split = both (at_join strand) (can_retake s w (Some n)) h in
@@ -258,7 +283,8 @@ module _ (code : Code) where
           | inr k ↦
               let last = same_is n (newest (of_worker s.board.lists w)) k in
               let at = listed w n (times n (but_newest (of_worker s.board.lists w))) (newest_times n n (of_worker s.board.lists w) last) in
-              subst (λ o. Fine s (noted s (put code (placed s.world n Spent) w i job (got_back strand) outs) (retaken w n o s.board))) (sym at) (got_fine w i n job strand outs js e has split.0 last at)
+              subst (λ o. Fine s (noted s (put code (placed s.world n Spent) w i job (got_back strand) outs) (retaken w n o s.board))) (sym at)
+              (got_fine w i n job strand outs js e has split.0 last at)
         ]
 
     steal_fine : (w v n : ℕ) (xs : List ℕ) → slice_get s.begun w ≡ Some xs → oldest (of_worker s.board.lists v) ≡ Some n → Fine s (stolen_by code s w v (Some n))
@@ -275,10 +301,13 @@ module _ (code : Code) where
           one = record {
             even = one.even ∙ sym (length-set s.world.places n (run_or_made w (started job) [] (effect_of code job (started job))));
             workers = length-set s.begun w (n ∷ of_worker s.begun w) ∙ one.workers ∙ sym (length-set s.board.lists v (but_oldest (of_worker s.board.lists v)));
-            begun = adds is_with s.begun s.world.places one.begun w n (of_worker s.begun w) (n ∷ of_worker s.begun w) (Offered v) (run_or_made w (started job) [] (effect_of code job (started job))) mine at (λ u. refl)
+            begun = adds is_with s.begun s.world.places one.begun w n (of_worker s.begun w) (n ∷ of_worker s.begun w) (Offered v)
+                (run_or_made w (started job) [] (effect_of code job (started job))) mine at (λ u. refl)
                 (rom_with w (started job) [] (effect_of code job (started job))) (λ m. more_times m n (of_worker s.begun w));
-            offered = drops is_offered_by s.board.lists s.world.places one.offered v n (of_worker s.board.lists v) (but_oldest (of_worker s.board.lists v)) (Offered v) (run_or_made w (started job) [] (effect_of code job (started job)))
-                (oldest_range (slice_get s.board.lists v) n first) at (λ u. refl) (rom_off w (started job) [] (effect_of code job (started job))) (λ m. oldest_times m n (of_worker s.board.lists v) first);
+            offered = drops is_offered_by s.board.lists s.world.places one.offered v n (of_worker s.board.lists v)
+                (but_oldest (of_worker s.board.lists v)) (Offered v) (run_or_made w (started job) [] (effect_of code job (started job)))
+                (oldest_range (slice_get s.board.lists v) n first) at (λ u. refl) (rom_off w (started job) [] (effect_of code job (started job)))
+                (λ m. oldest_times m n (of_worker s.board.lists v) first);
           };
           come = puts_come s.world s.world w n job (started job) [] (Offered v) has.job_is at (step s.world _ (Begins s.world n w job (Offered v) has tt));
         }
@@ -288,14 +317,16 @@ module _ (code : Code) where
       one = record {
         even = one.even ∙ sym (length-set s.world.places i (Settled e));
         workers = length-set s.begun w (but_oldest (of_worker s.begun w)) ∙ one.workers;
-        begun = drops is_with s.begun s.world.places one.begun w i (of_worker s.begun w) (but_oldest (of_worker s.begun w)) (Made w e) (Settled e) (in_range (slice_get s.begun w) (i ∷ js) at) has.place_is (λ v. refl) (λ v. refl)
+        begun = drops is_with s.begun s.world.places one.begun w i (of_worker s.begun w) (but_oldest (of_worker s.begun w)) (Made w e) (Settled e)
+            (in_range (slice_get s.begun w) (i ∷ js) at) has.place_is (λ v. refl) (λ v. refl)
             (λ m. oldest_times m i (of_worker s.begun w) (oldest_first (slice_get s.begun w) i js at));
         offered = same is_offered_by s.board.lists s.world.places one.offered i (Made w e) (Settled e) has.place_is (λ v. refl);
       };
       come = step s.world _ (Settles s.world i w job e has);
     }
 
-    collect_fine : (short : Bool) (w i n : ℕ) (job : Job) (strand : Strand) (outs : List ℕ) (e : Effect) → Has s.world i job (Runs w strand (n ∷ outs)) → IsWaiting strand → slice_get s.world.places n ≡ Some (Settled e)
+    collect_fine : (short : Bool) (w i n : ℕ) (job : Job) (strand : Strand) (outs : List ℕ) (e : Effect)
+        → Has s.world i job (Runs w strand (n ∷ outs)) → IsWaiting strand → slice_get s.world.places n ≡ Some (Settled e)
         → Fine s (collected code short s w i n job strand outs (Some e))
     collect_fine short w i n job strand outs e has wait at = spent_fine w i n job strand (short_of short (give job strand e)) (n ∷ outs) outs (Settled e) (collect n s.board) has at
         (different w i n job strand (n ∷ outs) (Settled e) has at (λ v. refl)) (λ v. refl) one.workers
@@ -308,43 +339,55 @@ module _ (code : Code) where
         comes false = gives
         comes true =
             let was = still_some s.world.places i n (Runs w strand (n ∷ outs)) Spent has.place_is in
-            subst (λ ps. After code s.world (record { jobs = s.world.jobs; places = ps })) (set_twice (slice_set s.world.places n Spent) i (Runs w (give job strand e) outs) (Runs w (out_of_memory (give job strand e)) outs))
+            subst (λ ps. After code s.world (record { jobs = s.world.jobs; places = ps }))
+            (set_twice (slice_set s.world.places n Spent) i (Runs w (give job strand e) outs) (Runs w (out_of_memory (give job strand e)) outs))
             (Later (placed (placed s.world n Spent) i (Runs w (give job strand e) outs)) _ gives
-            (Wants (placed (placed s.world n Spent) i (Runs w (give job strand e) outs)) i w job (give job strand e) outs (record { job_is = has.job_is; place_is = set_here (slice_set s.world.places n Spent) i was.0 (Runs w (give job strand e) outs) was.1 })))
+            (Wants (placed (placed s.world n Spent) i (Runs w (give job strand e) outs)) i w job (give job strand e) outs
+            (record { job_is = has.job_is; place_is = set_here (slice_set s.world.places n Spent) i was.0 (Runs w (give job strand e) outs) was.1 })))
 
     performed : (short : Bool) (event : Event) → is_possible s event ≡ true → Fine s (perform code short s event)
-    performed short (Run w) h = with_top s one w (λ t. Fine s (does code short s (Run w) t)) unchanged (λ i job strand outs js at has. run_fine short w i job strand outs has) (λ i e job js at has. unchanged)
-    performed short (Offer w) h = with_top s one w (λ t. is_at_spawn s w t ≡ true → Fine s (does code short s (Offer w) t)) (λ k. unchanged) (λ i job strand outs js at has. by_outs i job strand outs js at) (λ i e job js at has k. unchanged) h
+    performed short (Run w) h = with_top s one w (λ t. Fine s (does code short s (Run w) t)) unchanged
+        (λ i job strand outs js at has. run_fine short w i job strand outs has) (λ i e job js at has. unchanged)
+    performed short (Offer w) h = with_top s one w (λ t. is_at_spawn s w t ≡ true → Fine s (does code short s (Offer w) t)) (λ k. unchanged)
+        (λ i job strand outs js at has. by_outs i job strand outs js at) (λ i e job js at has k. unchanged) h
       where
-        by_outs : (i : ℕ) (job : Job) (strand : Strand) (outs js : List ℕ) → slice_get s.begun w ≡ Some (i ∷ js) → is_at_spawn s w (Busy i job strand outs) ≡ true → Fine s (does code short s (Offer w) (Busy i job strand outs))
+        by_outs : (i : ℕ) (job : Job) (strand : Strand) (outs js : List ℕ) → slice_get s.begun w ≡ Some (i ∷ js)
+            → is_at_spawn s w (Busy i job strand outs) ≡ true → Fine s (does code short s (Offer w) (Busy i job strand outs))
         by_outs i job strand [] js at k = unchanged
         by_outs i job strand (n ∷ outs) js at k = offer_fine w n (i ∷ js) at (undecided_is w (slice_get s.world.places n) k)
-    performed short (Inline w) h = with_top s one w (λ t. is_at_spawn s w t ≡ true → Fine s (does code short s (Inline w) t)) (λ k. unchanged) (λ i job strand outs js at has. by_outs i job strand outs) (λ i e job js at has k. unchanged) h
+    performed short (Inline w) h = with_top s one w (λ t. is_at_spawn s w t ≡ true → Fine s (does code short s (Inline w) t)) (λ k. unchanged)
+        (λ i job strand outs js at has. by_outs i job strand outs) (λ i e job js at has k. unchanged) h
       where
         by_outs : (i : ℕ) (job : Job) (strand : Strand) (outs : List ℕ) → is_at_spawn s w (Busy i job strand outs) ≡ true → Fine s (does code short s (Inline w) (Busy i job strand outs))
         by_outs i job strand [] k = unchanged
         by_outs i job strand (n ∷ outs) k = inline_fine w n (undecided_is w (slice_get s.world.places n) k)
     performed short (Retake w) h =
-        with_top s one w (λ t. is_possible_by t ≡ true → Fine s (does code short s (Retake w) t)) (λ k. unchanged) (λ i job strand outs js at has. by_outs i job strand outs js at has) (λ i e job js at has k. unchanged) h
+        with_top s one w (λ t. is_possible_by t ≡ true → Fine s (does code short s (Retake w) t)) (λ k. unchanged)
+        (λ i job strand outs js at has. by_outs i job strand outs js at has) (λ i e job js at has k. unchanged) h
       where
         is_possible_by : Top → Bool
         is_possible_by t = is_at_join t && can_retake s w (newest_out t)
 
-        by_outs : (i : ℕ) (job : Job) (strand : Strand) (outs js : List ℕ) → slice_get s.begun w ≡ Some (i ∷ js) → Has s.world i job (Runs w strand outs) → is_possible_by (Busy i job strand outs) ≡ true → Fine s (does code short s (Retake w) (Busy i job strand outs))
+        by_outs : (i : ℕ) (job : Job) (strand : Strand) (outs js : List ℕ) → slice_get s.begun w ≡ Some (i ∷ js)
+            → Has s.world i job (Runs w strand outs) → is_possible_by (Busy i job strand outs) ≡ true → Fine s (does code short s (Retake w) (Busy i job strand outs))
         by_outs i job strand [] js at has k = unchanged
         by_outs i job strand (n ∷ outs) js at has k = retake_fine w i n job strand outs (i ∷ js) at has k
-    performed short (Steal w v) h = thief (both (is_some (slice_get s.begun w)) _ (both _ (is_some (oldest (of_worker s.board.lists v))) h).0).0 (both _ (is_some (oldest (of_worker s.board.lists v))) h).1
+    performed short (Steal w v) h = thief (both (is_some (slice_get s.begun w)) _ (both _ (is_some (oldest (of_worker s.board.lists v))) h).0).0
+        (both _ (is_some (oldest (of_worker s.board.lists v))) h).1
       where
         thief : is_some (slice_get s.begun w) ≡ true → is_some (oldest (of_worker s.board.lists v)) ≡ true → Fine s (stolen_by code s w v (oldest (of_worker s.board.lists v)))
         thief a b =
             let mine = some_there (slice_get s.begun w) a in
             let first = some_there (oldest (of_worker s.board.lists v)) b in
             subst (λ o. Fine s (stolen_by code s w v o)) (sym first.1) (steal_fine w v first.0 mine.0 mine.1 first.1)
-    performed short (Settle w) h = with_top s one w (λ t. Fine s (does code short s (Settle w) t)) unchanged (λ i job strand outs js at has. unchanged) (λ i e job js at has. settle_fine w i e job js at has)
+    performed short (Settle w) h = with_top s one w (λ t. Fine s (does code short s (Settle w) t)) unchanged
+        (λ i job strand outs js at has. unchanged) (λ i e job js at has. settle_fine w i e job js at has)
     performed short (Collect w) h =
-        with_top s one w (λ t. is_at_join t && is_settled (place_of s (newest_out t)) ≡ true → Fine s (does code short s (Collect w) t)) (λ k. unchanged) (λ i job strand outs js at has. by_outs i job strand outs has) (λ i e job js at has k. unchanged) h
+        with_top s one w (λ t. is_at_join t && is_settled (place_of s (newest_out t)) ≡ true → Fine s (does code short s (Collect w) t))
+        (λ k. unchanged) (λ i job strand outs js at has. by_outs i job strand outs has) (λ i e job js at has k. unchanged) h
       where
-        by_outs : (i : ℕ) (job : Job) (strand : Strand) (outs : List ℕ) → Has s.world i job (Runs w strand outs) → is_at_join (Busy i job strand outs) && is_settled (place_of s (newest_out (Busy i job strand outs))) ≡ true
+        by_outs : (i : ℕ) (job : Job) (strand : Strand) (outs : List ℕ) → Has s.world i job (Runs w strand outs)
+            → is_at_join (Busy i job strand outs) && is_settled (place_of s (newest_out (Busy i job strand outs))) ≡ true
             → Fine s (does code short s (Collect w) (Busy i job strand outs))
         by_outs i job strand [] has k = unchanged
         by_outs i job strand (n ∷ outs) has k =

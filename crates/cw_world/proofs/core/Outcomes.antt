@@ -11,7 +11,8 @@ use Rattle.cw_world.proofs.core.Events.{begins, runs_come}
 use Rattle.cw_world.proofs.core.Ample.{stays_ample, starts_ample}
 
 pub effects_mean_their_jobs : EffectsMean → EffectsMeanTheirJobs
-effects_mean_their_jobs means code root others events i job place e le has is = means code root (world_run code events (first_sched root others)).world i job place e le (runs_come code root others events) has is
+effects_mean_their_jobs means code root others events i job place e le has is =
+    means code root (world_run code events (first_sched root others)).world i job place e le (runs_come code root others events) has is
 
 pub jobs_are_single : OwnersAreSingle → JobsAreSingle
 jobs_are_single single code root others events = single code root (world_run code events (first_sched root others)).world (runs_come code root others events)
@@ -27,7 +28,8 @@ outcomes_are_serial serial code f args limit others events e first is = at_place
 
     short : (place : Place) → slice_get last.world.places 0 ≡ Some place → effect_in place ≡ Some e → e ≡ Memory → (b : Bool) → is_short events ≡ b → b ≡ true
     short place at made is_memory true g = refl
-    short place at made is_memory false g = absurd (subst Ample is_memory (made_ample place e (stays_ample code events (first_sched root others) g (begins root others) (starts_ample root others) 0 place at) made))
+    short place at made is_memory false g = absurd (subst Ample is_memory
+        (made_ample place e (stays_ample code events (first_sched root others) g (begins root others) (starts_ample root others) 0 place at) made))
 
     at_place : (o : Option Place) → slice_get last.world.places 0 ≡ o → effect_at o ≡ Some e → ((e ≡ Memory) × (is_short events ≡ true)) ⊎ (answered code e ≡ code_serial code args limit)
     at_place None g h = cc
@@ -38,4 +40,5 @@ outcomes_are_serial serial code f args limit others events e first is = at_place
 
 pub none_is_unfit_here : NoneIsUnfit → NoneIsUnfitHere
 none_is_unfit_here none code fits f args limit others events i worker job strand outs main count has =
-    none code fits f args limit (world_run code events (first_sched (root_job f args limit) others)).world i worker job strand outs main count (runs_come code (root_job f args limit) others events) has
+    none code fits f args limit (world_run code events (first_sched (root_job f args limit) others)).world i worker job strand outs main count
+    (runs_come code (root_job f args limit) others events) has

@@ -10,7 +10,9 @@ use Rattle.cw_strand_laws.specs.Strands.{Strand}
 use Rattle.cw_strand_laws.specs.Steps.{started, Advanced, Ran, Handed, AtSync, Finished, Unfit, advance, give, out_of_memory}
 use Rattle.cw_strand_laws.specs.Worlds.{Place, Undecided, Kept, Offered, Runs, Made, Settled, Spent, effect_in, Has}
 use Rattle.cw_world.specs.core.Board.{State, Unoffered, newest, oldest, of_worker}
-use Rattle.cw_world.specs.core.Table.{Event, Run, Offer, Inline, Retake, Steal, Settle, Collect, Sched, Busy, Over, top, at_join, is_at_join, is_at_spawn, is_kept_by, is_settled, is_same, can_retake, is_possible, is_stolen, is_out, effect_of, run_or_made, advanced, ran, got_back, retaken, short_of, stole, stolen_by, collected, effect_at, does, perform, tried, newest_out, place_of, world_run, first_sched, outcome}
+use Rattle.cw_world.specs.core.Table.{Event, Run, Offer, Inline, Retake, Steal, Settle, Collect, Sched, Busy, Over, top, at_join, is_at_join, is_at_spawn, is_kept_by}
+use Rattle.cw_world.specs.core.Table.{is_settled, is_same, can_retake, is_possible, is_stolen, is_out, effect_of, run_or_made, advanced, ran, got_back, retaken, short_of}
+use Rattle.cw_world.specs.core.Table.{stole, stolen_by, collected, effect_at, does, perform, tried, newest_out, place_of, world_run, first_sched, outcome}
 use Rattle.cw_world.specs.core.Laws.{is_with, OnePlace, OutcomesStay}
 use Rattle.cw_world.proofs.core.Tally.{set_here, set_there, some_there, newest_times, oldest_times}
 use Rattle.cw_world.proofs.core.Events.{both, one_of, undecided_is, kept_is, settled_is, same_is, rom_with, with_top, listed, tries, begins}
@@ -68,12 +70,16 @@ module _ (code : Code) (s : Sched) (one : OnePlace s) (root : is_with 0 (slice_g
   other_state : (n : ℕ) (new : State) → n ≢ 0 → slice_get (slice_set s.board.states n new) 0 ≡ Some Unoffered
   other_state n new d = set_there s.board.states n 0 new (λ e. d (sym e)) ∙ state
 
-  puts : (w i : ℕ) (job : Job) (old strand : Strand) (outs outs' : List ℕ) → slice_get s.world.places i ≡ Some (Runs w old outs) → Keeps s.world.places (slice_set s.world.places i (run_or_made w strand outs' (effect_of code job strand)))
-  puts w i job old strand outs outs' at = alike s.world.places i (Runs w old outs) (run_or_made w strand outs' (effect_of code job strand)) at (rom_with w strand outs' (effect_of code job strand) 0) refl
+  puts : (w i : ℕ) (job : Job) (old strand : Strand) (outs outs' : List ℕ) → slice_get s.world.places i ≡ Some (Runs w old outs)
+      → Keeps s.world.places (slice_set s.world.places i (run_or_made w strand outs' (effect_of code job strand)))
+  puts w i job old strand outs outs' at = alike s.world.places i (Runs w old outs) (run_or_made w strand outs' (effect_of code job strand)) at
+      (rom_with w strand outs' (effect_of code job strand) 0) refl
 
-  puts_after : (w i n : ℕ) (job : Job) (old strand : Strand) (outs outs' : List ℕ) → slice_get s.world.places i ≡ Some (Runs w old outs) → i ≢ n → n ≢ 0 → Keeps s.world.places (slice_set (slice_set s.world.places n Spent) i (run_or_made w strand outs' (effect_of code job strand)))
+  puts_after : (w i n : ℕ) (job : Job) (old strand : Strand) (outs outs' : List ℕ) → slice_get s.world.places i ≡ Some (Runs w old outs) → i ≢ n
+      → n ≢ 0 → Keeps s.world.places (slice_set (slice_set s.world.places n Spent) i (run_or_made w strand outs' (effect_of code job strand)))
   puts_after w i n job old strand outs outs' at d z = twice _ _ _ (elsewhere s.world.places n Spent z)
-      (alike (slice_set s.world.places n Spent) i (Runs w old outs) (run_or_made w strand outs' (effect_of code job strand)) (set_there s.world.places n i Spent d ∙ at) (rom_with w strand outs' (effect_of code job strand) 0) refl)
+      (alike (slice_set s.world.places n Spent) i (Runs w old outs) (run_or_made w strand outs' (effect_of code job strand))
+      (set_there s.world.places n i Spent d ∙ at) (rom_with w strand outs' (effect_of code job strand) 0) refl)
 
   runs : (short : Bool) (w i : ℕ) (job : Job) (strand : Strand) (outs : List ℕ) → Has s.world i job (Runs w strand outs) → Rooted (ran code short s w i job strand outs)
   runs true w i job strand outs has = record { keeps = puts w i job strand (out_of_memory strand) outs outs has.place_is; unoffered = state }
@@ -83,14 +89,16 @@ module _ (code : Code) (s : Sched) (one : OnePlace s) (root : is_with 0 (slice_g
       cases (Ran new) = record { keeps = puts w i job strand new outs outs has.place_is; unoffered = state }
       cases (Handed out new) = record {
         keeps = twice _ _ _ (grows s.world.places (Undecided w))
-            (alike (s.world.places ++ Undecided w ∷ []) i (Runs w strand outs) (Runs w new (length s.world.jobs ∷ outs)) (get_before s.world.places (Undecided w) i (Runs w strand outs) has.place_is) refl refl);
+            (alike (s.world.places ++ Undecided w ∷ []) i (Runs w strand outs) (Runs w new (length s.world.jobs ∷ outs))
+            (get_before s.world.places (Undecided w) i (Runs w strand outs) has.place_is) refl refl);
         unoffered = get_before s.board.states Unoffered 0 Unoffered state;
       }
       cases AtSync = still
       cases (Finished e) = record { keeps = alike s.world.places i (Runs w strand outs) (Made w e) has.place_is refl refl; unoffered = state }
       cases Unfit = still
 
-  apart : (w i n : ℕ) (strand : Strand) (outs : List ℕ) (place : Place) → slice_get s.world.places i ≡ Some (Runs w strand outs) → slice_get s.world.places n ≡ Some place → ((v : ℕ) → is_with v (Some place) ≡ false) → i ≢ n
+  apart : (w i n : ℕ) (strand : Strand) (outs : List ℕ) (place : Place) → slice_get s.world.places i ≡ Some (Runs w strand outs)
+      → slice_get s.world.places n ≡ Some place → ((v : ℕ) → is_with v (Some place) ≡ false) → i ≢ n
   apart w i n strand outs place at at' none e = both_ways (is_with w (Some place)) (none w) (ap (is_with w) (sym at' ∙ ap (slice_get s.world.places) (sym e) ∙ at) ∙ self)
     where
       self : is_with w (Some (Runs w strand outs)) ≡ true
@@ -99,7 +107,8 @@ module _ (code : Code) (s : Sched) (one : OnePlace s) (root : is_with 0 (slice_g
         | inr p ↦ absurd (p.1 refl)
       ]
 
-  backs : (w i n : ℕ) (job : Job) (strand : Strand) (outs : List ℕ) → Has s.world i job (Runs w strand (n ∷ outs)) → at_join strand && can_retake s w (Some n) ≡ true → Rooted (does code false s (Retake w) (Busy i job strand (n ∷ outs)))
+  backs : (w i n : ℕ) (job : Job) (strand : Strand) (outs : List ℕ) → Has s.world i job (Runs w strand (n ∷ outs))
+      → at_join strand && can_retake s w (Some n) ≡ true → Rooted (does code false s (Retake w) (Busy i job strand (n ∷ outs)))
   backs w i n job strand outs has h =
       elim (one_of (is_kept_by w (slice_get s.world.places n)) (is_same (Some n) (newest (of_worker s.board.lists w))) (both (at_join strand) (can_retake s w (Some n)) h).1) [
         | inl k ↦ by_place (Kept w) (kept_is w (slice_get s.world.places n) k) (λ v. refl)
@@ -109,7 +118,11 @@ module _ (code : Code) (s : Sched) (one : OnePlace s) (root : is_with 0 (slice_g
       by_place : (place : Place) → slice_get s.world.places n ≡ Some place → ((v : ℕ) → is_with v (Some place) ≡ false) → Rooted (does code false s (Retake w) (Busy i job strand (n ∷ outs)))
       by_place place at none =
           let zero_not = not_root s.world.places n place root at (none 0) in
-          record { keeps = puts_after w i n job strand (got_back strand) (n ∷ outs) outs has.place_is (apart w i n strand (n ∷ outs) place has.place_is at none) zero_not; unoffered = board (slice_get s.world.places n) zero_not }
+          record {
+            keeps = puts_after w i n job strand (got_back strand) (n ∷ outs) outs has.place_is
+                (apart w i n strand (n ∷ outs) place has.place_is at none) zero_not;
+            unoffered = board (slice_get s.world.places n) zero_not;
+          }
         where
           board : (o : Option Place) → n ≢ 0 → slice_get (retaken w n o s.board).states 0 ≡ Some Unoffered
           board (Some (Offered v)) d = other_state n _ d
@@ -121,7 +134,8 @@ module _ (code : Code) (s : Sched) (one : OnePlace s) (root : is_with 0 (slice_g
       cases : (o : Option Job) → Rooted (stole code s w v n o)
       cases None = still
       cases (Some job) = record {
-        keeps = elsewhere s.world.places n (run_or_made w (started job) [] (effect_of code job (started job))) (not_root s.world.places n (Offered v) root (listed code s one v n _ (oldest_times n n (of_worker s.board.lists v) first)) refl);
+        keeps = elsewhere s.world.places n (run_or_made w (started job) [] (effect_of code job (started job)))
+            (not_root s.world.places n (Offered v) root (listed code s one v n _ (oldest_times n n (of_worker s.board.lists v) first)) refl);
         unoffered = state;
       }
 
@@ -131,29 +145,43 @@ module _ (code : Code) (s : Sched) (one : OnePlace s) (root : is_with 0 (slice_g
       other : i ≢ 0
       other z = both_ways (is_out (slice_get s.board.states i)) (ap (λ k. is_out (slice_get s.board.states k)) z ∙ ap is_out state) out
 
-  collects : (short : Bool) (w i n : ℕ) (job : Job) (strand : Strand) (outs : List ℕ) (e : Effect) → Has s.world i job (Runs w strand (n ∷ outs)) → slice_get s.world.places n ≡ Some (Settled e) → Rooted (collected code short s w i n job strand outs (Some e))
+  collects : (short : Bool) (w i n : ℕ) (job : Job) (strand : Strand) (outs : List ℕ) (e : Effect) → Has s.world i job (Runs w strand (n ∷ outs))
+      → slice_get s.world.places n ≡ Some (Settled e) → Rooted (collected code short s w i n job strand outs (Some e))
   collects short w i n job strand outs e has at =
       let zero_not = not_root s.world.places n (Settled e) root at refl in
-      record { keeps = puts_after w i n job strand (short_of short (give job strand e)) (n ∷ outs) outs has.place_is (apart w i n strand (n ∷ outs) (Settled e) has.place_is at (λ v. refl)) zero_not; unoffered = other_state n _ zero_not }
+      record {
+        keeps = puts_after w i n job strand (short_of short (give job strand e)) (n ∷ outs) outs has.place_is
+            (apart w i n strand (n ∷ outs) (Settled e) has.place_is at (λ v. refl)) zero_not;
+        unoffered = other_state n _ zero_not;
+      }
 
   performs : (short : Bool) (event : Event) → is_possible s event ≡ true → Rooted (perform code short s event)
   performs short (Run w) h = with_top s one w (λ t. Rooted (does code short s (Run w) t)) still (λ i job strand outs js at has. runs short w i job strand outs has) (λ i e job js at has. still)
-  performs short (Offer w) h = with_top s one w (λ t. is_at_spawn s w t ≡ true → Rooted (does code short s (Offer w) t)) (λ k. still) (λ i job strand outs js at has. by_outs i job strand outs) (λ i e job js at has k. still) h
+  performs short (Offer w) h = with_top s one w (λ t. is_at_spawn s w t ≡ true → Rooted (does code short s (Offer w) t)) (λ k. still)
+      (λ i job strand outs js at has. by_outs i job strand outs) (λ i e job js at has k. still) h
     where
       by_outs : (i : ℕ) (job : Job) (strand : Strand) (outs : List ℕ) → is_at_spawn s w (Busy i job strand outs) ≡ true → Rooted (does code short s (Offer w) (Busy i job strand outs))
       by_outs i job strand [] k = still
       by_outs i job strand (n ∷ outs) k =
           let zero_not = not_root s.world.places n (Undecided w) root (undecided_is w (slice_get s.world.places n) k) refl in
           record { keeps = elsewhere s.world.places n (Offered w) zero_not; unoffered = other_state n _ zero_not }
-  performs short (Inline w) h = with_top s one w (λ t. is_at_spawn s w t ≡ true → Rooted (does code short s (Inline w) t)) (λ k. still) (λ i job strand outs js at has. by_outs i job strand outs) (λ i e job js at has k. still) h
+  performs short (Inline w) h = with_top s one w (λ t. is_at_spawn s w t ≡ true → Rooted (does code short s (Inline w) t)) (λ k. still)
+      (λ i job strand outs js at has. by_outs i job strand outs) (λ i e job js at has k. still) h
     where
       by_outs : (i : ℕ) (job : Job) (strand : Strand) (outs : List ℕ) → is_at_spawn s w (Busy i job strand outs) ≡ true → Rooted (does code short s (Inline w) (Busy i job strand outs))
       by_outs i job strand [] k = still
-      by_outs i job strand (n ∷ outs) k = record { keeps = elsewhere s.world.places n (Kept w) (not_root s.world.places n (Undecided w) root (undecided_is w (slice_get s.world.places n) k) refl); unoffered = state }
+      by_outs i job strand (n ∷ outs) k = record {
+        keeps = elsewhere s.world.places n (Kept w)
+            (not_root s.world.places n (Undecided w) root (undecided_is w (slice_get s.world.places n) k) refl);
+        unoffered = state;
+      }
   performs short (Retake w) h =
-      with_top s one w (λ t. is_at_join t && can_retake s w (newest_out t) ≡ true → Rooted (does code short s (Retake w) t)) (λ k. still) (λ i job strand outs js at has. by_outs i job strand outs has) (λ i e job js at has k. still) h
+      with_top s one w (λ t. is_at_join t && can_retake s w (newest_out t) ≡ true → Rooted (does code short s (Retake w) t)) (λ k. still)
+      (λ i job strand outs js at has. by_outs i job strand outs has) (λ i e job js at has k. still) h
     where
-      by_outs : (i : ℕ) (job : Job) (strand : Strand) (outs : List ℕ) → Has s.world i job (Runs w strand outs) → is_at_join (Busy i job strand outs) && can_retake s w (newest_out (Busy i job strand outs)) ≡ true → Rooted (does code short s (Retake w) (Busy i job strand outs))
+      by_outs : (i : ℕ) (job : Job) (strand : Strand) (outs : List ℕ) → Has s.world i job (Runs w strand outs)
+          → is_at_join (Busy i job strand outs) && can_retake s w (newest_out (Busy i job strand outs)) ≡ true
+          → Rooted (does code short s (Retake w) (Busy i job strand outs))
       by_outs i job strand [] has k = still
       by_outs i job strand (n ∷ outs) has k = backs w i n job strand outs has k
   performs short (Steal w v) h = thief (both _ (is_some (oldest (of_worker s.board.lists v))) h).1
@@ -161,11 +189,14 @@ module _ (code : Code) (s : Sched) (one : OnePlace s) (root : is_with 0 (slice_g
       thief : is_some (oldest (of_worker s.board.lists v)) ≡ true → Rooted (stolen_by code s w v (oldest (of_worker s.board.lists v)))
       thief b = let first = some_there (oldest (of_worker s.board.lists v)) b in subst (λ o. Rooted (stolen_by code s w v o)) (sym first.1) (steals w v first.0 first.1)
   performs short (Settle w) h =
-      with_top s one w (λ t. is_stolen s t ≡ true → Rooted (does code short s (Settle w) t)) (λ k. still) (λ i job strand outs js at has k. still) (λ i e job js at has k. settles w i e k) (both _ (is_stolen s (top s w)) h).1
+      with_top s one w (λ t. is_stolen s t ≡ true → Rooted (does code short s (Settle w) t)) (λ k. still) (λ i job strand outs js at has k. still)
+      (λ i e job js at has k. settles w i e k) (both _ (is_stolen s (top s w)) h).1
   performs short (Collect w) h =
-      with_top s one w (λ t. is_at_join t && is_settled (place_of s (newest_out t)) ≡ true → Rooted (does code short s (Collect w) t)) (λ k. still) (λ i job strand outs js at has. by_outs i job strand outs has) (λ i e job js at has k. still) h
+      with_top s one w (λ t. is_at_join t && is_settled (place_of s (newest_out t)) ≡ true → Rooted (does code short s (Collect w) t)) (λ k. still)
+      (λ i job strand outs js at has. by_outs i job strand outs has) (λ i e job js at has k. still) h
     where
-      by_outs : (i : ℕ) (job : Job) (strand : Strand) (outs : List ℕ) → Has s.world i job (Runs w strand outs) → is_at_join (Busy i job strand outs) && is_settled (place_of s (newest_out (Busy i job strand outs))) ≡ true
+      by_outs : (i : ℕ) (job : Job) (strand : Strand) (outs : List ℕ) → Has s.world i job (Runs w strand outs)
+          → is_at_join (Busy i job strand outs) && is_settled (place_of s (newest_out (Busy i job strand outs))) ≡ true
           → Rooted (does code short s (Collect w) (Busy i job strand outs))
       by_outs i job strand [] has k = still
       by_outs i job strand (n ∷ outs) has k =
@@ -185,7 +216,8 @@ record Stays (s s' : Sched) : Type 0 where
   pub unoffered : slice_get s'.board.states 0 ≡ Some Unoffered
   pub effect : (e : Effect) → outcome s ≡ Some e → outcome s' ≡ Some e
 
-runs_root : (code : Code) (events : List (Event × Bool)) (s : Sched) → OnePlace s → is_with 0 (slice_get s.world.places 0) ≡ true → slice_get s.board.states 0 ≡ Some Unoffered → Stays s (world_run code events s)
+runs_root : (code : Code) (events : List (Event × Bool)) (s : Sched) → OnePlace s → is_with 0 (slice_get s.world.places 0) ≡ true
+    → slice_get s.board.states 0 ≡ Some Unoffered → Stays s (world_run code events s)
 runs_root code [] s one root state = record { one = one; root = root; unoffered = state; effect = λ e h. h }
 runs_root code (event ∷ events) s one root state =
     let fine = tries code s one event.1 event.0 in

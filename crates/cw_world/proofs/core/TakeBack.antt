@@ -46,14 +46,17 @@ module _ (code : Code) (b : State) (count n : ℕ) (rest job : Job) (s : State) 
   turns (HandsOut target taken) s' = (refl, omega arith, record { extent = refl; place = refl; slots = refl; arrays = refl; readers = refl; depth = refl })
   turns ComesBack s' = (refl, omega arith)
 
-  goes : (t : Turn) (w : Transition) → GoesOn w → Alike b count (went_on t s w rest.limit rest.before (n + 1) outs) (went_on t (under b s) (transition_under b w) job.limit job.before ((count + n) + 1) outs')
+  goes : (t : Turn) (w : Transition) → GoesOn w → Alike b count (went_on t s w rest.limit rest.before (n + 1) outs)
+      (went_on t (under b s) (transition_under b w) job.limit job.before ((count + n) + 1) outs')
   goes t (On s') h = turns t s'
   goes t (Ends v arrays u) h = absurd h
   goes t (Stops trap line lines) h = let e : (count + n) + 1 ≡ count + (n + 1) = omega arith in ap (λ k. TrapIn trap line (b.trace.lines ++ lines) k) e
   goes t Stuck h = tt
 
 pub runs_alike : RunsAlike
-runs_alike code rest job b s count n outs outs' is h within within' = subst (λ a. Alike b count a (advance code job (Going (under b s) (count + n) outs'))) (sym mine) (subst (λ a. Alike b count (went_on (turn code s) s (step code s) rest.limit rest.before (n + 1) outs) a) (sym theirs)
+runs_alike code rest job b s count n outs outs' is h within within' =
+    subst (λ a. Alike b count a (advance code job (Going (under b s) (count + n) outs'))) (sym mine)
+    (subst (λ a. Alike b count (went_on (turn code s) s (step code s) rest.limit rest.before (n + 1) outs) a) (sym theirs)
     (goes code b count n rest job s outs outs' (turn code s) (step code s) (act_goes code s (slice_get code.instrs s.place) h)))
   where
     picks : (c d : Bool) (x y z : Advanced) → c ≡ false → d ≡ false → (if c then x else (if d then y else z)) ≡ z
@@ -62,14 +65,17 @@ runs_alike code rest job b s count n outs outs' is h within within' = subst (λ 
     picks false true x y z e f = cc
 
     mine : advance code rest (Going s n outs) ≡ went_on (turn code s) s (step code s) rest.limit rest.before (n + 1) outs
-    mine = picks (has_come rest.extent code s) (nat_lt rest.limit (rest.before + (n + 1))) (finished outs (Joined (standing s) s.trace n)) (Ran (Halted OverLimit outs)) _ (ap (λ x. has_come x code s) is ∙ h) (not_below rest.limit (rest.before + (n + 1)) within)
+    mine = picks (has_come rest.extent code s) (nat_lt rest.limit (rest.before + (n + 1))) (finished outs (Joined (standing s) s.trace n))
+        (Ran (Halted OverLimit outs)) _ (ap (λ x. has_come x code s) is ∙ h) (not_below rest.limit (rest.before + (n + 1)) within)
 
-    moves : went_on (turn code (under b s)) (under b s) (step code (under b s)) job.limit job.before ((count + n) + 1) outs' ≡ went_on (turn code s) (under b s) (transition_under b (step code s)) job.limit job.before ((count + n) + 1) outs'
+    moves : went_on (turn code (under b s)) (under b s) (step code (under b s)) job.limit job.before ((count + n) + 1) outs'
+        ≡ went_on (turn code s) (under b s) (transition_under b (step code s)) job.limit job.before ((count + n) + 1) outs'
     moves = ap (λ t. went_on t (under b s) (step code (under b s)) job.limit job.before ((count + n) + 1) outs') (turn_under code b (slice_get code.instrs s.place) s.around h)
         ∙ ap (λ w. went_on (turn code s) (under b s) w job.limit job.before ((count + n) + 1) outs') (act_under b ToJoin code s (slice_get code.instrs s.place) h)
 
     theirs : advance code job (Going (under b s) (count + n) outs') ≡ went_on (turn code s) (under b s) (transition_under b (step code s)) job.limit job.before ((count + n) + 1) outs'
-    theirs = picks (has_come job.extent code (under b s)) (nat_lt job.limit (job.before + ((count + n) + 1))) (finished outs' (Joined (standing (under b s)) (under b s).trace (count + n))) (Ran (Halted OverLimit outs')) _
+    theirs = picks (has_come job.extent code (under b s)) (nat_lt job.limit (job.before + ((count + n) + 1)))
+        (finished outs' (Joined (standing (under b s)) (under b s).trace (count + n))) (Ran (Halted OverLimit outs')) _
         (come_under job.extent code b s h) (not_below job.limit (job.before + ((count + n) + 1)) within') ∙ moves
 
 pub joins_alike : ((code : Code) → Cut code) → JoinsAlike

@@ -68,7 +68,8 @@ more_times n i xs = omega arith
 
 module _ (f : ℕ → Option Place → Bool) (lists : List (List ℕ)) (places : List Place) (kept : (w n : ℕ) → times n (of_worker lists w) ≡ one_if (f w (slice_get places n))) where
   -- a place changes to one that is read alike
-  pub same : (i : ℕ) (old new : Place) → slice_get places i ≡ Some old → ((w : ℕ) → f w (Some new) ≡ f w (Some old)) → (w n : ℕ) → times n (of_worker lists w) ≡ one_if (f w (slice_get (slice_set places i new) n))
+  pub same : (i : ℕ) (old new : Place) → slice_get places i ≡ Some old → ((w : ℕ) → f w (Some new) ≡ f w (Some old)) → (w n : ℕ)
+      → times n (of_worker lists w) ≡ one_if (f w (slice_get (slice_set places i new) n))
   same i old new at alike w n = kept w n ∙ ap one_if (elim (eqb_tells n i) [
     | inl p ↦ ap (f w) (ap (slice_get places) p.1 ∙ at) ∙ sym (alike w) ∙ ap (f w) (sym (ap (slice_get (slice_set places i new)) p.1 ∙ set_here places i old new at))
     | inr p ↦ ap (f w) (sym (set_there places i n new p.1))

@@ -5,4 +5,5 @@ use Rattle.cw_loops.specs.View as view
 use Rattle.cw_gen.proofs.expressions.arguments.Given as goal
 
 abbrev pub invariant-loop-e : goal.invariant-loop-e
-invariant-loop-e l = l.instrs.items ++ spec.emitted_args l.places l.line (map view.argument_of (drop l.e-index l.es)) ≡ l.initial.instrs.items ++ spec.emitted_args l.places l.line (map view.argument_of l.es)
+invariant-loop-e l = l.instrs.items ++ spec.emitted_args l.places l.line (map view.argument_of (drop l.e-index l.es))
+    ≡ l.initial.instrs.items ++ spec.emitted_args l.places l.line (map view.argument_of l.es)

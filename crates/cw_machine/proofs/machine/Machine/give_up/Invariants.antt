@@ -8,6 +8,7 @@ abbrev pub invariant-loop-k : goal.invariant-loop-k
 invariant-loop-k l = record {
   count : length l.rest.slices.items ≡ length l.initial.rest.slices.items;
   blocks : length l.self.blocks.items ≡ length l.initial.self.blocks.items;
-  back : (a : ℕ) → a < l.k → (ins (placed l.rest.slices.items a).items ≡ (block l.initial.self.blocks.items a).cells) × ((placed l.rest.slices.items a).spot ≡ (block l.initial.self.blocks.items a).spot);
+  back : (a : ℕ) → a < l.k → (ins (placed l.rest.slices.items a).items ≡ (block l.initial.self.blocks.items a).cells)
+      × ((placed l.rest.slices.items a).spot ≡ (block l.initial.self.blocks.items a).spot);
   still : (a : ℕ) → l.k ≤ a → block l.self.blocks.items a ≡ block l.initial.self.blocks.items a;
 }

@@ -1,5 +1,9 @@
 -- `own` makes cells of a span.
-use Rattle.cw_slices.proofs.Steps.{◌≡◌, ◌^◌, ◌<◌, [], ◌∷◌, length, refl, sym, ◌∙◌, w64, proved, vint, fact, tables, ‵, raw, ◌⊛◌, ◌$◌, ◌∵◌, !, qed, done, move, keep, split, fsplit, fsplit3, fjoin, rewrite, agg, enter, no_more, and_then, returns, alloc_all, pass_all, free_all, look_at, get, sets, owns, plain, types_at, yes, usize, RawPtr, ptr_val, rawptr_vals, rawptr_Tells, uint_vals, uint_Tells, nothing, heard, alive, says, suffices, Stays, walk_of, stay_dropped, Goes-dropped, ends_at, span_owned, bare}
+use Rattle.cw_slices.proofs.Steps.{◌≡◌, ◌^◌, ◌<◌, [], ◌∷◌, length, refl, sym, ◌∙◌, w64, proved, vint, fact, tables, ‵, raw, ◌⊛◌}
+use Rattle.cw_slices.proofs.Steps.{◌$◌, ◌∵◌, !, qed, done, move, keep, split, fsplit, fsplit3, fjoin, rewrite}
+use Rattle.cw_slices.proofs.Steps.{agg, enter, no_more, and_then, returns, alloc_all, pass_all, free_all, look_at, get, sets, owns}
+use Rattle.cw_slices.proofs.Steps.{plain, types_at, yes, usize, RawPtr, ptr_val, rawptr_vals, rawptr_Tells}
+use Rattle.cw_slices.proofs.Steps.{uint_vals, uint_Tells, nothing, heard, alive, says, suffices, Stays, walk_of, stay_dropped, Goes-dropped, ends_at, span_owned, bare}
 use Rattle.core.proofs.slots.Opens.{words_val}
 use Rattle.cw_slices.specs.Held.{held_owned}
 use Rattle.cw_slices.proofs.Rows.{ptr_good, row_good}

@@ -1,5 +1,11 @@
 -- `put` writes one place of cells that are owned, through the pointer.
-use Rattle.cw_slices.proofs.Steps.{◌≡◌, ◌+◌, ◌*◌, ◌^◌, ◌<◌, ◌∙◌, List, [], ◌∷◌, length, refl, sym, ap, arith, named, proved, fact, id⊢, ftrue, flft, froom, Val, vint, vptr, vunit, w64, tables, ‵, raw, ◌⊛◌, at_ret, ◌$◌, ◌∵◌, !, qed, done, move, keep, drop, use1, use3, split, join, fsplit, fsplit3, fjoin, fjoin3, feq_i, flt_i, flt_l, rewrite, suffices, sub, whole, stop, fld, load, lit, bin, of_opd, unit_lit, enter, first, blocks, exec, returns, alloc_all, pass_all, free_all, look_at, get, through, sets, env, owns, plain, types_at, yes, i64, usize, block_ptr, uint_vals, uint_Tells, in_a_block, nothing, heard, says, Stays, walk_of, stay_dropped, Goes-dropped, ends_at}
+use Rattle.cw_slices.proofs.Steps.{◌≡◌, ◌+◌, ◌*◌, ◌^◌, ◌<◌, ◌∙◌, List, [], ◌∷◌, length, refl, sym, ap, arith, named, proved, fact}
+use Rattle.cw_slices.proofs.Steps.{id⊢, ftrue, flft, froom, Val, vint, vptr, vunit, w64, tables, ‵, raw, ◌⊛◌}
+use Rattle.cw_slices.proofs.Steps.{at_ret, ◌$◌, ◌∵◌, !, qed, done, move, keep, drop, use1, use3, split, join, fsplit, fsplit3}
+use Rattle.cw_slices.proofs.Steps.{fjoin, fjoin3, feq_i, flt_i, flt_l, rewrite, suffices, sub, whole, stop, fld}
+use Rattle.cw_slices.proofs.Steps.{load, lit, bin, of_opd, unit_lit, enter, first, blocks, exec, returns, alloc_all, pass_all}
+use Rattle.cw_slices.proofs.Steps.{free_all, look_at, get, through, sets, env, owns, plain, types_at, yes, i64}
+use Rattle.cw_slices.proofs.Steps.{usize, block_ptr, uint_vals, uint_Tells, in_a_block, nothing, heard, says, Stays, walk_of, stay_dropped, Goes-dropped, ends_at}
 use Prim.Native.Nat.{ℕ}
 use mathlib.Core.Bool.{true}
 use lib.ListN.{set, length-set}
@@ -63,7 +69,15 @@ put_spec 𝓤 𝓛 𝓜 𝓡 wired =
     let xs = set h.items i x in let fs = set h.filled i true in
     move ! (0 ∷ 6 ∷ []) $ use3 𝓛 (‵ (slots i64 (block_ptr b o) xs fs)) (value_in number 𝓛 b o h.items h.filled i ix fx x v) $
     flt_i ! (h.len * 8) (2 ^ 63) fit $ fjoin ! $
-    let r : (Cells.the_row).Denot = record { ptr = block_ptr b o; len = h.len; items = xs; filled = fs; halved = 0; ok = (h.ok.0 ∙ sym (length-set h.items i x), h.ok.1 ∙ sym (length-set h.filled i true)); small = h.small } in
+    let r : (Cells.the_row).Denot = record {
+      ptr = block_ptr b o;
+      len = h.len;
+      items = xs;
+      filled = fs;
+      halved = 0;
+      ok = (h.ok.0 ∙ sym (length-set h.items i x), h.ok.1 ∙ sym (length-set h.filled i true));
+      small = h.small;
+    } in
     cells_made ! r $ move ! (1 ∷ 0 ∷ []) $ closes ! tt Cells.the_row r (words ∷ []) rb ro $
     returns ! (look_at ! 0 refl) $ free_all ! refl $
     suffices ! _ (ends_at 𝓛 f.ended stayed c y vunit tt (r, (tt, (tt, tt))) (tt, (tt, (tt, tt)))) $ says ! (sym at, refl, refl, refl, refl) $

@@ -1,5 +1,7 @@
 -- `row` shows the words as a row's: a `&` to a part holds what a `&` to a row does.
-use Rattle.cw_slices.proofs.Steps.{[], ◌∷◌, List, refl, proved, id⊢, Val, vptr, named, tables, ‵, raw, ◌⊛◌, at_ret, ◌$◌, ◌∵◌, !, qed, done, move, keep, drop, use1, split, fsplit, fjoin, feq_i, addr, enter, of_opd, stop, first, blocks, exec, returns, alloc_all, pass_all, free_all, look_at, get, through, sets, sets_last, env, owns, plain, types_at, yes, nothing, alive, says, suffices, Stays, walk_of, stay_dropped, Goes-dropped, ends_at}
+use Rattle.cw_slices.proofs.Steps.{[], ◌∷◌, List, refl, proved, id⊢, Val, vptr, named, tables, ‵, raw, ◌⊛◌, at_ret, ◌$◌, ◌∵◌, !, qed, done, move, keep, drop, use1, split, fsplit}
+use Rattle.cw_slices.proofs.Steps.{fjoin, feq_i, addr, enter, of_opd, stop, first, blocks, exec, returns, alloc_all, pass_all, free_all, look_at, get, through, sets, sets_last, env}
+use Rattle.cw_slices.proofs.Steps.{owns, plain, types_at, yes, nothing, alive, says, suffices, Stays, walk_of, stay_dropped, Goes-dropped, ends_at}
 use denote.Builtin.{RefOf}
 use denote.Memory.{hidden_shr}
 use denote.Ref.{shr_vals, shr_Tells}

@@ -1,5 +1,8 @@
 -- `heal` puts half of the right to a run back into a row.
-use Rattle.cw_slices.proofs.Steps.{◌≡◌, ◌+◌, ◌*◌, ◌≤◌, ◌∙◌, List, [], ◌∷◌, length, refl, sym, arith, named, proved, fact, ftrue, flft, Val, vint, vptr, vunit, w64, tables, ‵, raw, ◌⊛◌, ◌$◌, ◌∵◌, !, qed, done, move, keep, drop, use2, split, join, fsplit, fsplit3, fjoin, fjoin3, feq_i, rewrite, suffices, of_opd, unit_lit, enter, returns, alloc_all, pass_all, free_all, look_at, sets, owns, plain, types_at, yes, usize, ◌+ₚ◌, uint_vals, uint_Tells, nothing, heard, Stays, walk_of, stay_dropped, Goes-dropped, ends_at, span_owned, bare}
+use Rattle.cw_slices.proofs.Steps.{◌≡◌, ◌+◌, ◌*◌, ◌≤◌, ◌∙◌, List, [], ◌∷◌, length, refl, sym, arith, named, proved, fact, ftrue, flft, Val, vint, vptr, vunit, w64, tables}
+use Rattle.cw_slices.proofs.Steps.{‵, raw, ◌⊛◌, ◌$◌, ◌∵◌, !, qed, done, move, keep, drop, use2, split, join, fsplit, fsplit3, fjoin, fjoin3, feq_i, rewrite, suffices}
+use Rattle.cw_slices.proofs.Steps.{of_opd, unit_lit, enter, returns, alloc_all, pass_all, free_all, look_at, sets, owns, plain, types_at, yes, usize, ◌+ₚ◌, uint_vals}
+use Rattle.cw_slices.proofs.Steps.{uint_Tells, nothing, heard, Stays, walk_of, stay_dropped, Goes-dropped, ends_at, span_owned, bare}
 use Prim.Native.Nat.{ℕ, suc}
 use Rattle.std.proofs.Common.{◌-◌, ◌<◌, replicate, Some, ap}
 use base.Fraction.{full_share}
@@ -34,10 +37,15 @@ heal_spec 𝓤 𝓛 𝓜 𝓡 wired =
     (λ κs. (mut_vals, (uint_vals w64, ((λ _. bare ∷ []), tt)))) (λ κs. (mut_Tells (named 0) κs.0 Kept.the_row, (uint_Tells w64, ((λ x vs so. so.0.1.0), tt)))) (λ κs qs bounds a gh are.
     let rb = a.0.ref_ptr.0 in let ro = a.0.ref_ptr.1 in let h = a.0.now in let n : ℕ = a.1.0 in let s = a.1.1.0 in
     let κ = κs.0 in let q = qs.0 in
-    let Within = n + length s.items ≤ length h.cells in let There = IsRun (h.ptr +ₚ (n * 8)) (length s.items) s in let Same = Have h.cells n s.items in let Some_out = 0 < s.halved in let Alike = AreHalved h.rights n (length s.items) s.halved in
+    let Within = n + length s.items ≤ length h.cells in let There = IsRun (h.ptr +ₚ (n * 8)) (length s.items) s in let Same =
+    Have h.cells n s.items in let Some_out = 0 < s.halved in let Alike = AreHalved h.rights n (length s.items) s.halved in
     let y : W.Ghost = ((κs, qs, bounds, a, (vptr rb ro ∷ [], (vint w64 n ∷ [], (bare ∷ [], tt)))), gh) in
-    qed 𝓛 (((‵ (flft κ q) ⊛ ‵ ftrue) ⊛ ‵ (owns (types_at f.ended.signature.params κs) a y.0.4)) ∷ (raw (fact 𝓤 Within) ⊛ (raw (fact 𝓤 There) ⊛ (raw (fact 𝓤 Same) ⊛ (raw (fact 𝓤 Some_out) ⊛ raw (fact 𝓤 Alike))))) ∷ []) ∵
-    move ! (1 ∷ []) $ split ! $ heard ! Within (λ within. split ! $ heard ! There (λ there. split ! $ heard ! Same (λ same. split ! $ heard ! Some_out (λ some_out. heard ! Alike (λ even. split ! $ split ! $ move ! (2 ∷ []) $ fsplit3 ! $ fsplit3 ! $ move ! (4 ∷ []) $ fsplit ! $ fsplit ! $ keep ! (4 ∷ 5 ∷ 7 ∷ 1 ∷ 8 ∷ []) $
+    qed 𝓛 (((‵ (flft κ q) ⊛ ‵ ftrue) ⊛ ‵ (owns (types_at f.ended.signature.params κs) a y.0.4))
+    ∷ (raw (fact 𝓤 Within) ⊛ (raw (fact 𝓤 There) ⊛ (raw (fact 𝓤 Same) ⊛ (raw (fact 𝓤 Some_out) ⊛ raw (fact 𝓤 Alike))))) ∷ []) ∵
+    move ! (1 ∷ []) $ split ! $ heard ! Within (λ within. split ! $ heard ! There
+    (λ there. split ! $ heard ! Same (λ same. split ! $ heard ! Some_out
+    (λ some_out. heard ! Alike (λ even. split ! $ split ! $ move ! (2 ∷ []) $ fsplit3 ! $ fsplit3 ! $ move !
+    (4 ∷ []) $ fsplit ! $ fsplit ! $ keep ! (4 ∷ 5 ∷ 7 ∷ 1 ∷ 8 ∷ []) $
     -- [what the borrow is seen at; the borrow; its token; the run; the other tokens]
     rewrite ! 3 (λ p. ‵ (span_owned p s.items s.filled s.halved)) there.0 refl $ rewrite ! 3 (λ fs. ‵ (span_owned (h.ptr +ₚ (n * 8)) s.items fs s.halved)) (there.2 ∙ sym (marks_ins s.items)) refl $
     enter ! 𝓣.C 𝓣.Λ code.function (vptr rb ro ∷ vint w64 n ∷ bare ∷ []) _ $ alloc_all ! (λ l. pass_all ! refl ((tt, tt), ((tt, record { fits = are.1.0.1 }), ((tt, tt), tt))) $

@@ -1,5 +1,7 @@
 -- `keep` makes a row that is all in of a span.
-use Rattle.cw_slices.proofs.Steps.{◌^◌, ◌<◌, [], ◌∷◌, refl, sym, ◌∙◌, w64, proved, vint, fact, tables, ‵, raw, ◌⊛◌, ◌$◌, ◌∵◌, !, qed, done, move, keep, use1, split, fsplit, fsplit3, fjoin, rewrite, agg, enter, no_more, and_then, returns, alloc_all, pass_all, free_all, look_at, get, sets, owns, plain, types_at, yes, usize, RawPtr, ptr_val, rawptr_vals, rawptr_Tells, uint_vals, uint_Tells, nothing, heard, alive, suffices, Stays, walk_of, stay_dropped, Goes-dropped, ends_at, span_owned, bare}
+use Rattle.cw_slices.proofs.Steps.{◌^◌, ◌<◌, [], ◌∷◌, refl, sym, ◌∙◌, w64, proved, vint, fact, tables, ‵, raw, ◌⊛◌, ◌$◌, ◌∵◌, !, qed, done, move, keep, use1, split, fsplit, fsplit3, fjoin, rewrite}
+use Rattle.cw_slices.proofs.Steps.{agg, enter, no_more, and_then, returns, alloc_all, pass_all, free_all, look_at, get, sets, owns, plain, types_at, yes, usize, RawPtr, ptr_val, rawptr_vals}
+use Rattle.cw_slices.proofs.Steps.{rawptr_Tells, uint_vals, uint_Tells, nothing, heard, alive, suffices, Stays, walk_of, stay_dropped, Goes-dropped, ends_at, span_owned, bare}
 use Rattle.core.proofs.slots.Opens.{words_val}
 use Rattle.cw_slices.proofs.Rows.{ptr_good, row_good}
 use Rattle.cw_slices.proofs.Holds.{kept_made}
@@ -33,10 +35,19 @@ keep_spec 𝓤 𝓛 𝓜 𝓡 wired =
     qed 𝓛 ((raw (alive 𝓛 f.ended.signature κs qs) ⊛ ‵ (owns (types_at f.ended.signature.params κs) a y.0.4)) ∷ raw (fact 𝓤 Asked) ∷ []) ∵
     move ! (1 ∷ []) $ heard ! Asked (λ asked. split ! $ move ! (1 ∷ []) $ fsplit3 ! $ move ! (2 ∷ []) $ fsplit ! $ fsplit ! $ keep ! (1 ∷ 5 ∷ []) $
     -- [the cells; the tokens]
-    rewrite ! 0 (λ r. ‵ (span_owned r s.items s.filled s.halved)) asked.0 refl $ rewrite ! 0 (λ fs. ‵ (span_owned p s.items fs s.halved)) (asked.2 ∙ ap (λ k. replicate k true) asked.1 ∙ sym (marks_ins s.items)) refl $
+    rewrite ! 0 (λ r. ‵ (span_owned r s.items s.filled s.halved)) asked.0 refl $ rewrite ! 0 (λ fs. ‵ (span_owned p s.items fs s.halved))
+    (asked.2 ∙ ap (λ k. replicate k true) asked.1 ∙ sym (marks_ins s.items)) refl $
     use1 𝓛 (‵ (kept_owned p (ins s.items) (replicate (length s.items) s.halved))) (all_in 𝓛 p s.items s.halved) $
     enter ! 𝓣.C 𝓣.Λ code.function (ptr_val p ∷ vint w64 n ∷ bare ∷ []) _ $ alloc_all ! (λ l. pass_all ! refl (ptr_good p, ((tt, record { fits = small }), ((tt, tt), tt))) $
-    let h : (Kept.the_row).Denot = record { ptr = p; len = n; cells = ins s.items; rights = replicate (length s.items) s.halved; base = s.halved; ok = (asked.1 ∙ sym (length_ins s.items), asked.1 ∙ sym (length_replicated (length s.items) s.halved)); small = small } in
+    let h : (Kept.the_row).Denot = record {
+      ptr = p;
+      len = n;
+      cells = ins s.items;
+      rights = replicate (length s.items) s.halved;
+      base = s.halved;
+      ok = (asked.1 ∙ sym (length_ins s.items), asked.1 ∙ sym (length_replicated (length s.items) s.halved));
+      small = small;
+    } in
     kept_made ! h $
     sets ! (agg ! (and_then ! (get ! refl) (and_then ! (get ! refl) (no_more !)))) refl (row_good p n small) $
     returns ! (look_at ! 0 refl) $ free_all ! refl $

@@ -1,5 +1,8 @@
 -- `meet` puts a run into a row.
-use Rattle.cw_slices.proofs.Steps.{◌≡◌, ◌+◌, ◌*◌, ◌≤◌, ◌∙◌, List, [], ◌∷◌, length, refl, sym, arith, named, proved, fact, ftrue, flft, Val, vint, vptr, vunit, w64, tables, ‵, raw, ◌⊛◌, ◌$◌, ◌∵◌, !, qed, done, move, keep, drop, use2, split, join, fsplit, fsplit3, fjoin, fjoin3, feq_i, rewrite, suffices, of_opd, unit_lit, enter, returns, alloc_all, pass_all, free_all, look_at, sets, owns, plain, types_at, yes, usize, ◌+ₚ◌, uint_vals, uint_Tells, nothing, heard, Stays, walk_of, stay_dropped, Goes-dropped, ends_at, span_owned, bare}
+use Rattle.cw_slices.proofs.Steps.{◌≡◌, ◌+◌, ◌*◌, ◌≤◌, ◌∙◌, List, [], ◌∷◌, length, refl, sym, arith, named, proved, fact, ftrue, flft, Val, vint, vptr, vunit, w64, tables}
+use Rattle.cw_slices.proofs.Steps.{‵, raw, ◌⊛◌, ◌$◌, ◌∵◌, !, qed, done, move, keep, drop, use2, split, join, fsplit, fsplit3, fjoin, fjoin3, feq_i, rewrite, suffices}
+use Rattle.cw_slices.proofs.Steps.{of_opd, unit_lit, enter, returns, alloc_all, pass_all, free_all, look_at, sets, owns, plain, types_at, yes, usize, ◌+ₚ◌, uint_vals}
+use Rattle.cw_slices.proofs.Steps.{uint_Tells, nothing, heard, Stays, walk_of, stay_dropped, Goes-dropped, ends_at, span_owned, bare}
 use Prim.Native.Nat.{ℕ}
 use base.Fraction.{full_share}
 use denote.Laws.{Is, shows}
@@ -36,7 +39,9 @@ meet_spec 𝓤 𝓛 𝓜 𝓡 wired =
     let Within = n + length s.items ≤ length h.cells in let There = IsRun (h.ptr +ₚ (n * 8)) (length s.items) s in let Alike = AreHalved h.rights n (length s.items) s.halved in
     let y : W.Ghost = ((κs, qs, bounds, a, (vptr rb ro ∷ [], (vint w64 n ∷ [], (bare ∷ [], tt)))), gh) in
     qed 𝓛 (((‵ (flft κ q) ⊛ ‵ ftrue) ⊛ ‵ (owns (types_at f.ended.signature.params κs) a y.0.4)) ∷ (raw (fact 𝓤 Within) ⊛ (raw (fact 𝓤 There) ⊛ raw (fact 𝓤 Alike))) ∷ []) ∵
-    move ! (1 ∷ []) $ split ! $ heard ! Within (λ within. split ! $ heard ! There (λ there. heard ! Alike (λ even. split ! $ split ! $ move ! (2 ∷ []) $ fsplit3 ! $ fsplit3 ! $ move ! (4 ∷ []) $ fsplit ! $ fsplit ! $ keep ! (4 ∷ 5 ∷ 7 ∷ 1 ∷ 8 ∷ []) $
+    move ! (1 ∷ []) $ split ! $ heard ! Within (λ within. split ! $ heard ! There
+    (λ there. heard ! Alike (λ even. split ! $ split ! $ move ! (2 ∷ []) $ fsplit3 ! $ fsplit3 ! $ move ! (4 ∷ []) $ fsplit ! $ fsplit ! $ keep !
+    (4 ∷ 5 ∷ 7 ∷ 1 ∷ 8 ∷ []) $
     -- [what the borrow is seen at; the borrow; its token; the run; the other tokens]
     rewrite ! 3 (λ p. ‵ (span_owned p s.items s.filled s.halved)) there.0 refl $ rewrite ! 3 (λ fs. ‵ (span_owned (h.ptr +ₚ (n * 8)) s.items fs s.halved)) (there.2 ∙ sym (marks_ins s.items)) refl $
     enter ! 𝓣.C 𝓣.Λ code.function (vptr rb ro ∷ vint w64 n ∷ bare ∷ []) _ $ alloc_all ! (λ l. pass_all ! refl ((tt, tt), ((tt, record { fits = are.1.0.1 }), ((tt, tt), tt))) $

@@ -1,5 +1,9 @@
 -- `part` takes a run out of a row, and tells where it begins.
-use Rattle.cw_slices.proofs.Steps.{◌≡◌, ◌+◌, ◌*◌, ◌^◌, ◌<◌, ◌≤◌, ◌∙◌, List, [], ◌∷◌, true, length, replicate, refl, sym, ap, arith, named, proved, fact, id⊢, ftrue, flft, Val, vint, vptr, w64, tables, ‵, raw, ◌⊛◌, at_ret, ◌$◌, ◌∵◌, !, qed, done, move, keep, drop, use1, split, join, fsplit, fsplit3, fjoin, fjoin3, feq_i, flt_i, flt_l, rewrite, suffices, agg, sub, whole, stop, fld, load, lit, bin, of_opd, no_more, and_then, enter, first, blocks, exec, returns, alloc_all, pass_all, free_all, look_at, get, through, sets, sets_last, env, owns, plain, types_at, yes, usize, RawPtr, block_ptr, ◌+ₚ◌, uint_vals, uint_Tells, in_a_block, nothing, heard, Stays, walk_of, stay_dropped, Goes-dropped, ends_at, span_owned, bare, both, span_made, pair_made}
+use Rattle.cw_slices.proofs.Steps.{◌≡◌, ◌+◌, ◌*◌, ◌^◌, ◌<◌, ◌≤◌, ◌∙◌, List, [], ◌∷◌, true, length, replicate, refl, sym, ap, arith, named, proved, fact, id⊢, ftrue, flft, Val, vint, vptr}
+use Rattle.cw_slices.proofs.Steps.{w64, tables, ‵, raw, ◌⊛◌, at_ret, ◌$◌, ◌∵◌, !, qed, done, move, keep, drop, use1, split, join, fsplit, fsplit3, fjoin, fjoin3, feq_i, flt_i, flt_l}
+use Rattle.cw_slices.proofs.Steps.{rewrite, suffices, agg, sub, whole, stop, fld, load, lit, bin, of_opd, no_more, and_then, enter, first, blocks, exec, returns, alloc_all, pass_all}
+use Rattle.cw_slices.proofs.Steps.{free_all, look_at, get, through, sets, sets_last, env, owns, plain, types_at, yes, usize, RawPtr, block_ptr, ◌+ₚ◌, uint_vals, uint_Tells, in_a_block}
+use Rattle.cw_slices.proofs.Steps.{nothing, heard, Stays, walk_of, stay_dropped, Goes-dropped, ends_at, span_owned, bare, both, span_made, pair_made}
 use Prim.Native.Nat.{ℕ}
 use base.Fraction.{full_share}
 use base.Logic.{never}
@@ -39,10 +43,12 @@ part_spec 𝓤 𝓛 𝓜 𝓡 wired =
     let Within = n + k ≤ length h.cells in let There = AreIn h.cells n k in let Alike = AreHalved h.rights n k h.base in
     let y : W.Ghost = ((κs, qs, bounds, a, (vptr rb ro ∷ [], (vint w64 n ∷ [], (vint w64 k ∷ [], tt)))), gh) in
     qed 𝓛 (((‵ (flft κ q) ⊛ ‵ ftrue) ⊛ ‵ (owns (types_at f.ended.signature.params κs) a y.0.4)) ∷ (raw (fact 𝓤 Within) ⊛ (raw (fact 𝓤 There) ⊛ raw (fact 𝓤 Alike))) ∷ []) ∵
-    move ! (1 ∷ []) $ split ! $ heard ! Within (λ within. split ! $ heard ! There (λ there. heard ! Alike (λ even. split ! $ split ! $ move ! (2 ∷ []) $ fsplit3 ! $ fsplit3 ! $ move ! (4 ∷ []) $ fsplit ! $ keep ! (3 ∷ 4 ∷ 6 ∷ 7 ∷ []) $
+    move ! (1 ∷ []) $ split ! $ heard ! Within (λ within. split ! $ heard ! There
+    (λ there. heard ! Alike (λ even. split ! $ split ! $ move ! (2 ∷ []) $ fsplit3 ! $ fsplit3 ! $ move ! (4 ∷ []) $ fsplit ! $ keep ! (3 ∷ 4 ∷ 6 ∷ 7 ∷ []) $
     -- [what the borrow is seen at; the borrow; its token; the other tokens]
     let xs = there.0 in let count : length xs ≡ k = there.1 in let fits : n + length xs ≤ length h.cells = omega (arith, within, count) in
-    enter ! 𝓣.C 𝓣.Λ code.function (vptr rb ro ∷ vint w64 n ∷ vint w64 k ∷ []) _ $ alloc_all ! (λ l. pass_all ! refl ((tt, tt), ((tt, record { fits = are.1.0.1 }), ((tt, record { fits = are.1.1.0.1 }), tt))) $
+    enter ! 𝓣.C 𝓣.Λ code.function (vptr rb ro ∷ vint w64 n ∷ vint w64 k ∷ []) _ $ alloc_all !
+    (λ l. pass_all ! refl ((tt, tt), ((tt, record { fits = are.1.0.1 }), ((tt, record { fits = are.1.1.0.1 }), tt))) $
     opens ! tt Kept.the_row {h = h} rb ro (λ us. move ! (1 ∷ []) $ peeks ! Kept.the_row (Is Kept.the_row) (shows 𝓛 Kept.the_row) h us (λ so. fsplit ! $ drop ! $ fsplit ! $ flt_l ! (λ small.
     in_a_block ! h.ptr (λ p. in_block p (cells_in p h.cells h.rights)) (id⊢ 𝓤 (never 𝓤)) (λ b o at.
     let words = words_val (block_ptr b o) h.len in
@@ -64,7 +70,16 @@ part_spec 𝓤 𝓛 𝓜 𝓡 wired =
     kept_made ! r $ move ! (2 ∷ 0 ∷ 3 ∷ 4 ∷ 5 ∷ []) $ closes ! tt Kept.the_row r (words ∷ []) rb ro $
     returns ! (look_at ! 0 refl) $ free_all ! refl $
     suffices ! _ (ends_at 𝓛 f.ended stayed c y (both (vptr b (n * 8 + o)) bare) (place, s) (r, (tt, (tt, tt))) (tt, (tt, (tt, tt)))) $
-    says_three ! ((ap (λ m. block_ptr b m) (sym there_is) ∙ ap (λ p. p +ₚ (n * 8)) (sym at), (refl, sym count, marks_ins xs ∙ ap (λ m. replicate m true) count), refl), (sym at, refl, refl, refl), (there.2, refl)) $
+    says_three ! (
+      (
+        ap (λ m. block_ptr b m) (sym there_is) ∙ ap (λ p. p +ₚ (n * 8)) (sym at),
+        (refl, sym count, marks_ins xs ∙ ap (λ m. replicate m true) count),
+        refl,
+      ),
+      (sym at, refl, refl, refl),
+      (there.2, refl),
+    ) $
     feq_i ! (List Val) (vptr rb ro ∷ []) (vptr rb ro ∷ []) refl $ fjoin3 ! $ nothing ! $ nothing ! $ fjoin ! $ nothing ! $ fjoin ! $ move ! (1 ∷ 0 ∷ []) $ fjoin ! $
-    move ! (1 ∷ 3 ∷ []) $ join ! $ move ! (2 ∷ []) $ span_made ! s $ feq_i ! (List Val) (vptr b (n * 8 + o) ∷ []) (vptr b (n * 8 + o) ∷ []) refl $ pair_made ! RawPtr Span.the_row place s (vptr b (n * 8 + o)) bare $
+    move ! (1 ∷ 3 ∷ []) $ join ! $ move ! (2 ∷ []) $ span_made ! s $ feq_i ! (List Val) (vptr b (n * 8 + o) ∷ [])
+    (vptr b (n * 8 + o) ∷ []) refl $ pair_made ! RawPtr Span.the_row place s (vptr b (n * 8 + o)) bare $
     keep ! (1 ∷ 2 ∷ 0 ∷ []) $ done !)))))))))

@@ -1,5 +1,10 @@
 -- `put` writes one place that is in, through the pointer.
-use Rattle.cw_slices.proofs.Steps.{◌≡◌, ◌+◌, ◌*◌, ◌^◌, ◌<◌, ◌∙◌, List, [], ◌∷◌, length, refl, sym, ap, arith, named, proved, fact, id⊢, ftrue, flft, froom, Val, vint, vptr, vunit, w64, tables, ‵, raw, ◌⊛◌, at_ret, ◌$◌, ◌∵◌, !, qed, done, move, keep, drop, use1, use3, split, join, fsplit, fsplit3, fjoin, fjoin3, feq_i, flt_i, flt_l, rewrite, suffices, sub, whole, stop, fld, load, lit, bin, of_opd, unit_lit, enter, first, blocks, exec, returns, alloc_all, pass_all, free_all, look_at, get, through, sets, env, owns, plain, types_at, yes, i64, usize, block_ptr, uint_vals, uint_Tells, in_a_block, nothing, heard, Stays, walk_of, stay_dropped, Goes-dropped, ends_at}
+use Rattle.cw_slices.proofs.Steps.{◌≡◌, ◌+◌, ◌*◌, ◌^◌, ◌<◌, ◌∙◌, List, [], ◌∷◌, length, refl, sym, ap, arith, named, proved, fact, id⊢, ftrue, flft, froom, Val, vint, vptr, vunit, w64, tables, ‵, raw}
+use Rattle.cw_slices.proofs.Steps.{◌⊛◌, at_ret, ◌$◌, ◌∵◌, !, qed, done, move, keep, drop, use1, use3, split, join, fsplit, fsplit3}
+use Rattle.cw_slices.proofs.Steps.{fjoin, fjoin3, feq_i, flt_i, flt_l, rewrite, suffices, sub, whole, stop}
+use Rattle.cw_slices.proofs.Steps.{fld, load, lit, bin, of_opd, unit_lit, enter, first, blocks, exec, returns, alloc_all}
+use Rattle.cw_slices.proofs.Steps.{pass_all, free_all, look_at, get, through, sets, env, owns, plain, types_at, yes}
+use Rattle.cw_slices.proofs.Steps.{i64, usize, block_ptr, uint_vals, uint_Tells, in_a_block, nothing, heard, Stays, walk_of, stay_dropped, Goes-dropped, ends_at}
 use Prim.Native.Nat.{ℕ}
 use lib.ListN.{length-set}
 use base.Fraction.{full_share}

@@ -1,5 +1,7 @@
 -- `row` shows the words as a row's: a `&` to a row of which cells are out holds what a `&` to a row does.
-use Rattle.cw_slices.proofs.Steps.{[], ◌∷◌, List, refl, sym, ◌∙◌, proved, id⊢, Val, vptr, named, tables, ‵, raw, ◌⊛◌, at_ret, ◌$◌, ◌∵◌, !, qed, done, move, keep, drop, use1, split, fsplit, fjoin, feq_i, addr, enter, of_opd, stop, first, blocks, exec, returns, alloc_all, pass_all, free_all, look_at, get, through, sets, sets_last, env, owns, plain, types_at, yes, nothing, alive, suffices, Stays, walk_of, stay_dropped, Goes-dropped, ends_at}
+use Rattle.cw_slices.proofs.Steps.{[], ◌∷◌, List, refl, sym, ◌∙◌, proved, id⊢, Val, vptr, named, tables, ‵, raw, ◌⊛◌, at_ret, ◌$◌, ◌∵◌, !, qed, done, move, keep, drop, use1, split}
+use Rattle.cw_slices.proofs.Steps.{fsplit, fjoin, feq_i, addr, enter, of_opd, stop, first, blocks, exec, returns, alloc_all, pass_all, free_all, look_at, get, through, sets}
+use Rattle.cw_slices.proofs.Steps.{sets_last, env, owns, plain, types_at, yes, nothing, alive, suffices, Stays, walk_of, stay_dropped, Goes-dropped, ends_at}
 use denote.Builtin.{RefOf}
 use Rattle.core.proofs.mem.Facts.{says_three}
 use denote.Memory.{hidden_shr}
@@ -22,7 +24,14 @@ row_spec 𝓤 𝓛 𝓜 𝓡 wired =
     (λ κs. (shr_vals, tt)) (λ κs. (shr_Tells (named 0) κs.0 Kept.the_row, tt)) (λ κs qs bounds a gh are.
     let b = a.0.ref_ptr.0 in let o = a.0.ref_ptr.1 in let h = a.0.now in
     let y : W.Ghost = ((κs, qs, bounds, a, (vptr b o ∷ [], tt)), gh) in
-    let r : Row.Denot = record { ptr = h.ptr; len = h.len; items = numbers h.cells; filled = marks h.cells; ok = (h.ok.0 ∙ sym (length_numbers h.cells), h.ok.0 ∙ sym (length_marks h.cells)); small = h.small } in
+    let r : Row.Denot = record {
+      ptr = h.ptr;
+      len = h.len;
+      items = numbers h.cells;
+      filled = marks h.cells;
+      ok = (h.ok.0 ∙ sym (length_numbers h.cells), h.ok.0 ∙ sym (length_marks h.cells));
+      small = h.small;
+    } in
     qed 𝓛 ((raw (alive 𝓛 f.ended.signature κs qs) ⊛ ‵ (owns (types_at f.ended.signature.params κs) a y.0.4)) ∷ raw ((c κs a).requires gh) ∷ []) ∵
     keep ! (0 ∷ []) $ split ! $ move ! (1 ∷ []) $ fsplit ! $ fsplit ! $ drop ! $ keep ! (0 ∷ 2 ∷ []) $
     -- [what the `&` holds; the tokens]

@@ -1,5 +1,7 @@
 -- `unkeep` takes the span out of a row that is all in.
-use Rattle.cw_slices.proofs.Steps.{◌≡◌, List, [], ◌∷◌, refl, sym, ◌∙◌, proved, Val, fact, tables, ‵, raw, ◌⊛◌, ◌$◌, ◌∵◌, !, qed, done, move, keep, use1, split, fsplit, fjoin, feq_i, rewrite, agg, sub, whole, stop, fld, enter, of_opd, no_more, and_then, returns, alloc_all, pass_all, free_all, look_at, get, get_in, sets, owns, plain, types_at, yes, RawPtr, ptr_val, nothing, heard, alive, suffices, Stays, walk_of, stay_dropped, Goes-dropped, ends_at, bare, both, span_made, pair_made}
+use Rattle.cw_slices.proofs.Steps.{◌≡◌, List, [], ◌∷◌, refl, sym, ◌∙◌, proved, Val, fact, tables, ‵, raw, ◌⊛◌, ◌$◌, ◌∵◌, !, qed, done, move, keep, use1, split, fsplit, fjoin, feq_i, rewrite, agg}
+use Rattle.cw_slices.proofs.Steps.{sub, whole, stop, fld, enter, of_opd, no_more, and_then, returns, alloc_all, pass_all, free_all, look_at, get, get_in, sets, owns, plain, types_at, yes, RawPtr}
+use Rattle.cw_slices.proofs.Steps.{ptr_val, nothing, heard, alive, suffices, Stays, walk_of, stay_dropped, Goes-dropped, ends_at, bare, both, span_made, pair_made}
 use Rattle.core.proofs.slots.Opens.{words_val}
 use Rattle.cw_slices.proofs.Rows.{ptr_good, row_good, left_good}
 use Rattle.cw_slices.proofs.Holds.{kept_told}
@@ -41,5 +43,6 @@ unkeep_spec 𝓤 𝓛 𝓜 𝓡 wired =
     sets ! (of_opd ! (get_in ! (fld ! refl (stop !)) (sub ! 0 refl (whole !)))) refl (ptr_good h.ptr) $
     sets ! (agg ! (no_more !)) refl (tt, tt) $ sets ! (agg ! (and_then ! (get ! refl) (and_then ! (get ! refl) (no_more !)))) refl (left_good h.ptr) $
     returns ! (look_at ! 0 refl) $ free_all ! refl $
-    suffices ! _ (ends_at 𝓛 f.ended stayed c y (both (ptr_val h.ptr) bare) (h.ptr, s) (tt, tt) (tt, tt)) $ says_three ! ((refl, (refl, as_many, marks_ins xs ∙ ap (λ k. replicate k true) (sym as_many))), sym asked.1, refl) $
+    suffices ! _ (ends_at 𝓛 f.ended stayed c y (both (ptr_val h.ptr) bare) (h.ptr, s) (tt, tt) (tt, tt)) $ says_three !
+    ((refl, (refl, as_many, marks_ins xs ∙ ap (λ k. replicate k true) (sym as_many))), sym asked.1, refl) $
     nothing ! $ nothing ! $ fjoin ! $ move ! (2 ∷ 0 ∷ 1 ∷ []) $ done !))))
