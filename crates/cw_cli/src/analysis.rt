@@ -63,9 +63,9 @@ pub fn analyse_alone<W: Sink>(
 /// and one for each body of the crew as workers that steal from each other.
 ///
 /// The errors and what is written are those of `analyse_alone`, which it calls where the crew is empty: no byte depends
-/// on the crew, on what its bodies and the gate do, or on the order in which workers come to steal. A check and a schedule
-/// are made by the caller's thread alone. In mode `Gain` the crew does the first run, and behind it as many threads as
-/// there are workers the further ones, side by side.
+/// on the crew, on what its bodies and the gate do, or on the order in which workers come to steal. A check, a schedule
+/// and a run of code that spawns nothing are made by the caller's thread alone. In mode `Gain` the crew does the first run,
+/// and behind it as many threads as there are workers the further ones, side by side.
 ///
 /// Before all that, a crew of more than 63 bodies is `Arguments` in each mode, with nothing written.
 ///
