@@ -5,4 +5,5 @@ pub mod Moves
 pub mod Origins
 pub mod Parts
 pub mod Tables
+pub mod Uncounted
 pub mod Whole

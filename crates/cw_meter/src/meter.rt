@@ -5,6 +5,7 @@ ghost use Rattle.std.specs.Vec.{vec_len, vec_capacity};
 ghost use Rattle.cw_model.specs.Trees.{Invocation};
 ghost use Rattle.cw_meter.specs.Details as details;
 ghost use Rattle.cw_meter.specs.Meters.{Starts, StartsRest, Begins, BeginsRegion, Ends, IsHere, IsOutside, Rests, Returns, Syncs};
+ghost use Rattle.cw_meter.specs.Uncounted.{LeavesAny, OpensAny, SyncsAny};
 ghost use Rattle.cw_meter.specs.Moves.{ClosesPart, IsOpened, JoinsBlock, LeavesOne, Stacks};
 ghost use Rattle.cw_meter.specs.Whole.{Reads};
 
@@ -128,6 +129,31 @@ impl Meter {
     {
         self.open_parts = self.open_parts.wrapping_sub(1);
     }
+
+    /// Where the values alone are kept: a part begins, whichever, by the instruction after however many.
+    #[inline(always)]
+    pub fn open_any(&mut self)
+        requires { details.keeps_values self.old.detail ≡ true }
+        ensures { OpensAny self.old self.new }
+    {
+        self.count_part();
+    }
+
+    /// The same: the innermost part, whichever, joins and ends.
+    #[inline(always)]
+    pub fn leave_any(&mut self)
+        requires { details.keeps_values self.old.detail ≡ true }
+        ensures { LeavesAny self.old self.new }
+    {
+        self.leave_part();
+    }
+
+    /// The same: the block that runs joins, of which nothing is to be told.
+    #[inline(always)]
+    pub fn sync_any(&self)
+        requires { details.keeps_values self.now.detail ≡ true }
+        ensures { SyncsAny self.now }
+    {}
 
     /// Takes in, after `count` instructions, what the meter of the rest of the block that runs has counted in `cost`
     /// instructions, up to the block's join, while the spawned call beside it ran. The count goes on from that of both.
