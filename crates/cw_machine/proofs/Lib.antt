@@ -3,6 +3,7 @@ pub mod Floors
 pub mod Places
 pub mod Writes
 pub mod Cells
+pub mod Coursing
 pub mod Holding
 pub mod Frames
 pub mod Operands
