@@ -21,7 +21,7 @@ impl Offers {
         Offers { in_vain: 0 }
     }
 
-    /// A job that was offered is back, and others did so many instructions of it.
+    /// A job that was handed out is back, and others did so many instructions of it.
     #[inline(always)]
     pub(crate) fn judge(&mut self, done: u64) {
         if done < WORTH {

@@ -170,6 +170,7 @@ impl Post {
     {
         match self.kept.pop() {
             Some(Kept::Own(rest)) => {
+                tally.offers.judge(0);
                 take_in(&mut self.strand, rest);
                 true
             }

@@ -9,6 +9,7 @@ ghost use Rattle.cw_pool.specs.Posts.{IsFound, Settles};
 use crate::gate::{Gate, Moment};
 use crate::post::{Post, Turn};
 use crate::sign::Tally;
+use crossbeam_utils::sync::Key;
 use cw_jobs::effect::Effect;
 use cw_jobs::job::Job;
 use cw_yard::seat::{Seat, Yard};
@@ -20,7 +21,7 @@ use std::{hint, mem, thread};
 /// So many looks in vain are followed by a pause alone, those behind them by a yield.
 const SPINS: u32 = 64;
 
-/// After so many looks in vain a worker without a job sleeps.
+/// After so many looks in vain a worker that has nothing to do sleeps.
 const PATIENCE: u32 = 1024;
 
 /// A post that waits, and the duty of the stolen job that is run above it. It must be finished.
@@ -66,6 +67,12 @@ impl Search {
         }
     }
 
+    // It has something to do again.
+    #[inline(always)]
+    fn rest(&mut self) {
+        self.tries = 0;
+    }
+
     // A worker that found nothing waits a little.
     fn idle(&mut self) {
         if self.tries < PATIENCE {
@@ -78,21 +85,30 @@ impl Search {
         }
     }
 
-    // One look of a worker that has nothing to do: after many in vain it sleeps.
+    // After many looks in vain a key of the bell: whoever has it sees for itself that there is still nothing to do.
+    fn tire<'a>(&mut self, yard: &'a Yard) -> Option<Key<'a>> {
+        if self.tries < PATIENCE {
+            return None;
+        }
+        self.tries = 0;
+        Some(yard.bell().prepare_wait())
+    }
+
+    // One look of a worker that has nothing to do; with a key one at each victim, and then a sleep.
     fn find<R: Wait>(
         &mut self,
         rt: &R,
         yard: &Yard,
         seat: &mut Seat,
         me: usize,
+        key: Option<Key<'_>>,
     ) -> Option<(Job, Duty)>
         requires { IsSeatOf yard.now seat.old }
         ensures seat { IsSeatOf yard.now seat.new }
         ensures found { IfSome result (IsFound yard.now) }
     {
-        if self.tries >= PATIENCE {
-            self.tries = 0;
-            return doze(rt, yard, seat, me);
+        if let Some(key) = key {
+            return doze(rt, yard, seat, me, key);
         }
         match self.look(yard, seat, me) {
             Some(found) => Some(found),
@@ -104,16 +120,18 @@ impl Search {
     }
 }
 
-// One look at each victim, and then a sleep until something is offered, settled or ended.
-fn doze<R: Wait>(rt: &R, yard: &Yard, seat: &mut Seat, me: usize) -> Option<(Job, Duty)>
+// One look at each victim, and then a sleep until the bell rings: something is offered, settled or ended.
+fn doze<R: Wait>(
+    rt: &R,
+    yard: &Yard,
+    seat: &mut Seat,
+    me: usize,
+    key: Key<'_>,
+) -> Option<(Job, Duty)>
     requires { IsSeatOf yard.now seat.old }
     ensures seat { IsSeatOf yard.now seat.new }
     ensures found { IfSome result (IsFound yard.now) }
 {
-    let key = yard.bell().prepare_wait();
-    if yard.ended(seat) {
-        return None;
-    }
     let mut victim = 0;
     while victim < yard.workers() {
         if victim != me {
@@ -139,8 +157,9 @@ fn settle<G: Gate>(yard: &Yard, seat: &mut Seat, gate: &G, me: usize, duty: Duty
 }
 
 // While its post waits, a worker looks for a job to steal, and runs it above that post. It has room for the post before
-// it steals; what it can't begin it gives up.
-fn run_above<G: Gate>(
+// it steals; what it can't begin it gives up. With a key it sleeps where it finds none.
+fn run_above<G: Gate, R: Wait>(
+    rt: &R,
     alloc: Global,
     yard: &Yard,
     seat: &mut Seat,
@@ -149,6 +168,7 @@ fn run_above<G: Gate>(
     post: &mut Post,
     below: &mut Vec<Below>,
     search: &mut Search,
+    key: Option<Key<'_>>,
 )
     requires seat { IsSeatOf yard.now seat.old }
     ensures seat { IsSeatOf yard.now seat.new }
@@ -159,8 +179,7 @@ fn run_above<G: Gate>(
         return;
     }
     let me = tally.me;
-    let Some((stolen, duty)) = search.look(yard, seat, me) else {
-        search.idle();
+    let Some((stolen, duty)) = search.find(rt, yard, seat, me, key) else {
         return;
     };
     gate.turn(me, Moment::Stolen);
@@ -201,9 +220,11 @@ pub(crate) fn work<G: Gate, R: Wait>(
     let mut search = Search::new(tally.me);
     for _ in rt.forever() {
         post.heed(tally);
+        let key = search.tire(yard);
         match post.turn(yard, seat, gate, tally) {
-            Turn::Went => {}
+            Turn::Went => search.rest(),
             Turn::Waits => run_above(
+                rt,
                 alloc,
                 yard,
                 seat,
@@ -212,6 +233,7 @@ pub(crate) fn work<G: Gate, R: Wait>(
                 &mut post,
                 &mut below,
                 &mut search,
+                key,
             ),
             Turn::Ends(end) => match below.pop() {
                 Some(
@@ -252,10 +274,11 @@ pub(crate) fn help<G: Gate, R: Wait>(
     let me = tally.me;
     let mut search = Search::new(me);
     for _ in rt.forever() {
+        let key = search.tire(yard);
         if yard.ended(seat) {
             return;
         }
-        match search.find(rt, yard, seat, me) {
+        match search.find(rt, yard, seat, me, key) {
             Some((job, duty)) => {
                 gate.turn(me, Moment::Stolen);
                 let effect = work(rt, alloc, yard, seat, gate, tally, job);
