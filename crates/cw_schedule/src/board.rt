@@ -106,7 +106,7 @@ impl Board {
         requires place { place < self.old.border }
         ensures keeps { Keeps self.new }
         ensures put { shown self.new ≡ slice_set (shown self.old) place (Some left) }
-        ensures count { left_at self.old.running place ≡ None → self.new.count ≡ self.old.count + 1 }
+        ensures one { left_at self.old.running place ≡ None → self.new.count ≡ self.old.count + 1 }
         ensures waiting { self.new.waiting ≡ self.old.waiting }
     {
         self.time = time_for(&mut self.running, self.places, self.time, left);

@@ -51,8 +51,8 @@ returns-clause-put c =
     ∙ put_shown t c.args.place c.args.left r b.waiting (h.running ∙ sym h.waiting) within
     ∙ ap (λ xs. set (over xs b.waiting) c.args.place (Some c.args.left)) c.time_for-self.ensures.shown
 
-pub returns-clause-count : goal.returns-clause-count
-returns-clause-count c = λ n.
+pub returns-clause-one : goal.returns-clause-one
+returns-clause-one c = λ n.
     let b = c.args.self.now in
     let t = c.time_for-self.result in
     let r = c.time_for-self.new.running in
