@@ -1,5 +1,5 @@
 -- What begins where code fits: a function, a call, and the turns of a loop.
-use Rattle.std.proofs.Common.{◌≡◌, ℕ, ◌+◌, ◌-◌, ◌<◌, ◌≤◌, ℤ, pos, ◌+ℤ◌, Bool, true, false, not, ◌&&◌, nat_lt, if◌then◌else◌}
+use Rattle.std.proofs.Common.{◌≡◌, ℕ, ◌+◌, ◌-◌, ◌<◌, ◌≤◌, ℤ, pos, ◌+ℤ◌, Bool, true, false, ◌&&◌, nat_lt, if◌then◌else◌}
 use Rattle.std.proofs.Common.{Option, Some, None, List, [], ◌∷◌, ◌++◌, length, refl, sym, ap, ◌∙◌, subst, arith, length-append}
 use Rattle.std.specs.Prelude.{take, drop, map, replicate, slice_get, slice_set, nat_eq, nat_le}
 use Rattle.std.proofs.lemmas.List.{length-drop, length-reverse, length-take, length-map, length-replicate}
@@ -22,12 +22,12 @@ use Rattle.cw_code.specs.Code.{Code}
 use Rattle.cw_code.specs.Run.{Slots, Results, Readers, reader, loaned, lent_in, has_readers, lent_by, Whole, Waiting, Around, Caller, Block, State, Transition, On, Stops, Stuck}
 use Rattle.cw_code.specs.Run.{ticked, inside, is_full, settled, slots_of, arrays_of}
 use Rattle.cw_code.specs.Run.{may_take, slot_taken, moved_out, Entering, arguments_of, has_room, may_keep, may_begin, waiting_at, begun, begins, call_of, on_arrays, enter, recur}
-use Rattle.cw_code.specs.Run.{parts_of, looped, on_range, start, given, going_on, returns_to, back, cuts, resumes}
+use Rattle.cw_code.specs.Run.{parts_of, looped, on_range, start, given, going_on, returns_to, back}
 use Rattle.cw_code.specs.Run.{passed_by}
 use Rattle.cw_code.specs.Fits.{params_of, array_params_of, readers_of, gives_value, is_site, names_target, names_callee, is_none_of, names_arrays, names_passed, names_loan, names_loans}
 use Rattle.cw_code.specs.Fits.{names_lent, names_inner, Row, Shape, empty_rows, gone_rows, has_slot, has_array, has_arrays, has_loan, has_loans, has_target}
 use Rattle.cw_code.specs.Fits.{has_arguments, with_target, with_gone, with_passed, with_lent, none_empty}
-use Rattle.cw_code.specs.Fits.{first_shape, leaves, Table, FlowsInto, Fits}
+use Rattle.cw_code.specs.Fits.{first_shape, Table, FlowsInto, Fits}
 use Rattle.cw_code.specs.Good.{slots_in, ints_round, arrays_round, all_of, Holds, CutsAgree, Seat, Good, IsGiven, Resumed}
 use Rattle.cw_code.specs.Good.{Resumes, AllResume, GoodState, GoodTransition}
 use Rattle.cw_code.proofs.Slots.{slots_in_both}

@@ -20,7 +20,6 @@ use Rattle.cw_code.specs.declared.code.Instr.TheVariants as instr
 use Rattle.cw_code.specs.Code.{Code, reducer_names}
 use Rattle.cw_code.specs.Run.{Slots, reader, Around, Caller, Block, State, Transition, On, Ends, Stops, Stuck}
 use Rattle.cw_code.specs.Run.{RunOutcome, ticked, synced, inside, on_top, on_two, on_slot, is_full, operated, set_array, apply_unary, adds, settled, put_in}
-use Rattle.cw_code.specs.Run.{begins}
 use Rattle.cw_code.specs.Run.{given, back, opened_at, opened, opened_region, cut_arrays, may_cut, cuts, resumes, closed}
 use Rattle.cw_code.specs.Run.{resumes_uncut, cut_ends, jumped, act, step, go_on, steps, first_state, first_transition, reducers_of, code_serial}
 use Rattle.cw_code.specs.Fits.{params_of, array_params_of, readers_of, gives_value, NeverStuck, names_arrays}
