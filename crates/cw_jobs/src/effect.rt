@@ -5,12 +5,13 @@ use cw_meter::Meter;
 use cw_model::total::Total;
 use cw_model::trap::Trap;
 use cw_slices::Slice;
+use std::collections::VecDeque;
 
 /// What a run has shown and counted.
 #[derive(Drop)]
 pub struct Shown {
     /// The values printed, in order.
-    pub lines: Vec<i64>,
+    pub lines: VecDeque<i64>,
     /// For each reducer what it comes to.
     pub totals: Vec<Total>,
     /// Work, span, burdened span and all rows, of sites and of tags, where its job counts.
@@ -39,7 +40,7 @@ pub enum Effect {
     Trapped {
         trap: Trap,
         line: u32,
-        lines: Vec<i64>,
+        lines: VecDeque<i64>,
         cost: u64,
         back: Vec<Slice>,
     },

@@ -115,7 +115,7 @@ module _ (laws : RootsAreSerial) (v : Verified) (ok : IsFit v) (f : Func) (args 
       cases jobs.Memory h w = absurd h
 
   -- a run that ended: within the limit, and with what the code gives
-  pub gave : (x : Option ℤ) (shown : Shown) (e : Values) → e.value ≡ int_given x → e.lines ≡ shown.lines → e.totals ≡ shown.totals
+  pub gave : (x : Option ℤ) (shown : Shown) (e : Values) → e.value ≡ int_given x → e.lines.items ≡ shown.lines.items → e.totals ≡ shown.totals
       → MeansIt v ok root.parts.value (effect.Ended x shown) (root_job f args n)
       → IsGiven e (code_serial (code_view v.code) args n)
   gave x shown e value lines totals m = cases m.effect m.tells (few (code_view v.code) f args n m.effect m.means) (serial m.effect m.means)
@@ -129,7 +129,7 @@ module _ (laws : RootsAreSerial) (v : Verified) (ok : IsFit v) (f : Func) (args 
           let has : HasShown (code_view v.code) shown t cost = h.2 in
           subst (λ o. IsGiven e o) s (
             ap int_given (sym h.1) ∙ sym value,
-            same_as t.lines e.lines.items (sym has.lines ∙ sym (ap (λ l. l.items) lines)),
+            same_as t.lines e.lines.items (sym has.lines ∙ sym lines),
             same_totals_as _ e.totals.items (totals_are (code_view v.code) shown.totals.items t.updates has.totals (let le = w.0 in omega (arith, le, most)) ∙ sym (ap (λ l. l.items) totals)),
           )
       cases (jobs.Ended y arrays t cost) h w (inl s) = cc
@@ -184,7 +184,7 @@ on_root prop v args n burden d root e r means f = ∥∥₁_elim v.ok prop (λ o
 
 module _ (laws : RootsAreSerial) (v : Verified) (args : List ℤ) (n : ℕ) (burden : Burden) (d : Detail) (root : Job) (r : IsRootOf v args n burden d root.parts.value) where
   pub gave_as_code : (x : Option ℤ) (shown : Shown) (e : Values) → IsMeaningOf root (effect.Ended x shown) → e.value ≡ int_given x
-      → e.lines ≡ shown.lines → e.totals ≡ shown.totals → Gives (code_view v.code) args n burden e
+      → e.lines.items ≡ shown.lines.items → e.totals ≡ shown.totals → Gives (code_view v.code) args n burden e
   gave_as_code x shown e means value lines totals =
       let serial = code_serial (code_view v.code) args n in
       let is = is_given e serial (on_root (IsGiven-prop e serial) v args n burden d root (effect.Ended x shown) r means

@@ -91,7 +91,7 @@ pub fn run_alone(
         Moved::Trapped(trap, line) => Err(Fault::Trap {
             code: trap,
             line,
-            output: run.machine.lines,
+            output: run.machine.lines.into_vec(),
         }),
         Moved::NoMemory => Err(Fault::Memory),
     }
@@ -120,7 +120,7 @@ pub(crate) fn end_of(
     let regions = by_tag(alloc, code.tags.as_slice(), all.regions.as_slice())?;
     Ok(Ended {
         value: int_given(value),
-        lines,
+        lines: lines.into_vec(),
         totals,
         measure: all.measure,
         sites,

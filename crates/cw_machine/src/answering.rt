@@ -46,7 +46,7 @@ pub fn answer(alloc: Global, code: &Verified, effect: Effect) -> Result<Ended, F
         } => Err(Fault::Trap {
             code: trap,
             line,
-            output: lines,
+            output: lines.into_vec(),
         }),
         Effect::OverLimit { back: _ } => Err(Fault::OverLimit),
         Effect::Memory { back: _ } => Err(Fault::Memory),
@@ -72,7 +72,7 @@ pub fn values_of(effect: Effect) -> Result<Values, Fault>
     match effect {
         Effect::Ended { value, shown } => Ok(Values {
             value: int_given(value),
-            lines: shown.lines,
+            lines: shown.lines.into_vec(),
             totals: shown.totals,
         }),
         Effect::Trapped {
@@ -84,7 +84,7 @@ pub fn values_of(effect: Effect) -> Result<Values, Fault>
         } => Err(Fault::Trap {
             code: trap,
             line,
-            output: lines,
+            output: lines.into_vec(),
         }),
         Effect::OverLimit { back: _ } => Err(Fault::OverLimit),
         Effect::Memory { back: _ } => Err(Fault::Memory),

@@ -44,14 +44,14 @@ pub fn values_alone(
     match machine.run(verified, n) {
         Moved::Gave(value) => Ok(Values {
             value: int_given(value),
-            lines: machine.lines,
+            lines: machine.lines.into_vec(),
             totals: machine.totals,
         }),
         Moved::On => Err(Fault::OverLimit),
         Moved::Trapped(trap, line) => Err(Fault::Trap {
             code: trap,
             line,
-            output: machine.lines,
+            output: machine.lines.into_vec(),
         }),
         Moved::NoMemory => Err(Fault::Memory),
     }

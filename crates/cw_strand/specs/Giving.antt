@@ -72,6 +72,11 @@ pub record IsJoinedAt (old more : List Total) (k : ℕ) (new : List Total) : Typ
       → slice_get new k ≡ Some (joined_total x y)
   pub others : (i : ℕ) → i ≢ k → slice_get new i ≡ slice_get old i
 
+-- a machine has these lines behind its own, and is else as before
+pub record HasPrinted (m : Machine) (lines : List ℤ) (m' : Machine) : Type 0 where
+  pub lines_are : m'.lines.items ≡ m.lines.items ++ lines
+  pub rest : m' ≡ record m { lines = m'.lines }
+
 -- a machine has taken in what another one has shown
 pub record HasTaken (m : Machine) (lines : List ℤ) (totals : List Total) (m' : Machine) : Type 0 where
   pub lines_are : m'.lines.items ≡ m.lines.items ++ lines

@@ -20,6 +20,7 @@ use cw_meter::{Detail, Meter};
 use cw_meter_laws::laws::calls_keep_what_meters_tell;
 use cw_slices::Slice;
 use cw_strand_laws::laws::{calls_on_a_strand_keep_its_job, rests_stay_in_their_functions};
+use std::collections::VecDeque;
 use std::mem;
 
 // What a run has shown and counted in so many instructions.
@@ -28,7 +29,7 @@ fn shown(run: &mut Run, cost: u64) -> Shown
 {
     let alloc = *run.machine.lines.allocator();
     Shown {
-        lines: mem::replace(&mut run.machine.lines, Vec::new(alloc)),
+        lines: mem::replace(&mut run.machine.lines, VecDeque::new(alloc)),
         totals: mem::replace(&mut run.machine.totals, Vec::new(alloc)),
         meter: mem::replace(&mut run.meter, Meter::apart(alloc, 0, Detail::Values)),
         cost,
@@ -62,7 +63,7 @@ impl Strand {
         let alloc = *self.lent.allocator();
         match self.mode {
             Mode::Trapped(trap, line) => {
-                let lines = mem::replace(&mut self.run.machine.lines, Vec::new(alloc));
+                let lines = mem::replace(&mut self.run.machine.lines, VecDeque::new(alloc));
                 let back = given_up(&mut self.run.machine, &mut self.parts.rest);
                 Effect::Trapped {
                     trap,

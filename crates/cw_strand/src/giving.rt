@@ -1,10 +1,10 @@
 //! The effect of the newest job out, which ran elsewhere, is given: what it printed stands behind what the strand has
 //! printed, its totals and its measures are joined to the strand's, and its arrays come home.
 
-ghost use Rattle.std.specs.Prelude.{◌≡◌, ◌<◌, false, length, MatchOption, OnOk};
+ghost use Rattle.std.specs.Prelude.{◌≡◌, ◌<◌, ◌++◌, false, length, MatchOption, OnOk};
 ghost use Rattle.cw_jobs.specs.declared.effect.Effect.TheVariants as effect;
 ghost use Rattle.cw_strand.specs.Holds.{HasStopped, IsAtSync, IsRunning, IsWaiting};
-ghost use Rattle.cw_strand.specs.Giving.{passes_limit, AreJoined, GivesBack, HasJoined, HasTaken, IsGiven, IsJoinedAt, IsMemory, IsOfRest, LeavesOthers};
+ghost use Rattle.cw_strand.specs.Giving.{passes_limit, AreJoined, GivesBack, HasJoined, HasPrinted, HasTaken, IsGiven, IsJoinedAt, IsMemory, IsOfRest, LeavesOthers};
 ghost use Rattle.cw_strand.specs.Giving as giving;
 ghost use Rattle.cw_strand.specs.Losing.{CountsGiven, MayLack, MayLose};
 ghost use Rattle.cw_strand.specs.declared.strand.Mode.TheVariants as mode;
@@ -26,6 +26,7 @@ use cw_runnable::verified::Verified;
 use cw_slices::Slice;
 use cw_strand_laws::laws::{calls_on_a_strand_keep_its_job, rests_stay_in_their_functions};
 use std::alloc::{AllocError, Global};
+use std::collections::VecDeque;
 
 // A total, with another one joined to it, where there is one.
 fn join_at(totals: &mut Vec<Total>, more: &[Total], k: usize)
@@ -46,11 +47,38 @@ fn join_totals(totals: &mut Vec<Total>, more: &[Total])
     }
 }
 
-// A machine takes in what another one has shown.
-fn take_shown(machine: &mut Machine, lines: &[i64], totals: &[Total]) -> Result<(), AllocError>
-    ensures { OnOk result (HasTaken machine.old lines.now totals.now machine.new) }
+// What was printed first goes in front of what was printed behind it.
+fn put_in_front(first: &mut VecDeque<i64>, more: &mut VecDeque<i64>) -> Result<(), AllocError>
+    ensures { OnOk result (more.new.items ≡ first.old.items ++ more.old.items) }
 {
-    machine.lines.extend_from_slice(lines)?;
+    while let Some(line) = first.pop_back() {
+        more.push_front(line)?;
+    }
+    Ok(())
+}
+
+// What a machine has printed has more behind it; the shorter of both goes to the longer.
+fn take_lines(machine: &mut Machine, more: VecDeque<i64>) -> Result<(), AllocError>
+    ensures { OnOk result (HasPrinted machine.old more.items machine.new) }
+{
+    let mut more = more;
+    if more.len() <= machine.lines.len() {
+        return machine.lines.append(&mut more);
+    }
+    put_in_front(&mut machine.lines, &mut more)?;
+    machine.lines = more;
+    Ok(())
+}
+
+// A machine takes in what another one has shown.
+fn take_shown(
+    machine: &mut Machine,
+    lines: VecDeque<i64>,
+    totals: &[Total],
+) -> Result<(), AllocError>
+    ensures { OnOk result (HasTaken machine.old lines.items totals.now machine.new) }
+{
+    take_lines(machine, lines)?;
     join_totals(&mut machine.totals, totals);
     Ok(())
 }
@@ -79,7 +107,7 @@ fn join_rest(
     let loans = loans_named(code, home.lent);
     let machine = &mut run.machine;
     machine.give_rest(frame, replaced, home.lender.slots, loans, home.target);
-    take_shown(&mut run.machine, lines.as_slice(), totals.as_slice())?;
+    take_shown(&mut run.machine, lines, totals.as_slice())?;
     run.meter.rest(count, meter, cost)?;
     Ok(())
 }
@@ -164,7 +192,14 @@ impl Strand {
     }
 
     // That of a rest that trapped, given so.
-    fn give_trap(&mut self, trap: Trap, line: u32, lines: Vec<i64>, cost: u64, back: Vec<Slice>)
+    fn give_trap(
+        &mut self,
+        trap: Trap,
+        line: u32,
+        lines: VecDeque<i64>,
+        cost: u64,
+        back: Vec<Slice>,
+    )
         requires running { IsRunning self.old }
         requires waiting { IsWaiting self.old }
         requires given { IsGiven self.old (effect.Trapped trap line lines cost back) }
@@ -184,7 +219,7 @@ impl Strand {
             self.mode = Mode::Over;
             return;
         }
-        match self.run.machine.lines.extend_from_slice(lines.as_slice()) {
+        match take_lines(&mut self.run.machine, lines) {
             Ok(()) => {
                 self.pop_home(&mut back, &mut none);
                 self.count += cost;

@@ -123,6 +123,7 @@ fn is_same_end(
         meter,
         cost,
     } = shown;
+    let lines = lines.into_vec();
     let all = meter.finish(alloc, cost, code.sites.len() + 1, code.tags.len())?;
     Ok(
         value == Some(ended.value)
@@ -179,7 +180,7 @@ pub fn is_same(
             lines,
             cost,
             back: _,
-        } => Ok(cost == at && is_same_trap(alone, trap, line, lines.as_slice())),
+        } => Ok(cost == at && is_same_trap(alone, trap, line, lines.into_vec().as_slice())),
         Effect::OverLimit { back: _ } => Ok(is_over(alone)),
         Effect::Memory { back: _ } => Err(Fault::Memory),
         Effect::GivenUp { back: _ } => Ok(false),

@@ -71,7 +71,7 @@ memory_told (effect.GivenUp back) l = tt
 answer_told : (e : Effect) (r : Result alone.Ended Fault) → IsAnswerOf e r → answers_memory r ≡ true → IsAnsweredMemory e
 answer_told (effect.Ended value shown) r is l = tt
 answer_told (effect.Joined frame replaced shown) r is l = absurd is
-answer_told (effect.Trapped trap line lines cost back) r is l = absurd (true≢false (sym (sym (ap answers_memory is) ∙ l)))
+answer_told (effect.Trapped trap line lines cost back) r is l = absurd (true≢false (sym (sym (ap answers_memory is.1) ∙ l)))
 answer_told (effect.OverLimit back) r is l = absurd (true≢false (sym (sym (ap answers_memory is) ∙ l)))
 answer_told (effect.Memory back) r is l = tt
 answer_told (effect.GivenUp back) r is l = tt

@@ -14,7 +14,7 @@ returns c =
     let tags : c.len.result ≡ length code.tags.items = c.len.ensures ∙ code.tags.ok.0 in
     record {
       value = same ∙ c.int_given.ensures;
-      lines = refl;
+      lines = c.into_vec.ensures.items;
       totals = refl;
       all = all;
       reads = subst (λ k. Reads m c.args.shown.cost (k + 1) (length code.tags.items) all) sites (subst (λ k. Reads m c.args.shown.cost (c.len-sites.result + 1) k all) tags c.in_ok-all.ensures.reads);

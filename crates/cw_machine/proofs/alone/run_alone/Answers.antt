@@ -1,7 +1,8 @@
-use Rattle.std.proofs.Common.{arith, ◌≡◌, ℕ, ℤ, List, ◌≤◌, [], ◌∙◌, length, true, refl, sym, subst}
+use Rattle.std.proofs.Common.{arith, ◌≡◌, ℕ, ℤ, List, ◌≤◌, [], ◌∙◌, length, Some, true, refl, sym, ap, subst}
 use Rattle.std.specs.Coded.{le_prop}
 use Rattle.std.proofs.Math.Bool.{Bool-set}
 use Rattle.std.proofs.Math.Logic.{∥∥₁_elim, ∥∥₁_map}
+use Rattle.cw_model.specs.Answers.{TrappedAt}
 use Rattle.cw_meter.specs.declared.detail.Detail.{Detail}
 use Rattle.cw_meter.specs.declared.detail.Detail.TheVariants.{Measures}
 use Rattle.cw_code.specs.declared.code.Reducer.{Reducer}
@@ -125,5 +126,5 @@ returns-in-Trapped c =
     let e = was_trapped trap line lines serial (∥∥₁_elim v.ok (IsTrapped-prop trap line lines serial) (λ ok.
     let g = gauge_of v ok (Measures burden) light in
     trapped v f args n burden count r c.func-f.ensures asked ok g trap line (subst (λ to. Reaches v ok g count to r n (first_state f args [] [])) c.in-Trapped.is (c.go-stop.ensures.reaches ok g (first_state f args [] []) (first_run v ok g f args c.in_ok-run.run' c.func-f.ensures many made))))) in
-    subst (λ (w : Verified). IsFailure (code_view w.code) args n burden (fault.Trap trap line r.machine.lines)) c.deref-verified.ensures
-    (requested code f args n burden c.func-f.ensures asked, e)
+    subst (λ (w : Verified). IsFailure (code_view w.code) args n burden (fault.Trap trap line c.into_vec.result)) c.deref-verified.ensures
+    (requested code f args n burden c.func-f.ensures asked, e ∙ ap (λ l. Some (TrappedAt trap line l)) (sym c.into_vec.ensures.items))

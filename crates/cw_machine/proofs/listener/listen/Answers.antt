@@ -1,6 +1,7 @@
-use Rattle.std.proofs.Common.{◌≡◌, [], ◌∙◌, true, sym}
+use Rattle.std.proofs.Common.{◌≡◌, [], ◌∙◌, Some, true, sym, ap}
 use Rattle.std.proofs.Math.Bool.{Bool-set}
 use Rattle.std.proofs.Math.Logic.{∥∥₁_elim, ∥∥₁_map, ∥∥₁_prop}
+use Rattle.cw_model.specs.Answers.{TrappedAt}
 use Rattle.cw_code.specs.Code.{code_view}
 use Rattle.cw_code.specs.Run.{first_state, code_serial}
 use Rattle.cw_machine.specs.declared.machine.Moved.TheVariants as moved
@@ -76,4 +77,4 @@ returns-in-Trapped g c =
     let k = g.W.Listener.keeps b.asked in
     let main = main_of v ok in
     stopped v main.func args n burden m main.found (asked_of v main args n burden asked) ok trap line (by_machine _ k v (from_main v ok) (moved.Trapped trap line) m r.listener c.go-stop.result.1 n (first_state main.func args [] []) (came _ k v ok main args n c.go-stop.result.1 _ m c.args.listener r.listener _ _ c.in_ok-machine.ensures b.kept (c.go-stop.ensures b.asked) c.in-Trapped.is))))) in
-    (asked, e)
+    (asked, e ∙ ap (λ l. Some (TrappedAt trap line l)) (sym c.into_vec.ensures.items))

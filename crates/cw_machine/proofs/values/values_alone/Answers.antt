@@ -1,7 +1,8 @@
-use Rattle.std.proofs.Common.{rules, ◌≡◌, ℕ, ℤ, List, [], ◌∙◌, true, refl, sym, subst, w64, of_z, to_z}
+use Rattle.std.proofs.Common.{rules, ◌≡◌, ℕ, ℤ, List, [], ◌∙◌, Some, true, refl, sym, ap, subst, w64, of_z, to_z}
 use Rattle.std.proofs.Math.Bool.{Bool-set}
 use Rattle.std.proofs.Math.Logic.{∥∥₁_elim, ∥∥₁_map}
 use Rattle.std.proofs.lemmas.Int.{to_z-of_z}
+use Rattle.cw_model.specs.Answers.{TrappedAt}
 use Rattle.cw_code.specs.Code.{code_view}
 use Rattle.cw_code.specs.Run.{first_state, code_serial}
 use Rattle.cw_text.specs.declared.fault.Fault.TheVariants as fault
@@ -42,10 +43,10 @@ returns-in-Gave c =
     let asked = asked_as v args c.main_takes.result n burden c.main_takes.ensures (sym c.is_asked.ensures ∙ c.if-not-is_asked.false) in
     let serial = code_serial code args n in
     let same : to_z w64 (of_z w64 c.int_given.result) ≡ c.int_given.result = search (rules, to_z-of_z) in
-    let e : Values = record { value = to_z w64 (of_z w64 c.int_given.result); lines = m.lines; totals = m.totals } in
+    let e : Values = record { value = to_z w64 (of_z w64 c.int_given.result); lines = c.into_vec.result; totals = m.totals } in
     let is = is_given e serial (∥∥₁_elim v.ok (IsGiven-prop e serial) (λ ok.
     let main = main_of v ok in
-    gave v main.func args n burden m main.found (asked_of v main args n burden asked) ok c.in-Gave.value e (same ∙ c.int_given.ensures) refl refl (came v ok main args n c.in_ok-machine.machine m _ _ c.in_ok-machine.ensures c.run.ensures c.in-Gave.is))) in
+    gave v main.func args n burden m main.found (asked_of v main args n burden asked) ok c.in-Gave.value e (same ∙ c.int_given.ensures) c.into_vec.ensures.items refl (came v ok main args n c.in_ok-machine.machine m _ _ c.in_ok-machine.ensures c.run.ensures c.in-Gave.is))) in
     subst (λ (w : Verified). Gives (code_view w.code) args n burden e) c.deref-verified.ensures
     (record { asked = asked; tree = is.0; answer = is.1 })
 
@@ -80,4 +81,5 @@ returns-in-Trapped c =
     let e = was_trapped trap line lines serial (∥∥₁_elim v.ok (IsTrapped-prop trap line lines serial) (λ ok.
     let main = main_of v ok in
     stopped v main.func args n burden m main.found (asked_of v main args n burden asked) ok trap line (came v ok main args n c.in_ok-machine.machine m _ _ c.in_ok-machine.ensures c.run.ensures c.in-Trapped.is))) in
-    subst (λ (w : Verified). IsFailure (code_view w.code) args n burden (fault.Trap trap line m.lines)) c.deref-verified.ensures (asked, e)
+    subst (λ (w : Verified). IsFailure (code_view w.code) args n burden (fault.Trap trap line c.into_vec-in-Trapped.result)) c.deref-verified.ensures
+    (asked, e ∙ ap (λ l. Some (TrappedAt trap line l)) (sym c.into_vec-in-Trapped.ensures.items))

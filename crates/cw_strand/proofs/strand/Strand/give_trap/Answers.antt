@@ -1,5 +1,6 @@
-use Rattle.std.proofs.Common.{◌+◌, [], ◌++◌, refl, sym, ap, ◌∙◌, subst, inl, inr}
+use Rattle.std.proofs.Common.{◌+◌, [], refl, sym, ap, ◌∙◌, subst, inl, inr}
 use Rattle.cw_jobs.specs.declared.effect.Effect.TheVariants as effect
+use Rattle.cw_machine.specs.declared.machine.Machine.{Machine}
 use Rattle.cw_strand.specs.declared.strand.Mode.TheVariants as mode
 use Rattle.cw_strand.specs.declared.strand.Strand.{Strand}
 use Rattle.cw_strand.specs.Holds.{stops}
@@ -36,21 +37,23 @@ pop_home-requires-in-Ok c =
     let self = c.args.self.now in
     let given = c.requires.given in
     let newest = newest_of self given.out given.others given.are in
-    let mid : Strand = record self { run = record self.run { machine = record self.run.machine { lines = c.extend_from_slice.new.self } } } in
+    let mid : Strand = record self { run = record self.run { machine = c.take_lines.new.machine } } in
     subst (MayPopHome mid c.args.back.items) (sym c.new-none.ensures.items)
     (may_trapped self given.out given.others newest c.requires.running c.requires.waiting c.machines_that_stop_remain.ensures.remain (effect.Trapped c.args.trap c.args.line c.args.lines c.args.cost c.args.back) given.means
-    c.args.trap c.args.line c.args.lines.items c.args.cost c.args.back.items (refl, refl, refl, refl, refl) mid refl (c.in-Ok.ensures.items ∙ ap (λ l. self.run.machine.lines.items ++ l) c.as_slice.ensures.value))
+    c.args.trap c.args.line c.args.lines.items c.args.cost c.args.back.items (refl, refl, refl, refl, refl) mid
+    (ap (λ (m : Machine). record self { run = record self.run { machine = m } }) c.in-Ok.ensures.rest) c.in-Ok.ensures.lines_are)
 
 pub returns-in-Ok-clause-running : goal.returns-in-Ok-clause-running
 returns-in-Ok-clause-running c =
     let self = c.args.self.now in
     let given = c.requires.given in
     let newest = newest_of self given.out given.others given.are in
-    let mid : Strand = record self { run = record self.run { machine = record self.run.machine { lines = c.extend_from_slice.new.self } } } in
+    let mid : Strand = record self { run = record self.run { machine = c.take_lines.new.machine } } in
     let popped = c.pop_home-in-Ok.new.self in
     let home = subst (λ r. HasPoppedHome mid c.args.back.items r popped) c.new-none.ensures.items c.pop_home-in-Ok.ensures in
     trap_runs self given.out given.others newest c.requires.running c.requires.waiting c.machines_that_stop_remain.ensures.remain (effect.Trapped c.args.trap c.args.line c.args.lines c.args.cost c.args.back) given.means
-    c.args.trap c.args.line c.args.lines.items c.args.cost c.args.back.items (refl, refl, refl, refl, refl) mid refl (c.in-Ok.ensures.items ∙ ap (λ l. self.run.machine.lines.items ++ l) c.as_slice.ensures.value)
+    c.args.trap c.args.line c.args.lines.items c.args.cost c.args.back.items (refl, refl, refl, refl, refl) mid
+    (ap (λ (m : Machine). record self { run = record self.run { machine = m } }) c.in-Ok.ensures.rest) c.in-Ok.ensures.lines_are
     c.calls_on_a_strand_keep_its_job.ensures (record popped { count = popped.count + c.args.cost; mode = mode.Trapped c.args.trap c.args.line }) popped home (sym c.passes.ensures ∙ c.if-passes.false)
     (ap (λ n. record popped { count = n + c.args.cost; mode = mode.Trapped c.args.trap c.args.line }) home.count)
 
