@@ -8,6 +8,7 @@ ghost use Rattle.cw_compile.specs.Compiled.{IsCompiled, IsMade};
 ghost use Rattle.cw_cli.specs.Analyses.{IsModeInRange};
 ghost use Rattle.cw_cli.specs.Analyses.{IsAnalysed, IsAnalysedBy, IsRun};
 ghost use Rattle.cw_cli.specs.Told.{HasTables};
+ghost use Rattle.cw_schedule.specs.Schedules.{SchedulesAsCode};
 
 use crate::reporting::{are_words, write_gains, write_tables, write_values};
 use cw_compile::{Compiled, compile_with_heads};
@@ -20,7 +21,7 @@ use cw_pool::gate::Gate;
 use cw_pool::run::MOST_BODIES;
 use cw_report::{Sink, ok, schedule};
 use cw_runnable::verified::Verified;
-use cw_schedule::schedules::schedule_alone;
+use cw_schedule::schedules::{Schedule, is_asked, schedule_alone, schedule_of_run};
 use cw_text::Fault;
 use cw_words::{Mode, Options};
 use std::alloc::Global;
@@ -63,9 +64,10 @@ pub fn analyse_alone<W: Sink>(
 /// and one for each body of the crew as workers that steal from each other.
 ///
 /// The errors and what is written are those of `analyse_alone`, which it calls where the crew is empty: no byte depends
-/// on the crew, on what its bodies and the gate do, or on the order in which workers come to steal. A check, a schedule
-/// and a run of code that spawns nothing are made by the caller's thread alone. In mode `Gain` the crew does the first run,
-/// and behind it as many threads as there are workers the further ones, side by side.
+/// on the crew, on what its bodies and the gate do, or on the order in which workers come to steal. A check and a run of
+/// code that spawns nothing are made by the caller's thread alone. In mode `Gain` the crew does the first run, and behind it
+/// as many threads as there are workers the further ones, side by side; in mode `Greedy` the crew does the run, and the
+/// caller's thread the schedule.
 ///
 /// Before all that, a crew of more than 63 bodies is `Arguments` in each mode, with nothing written.
 ///
@@ -101,7 +103,11 @@ pub fn analyse<
         Mode::Run => run_plain_with(rt, alloc, made.code, args, options, crew, gate, out),
         Mode::Scale | Mode::Sites => run_with(rt, alloc, made.code, args, options, crew, gate, out),
         Mode::Gain(top) => run_gain_with(rt, alloc, made, args, top, options, crew, gate, out),
-        Mode::Greedy(processors) => run_greedy(alloc, made.code, args, processors, options, out),
+        Mode::Greedy(processors) => {
+            run_greedy_with(
+                rt, alloc, made.code, args, processors, options, crew, gate, out,
+            )
+        }
     }
 }
 
@@ -304,6 +310,67 @@ fn run_greedy<W: Sink>(
     }
     let code = Arc::new(alloc, code)?;
     let told = schedule_alone(alloc, code, args, options.limit, processors);
+    schedule(alloc, &told, out)?;
+    told?;
+    Ok(())
+}
+
+// What is told of the greedy schedule of a run by a crew, on so many processors.
+fn schedule_with<
+    G: Gate + Drop + Send + Sync + 'static,
+    B: Body<G> + Send + Drop + 'static,
+    R: Threads + Wait,
+>(
+    rt: &R,
+    alloc: Global,
+    code: Arc<Verified>,
+    args: &[i64],
+    limit: u64,
+    processors: u64,
+    crew: Vec<B>,
+    gate: Arc<G>,
+) -> Result<Schedule, Fault>
+    requires { length crew.items ≤ MOST_BODIES }
+    ensures { SchedulesAsCode (code_view code.value.code) args.now limit processors result }
+{
+    if !is_asked(&code, args, limit, processors) {
+        return Err(Fault::Arguments);
+    }
+    let share = Arc::try_clone(&code)?;
+    let ran = cw_pool::run::strands(rt, alloc, share, args, limit, crew, gate);
+    let told = schedule_of_run(alloc, &code, args, limit, processors, ran)?;
+    Ok(told)
+}
+
+// The same with a crew that runs the code.
+fn run_greedy_with<
+    W: Sink,
+    G: Gate + Drop + Send + Sync + 'static,
+    B: Body<G> + Send + Drop + 'static,
+    R: Threads + Wait,
+>(
+    rt: &R,
+    alloc: Global,
+    code: Verified,
+    args: &[i64],
+    processors: u64,
+    options: Options,
+    crew: Vec<B>,
+    gate: Arc<G>,
+    out: &mut W,
+) -> Result<(), Fault>
+    requires out { (W.seen out.old).failures < 2 ^ 64 - 1 }
+    requires few { length crew.items ≤ MOST_BODIES }
+    ensures { (bytes : List ℕ) → options.mode ≡ mode.Greedy processors
+        → IsCompiled bytes (code_view code.code)
+        → IsRun W.seen out.old out.new bytes args.now options result }
+{
+    are_words(args);
+    if options.burden.charge > MOST_BURDEN {
+        return Err(Fault::Arguments);
+    }
+    let code = Arc::new(alloc, code)?;
+    let told = schedule_with(rt, alloc, code, args, options.limit, processors, crew, gate);
     schedule(alloc, &told, out)?;
     told?;
     Ok(())

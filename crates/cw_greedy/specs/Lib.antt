@@ -5,6 +5,7 @@ pub mod Jumping
 pub mod Examples
 pub mod Recorded
 pub mod RecordLaws
+pub mod Entries
 pub mod Records
 pub mod Edges
 pub mod Blocks

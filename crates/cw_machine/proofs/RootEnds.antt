@@ -17,11 +17,13 @@ use Rattle.cw_code.specs.Run.{On, first_state, first_transition, code_serial}
 use Rattle.cw_strand_laws.specs.Jobs as jobs
 use Rattle.cw_strand_laws.specs.Jobs.{Came, Arrives, Returns, Falls, Beyond, Lost, IsOf, JobMeaning, Same, Passed, Short, root_job, course}
 use Rattle.cw_strand_laws.specs.RestLaws.{RootsAreSerial}
-use Rattle.cw_meter.specs.Whole.{AreMeasures}
+use Rattle.cw_meter.specs.Whole.{AreMeasures, ReadsStrands}
+use Rattle.cw_greedy.specs.Recorded.{Recorded}
+use Rattle.cw_model.specs.Burdens.{no_burden}
 use Rattle.cw_meter.specs.Origins.{Main as MainOrigin}
 use Rattle.cw_meter.specs.Meters.{Meters}
 use Rattle.cw_meter.specs.declared.detail.Detail.{Detail}
-use Rattle.cw_meter.specs.declared.detail.Detail.TheVariants.{Measures as Measured}
+use Rattle.cw_meter.specs.declared.detail.Detail.TheVariants.{Measures as Measured, Strands as Recording}
 use Rattle.cw_meter_laws.specs.Opens.{whole}
 use Rattle.cw_runnable.specs.declared.verified.Verified.{Verified}
 use Rattle.cw_jobs.specs.declared.effect.Effect.{Effect}
@@ -34,8 +36,11 @@ use Rattle.cw_jobs.specs.Means.{IsMeaningOf, MeansIt, Tells, Counts, HasShown}
 use Rattle.cw_machine.specs.declared.alone.Ended as alone
 use Rattle.cw_machine.specs.Arrays.{IsFit}
 use Rattle.cw_machine.specs.declared.values.Values.{Values}
-use Rattle.cw_machine.specs.Runs.{is_asked, IsEndOf, Gives, Runs}
+use Rattle.cw_machine.specs.Recorded.{Records}
+use Rattle.cw_machine.specs.Runs.{is_asked, is_request, IsEndOf, Gives, Runs}
 use Rattle.cw_machine.proofs.Updates.{ReturnsWithin, travelled, totals_are}
+use Rattle.cw_machine.proofs.EndsAs.{EndsAs, EndsAs-prop, did_end}
+use Rattle.cw_machine.proofs.Strands.{KeepsStrands, strands_prop, kept_is, kept_as}
 use Rattle.cw_machine.proofs.Metering.{gauge_of}
 use Rattle.cw_machine.proofs.Given.{IsGiven, IsGiven-prop, is_given}
 use Rattle.cw_machine.proofs.FromMain.{Main, main_of, asked_of, told, IsEnded, IsEnded-prop, IsTrapped, IsTrapped-prop, was_trapped, is_over, was_over, same_as}
@@ -175,6 +180,26 @@ module _ (laws : RootsAreSerial) (v : Verified) (ok : IsFit v) (f : Func) (args 
       cases jobs.OverLimit h counts w s = absurd h
       cases jobs.Memory h counts w s = absurd h
 
+  -- where its strands were kept, with what its tree comes to
+  pub recorded : d ≡ Recording → (x : Option ℤ) (shown : Shown) (kept : Recorded) → ReadsStrands shown.meter shown.cost kept
+      → MeansIt v ok root.parts.value (effect.Ended x shown) (root_job f args n) → EndsAs (KeepsStrands kept) (code_serial (code_view v.code) args n)
+  recorded records x shown kept reads m = cases m.effect m.tells m.counts (serial m.effect m.means)
+    where
+      cases : (w : jobs.Effect) → Tells (code_view v.code) (root_job f args n) root.parts.value.rest (effect.Ended x shown) w
+          → Counts (code_view v.code) root.parts.value.detail root.parts.value.site (effect.Ended x shown) w
+          → (w ≡ jobs.Memory) ⊎ (jobs.answered (code_view v.code) w ≡ code_serial (code_view v.code) args n)
+          → EndsAs (KeepsStrands kept) (code_serial (code_view v.code) args n)
+      cases (jobs.Ended y arrays t cost) h counts (inr s) =
+          let has : HasShown (code_view v.code) shown t cost = h.2 in
+          let g = gauge_of v ok Recording tt in
+          let meters = subst (λ k. Meters g.detail g.tags MainOrigin k [] (whole t) shown.meter) (sym has.cost) (counts g (sym (r.detail ∙ records))) in
+          subst (λ o. EndsAs (KeepsStrands kept) o) s (kept_as kept (normal (Marked (Invocation 0) (tree_of t.events))) (reads g.tags t.events meters))
+      cases (jobs.Ended y arrays t cost) h counts (inl s) = cc
+      cases (jobs.Joined frame t c) h counts s = absurd h
+      cases (jobs.TrapIn t l ls c) h counts s = absurd h
+      cases jobs.OverLimit h counts s = absurd h
+      cases jobs.Memory h counts s = absurd h
+
 -- whatever is a proposition and holds of the job's meaning holds
 on_root : {P : Type 0} → IsProp P → (v : Verified) (args : List ℤ) (n : ℕ) (burden : Burden) (d : Detail) (root : Job) (e : Effect) → IsRootOf v args n burden d root.parts.value → IsMeaningOf root e
     → ((ok : IsFit v) (main : Main v) → is_asked main.func.params (length args) n burden ≡ true → MeansIt v ok root.parts.value e (root_job main.func args n) → P) → P
@@ -190,6 +215,23 @@ module _ (laws : RootsAreSerial) (v : Verified) (args : List ℤ) (n : ℕ) (bur
       let is = is_given e serial (on_root (IsGiven-prop e serial) v args n burden d root (effect.Ended x shown) r means
       (λ ok main asked m. gave laws v ok main.func args n burden d root main.found asked r x shown e value lines totals m)) in
       record { asked = r.asked; tree = is.0; answer = is.1 }
+
+  pub recorded_as_code : d ≡ Recording → burden ≡ no_burden → (x : Option ℤ) (shown : Shown) (kept : Recorded) → IsMeaningOf root (effect.Ended x shown)
+      → ReadsStrands shown.meter shown.cost kept → Records (code_view v.code) args n kept
+  recorded_as_code records light x shown kept means reads =
+      let serial = code_serial (code_view v.code) args n in
+      let P = KeepsStrands kept in
+      let e = did_end P serial (on_root (EndsAs-prop P (strands_prop kept) serial) v args n burden d root (effect.Ended x shown) r means
+      (λ ok main asked m. recorded laws v ok main.func args n burden d root main.found asked r records x shown kept reads m)) in
+      record {
+        asked = subst (λ b. is_request (code_view v.code) args n b ≡ true) light r.asked;
+        value = e.value;
+        lines = e.lines;
+        totals = e.totals;
+        tree = e.tree;
+        answer = e.answer;
+        is_kept = kept_is kept e.tree e.has;
+      }
 
   pub trapped_as_code : (trap : Trap) (line : ℕ) (lines : _) (cost : ℕ) (back : _) → IsMeaningOf root (effect.Trapped trap line lines cost back)
       → code_serial (code_view v.code) args n ≡ Some (TrappedAt trap line lines.items)

@@ -8,6 +8,7 @@ use Rattle.cw_model.specs.Outcome.{Trace, Done, Trapped}
 use Rattle.cw_model.specs.Answers.{Ended}
 use Rattle.cw_measure.specs.OpenParts.{Open, closed}
 use Rattle.cw_meter.specs.Meters.{ticked, synced, begun}
+use Rattle.cw_recorded.specs.Origins.{Main}
 use Rattle.cw_recorded.specs.Recording.{IsOpen}
 use Rattle.cw_code.specs.Code.{Code, code_view}
 use Rattle.cw_code.specs.Run.{State, Transition, step, steps, code_serial}
@@ -30,7 +31,7 @@ Keeping W = ℕ → List Open → List Event → W → Type 0
 abbrev pub Goes : {W : Type 0} → Keeping W → (old new : W) → (count : ℕ) → (os os' : List Open) → (es es' : List Event)
     → Type 0
 Goes keeps old new count os os' es es' =
-    count < MOST_LIMIT → IsOpen os → keeps count os es old → keeps (count + 1) os' es' new
+    count < MOST_LIMIT → IsOpen Main os → keeps count os es old → keeps (count + 1) os' es' new
 
 -- a part begins, a block joins and ends, a call does, a block joins, or an instruction does none of these
 abbrev pub Begins : {W : Type 0} → Keeping W → (old new : W) → (count : ℕ) → (spawned : Bool) → Option Mark → Type 0
@@ -57,7 +58,8 @@ NeedsNoCall {W = W} keeps =
 -- instruction leads
 abbrev pub IsToldOf : {W : Type 0} → Keeping W → (old new : W) → (count : ℕ) → Op → Type 0
 IsToldOf keeps old new count o =
-    (code : Code) (os : List Open) (es : List Event) → count < MOST_LIMIT → IsOpen os → keeps count os es old
+    (code : Code) (os : List Open) (es : List Event)
+    → count < MOST_LIMIT → IsOpen Main os → keeps count os es old
     → Tells (λ os es. keeps (count + 1) os es new) code o os es
 
 -- a listener keeps the run up to where a move leads; nothing is said of it where memory was refused

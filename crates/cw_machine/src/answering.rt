@@ -6,13 +6,17 @@ ghost use Rattle.cw_jobs.specs.Jobs.{IsRoot, IsRootOf};
 ghost use Rattle.cw_jobs.specs.Means.{IsMeaningOf};
 ghost use Rattle.cw_jobs.specs.declared.job.Job as jobs;
 ghost use Rattle.cw_meter.specs.declared.detail.Detail as details;
+ghost use Rattle.cw_meter.specs.declared.detail.Detail.TheVariants as kept;
 ghost use Rattle.cw_model.specs.declared.burden.Burden.{Burden};
+ghost use Rattle.cw_model.specs.Burdens.{no_burden};
 ghost use Rattle.cw_runnable.specs.declared.verified.Verified as verified;
 ghost use Rattle.cw_machine.specs.Answering.{IsOfRun, IsOfWhole, IsAnswerOf};
+ghost use Rattle.cw_machine.specs.Recorded.{RecordsAsCode};
 ghost use Rattle.cw_machine.specs.Runs.{GivesAsCode, RunsAsCode};
 
 use crate::alone::{Ended, end_of, int_given};
 use crate::values::Values;
+use cw_greedy::strands::Strands;
 use cw_jobs::effect::Effect;
 use cw_runnable::verified::Verified;
 use cw_strand_laws::laws::the_root_answers_what_the_code_gives;
@@ -75,6 +79,42 @@ pub fn values_of(effect: Effect) -> Result<Values, Fault>
             lines: shown.lines.into_vec(),
             totals: shown.totals,
         }),
+        Effect::Trapped {
+            trap,
+            line,
+            lines,
+            cost: _,
+            back: _,
+        } => Err(Fault::Trap {
+            code: trap,
+            line,
+            output: lines.into_vec(),
+        }),
+        Effect::OverLimit { back: _ } => Err(Fault::OverLimit),
+        Effect::Memory { back: _ } => Err(Fault::Memory),
+        Effect::GivenUp { back: _ } => Err(Fault::Memory),
+        Effect::Joined {
+            frame: _,
+            replaced: _,
+            shown: _,
+        } => unreachable!(),
+    }
+}
+
+/// The strands of a run whose job, that of the whole run of which the strands were kept, came to this effect: as
+/// `strands_alone` answers. The errors are those of `answer`.
+pub fn strands_of(effect: Effect) -> Result<Strands, Fault>
+    requires { ∥ IsOfRun effect ∥₁ }
+    ensures { (v : verified.Verified) (args : List ℤ) (n : ℕ) (root : jobs.Job)
+        → IsRootOf v args n no_burden kept.Strands root.parts.value
+        → IsMeaningOf root effect → RecordsAsCode (code_view v.code) args n result }
+{
+    the_root_answers_what_the_code_gives();
+    match effect {
+        Effect::Ended { value: _, shown } => {
+            let strands = shown.meter.strands(shown.cost)?;
+            Ok(strands)
+        }
         Effect::Trapped {
             trap,
             line,

@@ -4,24 +4,34 @@ use Rattle.cw_model.specs.declared.burden.Burden.{Burden}
 use Rattle.cw_model.specs.declared.burden.Edges.TheVariants.{Spawn}
 use Rattle.cw_model.specs.declared.limits.TheConstants.{MOST_BURDEN}
 use Rattle.cw_meter.specs.declared.detail.Detail.{Detail}
-use Rattle.cw_meter.specs.declared.detail.Detail.TheVariants.{Values, Measures}
+use Rattle.cw_meter.specs.declared.detail.Detail.TheVariants.{Values, Strands, Measures}
 
--- nothing is counted
+-- the values alone are kept
 abbrev pub keeps_values : Detail → Bool
 keeps_values Values = true
+keeps_values Strands = false
 keeps_values (Measures burden) = false
+
+-- all is counted
+abbrev pub is_counted : Detail → Bool
+is_counted Values = false
+is_counted Strands = false
+is_counted (Measures burden) = true
 
 -- what is charged for a spawn is in its range, where anything is counted
 abbrev pub IsLight : Detail → Type 0
 IsLight Values = Unit {0}
+IsLight Strands = Unit {0}
 IsLight (Measures burden) = burden.charge ≤ MOST_BURDEN
 
 -- what is charged for a spawn; nothing where nothing is counted
 abbrev pub burden_of : Detail → Burden
 burden_of Values = record { charge = 0; edges = Spawn }
+burden_of Strands = record { charge = 0; edges = Spawn }
 burden_of (Measures burden) = burden
 
 -- a site is known where anything is counted
 abbrev pub IsSite : Detail → (site here : ℕ) → Type 0
 IsSite Values site here = Unit {0}
+IsSite Strands site here = Unit {0}
 IsSite (Measures burden) site here = site ≡ here

@@ -3,8 +3,9 @@ use Rattle.std.specs.Prelude.{◌≡◌, ℕ, ◌+◌, ◌*◌, ◌≤◌, ◌<�
 use Rattle.std.specs.Prelude.{Option, Some}
 use Rattle.cw_model.specs.declared.burden.Burden.{Burden}
 use Rattle.cw_model.specs.declared.limits.TheConstants.{MOST_LIMIT}
-use Rattle.cw_model.specs.Trees.{Mark, Execution, Event, Work, Join}
+use Rattle.cw_model.specs.Trees.{Mark, Execution, Event}
 use Rattle.cw_measure.specs.OpenParts.{Open, closed, has_spawned, no_joins, Since, work_in}
+use Rattle.cw_recorded.specs.Recording.{IsOpen, RecordsIn}
 use Rattle.cw_measure.specs.BlockWeights.{weight_in, burdened_work_in}
 use Rattle.cw_measure.specs.StrandWeights.{TellsLate, TellsWeight}
 use Rattle.cw_sites.specs.OpenPaths.{here_in, path_in}
@@ -13,11 +14,12 @@ use Rattle.cw_sites.specs.Tables as sites
 use Rattle.cw_regions.specs.Regions.{Readings, Tags, TellsRegions}
 use Rattle.cw_regions.specs.declared.table.RegionTable.{RegionTable}
 use Rattle.cw_meter.specs.declared.detail.Detail.{Detail}
-use Rattle.cw_meter.specs.declared.detail.Detail.TheVariants.{Values, Measures}
+use Rattle.cw_meter.specs.declared.detail.Detail.TheVariants.{Values, Strands, Measures}
 use Rattle.cw_meter.specs.declared.meter.Meter.{Meter}
 use Rattle.cw_meter.specs.declared.tables.Tables.{Tables}
 use Rattle.cw_meter.specs.Alike.{AreAlike, AreOpenAlike}
 use Rattle.cw_meter.specs.Details.{IsLight, IsSite}
+pub use Rattle.cw_recorded.specs.Runs.{ticked, synced, begun}
 use Rattle.cw_meter.specs.Origins.{Origin, Main, Rest, base_of, main_open, given_open}
 use Rattle.cw_meter.specs.Parts.{AreParts}
 
@@ -77,7 +79,7 @@ pub record Measured (burden : Burden) (tags : Tags) (from : Origin) (count : ℕ
   pub tables : TablesTell burden tags from count told_open told m.tables
   pub parts : AreParts from tags told_open (reverse m.parts.items)
 
--- a meter of a run of which the values alone are kept knows how many parts are open, of which so many were as it began
+-- a meter of a run of which not all is counted knows how many parts are open, of which so many were as it began
 pub record KnowsOpen (given count : ℕ) (os : List Open) (m : Meter) : Type 0 where
   pub many : m.open_parts ≡ length os
   pub few : length os ≤ count + given
@@ -85,29 +87,21 @@ pub record KnowsOpen (given count : ℕ) (os : List Open) (m : Meter) : Type 0 w
 -- what a meter tells of a run so far, where so much is kept
 abbrev pub TellsOf : Detail → Tags → Origin → (count : ℕ) → List Open → List Event → Meter → Type 0
 TellsOf Values tags from count os es m = KnowsOpen (given_open from) count os m
+TellsOf Strands tags from count os es m =
+    KnowsOpen (given_open from) count os m × RecordsIn from count os es m.recorder
 TellsOf (Measures burden) tags from count os es m = Measured burden tags from count os es m
 
 -- A METER TELLS OF A RUN SO FAR, of which so much is kept
 abbrev pub Meters : Detail → Tags → Origin → (count : ℕ) → List Open → List Event → Meter → Type 0
 Meters d tags from count os es m = (m.detail ≡ d) × TellsOf d tags from count os es m
 
--- one instruction more
-abbrev pub ticked : List Event → List Event
-ticked es = es ++ Work 1 ∷ []
-
--- a join, and its own instruction
-abbrev pub synced : List Event → List Event
-synced es = es ++ Join ∷ Work 1 ∷ []
-
--- a part begins by an instruction
-abbrev pub begun : (spawned : Bool) → Option Mark → List Event → List Open → List Open
-begun spawned mark es os = record { spawned = spawned; mark = mark; outer = ticked es } ∷ os
-
--- what a meter tells goes from one run so far to another, where an instruction more is within the greatest limit
+-- what a meter tells goes from one run so far to another, where an instruction more is within the greatest limit and
+-- the run has not ended
 abbrev pub Tells : (old new : Meter) → (count : ℕ) → Detail → Tags → (from : Origin) → (os os' : List Open)
     → (es es' : List Event) → Type 0
 Tells old new count d tags from os os' es es' =
-    count < MOST_LIMIT → IsLight d → Meters d tags from count os es old → Meters d tags from (count + 1) os' es' new
+    count < MOST_LIMIT → IsLight d → IsOpen from os → Meters d tags from count os es old
+    → Meters d tags from (count + 1) os' es' new
 
 -- the meter of a rest that begins in an invocation of this site, whatever else is open round it
 abbrev pub StartsRest : Detail → (site : ℕ) → Meter → Type 0
@@ -153,13 +147,12 @@ InstructionsNeedNoCall =
     (m : Meter) (count : ℕ) (d : Detail) (tags : Tags) (from : Origin) (os : List Open) (es : List Event)
     → Tells m m count d tags from os os es (ticked es)
 
--- the rest of the block that runs was run apart, up to its join, by a strand with a meter of its own, as so many
--- instructions: what is
--- told goes on by the rest's events and instructions
+-- the rest of the block that runs, which has spawned, was run apart, up to its join, by a strand with a meter of its
+-- own, as so many instructions: what is told goes on by the rest's events and instructions
 abbrev pub Rests : (old rest new : Meter) → (count cost : ℕ) → Type 0
 Rests old rest new count cost =
     (d : Detail) (tags : Tags) (from : Origin) (os : List Open) (es fs : List Event) → count + cost ≤ MOST_LIMIT
-    → IsLight d → no_joins fs ≡ true
+    → IsLight d → IsOpen from os → has_spawned es ≡ true → no_joins fs ≡ true
     → Meters d tags from count os es old → Meters d tags (Rest (here_in (base_of from) os)) cost [] fs rest
     → Meters d tags from (count + cost) os (es ++ fs) new
 

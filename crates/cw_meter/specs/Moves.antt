@@ -30,10 +30,12 @@ pub record Stacks (old new : Meter) (kind : PartKind) : Type 0 where
 -- one part more is open, or one less, where they are only counted
 pub record IsOpened (old new : Meter) : Type 0 where
   pub detail : new.detail ≡ old.detail
+  pub recorder : new.recorder ≡ old.recorder
   pub parts : old.open_parts + 1 < 2 ^ 64 → new.open_parts ≡ old.open_parts + 1
 
 pub record LeavesOne (old new : Meter) : Type 0 where
   pub detail : new.detail ≡ old.detail
+  pub recorder : new.recorder ≡ old.recorder
   pub parts : 0 < old.open_parts → new.open_parts + 1 ≡ old.open_parts
 
 -- the block that runs joins

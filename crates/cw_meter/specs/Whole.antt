@@ -10,6 +10,8 @@ use Rattle.cw_sites.specs.Tables as sites
 use Rattle.cw_regions.specs.declared.table.RegionRow.{RegionRow}
 use Rattle.cw_regions.specs.Regions.{Tags}
 use Rattle.cw_regions.specs.Regions as regions
+use Rattle.cw_greedy.specs.Recorded.{Recorded}
+use Rattle.cw_recorded.specs.Recording.{IsKept}
 use Rattle.cw_meter.specs.declared.detail.Detail.TheVariants as detail
 use Rattle.cw_meter.specs.declared.meter.Meter.{Meter}
 use Rattle.cw_meter.specs.declared.meter.Measures.{Measures}
@@ -53,3 +55,11 @@ Reads m count sites tags all =
     → HasNames by_number names → length names ≡ tags
     → Meters (detail.Measures burden) by_number Main count [] (Series (Marked (Invocation 0) (tree_of es)) ∷ []) m
     → AreMeasures burden sites names (normal (Marked (Invocation 0) (tree_of es))) all
+
+-- a meter that records, at the end of a run, says what the tree of the run has for strands
+abbrev pub ReadsStrands : Meter → (count : ℕ) → Recorded → Type 0
+ReadsStrands m count kept =
+    (by_number : Tags) (es : List Event)
+    → Meters detail.Strands by_number Main count []
+    (Series (Marked (Invocation 0) (tree_of es)) ∷ []) m
+    → IsKept (normal (Marked (Invocation 0) (tree_of es))) kept

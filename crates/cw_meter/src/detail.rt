@@ -10,6 +10,8 @@ use cw_model::burden::{Burden, Edges};
 pub enum Detail {
     /// What it gives: its values, its lines and what its reducers come to. Nothing is counted.
     Values,
+    /// The record of its strands, too.
+    Strands,
     /// All measures, too, with this charge for a spawn.
     Measures(Burden),
 }
@@ -20,11 +22,11 @@ impl Detail {
         ensures { result ≡ burden_of self }
     {
         match self {
-            Detail::Values => Burden {
+            Detail::Measures(burden) => burden,
+            _ => Burden {
                 charge: 0,
                 edges: Edges::Spawn,
             },
-            Detail::Measures(burden) => burden,
         }
     }
 }

@@ -3,7 +3,8 @@
 ghost use Rattle.cw_meter.specs.Meters.{InstructionsNeedNoCall};
 
 /// An instruction that begins, ends and joins nothing needs no call of the meter.
-#[tactic(auto, using(crate::proofs::DetailLaws::instructions_need_no_call))]
 pub fn instructions_need_no_call()
     ensures { InstructionsNeedNoCall }
-{}
+{
+    cw_recorded::laws::instructions_need_no_call();
+}

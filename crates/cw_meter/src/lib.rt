@@ -5,8 +5,8 @@
 //!
 //! # How a run calls a `Meter`
 //!
-//! What is kept of a run its [`Detail`] says. Where that is its values alone, a meter knows how many
-//! parts are open and is told nothing else.
+//! What is kept of a run its [`Detail`] says. Where that is its values alone, a meter knows how many parts are open and
+//! is told nothing else. Where it is its strands, a recorder of `cw_recorded` is told of the run, too, and no table.
 //!
 //! Each call stands for one instruction of the run, and is told the count of instructions before it.
 //!
@@ -31,6 +31,7 @@ pub mod laws;
 mod meter;
 mod parts;
 mod tables;
+mod uncounted;
 
 pub use detail::Detail;
 pub use meter::{Measures, Meter, Readings};

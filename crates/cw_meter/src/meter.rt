@@ -12,6 +12,7 @@ ghost use Rattle.cw_meter.specs.Whole.{Reads};
 use crate::detail::Detail;
 use crate::parts::{Part, PartKind};
 use crate::tables::Tables;
+use cw_recorded::Recorder;
 use cw_regions::RegionRow;
 use cw_sites::table::SiteRow;
 use std::alloc::{AllocError, Global};
@@ -43,8 +44,10 @@ pub struct Measures {
 pub struct Meter {
     /// How much is kept of the run.
     pub(crate) detail: Detail,
-    /// How many parts are open, where the values alone are kept. The others are told nothing then.
+    /// How many parts are open, where not all is counted. Tables and parts are told nothing then.
     pub(crate) open_parts: u64,
+    /// The strands so far, where they are kept.
+    pub(crate) recorder: Recorder,
     pub(crate) tables: Tables,
     /// The open parts, the innermost last.
     pub(crate) parts: Vec<Part>,
@@ -66,6 +69,7 @@ impl Meter {
         Ok(Meter {
             detail,
             open_parts: 1,
+            recorder: Recorder::new(alloc),
             tables,
             parts,
         })
@@ -79,6 +83,7 @@ impl Meter {
         Meter {
             detail,
             open_parts: 0,
+            recorder: Recorder::apart(alloc),
             tables: Tables::apart(alloc, site, detail.burden()),
             parts: Vec::new(alloc),
         }
@@ -97,7 +102,7 @@ impl Meter {
     pub fn is_outside(&self) -> bool
         ensures { IsOutside self.now result }
     {
-        if self.keeps_values() {
+        if !self.is_counted() {
             return self.open_parts == 0;
         }
         self.parts.len() == 0
@@ -110,13 +115,26 @@ impl Meter {
     {
         match self.detail {
             Detail::Values => true,
+            Detail::Strands => false,
             Detail::Measures(_) => false,
+        }
+    }
+
+    // Whether all is counted.
+    #[inline(always)]
+    fn is_counted(&self) -> bool
+        ensures { result ≡ details.is_counted self.now.detail }
+    {
+        match self.detail {
+            Detail::Values => false,
+            Detail::Strands => false,
+            Detail::Measures(_) => true,
         }
     }
 
     // One part more is open.
     #[inline(always)]
-    fn count_part(&mut self)
+    pub(crate) fn count_part(&mut self)
         ensures { IsOpened self.old self.new }
     {
         self.open_parts = self.open_parts.wrapping_add(1);
@@ -124,7 +142,7 @@ impl Meter {
 
     // The innermost part ends.
     #[inline(always)]
-    fn leave_part(&mut self)
+    pub(crate) fn leave_part(&mut self)
         ensures { LeavesOne self.old self.new }
     {
         self.open_parts = self.open_parts.wrapping_sub(1);
@@ -160,8 +178,8 @@ impl Meter {
     pub fn rest(&mut self, count: u64, rest: Meter, cost: u64) -> Result<(), AllocError>
         ensures { OnOk result (Rests self.old rest self.new count cost) }
     {
-        if self.keeps_values() {
-            return Ok(());
+        if !self.is_counted() {
+            return self.rest_uncounted(count, rest, cost);
         }
         let mut tables = rest.tables;
         tables.settle(cost)?;
@@ -175,9 +193,8 @@ impl Meter {
     pub fn call(&mut self, count: u64, site: u32) -> Result<(), AllocError>
         ensures { OnOk result (Begins self.old self.new count false (Some (Invocation site))) }
     {
-        if self.keeps_values() {
-            self.count_part();
-            return Ok(());
+        if !self.is_counted() {
+            return self.open_call(count, site);
         }
         if self.has_room() {
             if self.tables.can_call(site) {
@@ -194,7 +211,7 @@ impl Meter {
     #[cold]
     #[inline(never)]
     fn call_apart(&mut self, count: u64, site: u32) -> Result<(), AllocError>
-        requires { details.keeps_values self.old.detail ≡ false }
+        requires { details.is_counted self.old.detail ≡ true }
         ensures { OnOk result (Begins self.old self.new count false (Some (Invocation site))) }
     {
         self.stack(PartKind::Call)?;
@@ -207,9 +224,8 @@ impl Meter {
     pub fn spawn(&mut self, count: u64, site: u32) -> Result<(), AllocError>
         ensures { OnOk result (Begins self.old self.new count true (Some (Invocation site))) }
     {
-        if self.keeps_values() {
-            self.count_part();
-            return Ok(());
+        if !self.is_counted() {
+            return self.open_spawned(count);
         }
         self.count_spawn(count, site)
     }
@@ -217,7 +233,7 @@ impl Meter {
     // The same where all is counted.
     #[inline(never)]
     fn count_spawn(&mut self, count: u64, site: u32) -> Result<(), AllocError>
-        requires { details.keeps_values self.old.detail ≡ false }
+        requires { details.is_counted self.old.detail ≡ true }
         ensures { OnOk result (Begins self.old self.new count true (Some (Invocation site))) }
     {
         if self.has_room() {
@@ -233,7 +249,7 @@ impl Meter {
     // The same in any case.
     #[inline(never)]
     fn spawn_apart(&mut self, count: u64, site: u32) -> Result<(), AllocError>
-        requires { details.keeps_values self.old.detail ≡ false }
+        requires { details.is_counted self.old.detail ≡ true }
         ensures { OnOk result (Begins self.old self.new count true (Some (Invocation site))) }
     {
         self.stack(PartKind::SpawnedCall)?;
@@ -247,9 +263,8 @@ impl Meter {
     pub fn begin(&mut self, count: u64) -> Result<(), AllocError>
         ensures { OnOk result (Begins self.old self.new count false None) }
     {
-        if self.keeps_values() {
-            self.count_part();
-            return Ok(());
+        if !self.is_counted() {
+            return self.open_quiet(count);
         }
         self.stack(PartKind::Quiet)?;
         self.tables.begin(count.wrapping_add(1))?;
@@ -261,9 +276,8 @@ impl Meter {
     pub fn spawn_half(&mut self, count: u64) -> Result<(), AllocError>
         ensures { OnOk result (Begins self.old self.new count true None) }
     {
-        if self.keeps_values() {
-            self.count_part();
-            return Ok(());
+        if !self.is_counted() {
+            return self.open_spawned(count);
         }
         self.stack(PartKind::Half)?;
         self.tables.spawn_half(count.wrapping_add(1))?;
@@ -275,9 +289,8 @@ impl Meter {
     pub fn begin_region(&mut self, count: u64, tag: u32) -> Result<(), AllocError>
         ensures { OnOk result (BeginsRegion self.old self.new count tag) }
     {
-        if self.keeps_values() {
-            self.count_part();
-            return Ok(());
+        if !self.is_counted() {
+            return self.open_quiet(count);
         }
         self.stack(PartKind::Region(tag))?;
         self.tables.begin_region(count.wrapping_add(1), tag)?;
@@ -289,9 +302,8 @@ impl Meter {
     pub fn end(&mut self, count: u64) -> Result<(), AllocError>
         ensures { OnOk result (Ends self.old self.new count) }
     {
-        if self.keeps_values() {
-            self.leave_part();
-            return Ok(());
+        if !self.is_counted() {
+            return self.leave_block(count);
         }
         self.join(count)?;
         self.close_apart(count)?;
@@ -303,9 +315,8 @@ impl Meter {
     pub fn give_back(&mut self, count: u64) -> Result<(), AllocError>
         ensures { OnOk result (Returns self.old self.new count) }
     {
-        if self.keeps_values() {
-            self.leave_part();
-            return Ok(());
+        if !self.is_counted() {
+            return self.leave_call(count);
         }
         self.join(count)?;
         self.close(count.wrapping_add(1))?;
@@ -317,8 +328,8 @@ impl Meter {
     pub fn sync(&mut self, count: u64) -> Result<(), AllocError>
         ensures { OnOk result (Syncs self.old self.new count) }
     {
-        if self.keeps_values() {
-            return Ok(());
+        if !self.is_counted() {
+            return self.join_uncounted(count);
         }
         self.join(count)?;
         Ok(())

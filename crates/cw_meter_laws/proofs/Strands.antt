@@ -34,7 +34,8 @@ use Rattle.cw_meter_laws.specs.Strands.{CallsKeepMeters, StrandsTell, MetersTell
 use Rattle.cw_meter_laws.proofs.Joinless.{Joinless, stays_joinless}
 use Rattle.cw_meter_laws.proofs.Joinless as joinless
 use Rattle.cw_meter_laws.specs.lemmas.Told.{After}
-use Rattle.cw_meter_laws.proofs.Telling.{Telling, acts_told}
+use Rattle.cw_meter_laws.specs.lemmas.Spawns.{HasSpawnedWhere, waiters_have_spawned}
+use Rattle.cw_meter_laws.proofs.Telling.{Telling, acts_told, round_open}
 
 -- Up to the join nothing joins.
 at_bottom : (around : List Around) (es : List Event) → around ≡ [] → Joinless around es → no_joins es ≡ true
@@ -85,10 +86,11 @@ rests_have_no_joins = λ code job frame t cost x m. no_joins_in code job frame t
 
 -- what is told of a strand
 goes_told : {code : Code} (g : Gauge code) (from : Origin) (t : Turn) (s s' : State) (limit before count : ℕ) (outs : List Job) (m : Meter)
-    → Meters g.detail g.tags from count (opens_round from s'.around) s'.trace.events m → TellsStrand code g from (goes_on t s s' limit before count outs) m
-goes_told g from Goes s s' limit before count outs m h = h
-goes_told g from (HandsOut target taken) s s' limit before count outs m h = h
-goes_told g from ComesBack s s' limit before count outs m h = h
+    → HasSpawnedWhere t s' → Meters g.detail g.tags from count (opens_round from s'.around) s'.trace.events m
+    → TellsStrand code g from (goes_on t s s' limit before count outs) m
+goes_told g from Goes s s' limit before count outs m spawned h = h
+goes_told g from (HandsOut target taken) s s' limit before count outs m spawned h = h
+goes_told g from ComesBack s s' limit before count outs m spawned h = (h, spawned)
 
 kept_on : (code : Code) (job : Job) (old : Strand) (t : Turn) (s s' : State) (limit before count : ℕ) (outs : List Job)
     → AdvanceKeeps code job old (turned t s s' limit before count outs) → IsStrandOf code job (goes_on t s s' limit before count outs)
@@ -141,7 +143,7 @@ module _ (quiet : InstructionsNeedNoCall) (code : Code) (keep : CallsKeep code) 
         → TellsAll code detail from (Going s count outs) m → TellsAll code detail from (goes_on (turn code s) s s' job.limit job.before (count + 1) outs) m'
     advancing from job s s' count outs m m' le small e told h = λ g b.
         let less : count < MOST_LIMIT = omega (arith, le, small) in
-        goes_told g from (turn code s) s s' job.limit job.before (count + 1) outs m'
+        goes_told g from (turn code s) s s' job.limit job.before (count + 1) outs m' (waiters_have_spawned code s s' e)
         (subst (After (Telling quiet code g from count less m m') from) e (acts_told quiet code g from count less m m' s (slice_get code.instrs s.place) told (h g b)))
 
     pub giving : (from : Origin) (job out : Job) (s : State) (count cost : ℕ) (outs : List Job) (frame : Standing) (t : Trace) (m r m' : Meter)
@@ -150,7 +152,7 @@ module _ (quiet : InstructionsNeedNoCall) (code : Code) (keep : CallsKeep code) 
         → TellsAll code detail from (Waits s count (out ∷ outs)) m → TellsAll code detail from (Going (resumed s frame t) (count + cost) outs) m'
     giving from job out s count cost outs frame t m r m' is le small means rests h = λ g b.
         rests g.detail g.tags from (opens_round from s.around) s.trace.events t.events (omega (arith, le, small)) g.light
-        (no_joins_in code out frame t cost (out_here job out s count outs is) means.means) (h g b) (means.counts g b)
+        (round_open from s.around) (h g b).1 (no_joins_in code out frame t cost (out_here job out s count outs is) means.means) (h g b).0 (means.counts g b)
 
     pub arriving : (job : Job) (site : ℕ) (t : State) (cost : ℕ) (m : Meter) → IsStrandOf code job (Going t cost [])
         → has_come job.extent code t ≡ true → TellsAll code detail (Rest site) (Going t cost []) m
@@ -191,7 +193,7 @@ module _ (quiet : InstructionsNeedNoCall) (code : Code) (keep : CallsKeep code) 
     tells from job strand m (Started _ _ _ is low small starts) = starting from job m starts
     tells from job strand m (Ran _ _ s s' count outs m0 _ h come e le told) =
         advancing from job s s' count outs m0 m le (limited from job (Going s count outs) m0 h) e told (tells from job (Going s count outs) m0 h)
-    tells from job strand m (TakenBack _ _ out s count outs _ h) = tells from job (Waits s count (out ∷ outs)) m h
+    tells from job strand m (TakenBack _ _ out s count outs _ h) = λ g b. (tells from job (Waits s count (out ∷ outs)) m h g b).0
     tells from job strand m (Given _ _ out s t count cost outs m0 r _ h k come le rests) =
         let site = site_at from s.around in
         giving from job out s count cost outs (standing t) t.trace m0 r m (serial from job (Waits s count (out ∷ outs)) m0 h) le (limited from job (Waits s count (out ∷ outs)) m0 h)
@@ -204,7 +206,7 @@ module _ (quiet : InstructionsNeedNoCall) (code : Code) (keep : CallsKeep code) 
     meters_keep = record {
       starting = starting;
       advancing = advancing;
-      taking_back = λ from out s count outs m h. h;
+      taking_back = λ from out s count outs m h. λ g b. (h g b).0;
       giving = giving;
       arriving = arriving;
       ending = ending;

@@ -10,7 +10,7 @@ use Rattle.cw_code.specs.declared.code.Func.{Func}
 use Rattle.cw_code.specs.Code.{Code}
 use Rattle.cw_code.specs.Run.{Slots, Around, State, On, Ends, step, first_transition, first_state, reducers_of}
 use Rattle.cw_code.specs.Run.{code_serial}
-use Rattle.cw_measure.specs.OpenParts.{Open, no_joins}
+use Rattle.cw_measure.specs.OpenParts.{Open, has_spawned, no_joins}
 use Rattle.cw_sites.specs.OpenPaths.{here_in}
 use Rattle.cw_regions.specs.Regions.{Tags}
 use Rattle.cw_meter.specs.declared.detail.Detail.{Detail}
@@ -42,12 +42,14 @@ StartsFrom from detail m = (tags : Tags) → Meters detail tags from 0 (first_op
 abbrev pub site_at : Origin → List Around → ℕ
 site_at from around = here_in (base_of from) (opens_round from around)
 
--- the meter of a strand tells of the run that its state is one of; that of a strand that stopped tells of nothing
+-- the meter of a strand tells of the run that its state is one of; where it waits its block has spawned; that of a
+-- strand that stopped tells of nothing
 abbrev pub TellsStrand : (code : Code) → Gauge code → Origin → Strand → Meter → Type 0
 TellsStrand code g from (Going s count outs) m =
     Meters g.detail g.tags from count (opens_round from s.around) s.trace.events m
 TellsStrand code g from (Waits s count outs) m =
     Meters g.detail g.tags from count (opens_round from s.around) s.trace.events m
+    × (has_spawned s.trace.events ≡ true)
 TellsStrand code g from (Halted e outs) m = Unit {0}
 
 -- by whichever numbers of the code's tags

@@ -7,6 +7,8 @@ use Rattle.cw_text.specs.declared.fault.Fault.TheVariants as fault
 use Rattle.cw_code.specs.Code.{Code}
 use Rattle.cw_machine.specs.declared.alone.Ended as alone
 use Rattle.cw_machine.specs.declared.values.Values.{Values}
+use Rattle.cw_greedy.specs.Recorded.{Recorded}
+use Rattle.cw_machine.specs.Recorded.{RecordsAsCode}
 use Rattle.cw_machine.specs.Runs.{GivesAsCode, IsFailure, RunsAsCode}
 use Rattle.cw_runnable.specs.declared.verified.Verified.{Verified}
 use Rattle.cw_jobs.specs.declared.effect.Effect.{Effect}
@@ -48,4 +50,10 @@ RunsByCrew bodies code args n burden result =
 abbrev pub GivesByCrew : (bodies : ℕ) → Code → List ℤ → (n : ℕ) → Burden → Result Values Fault → Type 0
 GivesByCrew bodies code args n burden result =
     (bodies ≤ MOST_BODIES → GivesAsCode code args n burden result)
+    × (MOST_BODIES < bodies → result ≡ Err fault.Arguments)
+
+-- the same of its strands, for which nothing is charged
+abbrev pub RecordsByCrew : (bodies : ℕ) → Code → List ℤ → (n : ℕ) → Result Recorded Fault → Type 0
+RecordsByCrew bodies code args n result =
+    (bodies ≤ MOST_BODIES → RecordsAsCode code args n result)
     × (MOST_BODIES < bodies → result ≡ Err fault.Arguments)

@@ -4,12 +4,16 @@ ghost use Rattle.std.specs.Prelude.{◌≡◌, true, false};
 ghost use Rattle.cw_code.specs.Code.{code_view};
 ghost use Rattle.cw_meter.specs.declared.detail.Detail.TheVariants as details;
 ghost use Rattle.cw_machine.specs.Answering.{IsAnswerOf};
+ghost use Rattle.cw_machine.specs.Recorded.{RecordsAsCode};
 ghost use Rattle.cw_machine.specs.Runs.{GivesAsCode, RunsAsCode};
+ghost use Rattle.cw_model.specs.Burdens.{no_burden};
 ghost use Rattle.cw_pool.specs.Crews.{IsEffectOf, IsKnown};
 
+use cw_greedy::strands::Strands;
 use cw_jobs::effect::Effect;
 use cw_machine::alone::{Ended, run_alone};
-use cw_machine::answering::{answer, values_of};
+use cw_machine::answering::{answer, strands_of, values_of};
+use cw_machine::recorded::strands_alone;
 use cw_machine::values::{Values, values_alone};
 use cw_model::burden::Burden;
 use cw_runnable::verified::Verified;
@@ -95,4 +99,28 @@ pub(crate) fn values_by(
     }
     let values = values_alone(alloc, code, args, n, burden)?;
     Ok(values)
+}
+
+/// The same of a run of which the strands were kept, and for which nothing is charged.
+pub(crate) fn strands_by(
+    alloc: Global,
+    outcome: Outcome,
+    args: &[i64],
+    n: u64,
+) -> Result<Strands, Fault>
+    requires { IsEffectOf outcome.code.value args.now n no_burden details.Strands outcome.effect }
+    ensures { RecordsAsCode (code_view outcome.code.value.code) args.now n result }
+{
+    let is_known = outcome.is_known();
+    let Outcome {
+        code,
+        effect,
+        is_given_up: _,
+    } = outcome;
+    if is_known {
+        let strands = strands_of(effect)?;
+        return Ok(strands);
+    }
+    let strands = strands_alone(alloc, code, args, n)?;
+    Ok(strands)
 }

@@ -7,19 +7,21 @@ ghost use Rattle.cw_meter.specs.Details.{IsLight};
 ghost use Rattle.cw_model.specs.declared.limits.TheConstants.{MOST_BURDEN};
 ghost use Rattle.cw_yard.specs.Seats.{IsSeatOf};
 ghost use Rattle.cw_pool.specs.Driven.{AreSeatsFor, IsDriven, IsNotDriven};
-ghost use Rattle.cw_pool.specs.Crews.{GivesByCrew, HasNoOutcome, IsOutcome, RunsByCrew};
+ghost use Rattle.cw_pool.specs.Crews.{GivesByCrew, HasNoOutcome, IsOutcome, RecordsByCrew, RunsByCrew};
 
 use crate::crew::{Body, Helper};
 use crate::gate::Gate;
-use crate::outcome::{Outcome, ended_by, values_by};
+use crate::outcome::{Outcome, ended_by, strands_by, values_by};
 use crate::sign::{Sign, Tally};
 use crate::work::work;
+use cw_greedy::strands::Strands;
 use cw_jobs::effect::Effect;
 use cw_jobs::job::Job;
 use cw_machine::alone::{Ended, run_alone};
+use cw_machine::recorded::strands_alone;
 use cw_machine::values::{Values, values_alone};
 use cw_meter::Detail;
-use cw_model::burden::Burden;
+use cw_model::burden::{Burden, Edges};
 use cw_model::syntax::CallKind;
 use cw_runnable::op::Op;
 use cw_runnable::verified::Verified;
@@ -268,4 +270,35 @@ pub fn values<
     let outcome = outcome_of(rt, alloc, code, args, n, burden, detail, crew, gate)?;
     let values = values_by(alloc, outcome, args, n, burden)?;
     Ok(values)
+}
+
+/// The same run, of which the strands are kept and nothing is counted: what `strands_alone` gives, with its errors, and
+/// `Arguments`, too, exactly where the crew has more than 63 bodies, before anything is made.
+pub fn strands<
+    G: Gate + Drop + Send + Sync + 'static,
+    B: Body<G> + Send + Drop + 'static,
+    R: Threads + Wait,
+>(
+    rt: &R,
+    alloc: Global,
+    code: Arc<Verified>,
+    args: &[i64],
+    n: u64,
+    crew: Vec<B>,
+    gate: Arc<G>,
+) -> Result<Strands, Fault>
+    ensures { RecordsByCrew (length crew.items) (code_view code.value.code) args.now n result }
+{
+    if !is_for_crew(&code, crew.len()) {
+        let strands = strands_alone(alloc, code, args, n)?;
+        return Ok(strands);
+    }
+    let burden = Burden {
+        charge: 0,
+        edges: Edges::Spawn,
+    };
+    let detail = Detail::Strands;
+    let outcome = outcome_of(rt, alloc, code, args, n, burden, detail, crew, gate)?;
+    let strands = strands_by(alloc, outcome, args, n)?;
+    Ok(strands)
 }

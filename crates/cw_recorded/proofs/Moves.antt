@@ -5,25 +5,28 @@ use Rattle.std.proofs.lemmas.List.{append_assoc, append-nil}
 use Rattle.cw_facts.specs.Lists.{reverse_pushed}
 use Rattle.cw_model.specs.declared.limits.TheConstants.{MOST_LIMIT}
 use Rattle.cw_model.specs.Trees.{Tree, Marked, Mark, Invocation, Execution, Event, Work, normal, tree_of}
-use Rattle.cw_measure.specs.OpenParts.{Open, has_spawned, spawned_after, marked, part_of, closed}
-use Rattle.cw_measure.specs.lemmas.OpenParts.{spawned_append}
-use Rattle.cw_meter.specs.Meters.{ticked, synced, begun}
+use Rattle.cw_measure.specs.OpenParts.{Open, spawned_after, marked, part_of, closed}
+use Rattle.cw_recorded.specs.Origins.{Origin, Main, Rest}
+use Rattle.cw_recorded.specs.Runs.{ticked, synced, begun}
 use Rattle.cw_greedy.specs.declared.code.Code.{Code}
 use Rattle.cw_greedy.specs.declared.code.Code.TheVariants.{Instructions, Spawned, Ended, Joined, Called}
 use Rattle.cw_greedy.specs.Recorded.{Recorded, cuts, followed}
-use Rattle.cw_greedy.specs.RecordLaws.{cuts-append}
+use Rattle.cw_greedy.specs.RecordLaws.{cuts-append, cut_small, followed-regroup, some_together}
+use Rattle.cw_greedy.specs.declared.entry.Cut.{Cut}
+use Rattle.cw_greedy.specs.declared.entry.Cut.TheVariants as cut
+use Rattle.cw_greedy.specs.Entries.{code_of_cut, codes_of_entry, entry}
 use Rattle.cw_greedy.specs.Blocks.{AsChild, codes_of}
 use Rattle.cw_recorded.specs.declared.recorder.PartKind.{PartKind}
 use Rattle.cw_recorded.specs.declared.recorder.PartKind.TheVariants as kind
 use Rattle.cw_recorded.specs.declared.recorder.Part.{Part}
 use Rattle.cw_recorded.specs.declared.recorder.Recorder.{Recorder}
 use Rattle.cw_recorded.specs.Merging.{onto, Same, to_join}
-use Rattle.cw_recorded.specs.Normal.{StandApart, AreApart, IsChild}
-use Rattle.cw_recorded.specs.Recording.{opening, ending, ending_in, codes_in, IsOfKind, out_behind, AreParts, Keeps, IsFromMain, RecordsIn, IsOpen, IsQuiet, BeginsChild}
-use Rattle.cw_recorded.specs.Recording.{BeginsCall, BeginsQuiet, Ends, Returns, Syncs, InstructionsNeedNoCall, Notes, Stacks, Joins, Closes, IsKept, Reads}
+use Rattle.cw_recorded.specs.Normal.{StandApart, AreOpenApart, AreApart, IsChild}
+use Rattle.cw_recorded.specs.Recording.{opening, ending, ending_in, codes_in, IsOfKind, out_behind, AreParts, Keeps, IsFromMain, RecordsIn, IsOpen, IsQuiet, BeginsChild, IsPart, out_in}
+use Rattle.cw_recorded.specs.Recording.{BeginsCall, BeginsQuiet, Ends, Returns, Syncs, InstructionsNeedNoCall, Rests, Notes, Stacks, Joins, Closes, IsKept, Reads}
 use Rattle.cw_recorded.proofs.Merged.{onto-append, same_merged, nothing_behind}
-use Rattle.cw_recorded.proofs.Normals.{ticked_apart, synced_apart, call_apart, block_apart, tree_followed, marked_child}
-use Rattle.cw_recorded.proofs.Recordings.{same_cuts, keeps_as, keeps_later, keeps_cut, keeps_noted, codes_ticked, spawned_ticked}
+use Rattle.cw_recorded.proofs.Normals.{append_apart, ticked_apart, synced_apart, call_apart, block_apart, tree_followed, marked_child}
+use Rattle.cw_recorded.proofs.Recordings.{same_cuts, keeps_as, keeps_later, keeps_cut, keeps_noted, keeps_followed, out_more, out_already, out_still, codes_rested, codes_ticked, spawned_ticked}
 use Rattle.cw_recorded.proofs.Recordings.{spawned_synced, codes_begun, codes_synced, codes_ended, codes_returned}
 
 -- what is noted
@@ -50,7 +53,7 @@ noted_already r count past = record {
   parts = refl;
 }
 
-pub noted_cut : (old mid new : Recorder) (count : ℕ) (code : Code) → Notes old mid count [] → new.kept ≡ followed mid.kept (Some (code ∷ []))
+noted_cut : (old mid new : Recorder) (count : ℕ) (code : Code) → Notes old mid count [] → new.kept ≡ followed mid.kept (Some (code ∷ []))
     → new.noted ≡ mid.noted → new.out ≡ mid.out → new.parts.items ≡ mid.parts.items → Notes old new count (code ∷ [])
 noted_cut old mid new count code s k n o p = record {
   noted = λ le. n ∙ s.noted le;
@@ -63,6 +66,24 @@ noted_cut old mid new count code s k n o p = record {
   out = o ∙ s.out;
   parts = p ∙ s.parts;
 }
+
+-- instructions and a cut behind them are noted at once
+noted_with_cut : (old new : Recorder) (count : ℕ) (code : Code) → new.noted ≡ count
+    → new.kept ≡ followed old.kept (Some (Instructions (count - old.noted) ∷ code ∷ [])) → new.out ≡ old.out → new.parts.items ≡ old.parts.items → Notes old new count (code ∷ [])
+noted_with_cut old new count code n k o p =
+    let i = Instructions (count - old.noted) in
+    let mid : Recorder = record { kept = followed old.kept (Some (i ∷ [])); noted = count; out = old.out; parts = old.parts } in
+    let both = some_together (i ∷ []) (code ∷ []) (omega (arith, cut_small code)) in
+    noted_cut old mid new count code (noted_now old mid count refl refl refl refl)
+    (k ∙ ap (followed old.kept) (sym both) ∙ sym (followed-regroup old.kept (Some (i ∷ [])) (Some (code ∷ [])))) n o p
+
+pub noted_entry : (old new : Recorder) (count : ℕ) (c : Cut) → new.noted ≡ count
+    → new.kept ≡ followed old.kept (Some (codes_of_entry (entry (count - old.noted) c))) → new.out ≡ old.out → new.parts.items ≡ old.parts.items → Notes old new count (code_of_cut c)
+noted_entry old new count cut.Nothing n k o p = noted_now old new count n k o p
+noted_entry old new count (cut.Spawned first) n k o p = noted_with_cut old new count (Spawned first) n k o p
+noted_entry old new count cut.Ended n k o p = noted_with_cut old new count Ended n k o p
+noted_entry old new count cut.Joined n k o p = noted_with_cut old new count Joined n k o p
+noted_entry old new count cut.Called n k o p = noted_with_cut old new count Called n k o p
 
 -- codes that begin with no instructions
 nothing_between : (a b : List Code) → Same (a ++ Instructions 0 ∷ b) (a ++ b)
@@ -112,49 +133,83 @@ pub joined_not : (old : Recorder) (count : ℕ) → old.out ≡ false → Joins 
 joined_not old count out codes le h =
     (le, subst (λ (b : Bool). Keeps (count - old.noted) (codes ++ to_join b) old.kept) (sym out) (subst (λ (l : List Code). Keeps (count - old.noted) l old.kept) (sym (append-nil codes)) h))
 
-pub parts_pushed : (o : Open) (os : List Open) (p : Part) (old new : List Part) → IsOpen os → new ≡ old ++ p ∷ [] → IsOfKind o p.kind
-    → p.out ≡ out_behind o.spawned (has_spawned o.outer) → AreParts os (reverse old) → AreParts (o ∷ os) (reverse new)
-parts_pushed o [] p old new open_ e k out h = absurd open_
-parts_pushed o (q ∷ os) p old new open_ e k out h =
-    subst (λ (x : List Part). AreParts (o ∷ q ∷ os) x) (sym (ap (λ (x : List Part). reverse x) e ∙ reverse_pushed old p)) (k, out, h)
+pub parts_pushed : (from : Origin) (o : Open) (os : List Open) (p : Part) (old new : List Part) → IsOpen from os → new ≡ old ++ p ∷ [] → IsOfKind o p.kind
+    → p.out ≡ out_behind o.spawned (out_in from os o.outer) → AreParts from os (reverse old) → AreParts from (o ∷ os) (reverse new)
+parts_pushed from o os p old new open_ e k out h =
+    subst (λ (x : List Part). AreParts from (o ∷ os) x) (sym (ap (λ (x : List Part). reverse x) e ∙ reverse_pushed old p)) (at from os open_ (k, out) h)
+  where
+    at : (from : Origin) (os : List Open) → IsOpen from os → IsPart from o os p → AreParts from os (reverse old) → AreParts from (o ∷ os) (p ∷ reverse old)
+    at Main [] open_ is h = absurd open_
+    at Main (q ∷ os) open_ is h = (is, h)
+    at (Rest site) os open_ is h = (is, h)
 
 -- the outermost part
-main_round : (o : Open) (os : List Open) → IsFromMain (o ∷ os) → IsFromMain os
-main_round o [] m = tt
-main_round o (p ∷ os) m = m
+main_round : (from : Origin) (o : Open) (os : List Open) → IsFromMain from (o ∷ os) → IsFromMain from os
+main_round Main o [] m = tt
+main_round Main o (p ∷ os) m = m
+main_round (Rest site) o os m = tt
 
-main_in : (o : Open) (os : List Open) → IsOpen os → IsFromMain os → IsFromMain (o ∷ os)
-main_in o [] open_ m = absurd open_
-main_in o (p ∷ os) open_ m = m
+main_in : (from : Origin) (o : Open) (os : List Open) → IsOpen from os → IsFromMain from os → IsFromMain from (o ∷ os)
+main_in Main o [] open_ m = absurd open_
+main_in Main o (p ∷ os) open_ m = m
+main_in (Rest site) o os open_ m = tt
 
 -- parts that stand apart
-block_of_open : (os : List Open) (es : List Event) → IsOpen os → AreApart os es → StandApart es
-block_of_open [] es open_ h = absurd open_
-block_of_open (o ∷ os) es open_ h = h.0
+all_apart : (from : Origin) (os : List Open) (es : List Event) → IsOpen from os → AreApart from os es → AreOpenApart os es
+all_apart Main [] es open_ h = absurd open_
+all_apart Main (o ∷ os) es open_ h = h
+all_apart (Rest site) os es open_ h = h
 
-with_block : (os : List Open) (es fs : List Event) → IsOpen os → AreApart os es → StandApart fs → AreApart os fs
-with_block [] es fs open_ h g = absurd open_
-with_block (o ∷ os) es fs open_ h g = (g, h.1)
+apart_again : (from : Origin) (os : List Open) (es : List Event) → IsOpen from os → AreOpenApart os es → AreApart from os es
+apart_again Main [] es open_ h = absurd open_
+apart_again Main (o ∷ os) es open_ h = h
+apart_again (Rest site) os es open_ h = h
 
-begun_apart : (o : Open) (os : List Open) (es : List Event) → IsOpen os → o.outer ≡ ticked es → AreApart os es → AreApart (o ∷ os) []
-begun_apart o [] es open_ e h = absurd open_
-begun_apart o (p ∷ os) es open_ e h = (tt, (subst StandApart (sym e) (ticked_apart es h.0), h.1))
+block_of_open : (from : Origin) (os : List Open) (es : List Event) → IsOpen from os → AreApart from os es → StandApart es
+block_of_open from os es open_ h = at os (all_apart from os es open_ h)
+  where
+    at : (os : List Open) → AreOpenApart os es → StandApart es
+    at [] h = h
+    at (o ∷ os) h = h.0
+
+with_block : (from : Origin) (os : List Open) (es fs : List Event) → IsOpen from os → AreApart from os es → StandApart fs → AreApart from os fs
+with_block from os es fs open_ h g = apart_again from os fs open_ (at os (all_apart from os es open_ h))
+  where
+    at : (os : List Open) → AreOpenApart os es → AreOpenApart os fs
+    at [] h = g
+    at (o ∷ os) h = (g, h.1)
+
+begun_apart : (from : Origin) (o : Open) (os : List Open) (es : List Event) → IsOpen from os → o.outer ≡ ticked es → AreApart from os es → AreApart from (o ∷ os) []
+begun_apart from o os es open_ e h =
+    let outer = subst StandApart (sym e) (ticked_apart es (block_of_open from os es open_ h)) in
+    at from (tt, all_apart from os o.outer open_ (with_block from os es o.outer open_ h outer))
+  where
+    at : (from : Origin) → AreOpenApart (o ∷ os) [] → AreApart from (o ∷ os) []
+    at Main h = h
+    at (Rest site) h = h
 
 -- a part that ended leaves the events round it such, or is the whole run
-whole_apart : (o : Open) (es : List Event) (after : List Event) → o.outer ≡ [] → o.spawned ≡ false → o.mark ≡ Some (Invocation 0) → StandApart es → AreApart [] (closed o es ++ after)
+whole_apart : (o : Open) (es : List Event) (after : List Event) → o.outer ≡ [] → o.spawned ≡ false → o.mark ≡ Some (Invocation 0) → StandApart es → AreApart Main [] (closed o es ++ after)
 whole_apart o es after e0 e1 e2 g =
-    subst (λ (x : List Event). AreApart [] ((x ++ part_of o.spawned (marked o.mark (tree_of es)) ∷ []) ++ after)) (sym e0)
-    (subst (λ (b : Bool). AreApart [] (part_of b (marked o.mark (tree_of es)) ∷ after)) (sym e1)
+    subst (λ (x : List Event). AreApart Main [] ((x ++ part_of o.spawned (marked o.mark (tree_of es)) ∷ []) ++ after)) (sym e0)
+    (subst (λ (b : Bool). AreApart Main [] (part_of b (marked o.mark (tree_of es)) ∷ after)) (sym e1)
     (subst (λ (m : Option Mark). IsChild (marked m (tree_of es))) (sym e2) (marked_child (Invocation 0) (tree_of es) (tree_followed es g))))
 
-pub ended_apart : (o : Open) (os : List Open) (es : List Event) → IsFromMain (o ∷ os) → o.spawned ≡ false → AreApart (o ∷ os) es → AreApart os (ticked (closed o es))
-ended_apart o [] es main quiet h = whole_apart o es (Work 1 ∷ []) main.0 main.1 main.2 h.0
-ended_apart o (p ∷ os) es main quiet h = (block_apart o es quiet h.1.0 h.0, h.1.1)
+-- the block round a part is one event longer
+round_apart : (o : Open) (os : List Open) (es fs : List Event) → AreOpenApart (o ∷ os) es → (StandApart o.outer → StandApart es → StandApart fs) → AreOpenApart os fs
+round_apart o [] es fs h f = f h.1 h.0
+round_apart o (p ∷ os) es fs h f = (f h.1.0 h.0, h.1.1)
 
-pub returned_apart : (o : Open) (os : List Open) (es : List Event) → IsFromMain (o ∷ os) → AreApart (o ∷ os) es → AreApart os (closed o (synced es))
-returned_apart o [] es main h =
-    subst (λ (x : List Event). AreApart [] x) (append-nil (closed o (synced es))) (whole_apart o (synced es) [] main.0 main.1 main.2 (synced_apart es h.0))
-returned_apart o (p ∷ os) es main h = (call_apart o es h.1.0 h.0, h.1.1)
+pub ended_apart : (from : Origin) (o : Open) (os : List Open) (es : List Event) → IsFromMain from (o ∷ os) → o.spawned ≡ false → AreApart from (o ∷ os) es → AreApart from os (ticked (closed o es))
+ended_apart Main o [] es main quiet h = whole_apart o es (Work 1 ∷ []) main.0 main.1 main.2 h.0
+ended_apart Main o (p ∷ os) es main quiet h = round_apart o (p ∷ os) es (ticked (closed o es)) h (block_apart o es quiet)
+ended_apart (Rest site) o os es main quiet h = round_apart o os es (ticked (closed o es)) h (block_apart o es quiet)
+
+pub returned_apart : (from : Origin) (o : Open) (os : List Open) (es : List Event) → IsFromMain from (o ∷ os) → AreApart from (o ∷ os) es → AreApart from os (closed o (synced es))
+returned_apart Main o [] es main h =
+    subst (λ (x : List Event). AreApart Main [] x) (append-nil (closed o (synced es))) (whole_apart o (synced es) [] main.0 main.1 main.2 (synced_apart es h.0))
+returned_apart Main o (p ∷ os) es main h = round_apart o (p ∷ os) es (closed o (synced es)) h (call_apart o es)
+returned_apart (Rest site) o os es main h = round_apart o os es (closed o (synced es)) h (call_apart o es)
 
 -- once there are too many strands, no call does anything
 none_more : (since to : ℕ) (a b : List Code) (k : Recorded) → (IsSome k → ⊥) → cuts a ≤ cuts b → Keeps since a k → Keeps to b k
@@ -163,12 +218,12 @@ none_more since to a b (Some kept) none le h = absurd (none refl)
 
 -- an instruction that begins, ends and joins nothing
 pub ticks : InstructionsNeedNoCall
-ticks r count os es small open_ h = record {
+ticks r count from os es small open_ h = record {
   goes_on = omega (arith, h.goes_on);
-  keeps = subst (λ (l : List Code). Keeps (count + 1 - r.noted) l r.kept) (sym (codes_ticked os es)) (one_later r.noted count (codes_in os es) r.kept h.goes_on h.keeps);
-  parts = λ some. let p = h.parts some in record { out = p.out ∙ sym (spawned_ticked es); parts = p.parts };
+  keeps = subst (λ (l : List Code). Keeps (count + 1 - r.noted) l r.kept) (sym (codes_ticked from os es)) (one_later r.noted count (codes_in from os es) r.kept h.goes_on h.keeps);
+  parts = λ some. let p = h.parts some in record { out = p.out ∙ sym (spawned_ticked from os es); parts = p.parts };
   from_main = h.from_main;
-  apart = with_block os es (ticked es) open_ h.apart (ticked_apart es (block_of_open os es open_ h.apart));
+  apart = with_block from os es (ticked es) open_ h.apart (ticked_apart es (block_of_open from os es open_ h.apart));
 }
 
 -- a part begins in place that is cut by nothing
@@ -181,159 +236,163 @@ quiet_kind : (mark : Option Mark) → IsQuiet mark → (site : ℕ) → mark ≡
 quiet_kind mark q site e = subst IsQuiet e q
 
 pub quiet_begins : (old new : Recorder) (count : ℕ) → Stacks old new kind.Quiet old.out → IsSome old.kept → BeginsQuiet old new count
-quiet_begins old new count s some mark os es quiet small open_ h =
+quiet_begins old new count s some from mark os es quiet small open_ h =
     let p = h.parts some in
     let o : Open = record { spawned = false; mark = mark; outer = ticked es } in
-    let a = codes_in os es in
-    let codes = codes_begun false mark os es open_ ∙ ap (λ (l : List Code). a ++ Instructions 1 ∷ l) (no_opening mark (has_spawned es) quiet) in
+    let a = codes_in from os es in
+    let codes = codes_begun false mark from os es open_ ∙ ap (λ (l : List Code). a ++ Instructions 1 ∷ l) (no_opening mark (out_in from os es) quiet) in
     let kept = one_later old.noted count a old.kept h.goes_on h.keeps in
     record {
       goes_on = omega (arith, h.goes_on, s.noted);
-      keeps = subst (λ (n : ℕ). Keeps (count + 1 - n) (codes_in (begun false mark es os) []) new.kept) (sym s.noted)
-          (subst (λ (k : Recorded). Keeps (count + 1 - old.noted) (codes_in (begun false mark es os) []) k) (sym s.kept)
+      keeps = subst (λ (n : ℕ). Keeps (count + 1 - n) (codes_in from (begun false mark es os) []) new.kept) (sym s.noted)
+          (subst (λ (k : Recorded). Keeps (count + 1 - old.noted) (codes_in from (begun false mark es os) []) k) (sym s.kept)
           (subst (λ (l : List Code). Keeps (count + 1 - old.noted) l old.kept) (sym codes) kept));
       parts = λ x. record {
         out = s.out;
-        parts = parts_pushed o os (record { kind = kind.Quiet; out = old.out }) old.parts.items new.parts.items
-            open_ s.pushed (refl, quiet_kind mark quiet) (p.out ∙ sym (spawned_ticked es)) p.parts;
+        parts = parts_pushed from o os (record { kind = kind.Quiet; out = old.out }) old.parts.items new.parts.items
+            open_ s.pushed (refl, quiet_kind mark quiet) (p.out ∙ sym (spawned_ticked from os es)) p.parts;
       };
-      from_main = main_in o os open_ h.from_main;
-      apart = begun_apart o os es open_ refl h.apart;
+      from_main = main_in from o os open_ h.from_main;
+      apart = begun_apart from o os es open_ refl h.apart;
     }
 
 -- a part begins that is cut
-cut_begins : (old mid new : Recorder) (count : ℕ) (k : PartKind) (code : Code) (out spawned : Bool) (mark : Option Mark) (os : List Open)
+cut_begins : (old mid new : Recorder) (count : ℕ) (k : PartKind) (code : Code) (out spawned : Bool) (mark : Option Mark) (from : Origin) (os : List Open)
     (es : List Event) → Notes old mid (count + 1) (code ∷ []) → Stacks mid new k out → IsSome old.kept
     → IsOfKind (record { spawned = spawned; mark = mark; outer = ticked es }) k
-    → (old.out ≡ has_spawned es → opening spawned mark (has_spawned es) ≡ code ∷ [])
-    → (old.out ≡ has_spawned es → out ≡ out_behind spawned (has_spawned (ticked es))) → IsOpen os → RecordsIn count os es old
-    → RecordsIn (count + 1) (begun spawned mark es os) [] new
-cut_begins old mid new count k code out spawned mark os es n s some is code_is out_is open_ h =
+    → (old.out ≡ out_in from os es → opening spawned mark (out_in from os es) ≡ code ∷ [])
+    → (old.out ≡ out_in from os es → out ≡ out_behind spawned (out_in from os (ticked es))) → IsOpen from os → RecordsIn from count os es old
+    → RecordsIn from (count + 1) (begun spawned mark es os) [] new
+cut_begins old mid new count k code out spawned mark from os es n s some is code_is out_is open_ h =
     let p = h.parts some in
     let o : Open = record { spawned = spawned; mark = mark; outer = ticked es } in
-    let a = codes_in os es in
-    let codes = codes_begun spawned mark os es open_ ∙ ap (λ (l : List Code). a ++ Instructions 1 ∷ l) (code_is p.out) in
+    let a = codes_in from os es in
+    let codes = codes_begun spawned mark from os es open_ ∙ ap (λ (l : List Code). a ++ Instructions 1 ∷ l) (code_is p.out) in
     let c = cut_next old mid count code a n h.goes_on h.keeps in
     record {
       goes_on = omega (arith, c.0, s.noted);
-      keeps = subst (λ (x : ℕ). Keeps (count + 1 - x) (codes_in (begun spawned mark es os) []) new.kept) (sym s.noted)
-          (subst (λ (x : Recorded). Keeps (count + 1 - mid.noted) (codes_in (begun spawned mark es os) []) x) (sym s.kept)
+      keeps = subst (λ (x : ℕ). Keeps (count + 1 - x) (codes_in from (begun spawned mark es os) []) new.kept) (sym s.noted)
+          (subst (λ (x : Recorded). Keeps (count + 1 - mid.noted) (codes_in from (begun spawned mark es os) []) x) (sym s.kept)
           (subst (λ (l : List Code). Keeps (count + 1 - mid.noted) l mid.kept) (sym codes) c.1));
       parts = λ x. record {
         out = s.out;
-        parts = parts_pushed o os (record { kind = k; out = out }) old.parts.items new.parts.items open_
+        parts = parts_pushed from o os (record { kind = k; out = out }) old.parts.items new.parts.items open_
             (s.pushed ∙ ap (λ (l : List Part). l ++ record { kind = k; out = out } ∷ []) n.parts) is (out_is p.out) p.parts;
       };
-      from_main = main_in o os open_ h.from_main;
-      apart = begun_apart o os es open_ refl h.apart;
+      from_main = main_in from o os open_ h.from_main;
+      apart = begun_apart from o os es open_ refl h.apart;
     }
 
 pub child_begins : (old mid new : Recorder) (count next : ℕ) → Notes old mid next (Spawned (not old.out) ∷ []) → Stacks mid new kind.Child true
     → IsSome old.kept → (count < MOST_LIMIT → next ≡ count + 1) → BeginsChild old new count
-child_begins old mid new count next n s some sat mark os es small open_ h =
-    cut_begins old mid new count kind.Child (Spawned (not old.out)) true true mark os es
+child_begins old mid new count next n s some sat from mark os es small open_ h =
+    cut_begins old mid new count kind.Child (Spawned (not old.out)) true true mark from os es
     (subst (λ (x : ℕ). Notes old mid x (Spawned (not old.out) ∷ [])) (sat small) n) s some refl
     (λ e. ap (λ (b : Bool). Spawned (not b) ∷ []) (sym e)) (λ e. refl) open_ h
 
 pub call_begins : (old mid new : Recorder) (count next : ℕ) → Notes old mid next (Called ∷ []) → Stacks mid new kind.Call mid.out → IsSome old.kept
     → (count < MOST_LIMIT → next ≡ count + 1) → BeginsCall old new count
-call_begins old mid new count next n s some sat site os es small open_ h =
-    cut_begins old mid new count kind.Call Called mid.out false (Some (Invocation site)) os es
-    (subst (λ (x : ℕ). Notes old mid x (Called ∷ [])) (sat small) n) s some (refl, (site, refl)) (λ e. refl) (λ e. n.out ∙ e ∙ sym (spawned_ticked es)) open_ h
+call_begins old mid new count next n s some sat from site os es small open_ h =
+    cut_begins old mid new count kind.Call Called mid.out false (Some (Invocation site)) from os es
+    (subst (λ (x : ℕ). Notes old mid x (Called ∷ [])) (sat small) n) s some (refl, (site, refl)) (λ e. refl) (λ e. n.out ∙ e ∙ sym (spawned_ticked from os es)) open_ h
 
 -- the block that runs joins
 pub block_joins : (old new : Recorder) (count : ℕ) → Joins old new count → new.out ≡ false → new.parts.items ≡ old.parts.items → IsSome old.kept → Syncs old new count
-block_joins old new count joins out same some os es small open_ h =
+block_joins old new count joins out same some from os es small open_ h =
     let p = h.parts some in
-    let a = codes_in os es in
+    let a = codes_in from os es in
     let j = joins a h.goes_on h.keeps in
     let later = one_later new.noted count (a ++ to_join old.out) new.kept j.0 j.1 in
-    let codes = codes_synced os es open_ ∙ ap (λ (b : Bool). a ++ (to_join b ++ Instructions 1 ∷ [])) (sym p.out) ∙ sym (append_assoc a (to_join old.out) (Instructions 1 ∷ [])) in
+    let codes = codes_synced from os es open_ ∙ ap (λ (b : Bool). a ++ (to_join b ++ Instructions 1 ∷ [])) (sym p.out) ∙ sym (append_assoc a (to_join old.out) (Instructions 1 ∷ [])) in
     record {
       goes_on = omega (arith, j.0);
       keeps = subst (λ (l : List Code). Keeps (count + 1 - new.noted) l new.kept) (sym codes) later;
-      parts = λ x. record { out = out ∙ sym (spawned_synced es); parts = subst (λ (l : List Part). AreParts os (reverse l)) (sym same) p.parts };
+      parts = λ x. record { out = out ∙ sym (spawned_synced from os es); parts = subst (λ (l : List Part). AreParts from os (reverse l)) (sym same) p.parts };
       from_main = h.from_main;
-      apart = with_block os es (synced es) open_ h.apart (synced_apart es (block_of_open os es open_ h.apart));
+      apart = with_block from os es (synced es) open_ h.apart (synced_apart es (block_of_open from os es open_ h.apart));
     }
 
 -- a block joins and ends
 pub block_ends : (old mid new : Recorder) (count : ℕ) → Joins old mid count → mid.out ≡ false → mid.parts.items ≡ old.parts.items → Closes mid new count → IsSome old.kept → Ends old new count
-block_ends old mid new count joins out same closes some o os es quiet small open_ h =
+block_ends old mid new count joins out same closes some from o os es quiet small open_ h =
     let p = h.parts some in
-    let a = codes_in (o ∷ os) es in
+    let a = codes_in from (o ∷ os) es in
     let j = joins a h.goes_on h.keeps in
-    let c = closes (a ++ to_join old.out) o os es h.from_main out (subst (λ (l : List Part). AreParts (o ∷ os) (reverse l)) (sym same) p.parts) j.0 j.1 in
-    let later = one_later new.noted count ((a ++ to_join old.out) ++ ending_in o os) new.kept c.0 c.1 in
-    let d = ending_in o os in
+    let c = closes (a ++ to_join old.out) from o os es h.from_main out (subst (λ (l : List Part). AreParts from (o ∷ os) (reverse l)) (sym same) p.parts) j.0 j.1 in
+    let later = one_later new.noted count ((a ++ to_join old.out) ++ ending_in from o os) new.kept c.0 c.1 in
+    let d = ending_in from o os in
     let i = Instructions 1 ∷ [] in
-    let regroup : ((a ++ to_join old.out) ++ d) ++ i ≡ a ++ (to_join (has_spawned es) ++ (d ++ i)) =
+    let regroup : ((a ++ to_join old.out) ++ d) ++ i ≡ a ++ (to_join (out_in from (o ∷ os) es) ++ (d ++ i)) =
     append_assoc (a ++ to_join old.out) d i ∙ append_assoc a (to_join old.out) (d ++ i) ∙ ap (λ (b : Bool). a ++ (to_join b ++ (d ++ i))) p.out in
     record {
       goes_on = omega (arith, c.0);
-      keeps = keeps_as (count + 1 - new.noted) (a ++ (to_join (has_spawned es) ++ (d ++ i))) (codes_in os (ticked (closed o es))) new.kept (codes_ended o os es h.from_main)
+      keeps = keeps_as (count + 1 - new.noted) (a ++ (to_join (out_in from (o ∷ os) es) ++ (d ++ i))) (codes_in from os (ticked (closed o es))) new.kept (codes_ended from o os es h.from_main)
           (subst (λ (l : List Code). Keeps (count + 1 - new.noted) l new.kept) regroup later);
-      parts = λ x. record { out = c.2.out ∙ sym (spawned_ticked (closed o es)); parts = c.2.parts };
-      from_main = main_round o os h.from_main;
-      apart = ended_apart o os es h.from_main quiet h.apart;
+      parts = λ x. record { out = c.2.out ∙ sym (spawned_ticked from os (closed o es)); parts = c.2.parts };
+      from_main = main_round from o os h.from_main;
+      apart = ended_apart from o os es h.from_main quiet h.apart;
     }
 
 pub call_ends : (old mid new : Recorder) (count next : ℕ) → Joins old mid count → mid.out ≡ false → mid.parts.items ≡ old.parts.items
     → Closes mid new next → IsSome old.kept → (count < MOST_LIMIT → next ≡ count + 1) → Returns old new count
-call_ends old mid new count next joins out same ends some sat o os es small open_ h =
+call_ends old mid new count next joins out same ends some sat from o os es small open_ h =
     let closes = subst (λ (x : ℕ). Closes mid new x) (sat small) ends in
     let p = h.parts some in
-    let a = codes_in (o ∷ os) es in
+    let a = codes_in from (o ∷ os) es in
     let j = joins a h.goes_on h.keeps in
     let later = one_later mid.noted count (a ++ to_join old.out) mid.kept j.0 j.1 in
-    let d = ending_in o os in
+    let d = ending_in from o os in
     let i = Instructions 1 ∷ [] in
-    let c = closes ((a ++ to_join old.out) ++ i) o os (synced es) h.from_main out (subst (λ (l : List Part). AreParts (o ∷ os) (reverse l)) (sym same) p.parts) (omega (arith, j.0)) later in
-    let regroup : ((a ++ to_join old.out) ++ i) ++ d ≡ a ++ (to_join (has_spawned es) ++ Instructions 1 ∷ d) =
+    let c = closes ((a ++ to_join old.out) ++ i) from o os (synced es) h.from_main out (subst (λ (l : List Part). AreParts from (o ∷ os) (reverse l)) (sym same) p.parts) (omega (arith, j.0)) later in
+    let regroup : ((a ++ to_join old.out) ++ i) ++ d ≡ a ++ (to_join (out_in from (o ∷ os) es) ++ Instructions 1 ∷ d) =
     append_assoc (a ++ to_join old.out) i d ∙ append_assoc a (to_join old.out) (Instructions 1 ∷ d) ∙ ap (λ (b : Bool). a ++ (to_join b ++ Instructions 1 ∷ d)) p.out in
     record {
       goes_on = c.0;
-      keeps = keeps_as (count + 1 - new.noted) (a ++ (to_join (has_spawned es) ++ Instructions 1 ∷ d)) (codes_in os (closed o (synced es))) new.kept (codes_returned o os es h.from_main)
+      keeps = keeps_as (count + 1 - new.noted) (a ++ (to_join (out_in from (o ∷ os) es) ++ Instructions 1 ∷ d)) (codes_in from os (closed o (synced es))) new.kept
+          (codes_returned from o os es h.from_main)
           (subst (λ (l : List Code). Keeps (count + 1 - new.noted) l new.kept) regroup c.1);
       parts = λ x. c.2;
-      from_main = main_round o os h.from_main;
-      apart = returned_apart o os es h.from_main h.apart;
+      from_main = main_round from o os h.from_main;
+      apart = returned_apart from o os es h.from_main h.apart;
     }
 
 -- the innermost part is kept no more
-record Popped (o : Open) (os : List Open) (part : Part) (left : List Part) : Type 0 where
-  inner : IsOpen os
+record Popped (from : Origin) (o : Open) (os : List Open) (part : Part) (left : List Part) : Type 0 where
+  inner : IsOpen from os
   is : IsOfKind o part.kind
-  out : part.out ≡ out_behind o.spawned (has_spawned o.outer)
-  parts : AreParts os (reverse left)
+  out : part.out ≡ out_behind o.spawned (out_in from os o.outer)
+  parts : AreParts from os (reverse left)
 
-popped : (o : Open) (os : List Open) (part : Part) (old left : List Part) → old ≡ left ++ part ∷ [] → AreParts (o ∷ os) (reverse old) → Popped o os part left
-popped o os part old left e h = at os (subst (λ (x : List Part). AreParts (o ∷ os) x) (ap (λ (x : List Part). reverse x) e ∙ reverse_pushed left part) h)
+popped : (from : Origin) (o : Open) (os : List Open) (part : Part) (old left : List Part) → old ≡ left ++ part ∷ [] → AreParts from (o ∷ os) (reverse old) → Popped from o os part left
+popped from o os part old left e h = at from os (subst (λ (x : List Part). AreParts from (o ∷ os) x) (ap (λ (x : List Part). reverse x) e ∙ reverse_pushed left part) h)
   where
-    at : (os : List Open) → AreParts (o ∷ os) (part ∷ reverse left) → Popped o os part left
-    at [] h = absurd h
-    at (q ∷ os) h = record { inner = tt; is = h.0; out = h.1; parts = h.2 }
+    at : (from : Origin) (os : List Open) → AreParts from (o ∷ os) (part ∷ reverse left) → Popped from o os part left
+    at Main [] h = absurd h
+    at Main (q ∷ os) h = record { inner = tt; is = h.0.0; out = h.0.1; parts = h.1 }
+    at (Rest site) os h = record { inner = tt; is = h.0.0; out = h.0.1; parts = h.1 }
 
 behind_is : (spawned out : Bool) (t : Tree) → spawned_after out (part_of spawned t) ≡ out_behind spawned out
 behind_is true out t = refl
 behind_is false out t = refl
 
-spawned_closed : (o : Open) (es : List Event) → has_spawned (closed o es) ≡ out_behind o.spawned (has_spawned o.outer)
-spawned_closed o es =
+spawned_closed : (from : Origin) (o : Open) (os : List Open) (es : List Event) → out_in from os (closed o es) ≡ out_behind o.spawned (out_in from os o.outer)
+spawned_closed from o os es =
     let t = marked o.mark (tree_of es) in
-    spawned_append false o.outer (part_of o.spawned t ∷ []) ∙ behind_is o.spawned (has_spawned o.outer) t
+    out_more from os o.outer (part_of o.spawned t ∷ []) ∙ behind_is o.spawned (out_in from os o.outer) t
 
-ending_child : (o : Open) (os : List Open) → IsOpen os → o.spawned ≡ true → ending_in o os ≡ Ended ∷ []
-ending_child o [] open_ e = absurd open_
-ending_child o (p ∷ os) open_ e = ap (λ (b : Bool). ending b o.mark) e
+ending_inside : (from : Origin) (o : Open) (os : List Open) → IsOpen from os → ending_in from o os ≡ ending o.spawned o.mark
+ending_inside Main o [] open_ = absurd open_
+ending_inside Main o (p ∷ os) open_ = refl
+ending_inside (Rest site) o os open_ = refl
 
-ending_call : (o : Open) (os : List Open) (site : ℕ) → IsOpen os → o.spawned ≡ false → o.mark ≡ Some (Invocation site) → ending_in o os ≡ Called ∷ []
-ending_call o [] site open_ e f = absurd open_
-ending_call o (p ∷ os) site open_ e f = ap (λ (b : Bool). ending b o.mark) e ∙ ap (λ (m : Option Mark). ending false m) f
+ending_child : (from : Origin) (o : Open) (os : List Open) → IsOpen from os → o.spawned ≡ true → ending_in from o os ≡ Ended ∷ []
+ending_child from o os open_ e = ending_inside from o os open_ ∙ ap (λ (b : Bool). ending b o.mark) e
 
-ending_quiet : (o : Open) (os : List Open) → IsOpen os → o.spawned ≡ false → ((site : ℕ) → o.mark ≡ Some (Invocation site) → ⊥) → ending_in o os ≡ []
-ending_quiet o [] open_ e f = absurd open_
-ending_quiet o (p ∷ os) open_ e f = ap (λ (b : Bool). ending b o.mark) e ∙ at o.mark f
+ending_call : (from : Origin) (o : Open) (os : List Open) (site : ℕ) → IsOpen from os → o.spawned ≡ false → o.mark ≡ Some (Invocation site) → ending_in from o os ≡ Called ∷ []
+ending_call from o os site open_ e f = ending_inside from o os open_ ∙ ap (λ (b : Bool). ending b o.mark) e ∙ ap (λ (m : Option Mark). ending false m) f
+
+ending_quiet : (from : Origin) (o : Open) (os : List Open) → IsOpen from os → o.spawned ≡ false → ((site : ℕ) → o.mark ≡ Some (Invocation site) → ⊥) → ending_in from o os ≡ []
+ending_quiet from o os open_ e f = ending_inside from o os open_ ∙ ap (λ (b : Bool). ending b o.mark) e ∙ at o.mark f
   where
     at : (m : Option Mark) → ((site : ℕ) → m ≡ Some (Invocation site) → ⊥) → ending false m ≡ []
     at None f = refl
@@ -343,63 +402,64 @@ ending_quiet o (p ∷ os) open_ e f = ap (λ (b : Bool). ending b o.mark) e ∙ 
 -- a part ends by a cut
 pub closes_cut : (old mid new : Recorder) (count : ℕ) (part : Part) (code : Code) → old.parts.items ≡ mid.parts.items ++ part ∷ []
     → mid.out ≡ part.out → mid.noted ≡ old.noted → mid.kept ≡ old.kept → Notes mid new count (code ∷ [])
-    → ((o : Open) (os : List Open) → IsOpen os → IsOfKind o part.kind → ending_in o os ≡ code ∷ []) → Closes old new count
-closes_cut old mid new count part code pops out noted kept n ends codes o os es main joined parts le h =
-    let p = popped o os part old.parts.items mid.parts.items pops parts in
+    → ((from : Origin) (o : Open) (os : List Open) → IsOpen from os → IsOfKind o part.kind → ending_in from o os ≡ code ∷ []) → Closes old new count
+closes_cut old mid new count part code pops out noted kept n ends codes from o os es main joined parts le h =
+    let p = popped from o os part old.parts.items mid.parts.items pops parts in
     let at_mid = subst (λ (x : ℕ). Keeps (count - x) codes mid.kept) (sym noted) (subst (λ (k : Recorded). Keeps (count - old.noted) codes k) (sym kept) h) in
     let c = cut_here mid new count code codes n (omega (arith, le, noted)) at_mid in (
       c.0,
-      subst (λ (l : List Code). Keeps (count - new.noted) (codes ++ l) new.kept) (sym (ends o os p.inner p.is)) c.1,
+      subst (λ (l : List Code). Keeps (count - new.noted) (codes ++ l) new.kept) (sym (ends from o os p.inner p.is)) c.1,
       record {
-        out = n.out ∙ out ∙ p.out ∙ sym (spawned_closed o es);
-        parts = subst (λ (l : List Part). AreParts os (reverse l)) (sym n.parts) p.parts;
+        out = n.out ∙ out ∙ p.out ∙ sym (spawned_closed from o os es);
+        parts = subst (λ (l : List Part). AreParts from os (reverse l)) (sym n.parts) p.parts;
       },
     )
 
 pub child_closes : (old mid new : Recorder) (count : ℕ) (part : Part) → part.kind ≡ kind.Child → old.parts.items ≡ mid.parts.items ++ part ∷ []
     → mid.out ≡ part.out → mid.noted ≡ old.noted → mid.kept ≡ old.kept → Notes mid new count (Ended ∷ []) → Closes old new count
 child_closes old mid new count part e pops out noted kept n =
-    closes_cut old mid new count part Ended pops out noted kept n (λ o os inner is. ending_child o os inner (subst (IsOfKind o) e is))
+    closes_cut old mid new count part Ended pops out noted kept n (λ from o os inner is. ending_child from o os inner (subst (IsOfKind o) e is))
 
 pub call_closes : (old mid new : Recorder) (count : ℕ) (part : Part) → part.kind ≡ kind.Call → old.parts.items ≡ mid.parts.items ++ part ∷ []
     → mid.out ≡ part.out → mid.noted ≡ old.noted → mid.kept ≡ old.kept → Notes mid new count (Called ∷ []) → Closes old new count
 call_closes old mid new count part e pops out noted kept n =
-    closes_cut old mid new count part Called pops out noted kept n (λ o os inner is. let a = subst (IsOfKind o) e is in ending_call o os a.1.0 inner a.0 a.1.1)
+    closes_cut old mid new count part Called pops out noted kept n (λ from o os inner is. let a = subst (IsOfKind o) e is in ending_call from o os a.1.0 inner a.0 a.1.1)
 
 -- a part ends that is cut by nothing
 pub quiet_closes : (old new : Recorder) (count : ℕ) (part : Part) → part.kind ≡ kind.Quiet → old.parts.items ≡ new.parts.items ++ part ∷ []
     → new.out ≡ part.out → new.noted ≡ old.noted → new.kept ≡ old.kept → Closes old new count
-quiet_closes old new count part e pops out noted kept codes o os es main joined parts le h =
-    let p = popped o os part old.parts.items new.parts.items pops parts in
+quiet_closes old new count part e pops out noted kept codes from o os es main joined parts le h =
+    let p = popped from o os part old.parts.items new.parts.items pops parts in
     let a = subst (IsOfKind o) e p.is in
-    let none = ending_quiet o os p.inner a.0 a.1 in
+    let none = ending_quiet from o os p.inner a.0 a.1 in
     let at_new = subst (λ (x : ℕ). Keeps (count - x) codes new.kept) (sym noted) (subst (λ (k : Recorded). Keeps (count - old.noted) codes k) (sym kept) h) in (
       omega (arith, le, noted),
       subst (λ (l : List Code). Keeps (count - new.noted) l new.kept) (sym (ap (λ (l : List Code). codes ++ l) none ∙ append-nil codes)) at_new,
-      record { out = out ∙ p.out ∙ sym (spawned_closed o es); parts = p.parts },
+      record { out = out ∙ p.out ∙ sym (spawned_closed from o os es); parts = p.parts },
     )
 
 -- the run itself ends
 pub nothing_closes : (old new : Recorder) (count : ℕ) → old.parts.items ≡ [] → new.parts.items ≡ [] → new.out ≡ old.out → new.noted ≡ old.noted → new.kept ≡ old.kept → Closes old new count
-nothing_closes old new count none none' out noted kept codes o [] es main joined parts le h =
+nothing_closes old new count none none' out noted kept codes Main o [] es main joined parts le h =
     let at_new = subst (λ (x : ℕ). Keeps (count - x) codes new.kept) (sym noted) (subst (λ (k : Recorded). Keeps (count - old.noted) codes k) (sym kept) h) in
-    let spawned : has_spawned (closed o es) ≡ false =
-    spawned_closed o es ∙ ap (λ (b : Bool). out_behind b (has_spawned o.outer)) main.1 ∙ ap (λ (x : List Event). has_spawned x) main.0 in (
+    let spawned : out_in Main [] (closed o es) ≡ false =
+    spawned_closed Main o [] es ∙ ap (λ (b : Bool). out_behind b (out_in Main [] o.outer)) main.1 ∙ ap (λ (x : List Event). out_in Main [] x) main.0 in (
       omega (arith, le, noted),
       subst (λ (l : List Code). Keeps (count - new.noted) l new.kept) (sym (append-nil codes)) at_new,
-      record { out = out ∙ joined ∙ sym spawned; parts = subst (λ (l : List Part). AreParts [] (reverse l)) (sym none') tt },
+      record { out = out ∙ joined ∙ sym spawned; parts = subst (λ (l : List Part). AreParts Main [] (reverse l)) (sym none') tt },
     )
-nothing_closes old new count none none' out noted kept codes o (p ∷ os) es main joined parts le h = absurd (subst (λ (l : List Part). AreParts (o ∷ p ∷ os) (reverse l)) none parts)
+nothing_closes old new count none none' out noted kept codes Main o (p ∷ os) es main joined parts le h = absurd (subst (λ (l : List Part). AreParts Main (o ∷ p ∷ os) (reverse l)) none parts)
+nothing_closes old new count none none' out noted kept codes (Rest site) o os es main joined parts le h = absurd (subst (λ (l : List Part). AreParts (Rest site) (o ∷ os) (reverse l)) none parts)
 
 -- once there are too many strands, nothing is done
-idle : (r : Recorder) (count : ℕ) (os os' : List Open) (es es' : List Event) (added : List Code) → (IsSome r.kept → ⊥)
-    → Same (codes_in os es ++ added) (codes_in os' es') → IsFromMain os' → AreApart os' es' → RecordsIn count os es r → RecordsIn (count + 1) os' es' r
-idle r count os os' es es' added none same main apart h =
-    let a = cuts-append (codes_in os es) added in
-    let b = same_cuts (codes_in os es ++ added) (codes_in os' es') same in
+idle : (r : Recorder) (count : ℕ) (from : Origin) (os os' : List Open) (es es' : List Event) (added : List Code) → (IsSome r.kept → ⊥)
+    → Same (codes_in from os es ++ added) (codes_in from os' es') → IsFromMain from os' → AreApart from os' es' → RecordsIn from count os es r → RecordsIn from (count + 1) os' es' r
+idle r count from os os' es es' added none same main apart h =
+    let a = cuts-append (codes_in from os es) added in
+    let b = same_cuts (codes_in from os es ++ added) (codes_in from os' es') same in
     record {
       goes_on = omega (arith, h.goes_on);
-      keeps = none_more (count - r.noted) (count + 1 - r.noted) (codes_in os es) (codes_in os' es') r.kept none (omega (arith, a, b)) h.keeps;
+      keeps = none_more (count - r.noted) (count + 1 - r.noted) (codes_in from os es) (codes_in from os' es') r.kept none (omega (arith, a, b)) h.keeps;
       parts = λ some. absurd (none some);
       from_main = main;
       apart = apart;
@@ -408,38 +468,86 @@ idle r count os os' es es' added none same main apart h =
 equal : (a b : List Code) → a ≡ b → Same b a
 equal a b e = λ l. ap (λ (x : List Code). onto x l) (sym e)
 
-idle_begins : (r : Recorder) (count : ℕ) (spawned : Bool) (mark : Option Mark) (os : List Open) (es : List Event) → (IsSome r.kept → ⊥) → IsOpen os
-    → RecordsIn count os es r → RecordsIn (count + 1) (begun spawned mark es os) [] r
-idle_begins r count spawned mark os es none open_ h =
+idle_begins : (r : Recorder) (count : ℕ) (spawned : Bool) (mark : Option Mark) (from : Origin) (os : List Open) (es : List Event) → (IsSome r.kept → ⊥) → IsOpen from os
+    → RecordsIn from count os es r → RecordsIn from (count + 1) (begun spawned mark es os) [] r
+idle_begins r count spawned mark from os es none open_ h =
     let o : Open = record { spawned = spawned; mark = mark; outer = ticked es } in
-    idle r count os (begun spawned mark es os) es [] (Instructions 1 ∷ opening spawned mark (has_spawned es)) none
-    (equal (codes_in (begun spawned mark es os) []) (codes_in os es ++ Instructions 1 ∷ opening spawned mark (has_spawned es)) (codes_begun spawned mark os es open_))
-    (main_in o os open_ h.from_main) (begun_apart o os es open_ refl h.apart) h
+    idle r count from os (begun spawned mark es os) es [] (Instructions 1 ∷ opening spawned mark (out_in from os es)) none
+    (equal (codes_in from (begun spawned mark es os) []) (codes_in from os es ++ Instructions 1 ∷ opening spawned mark (out_in from os es)) (codes_begun spawned mark from os es open_))
+    (main_in from o os open_ h.from_main) (begun_apart from o os es open_ refl h.apart) h
 
 pub idle_child : (r : Recorder) (count : ℕ) → (IsSome r.kept → ⊥) → BeginsChild r r count
-idle_child r count none mark os es small open_ h = idle_begins r count true mark os es none open_ h
+idle_child r count none from mark os es small open_ h = idle_begins r count true mark from os es none open_ h
 
 pub idle_call : (r : Recorder) (count : ℕ) → (IsSome r.kept → ⊥) → BeginsCall r r count
-idle_call r count none site os es small open_ h = idle_begins r count false (Some (Invocation site)) os es none open_ h
+idle_call r count none from site os es small open_ h = idle_begins r count false (Some (Invocation site)) from os es none open_ h
 
 pub idle_quiet : (r : Recorder) (count : ℕ) → (IsSome r.kept → ⊥) → BeginsQuiet r r count
-idle_quiet r count none mark os es quiet small open_ h = idle_begins r count false mark os es none open_ h
+idle_quiet r count none from mark os es quiet small open_ h = idle_begins r count false mark from os es none open_ h
 
 pub idle_ends : (r : Recorder) (count : ℕ) → (IsSome r.kept → ⊥) → Ends r r count
-idle_ends r count none o os es quiet small open_ h =
-    idle r count (o ∷ os) os es (ticked (closed o es)) (to_join (has_spawned es) ++ (ending_in o os ++ Instructions 1 ∷ [])) none
-    (codes_ended o os es h.from_main) (main_round o os h.from_main) (ended_apart o os es h.from_main quiet h.apart) h
+idle_ends r count none from o os es quiet small open_ h =
+    idle r count from (o ∷ os) os es (ticked (closed o es)) (to_join (out_in from (o ∷ os) es) ++ (ending_in from o os ++ Instructions 1 ∷ [])) none
+    (codes_ended from o os es h.from_main) (main_round from o os h.from_main) (ended_apart from o os es h.from_main quiet h.apart) h
 
 pub idle_returns : (r : Recorder) (count : ℕ) → (IsSome r.kept → ⊥) → Returns r r count
-idle_returns r count none o os es small open_ h =
-    idle r count (o ∷ os) os es (closed o (synced es)) (to_join (has_spawned es) ++ Instructions 1 ∷ ending_in o os) none
-    (codes_returned o os es h.from_main) (main_round o os h.from_main) (returned_apart o os es h.from_main h.apart) h
+idle_returns r count none from o os es small open_ h =
+    idle r count from (o ∷ os) os es (closed o (synced es)) (to_join (out_in from (o ∷ os) es) ++ Instructions 1 ∷ ending_in from o os) none
+    (codes_returned from o os es h.from_main) (main_round from o os h.from_main) (returned_apart from o os es h.from_main h.apart) h
 
 pub idle_syncs : (r : Recorder) (count : ℕ) → (IsSome r.kept → ⊥) → Syncs r r count
-idle_syncs r count none os es small open_ h =
-    idle r count os os es (synced es) (to_join (has_spawned es) ++ Instructions 1 ∷ []) none
-    (equal (codes_in os (synced es)) (codes_in os es ++ (to_join (has_spawned es) ++ Instructions 1 ∷ [])) (codes_synced os es open_))
-    h.from_main (with_block os es (synced es) open_ h.apart (synced_apart es (block_of_open os es open_ h.apart))) h
+idle_syncs r count none from os es small open_ h =
+    idle r count from os os es (synced es) (to_join (out_in from os es) ++ Instructions 1 ∷ []) none
+    (equal (codes_in from os (synced es)) (codes_in from os es ++ (to_join (out_in from os es) ++ Instructions 1 ∷ [])) (codes_synced from os es open_))
+    h.from_main (with_block from os es (synced es) open_ h.apart (synced_apart es (block_of_open from os es open_ h.apart))) h
+
+-- a rest that was run apart
+rest_apart : (from : Origin) (site : ℕ) (os : List Open) (es fs : List Event) → IsOpen from os → AreApart from os es → AreApart (Rest site) [] fs → AreApart from os (es ++ fs)
+rest_apart from site os es fs open_ h g = with_block from os es (es ++ fs) open_ h (append_apart es fs (block_of_open from os es open_ h) g)
+
+-- all up to this count is noted
+settled : (old new : Recorder) (count : ℕ) (codes : List Code) → Notes old new count [] → old.noted ≤ count → Keeps (count - old.noted) codes old.kept → Keeps 0 codes new.kept
+settled old new count codes n le h =
+    let none : count - count ≡ 0 = omega arith in
+    keeps_as 0 (codes ++ Instructions (count - count) ∷ []) codes new.kept
+    (λ l. ap (λ (n : ℕ). onto (codes ++ Instructions n ∷ []) l) none ∙ nothing_behind codes l) (n.keeps count codes le (omega arith) h)
+
+pub rest_follows : (old mid rest ready new : Recorder) (count cost : ℕ) → Notes old mid count [] → Notes rest ready cost []
+    → new.kept ≡ followed mid.kept ready.kept → (count + cost ≤ MOST_LIMIT → new.noted ≡ count + cost) → new.out ≡ mid.out → new.parts.items ≡ mid.parts.items
+    → IsSome old.kept → Rests old rest new count cost
+rest_follows old mid rest ready new count cost n m kept noted out same some from site os es fs small open_ spawned no_joins h g =
+    let p = h.parts some in
+    let a = codes_in from os es in
+    let b = codes_in (Rest site) [] fs in
+    let at = noted small in
+    let zero_left : 0 ≡ count + cost - new.noted = omega (arith, at) in
+    let both = keeps_followed a b mid.kept ready.kept (settled old mid count a n h.goes_on h.keeps) (settled rest ready cost b m g.goes_on g.keeps) in
+    record {
+      goes_on = omega (arith, at);
+      keeps = subst (λ (n : ℕ). Keeps n (codes_in from os (es ++ fs)) new.kept) zero_left
+          (subst (λ (l : List Code). Keeps 0 l new.kept) (codes_rested from os es fs open_ spawned)
+          (subst (λ (k : Recorded). Keeps 0 (a ++ b) k) (sym kept) both));
+      parts = λ x. record {
+        out = out ∙ n.out ∙ p.out ∙ out_already from os es spawned ∙ sym (out_still from os es fs spawned no_joins);
+        parts = subst (λ (l : List Part). AreParts from os (reverse l)) (sym (same ∙ n.parts)) p.parts;
+      };
+      from_main = h.from_main;
+      apart = rest_apart from site os es fs open_ h.apart g.apart;
+    }
+
+pub idle_rests : (r rest : Recorder) (count cost : ℕ) → (IsSome r.kept → ⊥) → Rests r rest r count cost
+idle_rests r rest count cost none from site os es fs small open_ spawned no_joins h g =
+    let a = codes_in from os es in
+    let b = codes_in (Rest site) [] fs in
+    let c = cuts-append a b in
+    let d = ap cuts (codes_rested from os es fs open_ spawned) in
+    record {
+      goes_on = omega (arith, h.goes_on);
+      keeps = none_more (count - r.noted) (count + cost - r.noted) a (codes_in from os (es ++ fs)) r.kept none (omega (arith, c, d)) h.keeps;
+      parts = λ some. absurd (none some);
+      from_main = h.from_main;
+      apart = rest_apart from site os es fs open_ h.apart g.apart;
+    }
 
 -- what a whole run comes to
 kept_of : (t u : Tree) (k : Recorded) → Same (codes_of AsChild u) (codes_of AsChild t) → Keeps 0 (codes_of AsChild t) k → IsKept u k

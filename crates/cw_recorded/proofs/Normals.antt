@@ -5,7 +5,7 @@ use Rattle.std.proofs.lemmas.List.{append_assoc}
 use Rattle.cw_model.specs.Trees.{Tree, Leaf, Seq, Par, Marked, Mark, Invocation, Execution, Event, Work, Series, Join, leaf_before, part_before, before, normal, parts_of, tree_of}
 use Rattle.cw_model.specs.Trees as e
 use Rattle.cw_measure.specs.OpenParts.{Open, marked, part_of, closed}
-use Rattle.cw_meter.specs.Meters.{ticked, synced}
+use Rattle.cw_recorded.specs.Runs.{ticked, synced}
 use Rattle.cw_greedy.specs.declared.code.Code.{Code}
 use Rattle.cw_greedy.specs.declared.code.Code.TheVariants.{Instructions, Spawned, Ended, Joined, Called}
 use Rattle.cw_greedy.specs.Records.{instructions_before}

@@ -1,12 +1,14 @@
 -- What is kept of a run's codes, and what each move adds to them.
 use Rattle.std.specs.Prelude.{ℕ, zero, suc, ◌+◌, ◌≡◌, ◌≤◌, ◌<◌, Bool, true, false, Option, Some, None, List, [], ◌∷◌, ◌++◌, refl}
 use Rattle.std.proofs.Common.{arith, ap, sym, ◌∙◌}
+use Rattle.std.proofs.lemmas.Bool.{true≢false}
 use Rattle.std.proofs.lemmas.List.{append_assoc, append-nil}
 use Rattle.cw_model.specs.Trees.{Tree, Seq, Mark, Invocation, Execution, Event, Work, Series, Join, parts_of, tree_of}
 use Rattle.cw_model.specs.Trees as e
-use Rattle.cw_measure.specs.OpenParts.{Open, has_spawned_from, has_spawned, marked, part_of, closed}
+use Rattle.cw_measure.specs.OpenParts.{Open, has_spawned_from, has_spawned, no_joins, marked, part_of, closed}
 use Rattle.cw_measure.specs.lemmas.OpenParts.{spawned_append}
-use Rattle.cw_meter.specs.Meters.{ticked, synced, begun}
+use Rattle.cw_recorded.specs.Origins.{Origin, Main, Rest}
+use Rattle.cw_recorded.specs.Runs.{ticked, synced, begun}
 use Rattle.cw_greedy.specs.declared.code.Code.{Code}
 use Rattle.cw_greedy.specs.declared.code.Code.TheVariants.{Instructions, Spawned, Ended, Joined, Called}
 use Rattle.cw_model.specs.declared.limits.TheConstants.{MOST_STRANDS}
@@ -15,8 +17,8 @@ use Rattle.cw_greedy.specs.RecordLaws.{cuts-append, by_few, cut_small}
 use Rattle.cw_greedy.specs.Records.{instructions_before}
 use Rattle.cw_greedy.specs.Blocks.{InSeries, AsChild, codes_of, record_of, out_after}
 use Rattle.cw_recorded.specs.Merging.{onto, Same, to_join}
-use Rattle.cw_recorded.specs.Recording.{opening, ending, of_whole, codes_in, ending_in, Keeps, IsFromMain, IsOpen}
-use Rattle.cw_recorded.proofs.Merged.{onto-append, instructions_twice, same_before, same_through, nothing_behind, of_tree}
+use Rattle.cw_recorded.specs.Recording.{opening, ending, of_whole, begins_out, out_in, codes_in, ending_in, Keeps, IsFromMain, IsOpen}
+use Rattle.cw_recorded.proofs.Merged.{onto-append, instructions_twice, same_before, same_both, same_through, nothing_behind, of_tree}
 
 -- merging keeps the cuts
 cuts_before : (n : ℕ) (codes : List Code) → cuts (instructions_before n codes) ≡ cuts codes
@@ -103,14 +105,34 @@ record_more false (e.Fork t ∷ es) fs =
 record_more true (Join ∷ es) fs = ap (λ (l : List Code). Joined ∷ l) (record_more false es fs)
 record_more false (Join ∷ es) fs = record_more false es fs
 
-codes_more : (o : Open) (os : List Open) (es fs : List Event) → codes_in (o ∷ os) (es ++ fs) ≡ codes_in (o ∷ os) es ++ record_of (has_spawned es) fs
-codes_more o [] es fs = record_more false es fs
-codes_more o (p ∷ os) es fs =
-    let a = codes_in (p ∷ os) o.outer in
-    let b = opening o.spawned o.mark (has_spawned o.outer) in
+-- the codes of a block inside of others
+codes_inside : (from : Origin) (o : Open) (os : List Open) (es : List Event) → IsOpen from os
+    → codes_in from (o ∷ os) es ≡ codes_in from os o.outer ++ (opening o.spawned o.mark (out_in from os o.outer) ++ record_of false es)
+codes_inside Main o [] es open_ = absurd open_
+codes_inside Main o (p ∷ os) es open_ = refl
+codes_inside (Rest site) o os es open_ = refl
+
+inside_more : (from : Origin) (o : Open) (os : List Open) (es fs : List Event) → IsOpen from os
+    → codes_in from (o ∷ os) (es ++ fs) ≡ codes_in from (o ∷ os) es ++ record_of (has_spawned es) fs
+inside_more from o os es fs open_ =
+    let a = codes_in from os o.outer in
+    let b = opening o.spawned o.mark (out_in from os o.outer) in
     let c = record_of false es in
     let d = record_of (has_spawned es) fs in
-    ap (λ (l : List Code). a ++ (b ++ l)) (record_more false es fs) ∙ ap (λ (l : List Code). a ++ l) (sym (append_assoc b c d)) ∙ sym (append_assoc a (b ++ c) d)
+    codes_inside from o os (es ++ fs) open_
+    ∙ ap (λ (l : List Code). a ++ (b ++ l)) (record_more false es fs) ∙ ap (λ (l : List Code). a ++ l) (sym (append_assoc b c d)) ∙ sym (append_assoc a (b ++ c) d)
+    ∙ ap (λ (l : List Code). l ++ d) (sym (codes_inside from o os es open_))
+
+pub codes_more : (from : Origin) (os : List Open) (es fs : List Event) → IsOpen from os
+    → codes_in from os (es ++ fs) ≡ codes_in from os es ++ record_of (out_in from os es) fs
+codes_more Main [] es fs open_ = absurd open_
+codes_more Main (o ∷ []) es fs open_ = record_more false es fs
+codes_more Main (o ∷ p ∷ os) es fs open_ = inside_more Main o (p ∷ os) es fs tt
+codes_more (Rest site) [] es fs open_ = record_more true es fs
+codes_more (Rest site) (o ∷ os) es fs open_ = inside_more (Rest site) o os es fs tt
+
+pub out_more : (from : Origin) (os : List Open) (es fs : List Event) → out_in from os (es ++ fs) ≡ has_spawned_from (out_in from os es) fs
+out_more from os es fs = spawned_append (begins_out from os) es fs
 
 -- an instruction
 whole_ticked : (es : List Event) → of_whole (ticked es) ≡ of_whole es ++ Instructions 1 ∷ []
@@ -120,25 +142,27 @@ whole_ticked (Work k ∷ es) = record_more false (Work k ∷ es) (Work 1 ∷ [])
 whole_ticked (e.Fork t ∷ es) = record_more false (e.Fork t ∷ es) (Work 1 ∷ [])
 whole_ticked (Join ∷ es) = record_more false es (Work 1 ∷ [])
 
-pub codes_ticked : (os : List Open) (es : List Event) → codes_in os (ticked es) ≡ codes_in os es ++ Instructions 1 ∷ []
-codes_ticked [] es = whole_ticked es
-codes_ticked (o ∷ os) es = codes_more o os es (Work 1 ∷ [])
+pub codes_ticked : (from : Origin) (os : List Open) (es : List Event) → codes_in from os (ticked es) ≡ codes_in from os es ++ Instructions 1 ∷ []
+codes_ticked Main [] es = whole_ticked es
+codes_ticked Main (o ∷ os) es = codes_more Main (o ∷ os) es (Work 1 ∷ []) tt
+codes_ticked (Rest site) os es = codes_more (Rest site) os es (Work 1 ∷ []) tt
 
-pub spawned_ticked : (es : List Event) → has_spawned (ticked es) ≡ has_spawned es
-spawned_ticked es = spawned_append false es (Work 1 ∷ [])
+pub spawned_ticked : (from : Origin) (os : List Open) (es : List Event) → out_in from os (ticked es) ≡ out_in from os es
+spawned_ticked from os es = out_more from os es (Work 1 ∷ [])
 
-pub spawned_synced : (es : List Event) → has_spawned (synced es) ≡ false
-spawned_synced es = spawned_append false es (Join ∷ Work 1 ∷ [])
+pub spawned_synced : (from : Origin) (os : List Open) (es : List Event) → out_in from os (synced es) ≡ false
+spawned_synced from os es = out_more from os es (Join ∷ Work 1 ∷ [])
 
 -- a part begins
-pub codes_begun : (spawned : Bool) (mark : Option Mark) (os : List Open) (es : List Event) → IsOpen os
-    → codes_in (begun spawned mark es os) [] ≡ codes_in os es ++ Instructions 1 ∷ opening spawned mark (has_spawned es)
-codes_begun spawned mark [] es open_ = absurd open_
-codes_begun spawned mark (o ∷ os) es open_ =
-    let a = codes_in (o ∷ os) es in
-    let b = opening spawned mark (has_spawned es) in
-    ap (λ (l : List Code). l ++ (opening spawned mark (has_spawned (ticked es)) ++ [])) (codes_ticked (o ∷ os) es)
-    ∙ ap (λ (x : Bool). (a ++ Instructions 1 ∷ []) ++ (opening spawned mark x ++ [])) (spawned_ticked es)
+pub codes_begun : (spawned : Bool) (mark : Option Mark) (from : Origin) (os : List Open) (es : List Event) → IsOpen from os
+    → codes_in from (begun spawned mark es os) [] ≡ codes_in from os es ++ Instructions 1 ∷ opening spawned mark (out_in from os es)
+codes_begun spawned mark from os es open_ =
+    let o : Open = record { spawned = spawned; mark = mark; outer = ticked es } in
+    let a = codes_in from os es in
+    let b = opening spawned mark (out_in from os es) in
+    codes_inside from o os [] open_
+    ∙ ap (λ (l : List Code). l ++ (opening spawned mark (out_in from os (ticked es)) ++ [])) (codes_ticked from os es)
+    ∙ ap (λ (x : Bool). (a ++ Instructions 1 ∷ []) ++ (opening spawned mark x ++ [])) (spawned_ticked from os es)
     ∙ ap (λ (l : List Code). (a ++ Instructions 1 ∷ []) ++ l) (append-nil b)
     ∙ append_assoc a (Instructions 1 ∷ []) b
 
@@ -147,9 +171,9 @@ join_record : (b : Bool) → record_of b (Join ∷ Work 1 ∷ []) ≡ to_join b 
 join_record true = refl
 join_record false = refl
 
-pub codes_synced : (os : List Open) (es : List Event) → IsOpen os → codes_in os (synced es) ≡ codes_in os es ++ (to_join (has_spawned es) ++ Instructions 1 ∷ [])
-codes_synced [] es open_ = absurd open_
-codes_synced (o ∷ os) es open_ = codes_more o os es (Join ∷ Work 1 ∷ []) ∙ ap (λ (l : List Code). codes_in (o ∷ os) es ++ l) (join_record (has_spawned es))
+pub codes_synced : (from : Origin) (os : List Open) (es : List Event) → IsOpen from os
+    → codes_in from os (synced es) ≡ codes_in from os es ++ (to_join (out_in from os es) ++ Instructions 1 ∷ [])
+codes_synced from os es open_ = codes_more from os es (Join ∷ Work 1 ∷ []) open_ ∙ ap (λ (l : List Code). codes_in from os es ++ l) (join_record (out_in from os es))
 
 -- a part ends
 as_child : (mark : Option Mark) (a b : Tree) → codes_of AsChild (marked mark (Seq a b)) ≡ codes_of InSeries (Seq a b)
@@ -175,48 +199,105 @@ whole_closed o es e0 e1 =
     ∙ append-nil (codes_of AsChild t)
     ∙ as_child o.mark (parts_of es).0 (parts_of es).1
 
-pub codes_closed : (o : Open) (os : List Open) (es : List Event) → IsFromMain (o ∷ os) → Same (codes_in (o ∷ os) es ++ (to_join (has_spawned es) ++ ending_in o os)) (codes_in os (closed o es))
-codes_closed o [] es main = λ l.
-    ap (λ (x : List Code). onto (record_of false es ++ x) l) (append-nil (to_join (has_spawned es)))
-    ∙ block_same es l
-    ∙ ap (λ (x : List Code). onto x l) (sym (whole_closed o es main.0 main.1))
-codes_closed o (p ∷ os) es main = λ l.
-    let a = codes_in (p ∷ os) o.outer in
-    let b = opening o.spawned o.mark (has_spawned o.outer) in
+inside_closed : (from : Origin) (o : Open) (os : List Open) (es : List Event) → IsOpen from os
+    → Same (codes_in from (o ∷ os) es ++ (to_join (has_spawned es) ++ ending o.spawned o.mark)) (codes_in from os (closed o es))
+inside_closed from o os es open_ = λ l.
+    let a = codes_in from os o.outer in
+    let b = opening o.spawned o.mark (out_in from os o.outer) in
     let r = record_of false es in
     let j = to_join (has_spawned es) in
     let t = codes_of InSeries (tree_of es) in
     let d = ending o.spawned o.mark in
     let after = onto d l in
-    onto-append (a ++ (b ++ r)) (j ++ d) l
+    ap (λ (x : List Code). onto (x ++ (j ++ d)) l) (codes_inside from o os es open_)
+    ∙ onto-append (a ++ (b ++ r)) (j ++ d) l
     ∙ ap (onto (a ++ (b ++ r))) (onto-append j d l)
     ∙ onto-append a (b ++ r) (onto j after)
     ∙ ap (onto a) (onto-append b r (onto j after) ∙ ap (onto b) (sym (onto-append r j after) ∙ block_same es after ∙ sym (onto-append t d l)) ∙ sym (onto-append b (t ++ d) l))
     ∙ sym (onto-append a (b ++ (t ++ d)) l)
-    ∙ ap (λ (x : List Code). onto x l) (sym (codes_more p os o.outer (part_of o.spawned (marked o.mark (tree_of es)) ∷ [])
-    ∙ ap (λ (x : List Code). a ++ x) (part_record o.spawned o.mark (has_spawned o.outer) (parts_of es).0 (parts_of es).1)))
+    ∙ ap (λ (x : List Code). onto x l) (sym (codes_more from os o.outer (part_of o.spawned (marked o.mark (tree_of es)) ∷ []) open_
+    ∙ ap (λ (x : List Code). a ++ x) (part_record o.spawned o.mark (out_in from os o.outer) (parts_of es).0 (parts_of es).1)))
+
+pub codes_closed : (from : Origin) (o : Open) (os : List Open) (es : List Event) → IsFromMain from (o ∷ os)
+    → Same (codes_in from (o ∷ os) es ++ (to_join (out_in from (o ∷ os) es) ++ ending_in from o os)) (codes_in from os (closed o es))
+codes_closed Main o [] es main = λ l.
+    ap (λ (x : List Code). onto (record_of false es ++ x) l) (append-nil (to_join (has_spawned es)))
+    ∙ block_same es l
+    ∙ ap (λ (x : List Code). onto x l) (sym (whole_closed o es main.0 main.1))
+codes_closed Main o (p ∷ os) es main = inside_closed Main o (p ∷ os) es tt
+codes_closed (Rest site) o os es main = inside_closed (Rest site) o os es tt
 
 -- a block ends, and an instruction of the block round it follows
-pub codes_ended : (o : Open) (os : List Open) (es : List Event) → IsFromMain (o ∷ os)
-    → Same (codes_in (o ∷ os) es ++ (to_join (has_spawned es) ++ (ending_in o os ++ Instructions 1 ∷ []))) (codes_in os (ticked (closed o es)))
-codes_ended o os es main = λ l.
-    let a = codes_in (o ∷ os) es in
-    let j = to_join (has_spawned es) in
-    let d = ending_in o os in
+pub codes_ended : (from : Origin) (o : Open) (os : List Open) (es : List Event) → IsFromMain from (o ∷ os)
+    → Same (codes_in from (o ∷ os) es ++ (to_join (out_in from (o ∷ os) es) ++ (ending_in from o os ++ Instructions 1 ∷ []))) (codes_in from os (ticked (closed o es)))
+codes_ended from o os es main = λ l.
+    let a = codes_in from (o ∷ os) es in
+    let j = to_join (out_in from (o ∷ os) es) in
+    let d = ending_in from o os in
     ap (λ (x : List Code). onto (a ++ x) l) (sym (append_assoc j d (Instructions 1 ∷ [])))
     ∙ ap (λ (x : List Code). onto x l) (sym (append_assoc a (j ++ d) (Instructions 1 ∷ [])))
-    ∙ same_before (a ++ (j ++ d)) (codes_in os (closed o es)) (Instructions 1 ∷ []) (codes_closed o os es main) l
-    ∙ ap (λ (x : List Code). onto x l) (sym (codes_ticked os (closed o es)))
+    ∙ same_before (a ++ (j ++ d)) (codes_in from os (closed o es)) (Instructions 1 ∷ []) (codes_closed from o os es main) l
+    ∙ ap (λ (x : List Code). onto x l) (sym (codes_ticked from os (closed o es)))
+
+open_inside : (from : Origin) (o : Open) (os : List Open) → IsOpen from (o ∷ os)
+open_inside Main o os = tt
+open_inside (Rest site) o os = tt
 
 -- a call joins, and ends by an instruction of its own
-pub codes_returned : (o : Open) (os : List Open) (es : List Event) → IsFromMain (o ∷ os)
-    → Same (codes_in (o ∷ os) es ++ (to_join (has_spawned es) ++ Instructions 1 ∷ ending_in o os)) (codes_in os (closed o (synced es)))
-codes_returned o os es main = λ l.
-    let a = codes_in (o ∷ os) es in
-    let j = to_join (has_spawned es) in
-    let d = ending_in o os in
+pub codes_returned : (from : Origin) (o : Open) (os : List Open) (es : List Event) → IsFromMain from (o ∷ os)
+    → Same (codes_in from (o ∷ os) es ++ (to_join (out_in from (o ∷ os) es) ++ Instructions 1 ∷ ending_in from o os)) (codes_in from os (closed o (synced es)))
+codes_returned from o os es main = λ l.
+    let a = codes_in from (o ∷ os) es in
+    let j = to_join (out_in from (o ∷ os) es) in
+    let d = ending_in from o os in
     ap (λ (x : List Code). onto (a ++ x) l) (sym (append_assoc j (Instructions 1 ∷ []) d))
     ∙ ap (λ (x : List Code). onto x l) (sym (append_assoc a (j ++ Instructions 1 ∷ []) d))
-    ∙ ap (λ (x : List Code). onto (x ++ d) l) (sym (codes_synced (o ∷ os) es tt))
-    ∙ ap (λ (b : Bool). onto (codes_in (o ∷ os) (synced es) ++ (to_join b ++ d)) l) (sym (spawned_synced es))
-    ∙ codes_closed o os (synced es) main l
+    ∙ ap (λ (x : List Code). onto (x ++ d) l) (sym (codes_synced from (o ∷ os) es (open_inside from o os)))
+    ∙ ap (λ (b : Bool). onto (codes_in from (o ∷ os) (synced es) ++ (to_join b ++ d)) l) (sym (spawned_synced from (o ∷ os) es))
+    ∙ codes_closed from o os (synced es) main l
+
+-- a rest without joins, while a child is out
+spawned_still : (fs : List Event) → no_joins fs ≡ true → has_spawned_from true fs ≡ true
+spawned_still [] h = refl
+spawned_still (Work k ∷ fs) h = spawned_still fs h
+spawned_still (Series t ∷ fs) h = spawned_still fs h
+spawned_still (e.Fork t ∷ fs) h = spawned_still fs h
+spawned_still (Join ∷ fs) h = absurd (true≢false (sym h))
+
+spawned_whatever : (b : Bool) (es : List Event) → has_spawned es ≡ true → has_spawned_from b es ≡ true
+spawned_whatever false es h = h
+spawned_whatever true [] h = refl
+spawned_whatever true (Work k ∷ es) h = spawned_whatever true es h
+spawned_whatever true (Series t ∷ es) h = spawned_whatever true es h
+spawned_whatever true (e.Fork t ∷ es) h = h
+spawned_whatever true (Join ∷ es) h = h
+
+pub out_already : (from : Origin) (os : List Open) (es : List Event) → has_spawned es ≡ true → out_in from os es ≡ true
+out_already from os es h = spawned_whatever (begins_out from os) es h
+
+pub out_still : (from : Origin) (os : List Open) (es fs : List Event) → has_spawned es ≡ true → no_joins fs ≡ true → out_in from os (es ++ fs) ≡ true
+out_still from os es fs h j = out_more from os es fs ∙ ap (λ (b : Bool). has_spawned_from b fs) (out_already from os es h) ∙ spawned_still fs j
+
+pub codes_rested : (from : Origin) (os : List Open) (es fs : List Event) → IsOpen from os → has_spawned es ≡ true
+    → codes_in from os es ++ record_of true fs ≡ codes_in from os (es ++ fs)
+codes_rested from os es fs open_ h =
+    ap (λ (b : Bool). codes_in from os es ++ record_of b fs) (sym (out_already from os es h)) ∙ sym (codes_more from os es fs open_)
+
+-- two pieces, one behind the other
+same_kept : (kept a : List Code) → Same (kept ++ Instructions 0 ∷ []) a → Same kept a
+same_kept kept a h = λ l. sym (nothing_behind kept l) ∙ h l
+
+pub keeps_followed : (a b : List Code) (k m : Recorded) → Keeps 0 a k → Keeps 0 b m → Keeps 0 (a ++ b) (followed k m)
+keeps_followed a b None m h g = let f = cuts-append a b in omega (arith, f, h)
+keeps_followed a b (Some []) None h g = let f = cuts-append a b in omega (arith, f, g)
+keeps_followed a b (Some []) (Some m) h g =
+    (g.0, same_through (m ++ Instructions 0 ∷ []) b (a ++ b) g.1 (λ l. h.1 (onto b l) ∙ sym (onto-append a b l)))
+keeps_followed a b (Some (c ∷ k)) None h g = let f = cuts-append a b in omega (arith, f, g)
+keeps_followed a b (Some (c ∷ k)) (Some []) h g =
+    (h.0, λ l. h.1 l ∙ ap (onto a) (g.1 l) ∙ sym (onto-append a b l))
+keeps_followed a b (Some (c ∷ k)) (Some (d ∷ m)) h g =
+    let all = c ∷ (k ++ d ∷ m) in
+    let same : Same all (a ++ b) = same_both (c ∷ k) a (d ∷ m) b (same_kept (c ∷ k) a h.1) (same_kept (d ∷ m) b g.1) in
+    by_few (Keeps 0 (a ++ b)) all
+    (λ few. (omega (arith, few), same_through (all ++ Instructions 0 ∷ []) all (a ++ b) (nothing_behind all) same))
+    (λ many. let f = same_cuts all (a ++ b) same in omega (arith, f, many))

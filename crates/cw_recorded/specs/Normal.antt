@@ -4,6 +4,7 @@ use Rattle.cw_model.specs.Trees.{Tree, Leaf, Seq, Par, Marked, Event, Work, Seri
 use Rattle.cw_model.specs.Trees as e
 use Rattle.cw_measure.specs.OpenParts.{Open}
 use Rattle.cw_greedy.specs.Blocks.{Stands, InSeries, AsChild, AsRest, codes_of}
+use Rattle.cw_recorded.specs.Origins.{Origin, Main, Rest}
 use Rattle.cw_recorded.specs.Merging.{Same}
 
 -- the end of a block, or of the rest of one
@@ -62,11 +63,12 @@ abbrev pub AreOpenApart : List Open → List Event → Type 0
 AreOpenApart [] es = StandApart es
 AreOpenApart (o ∷ os) es = StandApart es × AreOpenApart os o.outer
 
--- and of the events round the parts that are open; a whole run is one part, and stands for itself
-abbrev pub AreApart : List Open → List Event → Type 0
-AreApart [] [] = Unit {0}
-AreApart [] (Series t ∷ es) = IsChild t
-AreApart [] (Work k ∷ es) = Unit {0}
-AreApart [] (e.Fork t ∷ es) = Unit {0}
-AreApart [] (Join ∷ es) = Unit {0}
-AreApart (o ∷ os) es = StandApart es × AreOpenApart os o.outer
+-- so they are of a rest, and of a run so far; a whole run is one part, and stands for itself
+abbrev pub AreApart : Origin → List Open → List Event → Type 0
+AreApart Main [] [] = Unit {0}
+AreApart Main [] (Series t ∷ es) = IsChild t
+AreApart Main [] (Work k ∷ es) = Unit {0}
+AreApart Main [] (e.Fork t ∷ es) = Unit {0}
+AreApart Main [] (Join ∷ es) = Unit {0}
+AreApart Main (o ∷ os) es = AreOpenApart (o ∷ os) es
+AreApart (Rest site) os es = AreOpenApart os es

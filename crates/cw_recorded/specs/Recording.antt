@@ -4,9 +4,9 @@ use Rattle.std.specs.Prelude.{Option, Some, None, IsSome}
 use Rattle.cw_model.specs.declared.limits.TheConstants.{MOST_LIMIT}
 use Rattle.cw_model.specs.Trees.{Tree, Marked, Mark, Invocation, Execution, Event, Work, Series, Join, normal, tree_of}
 use Rattle.cw_model.specs.Trees as e
-use Rattle.cw_measure.specs.OpenParts.{Open, has_spawned, closed}
-use Rattle.cw_meter.specs.Meters.{ticked, synced, begun}
-use Rattle.cw_meter.specs.Origins.{main_open}
+use Rattle.cw_measure.specs.OpenParts.{Open, has_spawned_from, has_spawned, no_joins, closed}
+use Rattle.cw_recorded.specs.Runs.{ticked, synced, begun}
+use Rattle.cw_recorded.specs.Origins.{Origin, Main, Rest, main_open}
 use Rattle.cw_greedy.specs.Records.{IsRecordOf}
 use Rattle.cw_greedy.specs.declared.code.Code.{Code}
 use Rattle.cw_greedy.specs.declared.code.Code.TheVariants.{Instructions, Spawned, Ended, Called}
@@ -42,18 +42,34 @@ of_whole (Work k ∷ es) = record_of false (Work k ∷ es)
 of_whole (e.Fork t ∷ es) = record_of false (e.Fork t ∷ es)
 of_whole (Join ∷ es) = record_of false es
 
+-- whether a child is out as the innermost block begins: one is out of a block whose rest begins
+abbrev pub begins_out : Origin → List Open → Bool
+begins_out from (o ∷ os) = false
+begins_out Main [] = false
+begins_out (Rest site) [] = true
+
+-- whether a child of the innermost block is out
+abbrev pub out_in : Origin → List Open → List Event → Bool
+out_in from os es = has_spawned_from (begins_out from os) es
+
 -- the codes of a run so far: of the blocks round the innermost, each up to the part that is open in it, and of that
--- block; the run itself, which is the outermost part, is cut by nothing
-abbrev pub codes_in : List Open → List Event → List Code
-codes_in [] es = of_whole es
-codes_in (o ∷ []) es = record_of false es
-codes_in (o ∷ p ∷ os) es =
-    codes_in (p ∷ os) o.outer ++ (opening o.spawned o.mark (has_spawned o.outer) ++ record_of false es)
+-- block; the run itself, which is the outermost part, is cut by nothing, and the outermost block of a rest is the rest
+abbrev pub codes_in : Origin → List Open → List Event → List Code
+codes_in Main [] es = of_whole es
+codes_in Main (o ∷ []) es = record_of false es
+codes_in Main (o ∷ p ∷ os) es =
+    codes_in Main (p ∷ os) o.outer
+    ++ (opening o.spawned o.mark (has_spawned o.outer) ++ record_of false es)
+codes_in (Rest site) [] es = record_of true es
+codes_in (Rest site) (o ∷ os) es =
+    codes_in (Rest site) os o.outer
+    ++ (opening o.spawned o.mark (out_in (Rest site) os o.outer) ++ record_of false es)
 
 -- the cut with which the innermost part ends, round which these are open
-abbrev pub ending_in : Open → List Open → List Code
-ending_in o [] = []
-ending_in o (p ∷ os) = ending o.spawned o.mark
+abbrev pub ending_in : Origin → Open → List Open → List Code
+ending_in Main o [] = []
+ending_in Main o (p ∷ os) = ending o.spawned o.mark
+ending_in (Rest site) o os = ending o.spawned o.mark
 
 -- a part that is open is kept so
 abbrev pub IsOfKind : Open → PartKind → Type 0
@@ -66,15 +82,22 @@ abbrev pub out_behind : (spawned out : Bool) → Bool
 out_behind true out = true
 out_behind false out = out
 
--- the parts that are open inside of the run, the innermost first
-abbrev pub AreParts : List Open → List Part → Type 0
-AreParts [] [] = Unit {0}
-AreParts [] (p ∷ ps) = ⊥
-AreParts (o ∷ []) [] = Unit {0}
-AreParts (o ∷ []) (p ∷ ps) = ⊥
-AreParts (o ∷ q ∷ os) [] = ⊥
-AreParts (o ∷ q ∷ os) (p ∷ ps) =
-    IsOfKind o p.kind × (p.out ≡ out_behind o.spawned (has_spawned o.outer)) × AreParts (q ∷ os) ps
+-- what is kept of an open part, inside of these
+abbrev pub IsPart : Origin → Open → List Open → Part → Type 0
+IsPart from o os p = IsOfKind o p.kind × (p.out ≡ out_behind o.spawned (out_in from os o.outer))
+
+-- what is kept of the parts that are open inside of the run itself, or of a rest, the innermost first
+abbrev pub AreParts : Origin → List Open → List Part → Type 0
+AreParts Main [] [] = Unit {0}
+AreParts Main [] (p ∷ ps) = ⊥
+AreParts Main (o ∷ []) [] = Unit {0}
+AreParts Main (o ∷ []) (p ∷ ps) = ⊥
+AreParts Main (o ∷ q ∷ os) [] = ⊥
+AreParts Main (o ∷ q ∷ os) (p ∷ ps) = IsPart Main o (q ∷ os) p × AreParts Main (q ∷ os) ps
+AreParts (Rest site) [] [] = Unit {0}
+AreParts (Rest site) [] (p ∷ ps) = ⊥
+AreParts (Rest site) (o ∷ os) [] = ⊥
+AreParts (Rest site) (o ∷ os) (p ∷ ps) = IsPart (Rest site) o os p × AreParts (Rest site) os ps
 
 -- these codes are kept, but for so many instructions behind them
 abbrev pub Keeps : (since : ℕ) → List Code → Recorded → Type 0
@@ -82,33 +105,39 @@ Keeps since codes None = MOST_STRANDS ≤ cuts codes
 Keeps since codes (Some kept) = (cuts kept < MOST_STRANDS) × Same (kept ++ Instructions since ∷ []) codes
 
 -- what is kept of the parts that are open, unless there are too many strands
-pub record KeepsParts (os : List Open) (es : List Event) (r : Recorder) : Type 0 where
-  pub out : r.out ≡ has_spawned es
-  pub parts : AreParts os (reverse r.parts.items)
+pub record KeepsParts (from : Origin) (os : List Open) (es : List Event) (r : Recorder)
+    : Type 0 where
+  pub out : r.out ≡ out_in from os es
+  pub parts : AreParts from os (reverse r.parts.items)
 
--- the outermost part is the call of main by the run itself
-abbrev pub IsFromMain : List Open → Type 0
-IsFromMain [] = Unit {0}
-IsFromMain (o ∷ []) = (o.outer ≡ []) × (o.spawned ≡ false) × (o.mark ≡ Some (Invocation 0))
-IsFromMain (o ∷ p ∷ os) = IsFromMain (p ∷ os)
+-- the outermost part of a whole run is the call of main by the run itself; of a rest nothing is asked
+abbrev pub IsFromMain : Origin → List Open → Type 0
+IsFromMain Main [] = Unit {0}
+IsFromMain Main (o ∷ []) = (o.outer ≡ []) × (o.spawned ≡ false) × (o.mark ≡ Some (Invocation 0))
+IsFromMain Main (o ∷ p ∷ os) = IsFromMain Main (p ∷ os)
+IsFromMain (Rest site) os = Unit {0}
 
--- a recorder keeps the strands of a run so far
-pub record RecordsIn (count : ℕ) (os : List Open) (es : List Event) (r : Recorder) : Type 0 where
+-- a recorder keeps the strands of a run so far, or of a rest
+pub record RecordsIn (from : Origin) (count : ℕ) (os : List Open) (es : List Event) (r : Recorder)
+    : Type 0 where
   pub goes_on : r.noted ≤ count
-  pub keeps : Keeps (count - r.noted) (codes_in os es) r.kept
-  pub parts : IsSome r.kept → KeepsParts os es r
-  pub from_main : IsFromMain os
-  pub apart : AreApart os es
+  pub keeps : Keeps (count - r.noted) (codes_in from os es) r.kept
+  pub parts : IsSome r.kept → KeepsParts from os es r
+  pub from_main : IsFromMain from os
+  pub apart : AreApart from os es
 
--- a part is open
-abbrev pub IsOpen : List Open → Type 0
-IsOpen [] = ⊥
-IsOpen (o ∷ os) = Unit {0}
+-- a block runs: a rest is of one, and a whole run has one as long as a part is open
+abbrev pub IsOpen : Origin → List Open → Type 0
+IsOpen Main [] = ⊥
+IsOpen Main (o ∷ os) = Unit {0}
+IsOpen (Rest site) os = Unit {0}
 
 -- what a recorder keeps goes from one run so far to another
-abbrev pub Tells : (old new : Recorder) → (count : ℕ) → (os os' : List Open) → (es es' : List Event) → Type 0
-Tells old new count os os' es es' =
-    count < MOST_LIMIT → IsOpen os → RecordsIn count os es old → RecordsIn (count + 1) os' es' new
+abbrev pub Tells : (old new : Recorder) → (count : ℕ) → (from : Origin) → (os os' : List Open)
+    → (es es' : List Event) → Type 0
+Tells old new count from os os' es es' =
+    count < MOST_LIMIT → IsOpen from os → RecordsIn from count os es old
+    → RecordsIn from (count + 1) os' es' new
 
 -- no call of a call statement
 abbrev pub IsQuiet : Option Mark → Type 0
@@ -119,37 +148,50 @@ IsQuiet (Some (Invocation site)) = ⊥
 -- a spawned part begins, a call in place, or any other part in place
 abbrev pub BeginsChild : (old new : Recorder) → (count : ℕ) → Type 0
 BeginsChild old new count =
-    (mark : Option Mark) (os : List Open) (es : List Event) → Tells old new count os (begun true mark es os) es []
+    (from : Origin) (mark : Option Mark) (os : List Open) (es : List Event)
+    → Tells old new count from os (begun true mark es os) es []
 
 abbrev pub BeginsCall : (old new : Recorder) → (count : ℕ) → Type 0
 BeginsCall old new count =
-    (site : ℕ) (os : List Open) (es : List Event)
-    → Tells old new count os (begun false (Some (Invocation site)) es os) es []
+    (from : Origin) (site : ℕ) (os : List Open) (es : List Event)
+    → Tells old new count from os (begun false (Some (Invocation site)) es os) es []
 
 abbrev pub BeginsQuiet : (old new : Recorder) → (count : ℕ) → Type 0
 BeginsQuiet old new count =
-    (mark : Option Mark) (os : List Open) (es : List Event) → IsQuiet mark
-    → Tells old new count os (begun false mark es os) es []
+    (from : Origin) (mark : Option Mark) (os : List Open) (es : List Event) → IsQuiet mark
+    → Tells old new count from os (begun false mark es os) es []
 
 -- a scope, a cut or a region joins and ends, and its end is an instruction of the block round it
 abbrev pub Ends : (old new : Recorder) → (count : ℕ) → Type 0
 Ends old new count =
-    (o : Open) (os : List Open) (es : List Event) → o.spawned ≡ false
-    → Tells old new count (o ∷ os) os es (ticked (closed o es))
+    (from : Origin) (o : Open) (os : List Open) (es : List Event) → o.spawned ≡ false
+    → Tells old new count from (o ∷ os) os es (ticked (closed o es))
 
 -- a call joins and ends, by an instruction of its own
 abbrev pub Returns : (old new : Recorder) → (count : ℕ) → Type 0
 Returns old new count =
-    (o : Open) (os : List Open) (es : List Event) → Tells old new count (o ∷ os) os es (closed o (synced es))
+    (from : Origin) (o : Open) (os : List Open) (es : List Event)
+    → Tells old new count from (o ∷ os) os es (closed o (synced es))
 
 -- the block that runs joins
 abbrev pub Syncs : (old new : Recorder) → (count : ℕ) → Type 0
-Syncs old new count = (os : List Open) (es : List Event) → Tells old new count os os es (synced es)
+Syncs old new count =
+    (from : Origin) (os : List Open) (es : List Event) → Tells old new count from os os es (synced es)
 
 -- an instruction that begins, ends and joins nothing needs no call
 abbrev pub InstructionsNeedNoCall : Type 0
 InstructionsNeedNoCall =
-    (r : Recorder) (count : ℕ) (os : List Open) (es : List Event) → Tells r r count os os es (ticked es)
+    (r : Recorder) (count : ℕ) (from : Origin) (os : List Open) (es : List Event)
+    → Tells r r count from os os es (ticked es)
+
+-- the rest of the block that runs was run apart, up to its join, by a strand with a recorder of its own, as so many
+-- instructions, while a child of the block was out: what is kept goes on by the rest's events and instructions
+abbrev pub Rests : (old rest new : Recorder) → (count cost : ℕ) → Type 0
+Rests old rest new count cost =
+    (from : Origin) (site : ℕ) (os : List Open) (es fs : List Event) → count + cost ≤ MOST_LIMIT
+    → IsOpen from os → has_spawned es ≡ true → no_joins fs ≡ true
+    → RecordsIn from count os es old → RecordsIn (Rest site) cost [] fs rest
+    → RecordsIn from (count + cost) os (es ++ fs) new
 
 -- all up to this count is noted, and then these codes; nothing else changes
 pub record Notes (old new : Recorder) (count : ℕ) (codes : List Code) : Type 0 where
@@ -175,15 +217,19 @@ Joins old new count =
 -- the innermost part ends, whose block has joined
 abbrev pub Closes : (old new : Recorder) → (count : ℕ) → Type 0
 Closes old new count =
-    (codes : List Code) (o : Open) (os : List Open) (es : List Event) → IsFromMain (o ∷ os)
-    → old.out ≡ false → AreParts (o ∷ os) (reverse old.parts.items)
+    (codes : List Code) (from : Origin) (o : Open) (os : List Open) (es : List Event)
+    → IsFromMain from (o ∷ os) → old.out ≡ false → AreParts from (o ∷ os) (reverse old.parts.items)
     → old.noted ≤ count → Keeps (count - old.noted) codes old.kept
-    → (new.noted ≤ count) × Keeps (count - new.noted) (codes ++ ending_in o os) new.kept
-    × KeepsParts os (closed o es) new
+    → (new.noted ≤ count) × Keeps (count - new.noted) (codes ++ ending_in from o os) new.kept
+    × KeepsParts from os (closed o es) new
 
 -- the recorder of a run that begins
 abbrev pub Starts : Recorder → Type 0
-Starts r = RecordsIn 0 main_open [] r
+Starts r = RecordsIn Main 0 main_open [] r
+
+-- the recorder of a rest that begins, in an invocation of any site
+abbrev pub StartsRest : Recorder → Type 0
+StartsRest r = (site : ℕ) → RecordsIn (Rest site) 0 [] [] r
 
 -- what is kept of the strands of a run: their record, or that they are too many
 abbrev pub IsKept : Tree → Recorded → Type 0
@@ -193,5 +239,5 @@ IsKept t (Some codes) = (strand_count t ≤ MOST_STRANDS) × IsRecordOf t (Some 
 -- a recorder, at the end of a run, keeps what its tree comes to
 abbrev pub Reads : Recorder → (count : ℕ) → Recorded → Type 0
 Reads r count kept =
-    (es : List Event) → RecordsIn count [] (Series (Marked (Invocation 0) (tree_of es)) ∷ []) r
+    (es : List Event) → RecordsIn Main count [] (Series (Marked (Invocation 0) (tree_of es)) ∷ []) r
     → IsKept (normal (Marked (Invocation 0) (tree_of es))) kept

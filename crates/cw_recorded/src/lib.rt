@@ -1,7 +1,7 @@
 //! The strands of a run, kept as it goes.
 //!
 //! A [`Recorder`] is told of a run as a meter is: each call stands for one instruction, and is told the count of
-//! instructions before it. At each cut it notes the instructions since the last one, and then the cut.
+//! instructions before it. At each cut it notes the instructions since the last one and the cut, as one entry.
 //!
 //! | instruction | call | code |
 //! |---|---|---|
@@ -12,6 +12,9 @@
 //! | a call, or a function of a loop, joins and ends | `give_back(count)` | `Joined`, where a child is out |
 //! | a join of the block that runs | `sync(count)` | `Joined`, where a child is out |
 //! | any other | none (`laws::instructions_need_no_call`) | none |
+//!
+//! The rest of a block that a strand of its own runs has a recorder of its own (`apart`), in which a child of the block
+//! is out from the first. Where the rest has come to the block's join, `rest` puts its codes behind those of the block.
 //!
 //! Once the strands are too many, no call does anything.
 #![tactic(auto)]

@@ -1,11 +1,16 @@
 //! A recorder of a run's strands.
 
 ghost use Rattle.std.specs.Prelude.{◌≡◌, ◌≤◌, [], ◌∷◌, true, false, not, IfOk, OnOk, IsSome};
-ghost use Rattle.cw_recorded.specs.Recording.{BeginsCall, BeginsChild, BeginsQuiet, Closes, Ends, Joins, Notes, Reads, Returns, Stacks, Starts, Syncs};
+ghost use Rattle.cw_greedy.specs.Entries.{code_of_cut};
+ghost use Rattle.cw_greedy.specs.Recorded.{followed};
+ghost use Rattle.cw_recorded.specs.Recording.{BeginsCall, BeginsChild, BeginsQuiet, Closes, Ends, Joins, Notes, Reads, Rests, Returns, Stacks, Starts, StartsRest, Syncs};
 
-use cw_greedy::code::Code;
+use cw_greedy::entry::Cut;
+use cw_greedy::piece::Piece;
 use cw_greedy::strands::Strands;
+use cw_model::monoid::Monoid;
 use std::alloc::{AllocError, Global};
+use std::mem;
 
 /// What an open part of a run is cut by.
 #[derive(Clone, Copy, Debug)]
@@ -30,7 +35,7 @@ pub(crate) struct Part {
 /// The strands of a run so far.
 #[derive(Debug, Drop)]
 pub struct Recorder {
-    pub(crate) kept: Strands,
+    pub(crate) kept: Piece,
     /// The count of instructions up to which they are noted.
     pub(crate) noted: u64,
     /// Whether a child of the block that runs is out.
@@ -45,9 +50,22 @@ impl Recorder {
         ensures { Starts result }
     {
         Recorder {
-            kept: Strands::new(alloc),
+            kept: Piece::new(alloc),
             noted: 0,
             out: false,
+            parts: Vec::new(alloc),
+        }
+    }
+
+    /// The recorder of the rest of a block that a strand of its own runs, up to the block's join: a child of the block is
+    /// out as it begins. Takes no memory.
+    pub fn apart(alloc: Global) -> Recorder
+        ensures { StartsRest result }
+    {
+        Recorder {
+            kept: Piece::new(alloc),
+            noted: 0,
+            out: true,
             parts: Vec::new(alloc),
         }
     }
@@ -57,18 +75,18 @@ impl Recorder {
         ensures { OnOk result (Notes self.old self.new count []) }
     {
         if self.noted < count {
-            self.kept.note(Code::Instructions(count - self.noted))?;
+            self.kept.note(count - self.noted, Cut::Nothing)?;
             self.noted = count;
         }
         Ok(())
     }
 
     // A cut after `count` instructions.
-    fn cut(&mut self, count: u64, code: Code) -> Result<(), AllocError>
-        ensures { OnOk result (Notes self.old self.new count (code ∷ [])) }
+    fn cut(&mut self, count: u64, cut: Cut) -> Result<(), AllocError>
+        ensures { OnOk result (Notes self.old self.new count (code_of_cut cut)) }
     {
-        self.settle(count)?;
-        self.kept.note(code)?;
+        self.kept.note(count.saturating_sub(self.noted), cut)?;
+        self.noted = count;
         Ok(())
     }
 
@@ -87,7 +105,7 @@ impl Recorder {
         ensures { OnOk result (BeginsChild self.old self.new count) }
     {
         if self.kept.fits() {
-            self.cut(count.wrapping_add(1), Code::Spawned(!self.out))?;
+            self.cut(count.wrapping_add(1), Cut::Spawned(!self.out))?;
             self.stack(PartKind::Child, true)?;
         }
         Ok(())
@@ -99,7 +117,7 @@ impl Recorder {
         ensures { OnOk result (BeginsCall self.old self.new count) }
     {
         if self.kept.fits() {
-            self.cut(count.wrapping_add(1), Code::Called)?;
+            self.cut(count.wrapping_add(1), Cut::Called)?;
             self.stack(PartKind::Call, self.out)?;
         }
         Ok(())
@@ -151,6 +169,36 @@ impl Recorder {
         Ok(())
     }
 
+    /// The rest of the block that runs was run apart, up to the block's join: as `cost` instructions, told to a recorder of
+    /// its own, after the `count` instructions of this one, while a child of the block was out. The error is want of
+    /// memory, after which the recorder stands for nothing.
+    #[inline(never)]
+    pub fn rest(&mut self, count: u64, rest: Recorder, cost: u64) -> Result<(), AllocError>
+        ensures { OnOk result (Rests self.old rest self.new count cost) }
+    {
+        if self.kept.fits() {
+            let mut rest = rest;
+            rest.settle(cost)?;
+            self.settle(count)?;
+            self.take_in(rest.kept)?;
+            self.noted = count.wrapping_add(cost);
+        }
+        Ok(())
+    }
+
+    // These strands stand behind those kept.
+    fn take_in(&mut self, more: Piece) -> Result<(), AllocError>
+        ensures kept { OnOk result (self.new.kept ≡ followed self.old.kept more) }
+        ensures noted { self.new.noted ≡ self.old.noted }
+        ensures out { self.new.out ≡ self.old.out }
+        ensures parts { self.new.parts.items ≡ self.old.parts.items }
+    {
+        let none = Piece::new(*self.parts.allocator());
+        let kept = mem::replace(&mut self.kept, none);
+        self.kept = kept.join(more)?;
+        Ok(())
+    }
+
     // The block that runs joins: where no child is out, there is nothing to do.
     fn join(&mut self, count: u64) -> Result<(), AllocError>
         ensures joins { OnOk result (Joins self.old self.new count) }
@@ -158,7 +206,7 @@ impl Recorder {
         ensures parts { OnOk result (self.new.parts.items ≡ self.old.parts.items) }
     {
         if self.out {
-            self.cut(count, Code::Joined)?;
+            self.cut(count, Cut::Joined)?;
             self.out = false;
         }
         Ok(())
@@ -172,8 +220,8 @@ impl Recorder {
             Some(part) => {
                 self.out = part.out;
                 match part.kind {
-                    PartKind::Child => self.cut(count, Code::Ended),
-                    PartKind::Call => self.cut(count, Code::Called),
+                    PartKind::Child => self.cut(count, Cut::Ended),
+                    PartKind::Call => self.cut(count, Cut::Called),
                     PartKind::Quiet => Ok(()),
                 }
             }
@@ -187,6 +235,7 @@ impl Recorder {
     {
         let mut recorder = self;
         recorder.settle(count)?;
-        Ok(recorder.kept)
+        let strands = recorder.kept.finish()?;
+        Ok(strands)
     }
 }

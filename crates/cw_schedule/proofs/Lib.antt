@@ -1,3 +1,4 @@
+pub mod Chunks
 pub mod Plans
 pub mod Reading
 pub mod Releasing

@@ -1,18 +1,18 @@
 -- A plan follows the block that codes are read as.
-use Rattle.std.proofs.Common.{◌≡◌, ℕ, ◌+◌, ◌-◌, ◌<◌, Bool, true, false, List, [], ◌∷◌, ◌++◌, Option, Some, None, length}
-use Rattle.std.proofs.Common.{length-append, append_assoc, arith, set, drop, get_or, refl, ap, sym, ◌∙◌, subst}
-use Rattle.std.proofs.lemmas.List.{set_at, get_or_at, drop_more, same_from_push}
+use Rattle.std.proofs.Common.{◌≡◌, ℕ, ◌+◌, ◌-◌, Bool, true, false, List, [], ◌∷◌, ◌++◌, Option, Some, None, length}
+use Rattle.std.proofs.Common.{length-append, append_assoc, arith, set, refl, ap, sym, ◌∙◌, subst}
+use Rattle.std.proofs.lemmas.List.{set_at, get_or_at, same_from_push}
 use Rattle.std.proofs.lemmas.Option.{none-some, same_Some}
 use Rattle.cw_greedy.specs.declared.code.Code.{Code}
-use Rattle.cw_greedy.specs.declared.code.Code.TheVariants.{Instructions, Spawned, Ended, Joined, Called}
+use Rattle.cw_greedy.specs.declared.code.Code.TheVariants.{Instructions, Ended, Joined}
 use Rattle.cw_greedy.specs.Jumping.{Block, Last, Fork, size}
 use Rattle.cw_schedule.specs.declared.plan.Begins.{Begins}
 use Rattle.cw_schedule.specs.declared.plan.Begins.TheVariants.{Start, Child, Continuation, Sync}
 use Rattle.cw_schedule.specs.declared.plan.Strand.{Strand}
 use Rattle.cw_schedule.specs.declared.plan.Open.{Open}
 use Rattle.cw_schedule.specs.declared.plan.Planning.{Planning}
-use Rattle.cw_schedule.specs.Reading.{Frame, InChild, InRest, add_at_end, fork_at_end, joined, after_join, read, instructions}
-use Rattle.cw_schedule.specs.Planned.{strand, first_weight, behind_first, strands_of, begins_of, strands_before, is_first, open_at, opens_of, patched, instructions_of, Continues, Joins, Plans, Makes}
+use Rattle.cw_schedule.specs.Reading.{Frame, InChild, InRest, add_at_end, fork_at_end, joined, after_join, read}
+use Rattle.cw_schedule.specs.Planned.{strand, first_weight, behind_first, strands_of, begins_of, strands_before, is_first, open_at, opens_of, patched, Continues, Joins, Plans, Makes}
 
 -- the last strand with more instructions
 abbrev more : ℕ → Strand → Strand
@@ -231,18 +231,3 @@ makes_join block codes p p' h f =
       plans = f r.0 (record { frames = h.frames; begun = h.begun; plans = h.plans; joins = r.1.0 });
       reads = r.1.1;
     }
-
--- the codes that are left, with the next one apart
-pub sum_step : (codes : List Code) (i : ℕ) (d : Code) → i < length codes → instructions (drop i codes) ≡ instructions_of (get_or codes i d) + instructions (drop (i + 1) codes)
-sum_step codes i d l = ap instructions (drop_more codes i d l) ∙ sum_next (get_or codes i d) (drop (i + 1) codes)
-  where
-    sum_next : (code : Code) (later : List Code) → instructions (code ∷ later) ≡ instructions_of code + instructions later
-    sum_next (Instructions n) later = refl
-    sum_next (Spawned first) later = omega arith
-    sum_next Ended later = omega arith
-    sum_next Joined later = omega arith
-    sum_next Called later = omega arith
-
-pub makes_next : (block : Block) (codes : List Code) (i : ℕ) (d : Code) (p : Planning) → i < length codes → Makes block (drop i codes) p →
-    Makes block (get_or codes i d ∷ drop (i + 1) codes) p
-makes_next block codes i d p l h = subst (λ cs. Makes block cs p) (drop_more codes i d l) h

@@ -1,7 +1,7 @@
 -- The paths behind a block that codes are read as weigh what it does, and that is the span of its tree.
-use Rattle.std.proofs.Common.{◌≡◌, ℕ, ◌+◌, ◌<◌, Bool, true, false, List, [], ◌∷◌, ◌++◌, Some, length, length-append, arith, refl, ap, ap₂, sym, ◌∙◌, subst, drop, get_or}
+use Rattle.std.proofs.Common.{◌≡◌, ℕ, ◌+◌, Bool, true, false, List, [], ◌∷◌, ◌++◌, Some, length, length-append, arith, refl, ap, ap₂, sym, ◌∙◌, subst}
 use Rattle.std.specs.Prelude.{max}
-use Rattle.std.proofs.lemmas.List.{drop_more, same_from_push}
+use Rattle.std.proofs.lemmas.List.{same_from_push}
 use Rattle.std.proofs.lemmas.Option.{none-some, same_Some}
 use Rattle.cw_model.specs.Trees.{Tree, Leaf, Seq, Par, Marked, span}
 use Rattle.cw_greedy.specs.declared.code.Code.{Code}
@@ -161,11 +161,6 @@ weighs_join block codes w w' h f =
       weighs = f r.0 (record { frames = h.frames; begun = h.begun; weighs = h.weighs; joins = r.1.0 });
       reads = r.1.1;
     }
-
--- with the next code apart
-pub weighs_next : (block : Block) (codes : List Code) (i : ℕ) (d : Code) (w : Ways) → i < length codes → WillWeigh block (drop i codes) w
-    → WillWeigh block (get_or codes i d ∷ drop (i + 1) codes) w
-weighs_next block codes i d w l h = subst (λ cs. WillWeigh block cs w) (drop_more codes i d l) h
 
 -- with all codes read they are those of the block
 whole : (block : Block) (w : Ways) (frames : List Frame) (begun : Block) → Weighs frames begun w → read [] frames begun ≡ Some block

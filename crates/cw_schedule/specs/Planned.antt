@@ -1,7 +1,6 @@
 -- The strands of a block, each with what waits for it, and how a plan stands while codes are read.
 use Rattle.std.specs.Prelude.{ℕ, ◌+◌, ◌-◌, ◌≡◌, ◌≤◌, Bool, List, [], ◌∷◌, ◌++◌, length, Some, slice_index_or, slice_set}
 use Rattle.cw_greedy.specs.declared.code.Code.{Code}
-use Rattle.cw_greedy.specs.declared.code.Code.TheVariants.{Instructions, Spawned, Ended, Joined, Called}
 use Rattle.cw_greedy.specs.Jumping.{Block, Last, Fork, size}
 use Rattle.cw_schedule.specs.declared.plan.Begins.{Begins}
 use Rattle.cw_schedule.specs.declared.plan.Begins.TheVariants.{Start, Child, Continuation, Sync}
@@ -92,14 +91,6 @@ pub record Joins (end : List Frame × Block) (plan : Planning) : Type 0 where
   pub begun : Block
   pub plans : Plans frames begun plan
   pub joins : joined frames begun ≡ Some end
-
--- the instructions of one code
-abbrev pub instructions_of : Code → ℕ
-instructions_of (Instructions n) = n
-instructions_of (Spawned first) = 0
-instructions_of Ended = 0
-instructions_of Joined = 0
-instructions_of Called = 0
 
 -- the strands of a planning, with the one that has begun
 abbrev pub all_begun : Planning → List Strand

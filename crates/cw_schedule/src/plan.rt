@@ -2,15 +2,15 @@
 
 ghost use Rattle.std.specs.Prelude.{◌≡◌, ℕ, ◌+◌, ◌-◌, ◌<◌, ◌≤◌, ◌^◌, ◌++◌, ◌∷◌, [], Bool, Some, List, length, IfOk, OnOk};
 ghost use Rattle.cw_greedy.specs.declared.code.Code.{Code};
-ghost use Rattle.cw_greedy.specs.declared.code.Code.TheVariants.{Ended, Joined};
+ghost use Rattle.cw_greedy.specs.Entries.{code_of_cut, codes_of_chunks, codes_of_entries, codes_of_entry};
 ghost use Rattle.cw_greedy.specs.Jumping.{Block, Last};
 ghost use Rattle.cw_model.specs.declared.limits.TheConstants.{MOST_LIMIT};
 ghost use Rattle.cw_schedule.specs.declared.plan.Begins.TheVariants.{Child, Continuation, Start, Sync};
 ghost use Rattle.cw_schedule.specs.declared.plan.Open.{Open};
-ghost use Rattle.cw_schedule.specs.Planned.{all_begun, instructions_of, open_at, patched, strand, strands_of, Continues, HasSpawn, Joins, Makes, Plans};
+ghost use Rattle.cw_schedule.specs.Planned.{all_begun, open_at, patched, strand, strands_of, Continues, HasSpawn, Joins, Makes, Plans};
 ghost use Rattle.cw_schedule.specs.Reading.{instructions, read, Frame};
 
-use cw_greedy::code::Code;
+use cw_greedy::entry::{Cut, Entry};
 use std::alloc::{AllocError, Global};
 
 /// How a strand begins.
@@ -134,43 +134,73 @@ impl Planning {
         Ok(())
     }
 
-    // One code more.
-    fn follow(&mut self, code: Code) -> Result<(), AllocError>
-        requires fits { self.old.last.weight + instructions_of code < 2 ^ 64 }
-        requires makes { (block : Block)
-            × ((later : List Code) × Makes block (code ∷ later) self.old) }
+    // A cut.
+    fn cut(&mut self, cut: Cut) -> Result<(), AllocError>
+        requires { (block : Block)
+            × ((later : List Code) × Makes block (code_of_cut cut ++ later) self.old) }
         ensures makes { (block : Block) (later : List Code)
-            → Makes block (code ∷ later) self.old → OnOk result (Makes block later self.new) }
-        ensures weight { OnOk result (self.new.last.weight
-            ≤ self.old.last.weight + instructions_of code) }
+            → Makes block (code_of_cut cut ++ later) self.old
+            → OnOk result (Makes block later self.new) }
+        ensures weight { OnOk result (self.new.last.weight ≤ self.old.last.weight) }
     {
-        match code {
-            Code::Instructions(count) => {
-                self.worked(count);
-                Ok(())
-            }
-            Code::Spawned(first) => {
+        match cut {
+            Cut::Spawned(first) => {
                 self.spawned(first)?;
                 Ok(())
             }
-            Code::Ended => {
+            Cut::Ended => {
                 self.ended()?;
                 Ok(())
             }
-            Code::Joined => {
+            Cut::Joined => {
                 self.joined()?;
                 Ok(())
             }
-            Code::Called => Ok(()),
+            Cut::Nothing => Ok(()),
+            Cut::Called => Ok(()),
         }
+    }
+
+    // One entry more.
+    fn follow(&mut self, entry: Entry) -> Result<(), AllocError>
+        requires fits { self.old.last.weight + entry.before < 2 ^ 64 }
+        requires makes { (block : Block)
+            × ((later : List Code) × Makes block (codes_of_entry entry ++ later) self.old) }
+        ensures makes { (block : Block) (later : List Code)
+            → Makes block (codes_of_entry entry ++ later) self.old
+            → OnOk result (Makes block later self.new) }
+        ensures weight { OnOk result (self.new.last.weight ≤ self.old.last.weight + entry.before) }
+    {
+        self.worked(entry.before);
+        self.cut(entry.cut)?;
+        Ok(())
+    }
+
+    // The entries of a chunk.
+    fn follow_all(&mut self, entries: &[Entry]) -> Result<(), AllocError>
+        requires fits { self.old.last.weight + instructions (codes_of_entries entries.now)
+            ≤ MOST_LIMIT }
+        requires makes { (block : Block) × ((later : List Code)
+            × Makes block (codes_of_entries entries.now ++ later) self.old) }
+        ensures makes { (block : Block) (later : List Code)
+            → Makes block (codes_of_entries entries.now ++ later) self.old
+            → OnOk result (Makes block later self.new) }
+        ensures weight { OnOk result (self.new.last.weight
+            ≤ self.old.last.weight + instructions (codes_of_entries entries.now)) }
+    {
+        for entry in entries {
+            self.follow(*entry)?;
+        }
+        Ok(())
     }
 }
 
-/// The strands of the block that codes are read as, in serial order.
-pub fn plan(alloc: Global, codes: &[Code]) -> Result<Vec<Strand>, AllocError>
-    requires fits { instructions codes.now ≤ MOST_LIMIT }
-    requires block { (block : Block) × (read codes.now [] (Last 0) ≡ Some block) }
-    ensures { (block : Block) → read codes.now [] (Last 0) ≡ Some block
+/// The strands of the block that the entries of chunks are read as, in serial order.
+pub fn plan(alloc: Global, chunks: &[Vec<Entry>]) -> Result<Vec<Strand>, AllocError>
+    requires fits { instructions (codes_of_chunks chunks.now) ≤ MOST_LIMIT }
+    requires block { (block : Block)
+        × (read (codes_of_chunks chunks.now) [] (Last 0) ≡ Some block) }
+    ensures { (block : Block) → read (codes_of_chunks chunks.now) [] (Last 0) ≡ Some block
         → IfOk result (λ strands. strands.items ≡ strands_of Start block) }
 {
     let mut plan = Planning {
@@ -181,8 +211,8 @@ pub fn plan(alloc: Global, codes: &[Code]) -> Result<Vec<Strand>, AllocError>
         },
         spawns: Vec::new(alloc),
     };
-    for code in codes {
-        plan.follow(*code)?;
+    for chunk in chunks {
+        plan.follow_all(chunk.as_slice())?;
     }
     let mut strands = plan.strands;
     strands.push(plan.last)?;

@@ -132,7 +132,7 @@ pub fn greedy(alloc: Global, kept: &Strands, processors: u64) -> Result<u64, All
         let weights = weigh(alloc, kept)?;
         return Ok(weights.span);
     }
-    let strands = plan(alloc, kept.codes())?;
+    let strands = plan(alloc, kept.chunks())?;
     let mut flags = vec![in alloc; false; strands.len()]?;
     let mut board = Ready::new(alloc, strands.len(), processors)?;
     let steps = count_all(&strands, &mut flags, &mut board, processors);

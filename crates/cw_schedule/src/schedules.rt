@@ -2,10 +2,12 @@
 
 ghost use Rattle.cw_code.specs.Code.{code_view};
 ghost use Rattle.std.specs.Prelude.{◌≡◌};
+ghost use Rattle.cw_machine.specs.Recorded.{RecordsAsCode};
 ghost use Rattle.cw_schedule.specs.Schedules as schedules;
 
 use crate::schedule::greedy;
 use crate::weights::weigh;
+use cw_greedy::strands::Strands;
 use cw_machine::alone::main_takes;
 use cw_machine::recorded::strands_alone;
 use cw_model::laws::normal_form_reads_the_same;
@@ -46,12 +48,33 @@ pub fn schedule_alone(
 ) -> Result<Schedule, Fault>
     ensures { schedules.SchedulesAsCode (code_view code.value.code) args.now n processors result }
 {
-    cost_is_the_work_that_is_shown();
-    normal_form_reads_the_same();
     if !is_asked(&code, args, n, processors) {
         return Err(Fault::Arguments);
     }
-    let strands = strands_alone(alloc, code, args, n)?;
+    let share = Arc::try_clone(&code)?;
+    let ran = strands_alone(alloc, share, args, n);
+    let schedule = schedule_of_run(alloc, &code, args, n, processors, ran)?;
+    Ok(schedule)
+}
+
+/// The same of such a run of code that kept these strands, or did not end, whoever ran it.
+pub fn schedule_of_run(
+    alloc: Global,
+    code: &Verified,
+    args: &[i64],
+    n: u64,
+    processors: u64,
+    ran: Result<Strands, Fault>,
+) -> Result<Schedule, Fault>
+    requires { RecordsAsCode (code_view code.now.code) args.now n ran }
+    ensures { schedules.SchedulesAsCode (code_view code.now.code) args.now n processors result }
+{
+    cost_is_the_work_that_is_shown();
+    normal_form_reads_the_same();
+    if !is_asked(code, args, n, processors) {
+        return Err(Fault::Arguments);
+    }
+    let strands = ran?;
     if !strands.fits() {
         return Err(Fault::Strands);
     }
@@ -65,8 +88,8 @@ pub fn schedule_alone(
     })
 }
 
-// Whether there are as many arguments as `main` takes, and the limit and the processors are in their ranges.
-fn is_asked(code: &Verified, args: &[i64], n: u64, processors: u64) -> bool
+/// Whether there are as many arguments as `main` takes, and the limit and the processors are in their ranges.
+pub fn is_asked(code: &Verified, args: &[i64], n: u64, processors: u64) -> bool
     ensures { result ≡ schedules.is_asked (code_view code.now.code) args.now n processors }
 {
     is_counted(processors) && args.len() == main_takes(code) && 1 <= n && n <= MOST_LIMIT

@@ -1,18 +1,19 @@
 //! Work and span of the strands of a record.
 
-ghost use Rattle.std.specs.Prelude.{◌≡◌, ◌+◌, ◌≤◌, ◌++◌, ◌∷◌, [], max, Some, List, IfOk, OnOk};
+ghost use Rattle.std.specs.Prelude.{◌≡◌, ◌+◌, ◌<◌, ◌≤◌, ◌++◌, ◌∷◌, [], max, Some, List, IfOk, OnOk};
 ghost use Rattle.cw_model.specs.Trees.{Tree, work, span};
-ghost use Rattle.cw_model.specs.declared.limits.TheConstants.{MOST_LIMIT};
+ghost use Rattle.cw_model.specs.declared.limits.TheConstants.{MOST_LIMIT, MOST_STRANDS};
 ghost use Rattle.cw_greedy.specs.declared.code.Code.{Code};
+ghost use Rattle.cw_greedy.specs.Entries.{code_of_cut, codes_of_chunks, codes_of_entries, codes_of_entry};
+ghost use Rattle.cw_greedy.specs.Recorded.{cuts};
 ghost use Rattle.cw_greedy.specs.Jumping.{Block, Last};
 ghost use Rattle.cw_greedy.specs.Counts.{spawns_in};
 ghost use Rattle.cw_greedy.specs.Records.{IsRecordOf};
 ghost use Rattle.cw_schedule.specs.declared.weights.Spawn.{Spawn};
-ghost use Rattle.cw_schedule.specs.Planned.{instructions_of};
 ghost use Rattle.cw_schedule.specs.Reading.{instructions, read, spawned, Frame};
 ghost use Rattle.cw_schedule.specs.Weighed.{counted, path_of, spawn, Weighs, WillJoin, WillWeigh};
 
-use cw_greedy::code::Code;
+use cw_greedy::entry::{Cut, Entry};
 use cw_greedy::strands::Strands;
 use std::alloc::{AllocError, Global};
 
@@ -115,40 +116,64 @@ impl Ways {
         }
     }
 
-    // One code more.
-    fn follow(&mut self, code: Code) -> Result<(), AllocError>
-        ensures work { OnOk result
-            (counted self.new.work ≡ counted (self.old.work + instructions_of code)) }
+    // A cut.
+    fn cut(&mut self, cut: Cut) -> Result<(), AllocError>
+        ensures work { OnOk result (self.new.work ≡ self.old.work) }
         ensures weighs { (block : Block) (later : List Code)
-            → WillWeigh block (code ∷ later) self.old
+            → WillWeigh block (code_of_cut cut ++ later) self.old
             → OnOk result (WillWeigh block later self.new) }
     {
-        match code {
-            Code::Instructions(count) => {
-                self.worked(count);
-                Ok(())
-            }
-            Code::Spawned(first) => {
+        match cut {
+            Cut::Spawned(first) => {
                 self.spawned(first)?;
                 Ok(())
             }
-            Code::Ended => {
+            Cut::Ended => {
                 self.ended()?;
                 Ok(())
             }
-            Code::Joined => {
+            Cut::Joined => {
                 self.joined();
                 Ok(())
             }
-            Code::Called => Ok(()),
+            Cut::Nothing => Ok(()),
+            Cut::Called => Ok(()),
         }
+    }
+
+    // One entry more.
+    fn follow(&mut self, entry: Entry) -> Result<(), AllocError>
+        ensures work { OnOk result
+            (counted self.new.work ≡ counted (self.old.work + entry.before)) }
+        ensures weighs { (block : Block) (later : List Code)
+            → WillWeigh block (codes_of_entry entry ++ later) self.old
+            → OnOk result (WillWeigh block later self.new) }
+    {
+        self.worked(entry.before);
+        self.cut(entry.cut)?;
+        Ok(())
+    }
+
+    // The entries of a chunk.
+    fn follow_all(&mut self, entries: &[Entry]) -> Result<(), AllocError>
+        ensures work { OnOk result (counted self.new.work
+            ≡ counted (self.old.work + instructions (codes_of_entries entries.now))) }
+        ensures weighs { (block : Block) (later : List Code)
+            → WillWeigh block (codes_of_entries entries.now ++ later) self.old
+            → OnOk result (WillWeigh block later self.new) }
+    {
+        for entry in entries {
+            self.follow(*entry)?;
+        }
+        Ok(())
     }
 }
 
-// What codes weigh, and the block that they are read as.
-fn weighed(alloc: Global, codes: &[Code]) -> Result<Weights, AllocError>
-    ensures work { IfOk result (λ w. counted w.work ≡ counted (instructions codes.now)) }
-    ensures span { (block : Block) → read codes.now [] (Last 0) ≡ Some block
+// What the entries of chunks weigh, and the block that they are read as.
+fn weighed(alloc: Global, chunks: &[Vec<Entry>]) -> Result<Weights, AllocError>
+    ensures work { IfOk result
+        (λ w. counted w.work ≡ counted (instructions (codes_of_chunks chunks.now))) }
+    ensures span { (block : Block) → read (codes_of_chunks chunks.now) [] (Last 0) ≡ Some block
         → IfOk result (λ w. w.span ≡ counted (path_of block)) }
 {
     let mut ways = Ways {
@@ -156,8 +181,8 @@ fn weighed(alloc: Global, codes: &[Code]) -> Result<Weights, AllocError>
         path: 0,
         spawns: Vec::new(alloc),
     };
-    for code in codes {
-        ways.follow(*code)?;
+    for chunk in chunks {
+        ways.follow_all(chunk.as_slice())?;
     }
     Ok(Weights {
         work: ways.work,
@@ -173,7 +198,7 @@ pub fn weigh(alloc: Global, kept: &Strands) -> Result<Weights, AllocError>
     ensures work { (t : Tree) → IsRecordOf t kept.now → IfOk result (λ w. w.work ≡ work t) }
     ensures span { (t : Tree) → IsRecordOf t kept.now → IfOk result (λ w. w.span ≡ span t) }
 {
-    let weights = weighed(alloc, kept.codes())?;
+    let weights = weighed(alloc, kept.chunks())?;
     Ok(weights)
 }
 
@@ -182,27 +207,40 @@ pub(crate) fn count_spawns(kept: &Strands) -> u64
     requires { (t : Tree) × IsRecordOf t kept.now }
     ensures { (t : Tree) → IsRecordOf t kept.now → result ≡ spawns_in t }
 {
-    let count = count_spawned(kept.codes());
+    let count = count_spawned(kept.chunks());
     count
 }
 
-// How many children are spawned by some codes.
-fn count_spawned(codes: &[Code]) -> u64
-    ensures { result ≡ spawned codes.now }
+// How many children are spawned by the entries of some chunks.
+fn count_spawned(chunks: &[Vec<Entry>]) -> u64
+    requires { cuts (codes_of_chunks chunks.now) < MOST_STRANDS }
+    ensures { result ≡ spawned (codes_of_chunks chunks.now) }
 {
     let mut count = 0;
-    for code in codes {
-        count += spawned_by(*code);
+    for chunk in chunks {
+        count += spawned_in(chunk.as_slice());
     }
     count
 }
 
-fn spawned_by(code: Code) -> u64
-    ensures value { (codes : List Code) → spawned (code ∷ codes) ≡ result + spawned codes }
+// How many children are spawned by the entries of a chunk.
+fn spawned_in(entries: &[Entry]) -> u64
+    ensures { result ≡ spawned (codes_of_entries entries.now) }
+{
+    let mut count = 0;
+    for entry in entries {
+        count += spawned_by(entry.cut);
+    }
+    count
+}
+
+fn spawned_by(cut: Cut) -> u64
+    ensures value { (codes : List Code)
+        → spawned (code_of_cut cut ++ codes) ≡ result + spawned codes }
     ensures small { result ≤ 1 }
 {
-    match code {
-        Code::Spawned(_) => 1,
+    match cut {
+        Cut::Spawned(_) => 1,
         _ => 0,
     }
 }

@@ -4,6 +4,7 @@ use Rattle.std.specs.Prelude.{reverse}
 use Rattle.std.proofs.Math.Logic.{∥∥₁_elim, ∥∥₁_map}
 use Rattle.cw_facts.specs.Tests.{not_lt_of}
 use Rattle.cw_model.specs.declared.limits.TheConstants.{MOST_LIMIT}
+use Rattle.cw_model.specs.Trees.{Event}
 use Rattle.cw_model.specs.Outcome.{Trace}
 use Rattle.cw_slices.specs.Placed.{Placed}
 use Rattle.cw_code.specs.Code.{Code, code_view}
@@ -13,7 +14,9 @@ use Rattle.cw_code.specs.Good.{FitSettles}
 use Rattle.cw_code.specs.Staying.{SeatsLie}
 use Rattle.cw_meter_laws.specs.Strands.{CallsKeepMeters, CountsEffect, TellsAll, site_at, MeansMeasured}
 use Rattle.cw_meter.specs.declared.detail.Detail.{Detail}
-use Rattle.cw_meter.specs.declared.detail.Detail.TheVariants.{Values, Measures}
+use Rattle.cw_recorded.specs.declared.recorder.Recorder.{Recorder}
+use Rattle.cw_recorded.specs.Recording.{RecordsIn}
+use Rattle.cw_meter.specs.declared.detail.Detail.TheVariants.{Values, Strands, Measures}
 use Rattle.cw_meter.specs.declared.meter.Meter.{Meter}
 use Rattle.cw_meter.specs.Details.{IsSite}
 use Rattle.cw_meter.specs.Origins as origins
@@ -54,13 +57,28 @@ use Rattle.cw_strand.proofs.Effects.{gave_within}
 use Rattle.cw_strand.proofs.Taken.{shows_joined}
 use Rattle.cw_strand.proofs.Gave.{meant_in}
 
--- where the values alone are kept a meter knows no site of a rest, and is asked for none
+-- the record of a rest is the same whatever its site
+record_at : (a b count : ℕ) (es : List Event) (r : Recorder) → RecordsIn (origins.Rest a) count [] es r → RecordsIn (origins.Rest b) count [] es r
+record_at a b count es r h = record {
+  goes_on = h.goes_on;
+  keeps = h.keeps;
+  parts = λ some. let p = h.parts some in record { out = p.out; parts = p.parts };
+  from_main = h.from_main;
+  apart = h.apart;
+}
+
+-- where not all is counted a meter knows no site of a rest, and is asked for none
 at_site : (code : Code) (d : Detail) (a b : ℕ) (frame : Standing) (t : Trace) (cost : ℕ) (m : Meter) → IsSite d a b
     → CountsEffect code d a (jobs.Joined frame t cost) m → CountsEffect code d b (jobs.Joined frame t cost) m
 at_site code Values a b frame t cost m e h = λ g q.
     let A : Detail → Type 0 = λ x. Meters x g.tags (origins.Rest a) cost [] t.events m in
     let B : Detail → Type 0 = λ x. Meters x g.tags (origins.Rest b) cost [] t.events m in
     subst B (sym q) (subst A q (h g q))
+at_site code Strands a b frame t cost m e h = λ g q.
+    let A : Detail → Type 0 = λ x. Meters x g.tags (origins.Rest a) cost [] t.events m in
+    let B : Detail → Type 0 = λ x. Meters x g.tags (origins.Rest b) cost [] t.events m in
+    let was = subst A q (h g q) in
+    subst B (sym q) (was.0, (was.1.0, record_at a b cost t.events m.recorder was.1.1))
 at_site code (Measures burden) a b frame t cost m e h = subst (λ z. CountsEffect code (Measures burden) z (jobs.Joined frame t cost) m) e h
 
 -- an effect is the frame and what was shown at a join
@@ -188,7 +206,8 @@ module _ (self : Strand) (job : Job) (others : List Job) (newest : Newest self j
       tells_now =
           let n = h.waited.runs.counts in
           let was : TellsAll code p.detail (origin_of p) (Waits h.state h.count (jo ∷ rs)) self.run.meter =
-          subst (λ k. TellsAll code p.detail (origin_of p) (Going h.state k []) self.run.meter) (sym n) h.waited.runs.shows.tells in
+          let told = subst (λ k. TellsAll code p.detail (origin_of p) (Going h.state k []) self.run.meter) (sym n) h.waited.runs.shows.tells in
+          λ g b. (told g b, h.waited.spawned) in
           let small : j.limit ≤ MOST_LIMIT = subst (λ l. l ≤ MOST_LIMIT) (sym g.job.limit) running.keeps.range in
           (meters code p.detail).giving (origin_of p) j jo h.state h.count came.cost rs came.frame came.trace self.run.meter shown.meter r.meter
           (waits self job others newest is j g h) le_def small measured

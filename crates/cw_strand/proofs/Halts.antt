@@ -27,6 +27,7 @@ use Rattle.cw_strand.specs.Levels.{levels_of}
 use Rattle.cw_strand.specs.Holds.{given_up as up_of}
 use Rattle.cw_strand.specs.Holds.{its_parts, its_code, floor_in, Ground, IsRest, ok_with, Lends, AreOut, AreBack, Stands, HeldIn, Holds, KeepsJob, IsRunning, stops}
 use Rattle.cw_strand.specs.Moves.{CameTo, HasCome, HasSpared}
+use Rattle.cw_meter_laws.specs.lemmas.Spawns.{HasSpawnedWhere, waiters_have_spawned}
 use Rattle.cw_strand.proofs.Levels.{HasReturned, LevelsAfter, levels_move}
 use Rattle.cw_strand.proofs.WhichOut.{is_back, NewestOut, newest_out}
 use Rattle.cw_strand.proofs.Same.{same_strand}
@@ -132,6 +133,7 @@ module _ (keep : (code : Code) → CallsKeep code) (self : Strand) (limit : ℕ)
           held = record {
             level = r.level;
             back = r.back;
+            spawned = subst (λ t. HasSpawnedWhere t at.next) at.turns (waiters_have_spawned code c.state at.next at.steps);
             others = b.others;
             runs = record {
               counts = sym c.at.0;

@@ -4,7 +4,7 @@ use Rattle.std.specs.Prelude.{map, reverse, Some, slice_get}
 use Rattle.std.specs.Coded.{le_prop}
 use Rattle.std.proofs.Math.Logic.{∥∥₁_elim}
 use Rattle.cw_meter.specs.declared.detail.Detail.{Detail}
-use Rattle.cw_meter.specs.declared.detail.Detail.TheVariants.{Values, Measures}
+use Rattle.cw_meter.specs.declared.detail.Detail.TheVariants.{Values, Strands, Measures}
 use Rattle.cw_meter.specs.Details.{IsLight}
 use Rattle.cw_code.specs.Code.{Code, code_view}
 use Rattle.cw_strand_laws.specs.Jobs as jobs
@@ -42,6 +42,7 @@ pub record Grounded (v : Verified) (is : IsFit v) (p : Parts) (j : jobs.Job) (m 
 
 light_prop : (d : Detail) → IsProp (IsLight d)
 light_prop Values = hlevel le_prop
+light_prop Strands = hlevel le_prop
 light_prop (Measures burden) = le_prop
 
 pub grounded : (v : Verified) (is : IsFit v) (p : Parts) (j : jobs.Job) (m : Machine) → IsJob v is p j → IsLight p.detail

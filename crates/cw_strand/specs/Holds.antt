@@ -2,6 +2,7 @@
 use Rattle.std.specs.Prelude.{◌≡◌, ◌≢◌, ◌⊎◌, ℕ, suc, ◌+◌, ◌-◌, ◌≤◌, Bool, true, false, List, [], ◌∷◌, length, map, reverse}
 use Rattle.std.specs.Prelude.{slice_get, Some}
 use Rattle.cw_model.specs.declared.limits.TheConstants.{MOST_LIMIT}
+use Rattle.cw_measure.specs.OpenParts.{has_spawned}
 use Rattle.cw_meter.specs.Details.{IsLight, IsSite}
 use Rattle.cw_code.specs.Code.{code_view}
 use Rattle.cw_code.specs.Run.{State}
@@ -166,11 +167,12 @@ pub record Ongoing (self : Strand) (is : IsFit (its_code self)) (j : jobs.Job)
   pub runs : Runs self is j g levels s count
   pub are : AreOut (its_parts self) (levels_of s.around) jobs_out levels (reverse self.lent.items)
 
--- a spawned call has returned, and its rest is the newest job out
+-- a spawned call has returned to its block, and its rest is the newest job out
 pub record Waited (self : Strand) (is : IsFit (its_code self)) (j : jobs.Job)
     (g : Ground (its_code self) is (its_parts self) j) (s : State) (count : ℕ) (jobs_out : List jobs.Job) : Type 0 where
   pub level : Level
   pub back : IsBackAt level s
+  pub spawned : has_spawned s.trace.events ≡ true
   pub others : List Level
   pub runs : Runs self is j g (level ∷ others) s count
   pub are : AreBack (its_parts self) level (levels_of s.around) jobs_out (level ∷ others) (reverse self.lent.items)

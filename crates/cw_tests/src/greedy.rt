@@ -20,6 +20,11 @@ const SCHEDULES: &[Row] = &[
     ("greedy 002 --limit=120 f 4", FIB, 0, "2,120,67,76\n", ""),
     ("greedy 2 f", PRINTED, 0, "2,15,10,10\n", ""),
     ("greedy 1 f", PRINTED, 0, "1,15,10,15\n", ""),
+    // by whichever workers
+    ("greedy 2 f 4 --workers 1", FIB, 0, "2,120,67,76\n", ""),
+    ("greedy 2 f 4 --workers 4", FIB, 0, "2,120,67,76\n", ""),
+    ("greedy 2 f 4 --workers 64", FIB, 0, "2,120,67,76\n", ""),
+    ("greedy 2 f --workers 64", PRINTED, 0, "2,15,10,10\n", ""),
 ];
 
 #[test]
@@ -48,6 +53,20 @@ const NO_SCHEDULES: &[Row] = &[
     ("greedy 2 f 0", DIVIDED, 3, "", "trap 2 line 1\n"),
     ("greedy 2 f 0 --limit 6", DIVIDED, 4, "", "over limit\n"),
     (
+        "greedy 2 f 4 --limit 119 --workers 64",
+        FIB,
+        4,
+        "",
+        "over limit\n",
+    ),
+    (
+        "greedy 2 f 0 --workers 4",
+        DIVIDED,
+        3,
+        "",
+        "trap 2 line 1\n",
+    ),
+    (
         "greedy 2 f",
         "int main() { return x; }",
         2,
@@ -62,7 +81,22 @@ fn writes_no_schedule(rt: HostRuntime) -> Result<(), Fail> {
 }
 
 // As many strands as are kept, behind the head.
-const KEPT: &[Row] = &[("greedy 1 f", MOST, 0, "1,15333348,429,15333348\n", "")];
+const KEPT: &[Row] = &[
+    (
+        "greedy 1 f --workers 1",
+        MOST,
+        0,
+        "1,15333348,429,15333348\n",
+        "",
+    ),
+    (
+        "greedy 1 f --workers 4",
+        MOST,
+        0,
+        "1,15333348,429,15333348\n",
+        "",
+    ),
+];
 
 #[test]
 fn schedules_a_million_strands(rt: HostRuntime) -> Result<(), Fail> {
@@ -71,7 +105,8 @@ fn schedules_a_million_strands(rt: HostRuntime) -> Result<(), Fail> {
 
 // More than are kept.
 const TOO_MANY: &[Row] = &[
-    ("greedy 1 f", MORE, 4, "", "too many strands\n"),
+    ("greedy 1 f --workers 1", MORE, 4, "", "too many strands\n"),
+    ("greedy 1 f --workers 4", MORE, 4, "", "too many strands\n"),
     // a limit that the run passes is told first
     ("greedy 1 f --limit 15333347", MORE, 4, "", "over limit\n"),
 ];

@@ -409,7 +409,7 @@ const COMMANDS: &[Help] = &[
             "Usage: cilkwork greedy",
             "<P> <FILE> [ARGS]...",
             "  greedy      ",
-            "--workers <N>  Takes it as other commands, and runs with one thread\n",
+            "--workers <N>  How many threads share the run [default: 2]\n",
         ],
     ),
 ];

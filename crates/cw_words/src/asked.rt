@@ -48,7 +48,7 @@ pub struct Request {
     /// The arguments of `main`, each from 0 on; none of a check.
     pub args: Vec<i64>,
     pub options: Options,
-    /// How many workers run the program, from 1 to 64; no report depends on it, and a check and `Greedy` do not use it.
+    /// How many workers run the program, from 1 to 64; no report depends on it, and a check does not use it.
     pub workers: u64,
     /// Whether standard error explains a refusal or a trap behind its line.
     pub explain: bool,

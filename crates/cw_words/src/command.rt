@@ -13,7 +13,6 @@ ghost use Rattle.cw_words.specs.Command.{
   number_rule,
   option_rule,
   running_line,
-  workers_row,
 };
 ghost use Rattle.cw_words.specs.declared.verb.Verb.TheVariants as verb;
 ghost use Rattle.cw_words.specs.Rows.{row_of};
@@ -97,7 +96,7 @@ fn greedy_command<'a>(alloc: Global) -> Result<Command<'a>, AllocError>
         .arg(file(alloc))?
         .arg(main_args(alloc))?
         .arg(number(alloc, LIMIT))?
-        .arg(idle_workers(alloc))?;
+        .arg(number(alloc, WORKERS))?;
     Ok(command)
 }
 
@@ -158,16 +157,6 @@ fn number<'a>(alloc: Global, option: NumberOption) -> Arg<'a>
     ensures local { result.global ≡ false }
 {
     worded(alloc, option.name, "N", option.usual, option.help)
-}
-
-// The option for workers where one makes the run, whatever is given; so the help names no usual number.
-fn idle_workers<'a>(alloc: Global) -> Arg<'a>
-    ensures rule { rule_of result ≡ number_rule workers_row }
-    ensures local { result.global ≡ false }
-{
-    number(alloc, WORKERS)
-        .help("Takes it as other commands, and runs with one thread")
-        .hide_default_value(true)
 }
 
 // The option for the edges that a burden is charged on.

@@ -38,7 +38,7 @@ A number is one or more decimal digits; zeros in front are allowed:
   --edges   spawn, or both, where a path is charged the burden too that runs
             through the spawned call, as if that came back to the join late
   --workers from 1 to 64; how many threads share the run. No report depends on
-            it, and greedy runs with one
+            it
   --top     from 1 to 64
 
 Exit status and standard error (L is a line of the source):

@@ -5,11 +5,11 @@ use crate::machine::measures::INTO_FIRST;
 use crate::machine::{Setting, code_in};
 use crate::programs::{Around, Part, SPAWNED};
 use cw_code::code::Instr;
-use cw_greedy::code::Code as Kept;
+use cw_greedy::entry::{Cut, Entry};
 use cw_machine::recorded::strands_alone;
 use cw_model::syntax::CallKind;
 use cw_text::Fault;
-use std::alloc::Global;
+use std::alloc::{AllocError, Global};
 
 const FIRST: i128 = -1;
 
@@ -21,33 +21,49 @@ const JOINED: i128 = -4;
 
 const CALLED: i128 = -5;
 
-// What is kept, as a number: so many instructions as that many.
-fn number_of(code: Kept) -> i128 {
-    match code {
-        Kept::Instructions(n) => i128::from(n),
-        Kept::Spawned(true) => FIRST,
-        Kept::Spawned(false) => NEXT,
-        Kept::Ended => ENDED,
-        Kept::Joined => JOINED,
-        Kept::Called => CALLED,
+// A cut as a number, if it is one.
+fn number_of(cut: Cut) -> Option<i128> {
+    match cut {
+        Cut::Nothing => None,
+        Cut::Spawned(true) => Some(FIRST),
+        Cut::Spawned(false) => Some(NEXT),
+        Cut::Ended => Some(ENDED),
+        Cut::Joined => Some(JOINED),
+        Cut::Called => Some(CALLED),
     }
 }
 
-// Whether these are kept.
-fn are_kept(codes: &[Kept], hand: &[i128]) -> bool {
-    for (code, number) in codes.iter().zip(hand) {
-        if number_of(*code) != *number {
-            return false;
+// What a chunk keeps, as numbers: so many instructions as that many, where there are any.
+fn add_numbers(numbers: &mut Vec<i128>, entries: &[Entry]) -> Result<(), AllocError> {
+    for entry in entries {
+        if entry.before > 0 {
+            numbers.push(i128::from(entry.before))?;
+        }
+        if let Some(number) = number_of(entry.cut) {
+            numbers.push(number)?;
         }
     }
-    codes.len() == hand.len()
+    Ok(())
+}
+
+// Whether these are kept.
+fn are_kept(alloc: Global, chunks: &[Vec<Entry>], hand: &[i128]) -> Result<bool, AllocError> {
+    let mut numbers = Vec::new(alloc);
+    for chunk in chunks {
+        add_numbers(&mut numbers, chunk.as_slice())?;
+    }
+    Ok(numbers.as_slice() == hand)
 }
 
 // Whether this is kept of a run, and the strands are not too many.
 fn keeps(alloc: Global, setting: Setting, body: &[Instr], hand: &[i128]) -> Result<bool, Fault> {
     let code = code_in(alloc, setting, body)?;
     let strands = strands_alone(alloc, code, &[], 1_000_000)?;
-    Ok(strands.fits() && are_kept(strands.codes(), hand))
+    if !strands.fits() {
+        return Ok(false);
+    }
+    let same = are_kept(alloc, strands.chunks(), hand)?;
+    Ok(same)
 }
 
 // fib(4): 2 of main, its call, and 2 more; a call spawns after 8, calls after 4 beside the child, and has 5 after the

@@ -43,5 +43,5 @@ returns-in-Gain g c =
 pub returns-in-Greedy : goal.returns-in-Greedy
 returns-in-Greedy g c =
     let runs = running c.args.options.mode (mode.Greedy c.in-Greedy.processors) c.in-Greedy.is schedule_is_no_check in
-    by_crew g.W.Sink.seen c.args.out.now c.run_greedy.new.out c.args.bytes.now c.args.args.now c.args.options _ _ (search rules)
-    (run_is g.W.Sink.seen c.args.out.now c.run_greedy.new.out c.args.bytes.now c.args.args.now c.args.options runs c.run_greedy.result (c.run_greedy.ensures c.args.bytes.now c.in-Greedy.is c.in_ok-made.ensures.compiled))
+    by_crew g.W.Sink.seen c.args.out.now c.run_greedy_with.new.out c.args.bytes.now c.args.args.now c.args.options _ _ (search rules)
+    (run_is g.W.Sink.seen c.args.out.now c.run_greedy_with.new.out c.args.bytes.now c.args.args.now c.args.options runs c.run_greedy_with.result (c.run_greedy_with.ensures c.args.bytes.now c.in-Greedy.is c.in_ok-made.ensures.compiled))

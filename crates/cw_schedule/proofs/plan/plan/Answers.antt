@@ -1,36 +1,46 @@
 use Rattle.std.proofs.Common.{◌+◌, ◌<◌, drop, length, arith, subst, ◌∙◌}
 use Rattle.std.proofs.lemmas.List.{drop_all}
-use Rattle.cw_greedy.specs.declared.code.Code.TheVariants.{Instructions}
+use Rattle.cw_greedy.specs.Entries.{codes_of_chunks}
 use Rattle.cw_schedule.specs.Planned.{Makes}
-use Rattle.cw_schedule.proofs.Plans.{sum_step, makes_next, makes_all}
+use Rattle.cw_schedule.proofs.Chunks.{next_chunk, sum_chunk}
+use Rattle.cw_schedule.proofs.Plans.{makes_all}
 use Rattle.cw_schedule.proofs.plan.plan.Goals as goal
 
-pub follow-requires-clause-fits : goal.follow-requires-clause-fits
-follow-requires-clause-fits c =
-    let l : c.loop-code.code-index < length c.args.codes.now = omega arith in
-    omega (arith, c.loop-code.invariant.fits, sum_step c.args.codes.now c.loop-code.code-index (Instructions 0) l)
+pub follow_all-requires-clause-fits : goal.follow_all-requires-clause-fits
+follow_all-requires-clause-fits c =
+    let chunks = c.args.chunks.now in
+    let l : c.loop-chunk.chunk-index < length chunks = omega arith in
+    omega (arith, c.loop-chunk.invariant.fits, sum_chunk chunks c.loop-chunk.chunk-index c.chunk-item.result c.as_slice.result.now l c.chunk-item.is c.as_slice.ensures.value)
 
-pub follow-requires-clause-makes : goal.follow-requires-clause-makes
-follow-requires-clause-makes c =
-    let l : c.loop-code.code-index < length c.args.codes.now = omega arith in (
-      c.requires.block.0,
+pub follow_all-requires-clause-makes : goal.follow_all-requires-clause-makes
+follow_all-requires-clause-makes c =
+    let chunks = c.args.chunks.now in
+    let i = c.loop-chunk.chunk-index in
+    let l : i < length chunks = omega arith in
+    let block = c.requires.block.0 in
+    let next = next_chunk chunks i c.chunk-item.result c.as_slice.result.now l c.chunk-item.is c.as_slice.ensures.value in (
+      block,
       (
-        drop (c.loop-code.code-index + 1) c.args.codes.now,
-        makes_next c.requires.block.0 c.args.codes.now c.loop-code.code-index (Instructions 0) c.loop-code.plan l (c.loop-code.invariant.makes c.requires.block.0 c.requires.block.1),
+        codes_of_chunks (drop (i + 1) chunks),
+        subst (λ codes. Makes block codes c.loop-chunk.plan) next (c.loop-chunk.invariant.makes block c.requires.block.1),
       ),
     )
 
-pub loop-code-preserved : goal.loop-code-preserved
-loop-code-preserved c =
-    let l : c.loop-code.code-index < length c.args.codes.now = omega arith in
+pub loop-chunk-preserved : goal.loop-chunk-preserved
+loop-chunk-preserved c =
+    let chunks = c.args.chunks.now in
+    let i = c.loop-chunk.chunk-index in
+    let l : i < length chunks = omega arith in
+    let sum = sum_chunk chunks i c.chunk-item.result c.as_slice.result.now l c.chunk-item.is c.as_slice.ensures.value in
+    let next = next_chunk chunks i c.chunk-item.result c.as_slice.result.now l c.chunk-item.is c.as_slice.ensures.value in
     record {
-      makes = λ block e. c.in_ok-follow.ensures.makes block (drop (c.loop-code.code-index + 1) c.args.codes.now)
-          (makes_next block c.args.codes.now c.loop-code.code-index (Instructions 0) c.loop-code.plan l (c.loop-code.invariant.makes block e));
-      fits = omega (arith, c.in_ok-follow.ensures.weight, c.loop-code.invariant.fits, sum_step c.args.codes.now c.loop-code.code-index (Instructions 0) l);
+      makes = λ block e. c.in_ok-follow_all.ensures.makes block (codes_of_chunks (drop (i + 1) chunks))
+          (subst (λ codes. Makes block codes c.loop-chunk.plan) next (c.loop-chunk.invariant.makes block e));
+      fits = omega (arith, c.in_ok-follow_all.ensures.weight, c.loop-chunk.invariant.fits, sum);
     }
 
 pub returns : goal.returns
 returns c =
     λ block e. c.in_ok-push.ensures.items
-    ∙ makes_all block c.loop-code.plan
-    (subst (λ codes. Makes block codes c.loop-code.plan) (drop_all c.loop-code.code-index c.args.codes.now (omega arith)) (c.loop-code.invariant.makes block e))
+    ∙ makes_all block c.loop-chunk.plan
+    (subst (λ chunks. Makes block (codes_of_chunks chunks) c.loop-chunk.plan) (drop_all c.loop-chunk.chunk-index c.args.chunks.now (omega arith)) (c.loop-chunk.invariant.makes block e))

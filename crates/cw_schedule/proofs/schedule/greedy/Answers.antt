@@ -7,6 +7,7 @@ use Rattle.cw_greedy.specs.Counts.{spawns_in}
 use Rattle.cw_greedy.specs.Slots.{nones}
 use Rattle.cw_schedule.specs.declared.plan.Begins.TheVariants.{Start}
 use Rattle.cw_schedule.specs.Planned.{strands_of}
+use Rattle.cw_greedy.specs.Entries.{codes_of_chunks}
 use Rattle.cw_schedule.proofs.Reading.{record_is_read, record_has_work}
 use Rattle.cw_schedule.proofs.State.{on_one, record_of, some_planned, within}
 use Rattle.cw_schedule.proofs.schedule.greedy.Goals as goal
@@ -14,20 +15,20 @@ use Rattle.cw_schedule.proofs.schedule.greedy.Goals as goal
 pub plan-requires-clause-fits : goal.plan-requires-clause-fits
 plan-requires-clause-fits c =
     let t = c.requires.kept.0 in
-    let h = record_of t c.args.kept.now c.codes.result.now c.codes.ensures c.requires.kept.1.0 in
-    omega (arith, record_has_work t c.codes.result.now h, c.requires.kept.1.1)
+    let h = record_of t c.args.kept.now (codes_of_chunks c.chunks.result.now) c.chunks.ensures.value c.requires.kept.1.0 in
+    omega (arith, record_has_work t (codes_of_chunks c.chunks.result.now) h, c.requires.kept.1.1)
 
 pub plan-requires-clause-block : goal.plan-requires-clause-block
 plan-requires-clause-block c =
     let t = c.requires.kept.0 in
-    let h = record_of t c.args.kept.now c.codes.result.now c.codes.ensures c.requires.kept.1.0 in
-    (block_of t, record_is_read t c.codes.result.now h)
+    let h = record_of t c.args.kept.now (codes_of_chunks c.chunks.result.now) c.chunks.ensures.value c.requires.kept.1.0 in
+    (block_of t, record_is_read t (codes_of_chunks c.chunks.result.now) h)
 
 pub new-requires : goal.new-requires
 new-requires c =
     let t = c.requires.kept.0 in
-    let h = record_of t c.args.kept.now c.codes.result.now c.codes.ensures c.requires.kept.1.0 in
-    let e = c.in_ok-strands.ensures (block_of t) (record_is_read t c.codes.result.now h) in
+    let h = record_of t c.args.kept.now (codes_of_chunks c.chunks.result.now) c.chunks.ensures.value c.requires.kept.1.0 in
+    let e = c.in_ok-strands.ensures (block_of t) (record_is_read t (codes_of_chunks c.chunks.result.now) h) in
     omega (arith, some_planned (block_of t) c.in_ok-strands.strands.items e)
 
 pub count_all-steps-requires-clause-flags : goal.count_all-steps-requires-clause-flags
@@ -46,23 +47,23 @@ pub count_all-steps-requires-clause-tree : goal.count_all-steps-requires-clause-
 count_all-steps-requires-clause-tree c =
     let t = c.requires.kept.0 in
     let h = c.requires.kept.1.0 in
-    let g = record_of t c.args.kept.now c.codes.result.now c.codes.ensures h in
-    let e : c.deref.result.now ≡ strands_of Start (block_of t) = c.deref.ensures.value ∙ c.in_ok-strands.ensures (block_of t) (record_is_read t c.codes.result.now g) in
-    let w : work t ≤ MOST_LIMIT = omega (arith, record_has_work t c.codes.result.now g, record_has_work c.requires.kept.0 c.codes.result.now (record_of c.requires.kept.0 c.args.kept.now c.codes.result.now c.codes.ensures c.requires.kept.1.0), c.requires.kept.1.1) in
+    let g = record_of t c.args.kept.now (codes_of_chunks c.chunks.result.now) c.chunks.ensures.value h in
+    let e : c.deref.result.now ≡ strands_of Start (block_of t) = c.deref.ensures.value ∙ c.in_ok-strands.ensures (block_of t) (record_is_read t (codes_of_chunks c.chunks.result.now) g) in
+    let w : work t ≤ MOST_LIMIT = omega (arith, record_has_work t (codes_of_chunks c.chunks.result.now) g, record_has_work c.requires.kept.0 (codes_of_chunks c.chunks.result.now) (record_of c.requires.kept.0 c.args.kept.now (codes_of_chunks c.chunks.result.now) c.chunks.ensures.value c.requires.kept.1.0), c.requires.kept.1.1) in
     (t, (e, w))
 
 pub returns-clause-length : goal.returns-clause-length
 returns-clause-length c = λ t h.
-    let g = record_of t c.args.kept.now c.codes.result.now c.codes.ensures h in
-    let e : c.deref.result.now ≡ strands_of Start (block_of t) = c.deref.ensures.value ∙ c.in_ok-strands.ensures (block_of t) (record_is_read t c.codes.result.now g) in
-    let w : work t ≤ MOST_LIMIT = omega (arith, record_has_work t c.codes.result.now g, record_has_work c.requires.kept.0 c.codes.result.now (record_of c.requires.kept.0 c.args.kept.now c.codes.result.now c.codes.ensures c.requires.kept.1.0), c.requires.kept.1.1) in
+    let g = record_of t c.args.kept.now (codes_of_chunks c.chunks.result.now) c.chunks.ensures.value h in
+    let e : c.deref.result.now ≡ strands_of Start (block_of t) = c.deref.ensures.value ∙ c.in_ok-strands.ensures (block_of t) (record_is_read t (codes_of_chunks c.chunks.result.now) g) in
+    let w : work t ≤ MOST_LIMIT = omega (arith, record_has_work t (codes_of_chunks c.chunks.result.now) g, record_has_work c.requires.kept.0 (codes_of_chunks c.chunks.result.now) (record_of c.requires.kept.0 c.args.kept.now (codes_of_chunks c.chunks.result.now) c.chunks.ensures.value c.requires.kept.1.0), c.requires.kept.1.1) in
     c.count_all-steps.ensures t e w
 
 pub returns-clause-bounds : goal.returns-clause-bounds
 returns-clause-bounds c = λ t h.
-    let g = record_of t c.args.kept.now c.codes.result.now c.codes.ensures h in
-    let e : c.deref.result.now ≡ strands_of Start (block_of t) = c.deref.ensures.value ∙ c.in_ok-strands.ensures (block_of t) (record_is_read t c.codes.result.now g) in
-    let w : work t ≤ MOST_LIMIT = omega (arith, record_has_work t c.codes.result.now g, record_has_work c.requires.kept.0 c.codes.result.now (record_of c.requires.kept.0 c.args.kept.now c.codes.result.now c.codes.ensures c.requires.kept.1.0), c.requires.kept.1.1) in
+    let g = record_of t c.args.kept.now (codes_of_chunks c.chunks.result.now) c.chunks.ensures.value h in
+    let e : c.deref.result.now ≡ strands_of Start (block_of t) = c.deref.ensures.value ∙ c.in_ok-strands.ensures (block_of t) (record_is_read t (codes_of_chunks c.chunks.result.now) g) in
+    let w : work t ≤ MOST_LIMIT = omega (arith, record_has_work t (codes_of_chunks c.chunks.result.now) g, record_has_work c.requires.kept.0 (codes_of_chunks c.chunks.result.now) (record_of c.requires.kept.0 c.args.kept.now (codes_of_chunks c.chunks.result.now) c.chunks.ensures.value c.requires.kept.1.0), c.requires.kept.1.1) in
     within t c.args.processors c.count_all-steps.result (c.greedy_is_bounded.ensures c.args.processors t c.requires.processors) (c.count_all-steps.ensures t e w)
 
 pub returns-then-processors-eq1-clause-length : goal.returns-then-processors-eq1-clause-length

@@ -1,6 +1,7 @@
-use Rattle.std.proofs.Common.{◌≡◌, ◌+◌, ◌≤◌, drop}
+use Rattle.std.proofs.Common.{◌≡◌, ◌+◌, drop}
+use Rattle.cw_greedy.specs.Entries.{codes_of_chunks}
 use Rattle.cw_schedule.specs.Reading.{spawned}
 use Rattle.cw_schedule.proofs.weights.count_spawned.Given as goal
 
-abbrev pub invariant-loop-code : goal.invariant-loop-code
-invariant-loop-code l = (l.count + spawned (drop l.code-index l.codes) ≡ spawned l.codes) × (l.count ≤ l.code-index)
+abbrev pub invariant-loop-chunk : goal.invariant-loop-chunk
+invariant-loop-chunk l = l.count + spawned (codes_of_chunks (drop l.chunk-index l.chunks)) ≡ spawned (codes_of_chunks l.chunks)

@@ -1,27 +1,25 @@
-use Rattle.std.proofs.Common.{◌+◌, ◌<◌, drop, length, arith, ap, subst}
+use Rattle.std.proofs.Common.{◌+◌, ◌<◌, drop, length, arith, subst}
 use Rattle.std.proofs.lemmas.List.{drop_all}
-use Rattle.cw_greedy.specs.declared.code.Code.TheVariants.{Instructions}
-use Rattle.cw_schedule.specs.Reading.{instructions}
+use Rattle.cw_greedy.specs.Entries.{codes_of_chunks}
 use Rattle.cw_schedule.specs.Weighed.{WillWeigh}
-use Rattle.cw_schedule.proofs.Plans.{sum_step}
-use Rattle.cw_schedule.proofs.Weighing.{weighs_all, weighs_next}
+use Rattle.cw_schedule.proofs.Chunks.{next_chunk, sum_chunk}
+use Rattle.cw_schedule.proofs.Weighing.{weighs_all}
 use Rattle.cw_schedule.proofs.weights.weighed.Goals as goal
 
-pub loop-code-preserved : goal.loop-code-preserved
-loop-code-preserved c =
-    let l : c.loop-code.code-index < length c.args.codes.now = omega arith in
+pub loop-chunk-preserved : goal.loop-chunk-preserved
+loop-chunk-preserved c =
+    let chunks = c.args.chunks.now in
+    let i = c.loop-chunk.chunk-index in
+    let l : i < length chunks = omega arith in
+    let sum = sum_chunk chunks i c.chunk-item.result c.as_slice.result.now l c.chunk-item.is c.as_slice.ensures.value in
+    let next = next_chunk chunks i c.chunk-item.result c.as_slice.result.now l c.chunk-item.is c.as_slice.ensures.value in
     record {
-      work = omega (arith, c.in_ok-follow.ensures.work, c.loop-code.invariant.work, sum_step c.args.codes.now c.loop-code.code-index (Instructions 0) l);
-      weighs = λ block e. c.in_ok-follow.ensures.weighs block (drop (c.loop-code.code-index + 1) c.args.codes.now)
-          (weighs_next block c.args.codes.now c.loop-code.code-index (Instructions 0) c.loop-code.ways l (c.loop-code.invariant.weighs block e));
+      work = omega (arith, c.in_ok-follow_all.ensures.work, c.loop-chunk.invariant.work, sum);
+      weighs = λ block e. c.in_ok-follow_all.ensures.weighs block (codes_of_chunks (drop (i + 1) chunks))
+          (subst (λ codes. WillWeigh block codes c.loop-chunk.ways) next (c.loop-chunk.invariant.weighs block e));
     }
 
 pub returns-clause-span : goal.returns-clause-span
 returns-clause-span c = λ block e.
-    weighs_all block c.loop-code.ways
-    (subst (λ codes. WillWeigh block codes c.loop-code.ways) (drop_all c.loop-code.code-index c.args.codes.now (omega arith)) (c.loop-code.invariant.weighs block e))
-
-pub returns-clause-work : goal.returns-clause-work
-returns-clause-work c =
-    let none_left = ap instructions (drop_all c.loop-code.code-index c.args.codes.now (omega arith)) in
-    omega (arith, c.loop-code.invariant.work, none_left)
+    weighs_all block c.loop-chunk.ways
+    (subst (λ chunks. WillWeigh block (codes_of_chunks chunks) c.loop-chunk.ways) (drop_all c.loop-chunk.chunk-index c.args.chunks.now (omega arith)) (c.loop-chunk.invariant.weighs block e))

@@ -7,6 +7,6 @@ use Rattle.cw_meter.proofs.meter.Meter.apart.Goals as goal
 
 pub returns : goal.returns
 returns c =
-    let m : Meter = record { detail = c.args.detail; open_parts = 0; tables = c.apart.result; parts = c.new.result } in
-    let P : Burden → Type 0 = λ b. StartsTablesOfRest b c.args.site c.apart.result in
-    rest_starts_as c.args.detail c.args.site m refl refl (subst P c.burden.ensures c.apart.ensures) c.new.ensures.items
+    let m : Meter = record { detail = c.args.detail; open_parts = 0; recorder = c.apart.result; tables = c.apart-2.result; parts = c.new.result } in
+    let P : Burden → Type 0 = λ b. StartsTablesOfRest b c.args.site c.apart-2.result in
+    rest_starts_as c.args.detail c.args.site m refl refl c.apart.ensures (subst P c.burden.ensures c.apart-2.ensures) c.new.ensures.items

@@ -6,7 +6,7 @@ use Rattle.std.proofs.Math.Nat.{mod-eq_of_lt}
 use Rattle.cw_meter.specs.declared.tables.Tables.{Tables}
 use Rattle.cw_meter.specs.Tables.{CanCall}
 use Rattle.cw_meter.proofs.MeterLaws.{meter_begins}
-use Rattle.cw_meter.proofs.DetailLaws.{begins_counted, begins_values}
+use Rattle.cw_meter.proofs.DetailLaws.{begins_counted}
 use Rattle.cw_meter.proofs.meter.Meter.call.Goals as goal
 
 pub call_ready-requires : goal.call_ready-requires
@@ -19,8 +19,5 @@ returns-then-can_call c =
     let mid = c.stack_within.new.self in
     let stacks = c.stack_within.ensures in
     let new : Meter = record mid { tables = c.call_ready.new.self } in
-    begins_counted c.args.self.now new c.args.count false (Some (Invocation c.args.site)) (sym c.keeps_values.ensures ∙ c.if-keeps_values.false) stacks.detail
+    begins_counted c.args.self.now new c.args.count false (Some (Invocation c.args.site)) (sym c.is_counted.ensures ∙ c.if-not-is_counted.false) stacks.detail
     (meter_begins c.args.self.now mid c.call_ready.new.self c.args.count _ kind.Call false (Some (Invocation c.args.site)) stacks c.call_ready.ensures (λ tags outer. (refl, (c.args.site, refl))) (λ small. mod-eq_of_lt (omega arith)))
-
-pub returns-then-keeps_values : goal.returns-then-keeps_values
-returns-then-keeps_values c = begins_values c.args.self.now c.count_part.new.self c.args.count false (Some (Invocation c.args.site)) (sym c.keeps_values.ensures ∙ c.if-keeps_values.true) c.count_part.ensures

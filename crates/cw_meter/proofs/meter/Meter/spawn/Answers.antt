@@ -1,7 +1,7 @@
-use Rattle.std.proofs.Common.{◌∙◌, true, Some, sym}
+use Rattle.std.specs.Prelude.{Some}
+use Rattle.std.proofs.lemmas.Result.{on_ok_weaker}
 use Rattle.cw_model.specs.Trees.{Invocation}
-use Rattle.cw_meter.proofs.DetailLaws.{begins_values}
 use Rattle.cw_meter.proofs.meter.Meter.spawn.Goals as goal
 
-pub returns-then-keeps_values : goal.returns-then-keeps_values
-returns-then-keeps_values c = begins_values c.args.self.now c.count_part.new.self c.args.count true (Some (Invocation c.args.site)) (sym c.keeps_values.ensures ∙ c.if-keeps_values.true) c.count_part.ensures
+pub returns-then-not-is_counted : goal.returns-then-not-is_counted
+returns-then-not-is_counted c = on_ok_weaker c.open_spawned.result (λ begins. begins (Some (Invocation c.args.site))) c.open_spawned.ensures

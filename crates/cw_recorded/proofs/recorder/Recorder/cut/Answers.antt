@@ -1,8 +1,12 @@
-use Rattle.cw_recorded.proofs.Moves.{noted_cut}
-use Rattle.std.proofs.Common.{refl}
+use Rattle.std.proofs.Common.{ℕ, ◌≡◌, ◌-◌, Some, refl, arith, ap, ◌∙◌}
+use Rattle.cw_greedy.specs.Entries.{codes_of_entry, entry}
+use Rattle.cw_greedy.specs.Recorded.{followed}
+use Rattle.cw_recorded.proofs.Moves.{noted_entry}
 use Rattle.cw_recorded.proofs.recorder.Recorder.cut.Goals as goal
 
 pub returns : goal.returns
 returns c =
-    let mid = c.settle.new.self in
-    noted_cut c.args.self.now mid (record { kept = c.note.new.self; noted = mid.noted; out = mid.out; parts = mid.parts }) c.args.count c.args.code c.in_ok-settle.ensures c.in_ok-note.ensures refl refl refl
+    let old = c.args.self.now in
+    let before : c.saturating_sub.result ≡ c.args.count - old.noted = omega (arith, c.saturating_sub.ensures) in
+    let kept = c.in_ok-note.ensures ∙ ap (λ (n : ℕ). followed old.kept (Some (codes_of_entry (entry n c.args.cut)))) before in
+    noted_entry old (record { kept = c.note.new.self; noted = c.args.count; out = old.out; parts = old.parts }) c.args.count c.args.cut refl kept refl refl

@@ -1,46 +1,45 @@
-use Rattle.std.proofs.Common.{◌≡◌, true, refl, sym, subst, ◌∙◌}
+use Rattle.std.proofs.Common.{refl, sym, subst, ◌∙◌}
 use Rattle.cw_facts.specs.Options.{handed_on}
 use Rattle.cw_model.specs.Trees.{work}
 use Rattle.cw_code.specs.Code.{code_view}
-use Rattle.cw_runnable.specs.declared.verified.Verified.{Verified}
-use Rattle.cw_schedule.specs.Schedules.{is_asked}
+use Rattle.cw_machine.specs.Recorded.{Records, RecordsAsCode}
 use Rattle.cw_schedule.proofs.Told.{at_most, ends_so, not_scheduled, record_kept}
 use Rattle.cw_schedule.proofs.Within.{within}
-use Rattle.cw_schedule.proofs.schedules.schedule_alone.Goals as goal
+use Rattle.cw_schedule.proofs.schedules.schedule_of_run.Goals as goal
 
 pub returns-in_err-strands : goal.returns-in_err-strands
 returns-in_err-strands c =
-    let code = code_view c.args.code.value.code in
-    let asked = subst (λ (w : Verified). is_asked (code_view w.code) c.args.args.now c.args.n c.args.processors ≡ true) c.deref.ensures (sym c.is_asked.ensures ∙ c.if-not-is_asked.false) in
+    let code = code_view c.args.code.now.code in
+    let asked = sym c.is_asked.ensures ∙ c.if-not-is_asked.false in
     handed_on _ _ c.in_err-strands.field-0.0 c.from_residual.result
-    (not_scheduled code c.args.args.now c.args.n c.args.processors c.in_err-strands.field-0.0 asked c.in_err-strands.ensures) c.from_residual.ensures.1
+    (not_scheduled code c.args.args.now c.args.n c.args.processors c.in_err-strands.field-0.0 asked (subst (RecordsAsCode code c.args.args.now c.args.n) c.in_err-strands.was c.requires)) c.from_residual.ensures.1
 
 pub weigh-requires : goal.weigh-requires
 weigh-requires c =
-    let code = code_view c.args.code.value.code in
-    let asked = subst (λ (w : Verified). is_asked (code_view w.code) c.args.args.now c.args.n c.args.processors ≡ true) c.deref.ensures (sym c.is_asked.ensures ∙ c.if-not-is_asked.false) in
+    let code = code_view c.args.code.now.code in
+    let asked = sym c.is_asked.ensures ∙ c.if-not-is_asked.false in
     let kept = c.in_ok-strands.strands in
-    let ran = c.in_ok-strands.ensures in
+    let ran : Records code c.args.args.now c.args.n kept = subst (RecordsAsCode code c.args.args.now c.args.n) c.in_ok-strands.was c.requires in
     let k = record_kept ran.tree kept (c.fits.ensures.0 c.if-not-fits.false) ran.is_kept in
     let few = within code c.cost_is_the_work_that_is_shown.ensures c.normal_form_reads_the_same.ensures c.args.args.now c.args.n ran.tree (ends_so code c.args.args.now c.args.n kept ran) in
     (ran.tree, (k.1, at_most code c.args.args.now c.args.n c.args.processors (work ran.tree) asked few))
 
 pub greedy-requires-clause-kept : goal.greedy-requires-clause-kept
 greedy-requires-clause-kept c =
-    let code = code_view c.args.code.value.code in
-    let asked = subst (λ (w : Verified). is_asked (code_view w.code) c.args.args.now c.args.n c.args.processors ≡ true) c.deref.ensures (sym c.is_asked.ensures ∙ c.if-not-is_asked.false) in
+    let code = code_view c.args.code.now.code in
+    let asked = sym c.is_asked.ensures ∙ c.if-not-is_asked.false in
     let kept = c.in_ok-strands.strands in
-    let ran = c.in_ok-strands.ensures in
+    let ran : Records code c.args.args.now c.args.n kept = subst (RecordsAsCode code c.args.args.now c.args.n) c.in_ok-strands.was c.requires in
     let k = record_kept ran.tree kept (c.fits.ensures.0 c.if-not-fits.false) ran.is_kept in
     let few = within code c.cost_is_the_work_that_is_shown.ensures c.normal_form_reads_the_same.ensures c.args.args.now c.args.n ran.tree (ends_so code c.args.args.now c.args.n kept ran) in
     (ran.tree, (k.1, at_most code c.args.args.now c.args.n c.args.processors (work ran.tree) asked few))
 
 pub returns : goal.returns
 returns c =
-    let code = code_view c.args.code.value.code in
-    let asked = subst (λ (w : Verified). is_asked (code_view w.code) c.args.args.now c.args.n c.args.processors ≡ true) c.deref.ensures (sym c.is_asked.ensures ∙ c.if-not-is_asked.false) in
+    let code = code_view c.args.code.now.code in
+    let asked = sym c.is_asked.ensures ∙ c.if-not-is_asked.false in
     let kept = c.in_ok-strands.strands in
-    let ran = c.in_ok-strands.ensures in
+    let ran : Records code c.args.args.now c.args.n kept = subst (RecordsAsCode code c.args.args.now c.args.n) c.in_ok-strands.was c.requires in
     let k = record_kept ran.tree kept (c.fits.ensures.0 c.if-not-fits.false) ran.is_kept in
     record {
       asked = asked;

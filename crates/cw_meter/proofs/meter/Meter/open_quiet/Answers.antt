@@ -1,0 +1,18 @@
+use Rattle.std.proofs.Common.{◌∙◌, ap, sym}
+use Rattle.cw_meter.specs.Details.{keeps_values}
+use Rattle.cw_meter.proofs.DetailLaws.{quiet_recorded, regions_too}
+use Rattle.cw_meter.proofs.meter.Meter.open_quiet.Goals as goal
+
+pub returns-in_ok-begin-clause-quiet : goal.returns-in_ok-begin-clause-quiet
+returns-in_ok-begin-clause-quiet c =
+    let mid = c.count_part.new.self in
+    let r = c.begin.new.self in
+    let opens = c.count_part.ensures in
+    quiet_recorded c.args.self.now mid r c.args.count (record { counts = c.requires; values = ap keeps_values (sym c.count_part.ensures.detail) ∙ sym c.keeps_values.ensures ∙ c.if-not-keeps_values.true }) opens c.in_ok-begin.ensures
+
+pub returns-in_ok-begin-clause-region : goal.returns-in_ok-begin-clause-region
+returns-in_ok-begin-clause-region c =
+    let mid = c.count_part.new.self in
+    let r = c.begin.new.self in
+    let opens = c.count_part.ensures in
+    regions_too c.args.self.now (record mid { recorder = r }) c.args.count (quiet_recorded c.args.self.now mid r c.args.count (record { counts = c.requires; values = ap keeps_values (sym c.count_part.ensures.detail) ∙ sym c.keeps_values.ensures ∙ c.if-not-keeps_values.true }) opens c.in_ok-begin.ensures)
