@@ -116,13 +116,13 @@ arguments_are mode.Sites code = refl
 arguments_are (mode.Gain top) code = refl
 arguments_are (mode.Greedy processors) code = refl
 
-strands_are : (m : Mode) (code : Code) → told_of m code (Err fault.Strands) ≡ []
-strands_are mode.Check code = refl
-strands_are mode.Run code = refl
-strands_are mode.Scale code = refl
-strands_are mode.Sites code = refl
-strands_are (mode.Gain top) code = refl
-strands_are (mode.Greedy processors) code = refl
+strands_are : (m : Mode) (code : Code) (count : ℕ) → told_of m code (Err (fault.Strands count)) ≡ []
+strands_are mode.Check code count = refl
+strands_are mode.Run code count = refl
+strands_are mode.Scale code count = refl
+strands_are mode.Sites code count = refl
+strands_are (mode.Gain top) code count = refl
+strands_are (mode.Greedy processors) code count = refl
 
 -- a mode with tables asks for no schedule
 tables_in_range : (m : Mode) → HasTables m → IsModeInRange m
@@ -214,7 +214,7 @@ module _ (bytes : List ℕ) (args : List ℤ) (words : list_all fits args ≡ tr
   abbrev pub IsUnrun : Fault → Type 0
   IsUnrun fault.OverLimit = May × (answer ≡ OverLimit)
   IsUnrun (fault.Trap trap line lines) = May × (answer ≡ TrappedAt trap line lines.items)
-  IsUnrun fault.Strands = May × HasTooManyStrands options.mode answer
+  IsUnrun (fault.Strands count) = May × HasTooManyStrands options.mode answer count
   IsUnrun fault.Arguments = ¬ May
   IsUnrun fault.Memory = Unit {0}
   IsUnrun _ = ⊥
@@ -227,7 +227,7 @@ module _ (bytes : List ℕ) (args : List ℤ) (words : list_all fits args ≡ tr
     pub over : told (Err fault.OverLimit) ≡ []
     pub memory : told (Err fault.Memory) ≡ []
     pub arguments : told (Err fault.Arguments) ≡ []
-    pub strands : told (Err fault.Strands) ≡ []
+    pub strands : (count : ℕ) → told (Err (fault.Strands count)) ≡ []
 
   -- a run with another mode than a schedule
   unrun_of : IsModeInRange options.mode → (f : Fault) → IsFailure code args options.limit options.burden f → IsUnrun f
@@ -259,7 +259,7 @@ module _ (bytes : List ℕ) (args : List ℤ) (words : list_all fits args ≡ tr
         over = refl;
         memory = refl;
         arguments = refl;
-        strands = refl;
+        strands = λ count. refl;
       }
 
   -- what is counted of a run
@@ -309,7 +309,7 @@ module _ (bytes : List ℕ) (args : List ℤ) (words : list_all fits args ≡ tr
     over = refl;
     memory = refl;
     arguments = refl;
-    strands = refl;
+    strands = λ count. refl;
   }
 
   -- what is said of code whose call sites are numbered
@@ -336,11 +336,11 @@ module _ (bytes : List ℕ) (args : List ℤ) (words : list_all fits args ≡ tr
     unscheduled : (f : Fault) → IsNotScheduled code args options.limit p f → IsUnrun f
     unscheduled fault.OverLimit h = let m = asked_may h.0 in (m, answer_is m OverLimit h.1)
     unscheduled (fault.Trap trap line lines) h = let m = asked_may h.0 in (m, answer_is m (TrappedAt trap line lines.items) h.1)
-    unscheduled fault.Strands h =
+    unscheduled (fault.Strands count) h =
         let m = asked_may h.asked in
         let end = Ended h.ends.value h.ends.lines h.ends.totals h.tree in
-        let many : HasTooManyStrands (mode.Greedy p) end = h.many in
-        (m, subst (λ a. HasTooManyStrands options.mode a) (sym (answer_is m end h.ends.answer)) (subst (λ k. HasTooManyStrands k end) (sym is) many))
+        let many : HasTooManyStrands (mode.Greedy p) end count = (h.many, h.told) in
+        (m, subst (λ a. HasTooManyStrands options.mode a count) (sym (answer_is m end h.ends.answer)) (subst (λ k. HasTooManyStrands k end count) (sym is) many))
     unscheduled fault.Arguments h = λ m. false≢true (sym h ∙ must_ask m)
     unscheduled fault.Memory h = tt
     unscheduled _ h = absurd h
@@ -365,7 +365,7 @@ module _ (bytes : List ℕ) (args : List ℤ) (words : list_all fits args ≡ tr
       over = refl;
       memory = refl;
       arguments = refl;
-      strands = refl;
+      strands = λ count. refl;
     }
 
   -- a text that is the report of the answer
@@ -405,8 +405,8 @@ module _ (bytes : List ℕ) (args : List ℤ) (words : list_all fits args ≡ tr
     unreported_as fault.Memory h took idle = idle tells.memory
     unreported_as fault.Arguments h took idle =
         record { program = compiled.program; compiles = compiled.compiles; misused = h; untouched = idle tells.arguments }
-    unreported_as fault.Strands h took idle =
-        record { program = compiled.program; run = run_of h.0; many = h.1; untouched = idle tells.strands }
+    unreported_as (fault.Strands count) h took idle =
+        record { program = compiled.program; run = run_of h.0; many = h.1; untouched = idle (tells.strands count) }
     unreported_as _ h took idle = absurd h
 
     unreported : (f : Fault) → failed f → WritesAll (seen old) (seen new) (told (Err f)) → (told (Err f) ≡ [] → new ≡ old) → analyses.IsUnreported seen old new bytes args options f
@@ -441,7 +441,7 @@ module _ (bytes : List ℕ) (args : List ℤ) (words : list_all fits args ≡ tr
     cut_short_as fault.OverLimit h part idle = absurd (no_part seen old new _ (idle tells.over) part)
     cut_short_as fault.Memory h part idle = absurd (no_part seen old new _ (idle tells.memory) part)
     cut_short_as fault.Arguments h part idle = absurd (no_part seen old new _ (idle tells.arguments) part)
-    cut_short_as fault.Strands h part idle = absurd (no_part seen old new _ (idle tells.strands) part)
+    cut_short_as (fault.Strands count) h part idle = absurd (no_part seen old new _ (idle (tells.strands count)) part)
     cut_short_as _ h part idle = absurd h
 
     cut_short : (ended : Result V Fault) → RanAs ended → WritesPart (seen old) (seen new) (told ended) → (told ended ≡ [] → new ≡ old) → analyses.IsCutShort seen old new bytes args options

@@ -93,7 +93,7 @@ module _ (bytes : List ℕ) (long : MOST_SOURCE_BYTES < length bytes) where
     unreported_whole (fault.Ownership p) h = refused_for (fault.Ownership p) h
     unreported_whole (fault.Size p) h = refused_for (fault.Size p) h
     unreported_whole fault.Code h = absurd h.refused
-    unreported_whole fault.Strands h = absurd (no_source h.run.compiles.accepted.source.has_tokens.text)
+    unreported_whole (fault.Strands count) h = absurd (no_source h.run.compiles.accepted.source.has_tokens.text)
 
     unchecked_whole : (f : Fault) → analyses.IsUnchecked seen old new (take most_read bytes) args options f → analyses.IsUnchecked seen old new bytes args options f
     unchecked_whole fault.OverLimit h = h
@@ -107,7 +107,7 @@ module _ (bytes : List ℕ) (long : MOST_SOURCE_BYTES < length bytes) where
     unchecked_whole (fault.Ownership p) h = refused_for (fault.Ownership p) h
     unchecked_whole (fault.Size p) h = refused_for (fault.Size p) h
     unchecked_whole fault.Code h = absurd h.refused
-    unchecked_whole fault.Strands h = absurd h.refused
+    unchecked_whole (fault.Strands count) h = absurd h.refused
 
     run_whole : (r : Result (Unit {0}) Fault) → analyses.IsRun seen old new (take most_read bytes) args options r → analyses.IsRun seen old new bytes args options r
     run_whole (Ok done) h = absurd (no_source h.run.compiles.accepted.source.has_tokens.text)

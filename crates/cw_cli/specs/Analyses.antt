@@ -136,11 +136,11 @@ module _ {W : Type 0} (seen : W → Seen) (old new : W) where
       pub scheduled : IsScheduleOf program args options
       pub took : TookPart (text_of program args options)
 
-    -- a schedule is asked for, and the run ended with too many strands
-    pub record HasNoSchedule : Type 0 where
+    -- a schedule is asked for, and the run ended with too many strands, so many
+    pub record HasNoSchedule (told : ℕ) : Type 0 where
       pub program : Program
       pub run : IsRunOf bytes args options program
-      pub many : HasTooManyStrands options.mode (answer_to program args options)
+      pub many : HasTooManyStrands options.mode (answer_to program args options) told
       pub untouched : new ≡ old
 
     -- its main has another count of parameters, or an option is out of range
@@ -157,7 +157,7 @@ module _ {W : Type 0} (seen : W → Seen) (old new : W) where
     IsUnreported fault.Memory = new ≡ old
     IsUnreported fault.Write = IsCutShort
     IsUnreported fault.Arguments = IsMisused
-    IsUnreported fault.Strands = HasNoSchedule
+    IsUnreported (fault.Strands told) = HasNoSchedule told
     IsUnreported f = IsRefusedFor f
 
     -- what a mode that runs the program answers

@@ -1,9 +1,10 @@
 -- The text of the greedy schedule of a run, and what is promised of it.
-use Rattle.std.specs.Prelude.{◌≤◌, ◌<◌, ℕ, List, [], ◌∷◌, ◌++◌, decimal}
+use Rattle.std.specs.Prelude.{◌≡◌, ◌≤◌, ◌<◌, ℕ, List, [], ◌∷◌, ◌++◌, decimal}
 use Rattle.cw_model.specs.Trees.{Tree, work, span}
 use Rattle.cw_model.specs.Answers.{Answer, Ended, TrappedAt, OverLimit}
 use Rattle.cw_model.specs.Report.{csv_line}
 use Rattle.cw_model.specs.declared.limits.TheConstants.{MOST_STRANDS}
+use Rattle.cw_greedy.specs.Recorded.{capped}
 use Rattle.cw_greedy.specs.Blocks.{strand_count}
 use Rattle.cw_greedy.specs.Greedy.{greedy_length}
 use Rattle.cw_schedule.specs.State.{IsWithin}
@@ -33,7 +34,8 @@ abbrev pub IsScheduledIn : Mode → Answer → Type 0
 IsScheduledIn (mode.Greedy processors) (Ended v lines totals t) = IsScheduled processors t
 IsScheduledIn _ _ = Unit {0}
 
--- a schedule is asked for, and the run ended with more strands than are kept
-abbrev pub HasTooManyStrands : Mode → Answer → Type 0
-HasTooManyStrands (mode.Greedy processors) (Ended v lines totals t) = MOST_STRANDS < strand_count t
-HasTooManyStrands _ _ = ⊥
+-- a schedule is asked for, and the run ended with more strands than are kept, of which this count is told
+abbrev pub HasTooManyStrands : Mode → Answer → (told : ℕ) → Type 0
+HasTooManyStrands (mode.Greedy processors) (Ended v lines totals t) told =
+    (MOST_STRANDS < strand_count t) × (told ≡ capped (strand_count t))
+HasTooManyStrands _ _ told = ⊥

@@ -35,7 +35,9 @@ use std::thread::Threads;
 /// and runs nothing, `Arguments` where the count of the arguments is not that of `main`'s
 /// parameters, or an option is out of range; `OverLimit` where the serial elision costs more than
 /// the limit, `Trap` where it traps: in mode `Run` after what it printed before was written, else
-/// with nothing written; `Strands` in mode `Greedy` where it ends with more than 1,000,000 strands.
+/// with nothing written; `Strands`, with how many, in mode `Greedy` where it ends with more than
+/// 1,000,000 of them.
+///
 /// `Write` where a write of the report failed, and `Memory` where memory ran out: no byte was
 /// written then. Nothing is written at any other error but `Trap` and `Write`.
 ///

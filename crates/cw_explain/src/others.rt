@@ -49,11 +49,11 @@ pub fn of_run(out: &mut String, refused: &Refused<'_>, fault: &Fault) -> Result<
                 "{file}: the run costs more than its limit of {limit} instructions; by how much is not known: a while, a recursion or a loop of spawns may not end, or --limit N gives more, up to {MOST_LIMIT}\n"
             )?;
         }
-        Fault::Strands => {
+        Fault::Strands(count) => {
             let most = refused.strands;
             write!(
                 out,
-                "{file}: the run has more than {most} strands, the most that a schedule is made of; smaller arguments or coarser grains give fewer, and scale has no such limit\n"
+                "{file}: the run has {count} strands, and a schedule is made of {most} at most; smaller arguments or coarser grains give fewer, and scale has no such limit\n"
             )?;
         }
         Fault::Write => write!(

@@ -14,7 +14,7 @@ fn numbered(number: u8) -> Fault {
         9 => Fault::Memory,
         10 => Fault::Write,
         11 => Fault::Arguments,
-        _ => Fault::Strands,
+        _ => Fault::Strands(7),
     }
 }
 
@@ -36,7 +36,7 @@ static RUNS: &[(u8, &str)] = &[
     ),
     (
         12,
-        "t: the run has more than 1 strands, the most that a schedule is made of; smaller arguments or coarser grains give fewer, and scale has no such limit\n",
+        "t: the run has 7 strands, and a schedule is made of 1 at most; smaller arguments or coarser grains give fewer, and scale has no such limit\n",
     ),
 ];
 

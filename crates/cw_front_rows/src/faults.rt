@@ -39,7 +39,7 @@ fn fault_of(alloc: Global, brief: Brief) -> Result<Fault, AllocError> {
         Brief::Memory => Fault::Memory,
         Brief::Write => Fault::Write,
         Brief::Arguments => Fault::Arguments,
-        Brief::Strands => Fault::Strands,
+        Brief::Strands => Fault::Strands(1_000_001),
     };
     Ok(fault)
 }

@@ -1,5 +1,5 @@
 -- What the record of a run's strands stands for.
-use Rattle.std.specs.Prelude.{ℕ, zero, suc, ◌+◌, ◌≡◌, List, [], ◌∷◌, Some, None}
+use Rattle.std.specs.Prelude.{ℕ, zero, suc, ◌+◌, ◌≡◌, List, [], ◌∷◌, Ok, Err}
 use Rattle.cw_model.specs.Trees.{Tree}
 use Rattle.cw_greedy.specs.declared.code.Code.{Code}
 use Rattle.cw_greedy.specs.declared.code.Code.TheVariants.{Instructions, Spawned, Ended, Joined, Called}
@@ -23,5 +23,5 @@ merged (Called ∷ codes) = Called ∷ merged codes
 
 -- a run with this strand tree is recorded so, however its instructions are counted together
 abbrev pub IsRecordOf : Tree → Recorded → Type 0
-IsRecordOf t None = ⊥
-IsRecordOf t (Some codes) = merged codes ≡ merged (codes_of AsChild t)
+IsRecordOf t (Err n) = ⊥
+IsRecordOf t (Ok codes) = merged codes ≡ merged (codes_of AsChild t)

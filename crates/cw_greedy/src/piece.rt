@@ -1,8 +1,8 @@
 //! What a piece of a run keeps of its strand dag, to be joined with the pieces beside it.
 
-ghost use Rattle.std.specs.Prelude.{◌≡◌, ◌<◌, ◌≤◌, ◌++◌, ◌∷◌, [], Some, None, IfOk, OnOk, IsSome, IsTrue, ◌↔◌};
+ghost use Rattle.std.specs.Prelude.{◌≡◌, ◌<◌, ◌≤◌, ◌++◌, ◌∷◌, [], Ok, Err, IfOk, OnOk, IsOk, IsTrue, ◌↔◌};
 ghost use Rattle.cw_greedy.specs.Entries.{code_of_cut, codes_kept, codes_of_chunks, codes_of_entry, entry};
-ghost use Rattle.cw_greedy.specs.Recorded.{followed, cuts};
+ghost use Rattle.cw_greedy.specs.Recorded.{capped, cuts, followed};
 ghost use Rattle.cw_model.specs.declared.limits.TheConstants.{MOST_STRANDS};
 
 use crate::chunks::{all_closed, make_room, one_behind};
@@ -14,20 +14,19 @@ use std::alloc::{AllocError, Global};
 use std::collections::VecDeque;
 use std::marker::Model;
 
-/// The strands of a piece of a run as entries in serial order, or the mark that they are too many. Entries stand in
-/// chunks: where two pieces are joined, chunks change hands, and no entry is copied.
+/// The strands of a piece of a run as entries in serial order, or how many they are, where they are too many. Entries
+/// stand in chunks: where two pieces are joined, chunks change hands, and no entry is copied.
 #[derive(Debug, Drop)]
 pub struct Piece {
     // Those that are closed, in serial order; none is empty.
     chunks: VecDeque<Vec<Entry>>,
     // The one that is written.
     last: Vec<Entry>,
-    // The strands that begin in the piece.
+    // The strands that begin in the piece, of which entries are kept where they are few enough; 2^64 - 1 where they are
+    // as many or more.
     cuts: u64,
-    fits: bool,
-    ghost counted: { cuts
+    ghost counted: { cuts < MOST_STRANDS → cuts
         ≡ Rattle.cw_greedy.specs.Recorded.cuts (codes_kept chunks.items last.items) },
-    ghost few: { cuts < MOST_STRANDS },
 }
 
 impl Model for Piece {
@@ -36,59 +35,49 @@ impl Model for Piece {
 
     ghost Value = { Recorded };
 
-    ghost view = { λ s. recorded s.fits (codes_kept s.chunks.items s.last.items) };
+    ghost view = { λ s. recorded s.cuts (codes_kept s.chunks.items s.last.items) };
 }
 
 impl Piece {
     /// No strands. Takes no memory.
     pub fn new(alloc: Global) -> Piece
-        ensures { result ≡ Some [] }
+        ensures { result ≡ Ok [] }
     {
         Piece {
             chunks: VecDeque::new(alloc),
             last: Vec::new(alloc),
             cuts: 0,
-            fits: true,
         }
     }
 
-    // Too many strands. Takes no memory.
-    fn too_many(alloc: Global) -> Piece
-        ensures { result ≡ None }
+    // So many strands, which are too many. Takes no memory.
+    fn too_many(alloc: Global, cuts: u64) -> Piece
+        requires { MOST_STRANDS ≤ cuts }
+        ensures { result ≡ Err (capped cuts) }
     {
         Piece {
             chunks: VecDeque::new(alloc),
             last: Vec::new(alloc),
-            cuts: 0,
-            fits: false,
+            cuts,
         }
-    }
-
-    /// Whether they are not too many.
-    pub fn fits(&self) -> bool
-        ensures { IsTrue result ↔ IsSome self.now }
-    {
-        self.fits
     }
 
     // Whether nothing is kept.
     fn is_empty(&self) -> bool
-        ensures { IsTrue result → IsSome self.now → self.now ≡ Some [] }
+        ensures { IsTrue result → self.now ≡ Ok [] }
     {
-        self.chunks.is_empty() && self.last.is_empty()
+        self.cuts == 0 && self.chunks.is_empty() && self.last.is_empty()
     }
 
-    /// So many instructions more, and a cut behind them. The error is want of memory, after which all is kept but these.
+    /// So many instructions more, and a cut behind them. Where the strands are too many they are counted on, and nothing
+    /// else is kept. The error is want of memory, after which all is kept but these.
     pub fn note(&mut self, before: u64, cut: Cut) -> Result<(), AllocError>
         ensures { OnOk result
-            (self.new ≡ followed self.old (Some (codes_of_entry (entry before cut)))) }
+            (self.new ≡ followed self.old (Ok (codes_of_entry (entry before cut)))) }
     {
-        if !self.fits {
-            return Ok(());
-        }
-        let cuts = self.cuts + cut_by(cut);
+        let cuts = self.cuts.saturating_add(cut_by(cut));
         if cuts >= MOST_STRANDS {
-            *self = Piece::too_many(*self.last.allocator());
+            *self = Piece::too_many(*self.last.allocator(), cuts);
             return Ok(());
         }
         make_room(&mut self.chunks, &mut self.last)?;
@@ -105,7 +94,7 @@ impl Piece {
         let chunks = all_closed(self.chunks, self.last)?;
         Ok(Strands {
             chunks: chunks.into_vec(),
-            fits: self.fits,
+            cuts: self.cuts,
         })
     }
 }
@@ -122,16 +111,16 @@ fn cut_by(cut: Cut) -> u64
 }
 
 impl Monoid for Piece {
-    ghost use Rattle.std.specs.Prelude.{Some, []};
+    ghost use Rattle.std.specs.Prelude.{Ok, []};
     ghost use Rattle.cw_greedy.specs.Recorded.{followed};
     ghost use Rattle.cw_greedy.specs.RecordLaws.{followed-first, followed-last, followed-regroup};
 
-    ghost empty = { Some [] };
+    ghost empty = { Ok [] };
 
     ghost joined = { followed };
 
     fn unit(alloc: Global) -> Self
-        ensures value { result ≡ Some [] }
+        ensures value { result ≡ Ok [] }
     {
         Piece::new(alloc)
     }
@@ -139,21 +128,15 @@ impl Monoid for Piece {
     fn join(self, right: Self) -> Result<Self, AllocError>
         ensures value { IfOk result (λ whole. whole ≡ followed self right) }
     {
-        if !self.fits {
-            return Ok(self);
-        }
         if self.is_empty() {
-            return Ok(right);
-        }
-        if !right.fits {
             return Ok(right);
         }
         if right.is_empty() {
             return Ok(self);
         }
-        let cuts = self.cuts + right.cuts;
+        let cuts = self.cuts.saturating_add(right.cuts);
         if cuts >= MOST_STRANDS {
-            return Ok(Piece::too_many(*self.last.allocator()));
+            return Ok(Piece::too_many(*self.last.allocator(), cuts));
         }
         let first = all_closed(self.chunks, self.last)?;
         let chunks = one_behind(first, right.chunks)?;
@@ -161,7 +144,6 @@ impl Monoid for Piece {
             chunks,
             last: right.last,
             cuts,
-            fits: true,
         })
     }
 

@@ -1,12 +1,12 @@
 -- What is kept of the strands of a tree is a proposition.
-use Rattle.std.proofs.Common.{◌≡◌, ℕ, zero, suc, ◌<◌, ◌≤◌, true, false, Some, None, List, [], ◌∷◌, refl, sym, ap, ◌∙◌, subst}
+use Rattle.std.proofs.Common.{◌≡◌, ℕ, zero, suc, ◌+◌, ◌<◌, ◌≤◌, true, false, Ok, Err, List, [], ◌∷◌, refl, sym, ap, ◌∙◌, subst}
 use Rattle.std.specs.Coded.{le_prop}
 use native.Mathlib.Nat.{ℕ_set}
 use Rattle.cw_model.specs.Trees.{Tree}
 use Rattle.cw_greedy.specs.declared.code.Code as greedy
 use Rattle.cw_greedy.specs.declared.code.Code.TheVariants as codes
 use Rattle.cw_model.specs.declared.limits.TheConstants.{MOST_STRANDS}
-use Rattle.cw_greedy.specs.Recorded.{Recorded}
+use Rattle.cw_greedy.specs.Recorded.{Recorded, capped}
 use Rattle.cw_greedy.specs.Records.{merged}
 use Rattle.cw_greedy.specs.Blocks.{AsChild, codes_of, strand_count}
 use Rattle.cw_recorded.specs.Recording.{IsKept}
@@ -64,17 +64,17 @@ codes_as a b e = subst (AreSameCodes a) e (itself a)
 
 -- what is kept of the strands of a tree
 abbrev pub KeepsStrands : Recorded → Tree → Type 0
-KeepsStrands None t = MOST_STRANDS < strand_count t
-KeepsStrands (Some kept) t = (strand_count t ≤ MOST_STRANDS) × AreSameCodes (merged kept) (merged (codes_of AsChild t))
+KeepsStrands (Err n) t = (MOST_STRANDS < strand_count t) × (capped (1 + n) ≡ capped (strand_count t))
+KeepsStrands (Ok kept) t = (strand_count t ≤ MOST_STRANDS) × AreSameCodes (merged kept) (merged (codes_of AsChild t))
 
 pub strands_prop : (kept : Recorded) (t : Tree) → IsProp (KeepsStrands kept t)
-strands_prop None t = hlevel le_prop
-strands_prop (Some kept) t = let same = same_codes_prop (merged kept) (merged (codes_of AsChild t)) in hlevel (le_prop, same)
+strands_prop (Err n) t = hlevel (le_prop, ℕ_set)
+strands_prop (Ok kept) t = let same = same_codes_prop (merged kept) (merged (codes_of AsChild t)) in hlevel (le_prop, same)
 
 pub kept_is : (kept : Recorded) (t : Tree) → KeepsStrands kept t → IsKept t kept
-kept_is None t h = h
-kept_is (Some kept) t h = (h.0, codes_are (merged kept) (merged (codes_of AsChild t)) h.1)
+kept_is (Err n) t h = h
+kept_is (Ok kept) t h = (h.0, codes_are (merged kept) (merged (codes_of AsChild t)) h.1)
 
 pub kept_as : (kept : Recorded) (t : Tree) → IsKept t kept → KeepsStrands kept t
-kept_as None t h = h
-kept_as (Some kept) t h = (h.0, codes_as (merged kept) (merged (codes_of AsChild t)) h.1)
+kept_as (Err n) t h = h
+kept_as (Ok kept) t h = (h.0, codes_as (merged kept) (merged (codes_of AsChild t)) h.1)

@@ -120,9 +120,9 @@ impl Meter {
         }
     }
 
-    // Whether all is counted.
+    /// Whether all is counted.
     #[inline(always)]
-    fn is_counted(&self) -> bool
+    pub fn is_counted(&self) -> bool
         ensures { result ≡ details.is_counted self.now.detail }
     {
         match self.detail {

@@ -1,5 +1,5 @@
 -- What each call on a recorder does.
-use Rattle.std.specs.Prelude.{ℕ, ◌+◌, ◌-◌, ◌≡◌, ◌≤◌, ◌<◌, Bool, true, false, not, Option, Some, None, IsSome, List, [], ◌∷◌, ◌++◌, reverse, refl}
+use Rattle.std.specs.Prelude.{ℕ, ◌+◌, ◌-◌, ◌≡◌, ◌≤◌, ◌<◌, Bool, true, false, not, Option, Some, None, Ok, Err, List, [], ◌∷◌, ◌++◌, reverse, refl}
 use Rattle.std.proofs.Common.{arith, ap, sym, ◌∙◌, subst}
 use Rattle.std.proofs.lemmas.List.{append_assoc, append-nil}
 use Rattle.cw_facts.specs.Lists.{reverse_pushed}
@@ -10,8 +10,8 @@ use Rattle.cw_recorded.specs.Origins.{Origin, Main, Rest}
 use Rattle.cw_recorded.specs.Runs.{ticked, synced, begun}
 use Rattle.cw_greedy.specs.declared.code.Code.{Code}
 use Rattle.cw_greedy.specs.declared.code.Code.TheVariants.{Instructions, Spawned, Ended, Joined, Called}
-use Rattle.cw_greedy.specs.Recorded.{Recorded, cuts, followed}
-use Rattle.cw_greedy.specs.RecordLaws.{cuts-append, cut_small, followed-regroup, some_together}
+use Rattle.cw_greedy.specs.Recorded.{Recorded, followed}
+use Rattle.cw_greedy.specs.RecordLaws.{cut_small, followed-regroup, few_together}
 use Rattle.cw_greedy.specs.declared.entry.Cut.{Cut}
 use Rattle.cw_greedy.specs.declared.entry.Cut.TheVariants as cut
 use Rattle.cw_greedy.specs.Entries.{code_of_cut, codes_of_entry, entry}
@@ -30,7 +30,7 @@ use Rattle.cw_recorded.proofs.Recordings.{same_cuts, keeps_as, keeps_later, keep
 use Rattle.cw_recorded.proofs.Recordings.{spawned_synced, codes_begun, codes_synced, codes_ended, codes_returned}
 
 -- what is noted
-pub noted_now : (old new : Recorder) (count : ℕ) → new.noted ≡ count → new.kept ≡ followed old.kept (Some (Instructions (count - old.noted) ∷ []))
+pub noted_now : (old new : Recorder) (count : ℕ) → new.noted ≡ count → new.kept ≡ followed old.kept (Ok (Instructions (count - old.noted) ∷ []))
     → new.out ≡ old.out → new.parts.items ≡ old.parts.items → Notes old new count []
 noted_now old new count n k o p = record {
   noted = λ le. n;
@@ -53,14 +53,14 @@ noted_already r count past = record {
   parts = refl;
 }
 
-noted_cut : (old mid new : Recorder) (count : ℕ) (code : Code) → Notes old mid count [] → new.kept ≡ followed mid.kept (Some (code ∷ []))
+noted_cut : (old mid new : Recorder) (count : ℕ) (code : Code) → Notes old mid count [] → new.kept ≡ followed mid.kept (Ok (code ∷ []))
     → new.noted ≡ mid.noted → new.out ≡ mid.out → new.parts.items ≡ mid.parts.items → Notes old new count (code ∷ [])
 noted_cut old mid new count code s k n o p = record {
   noted = λ le. n ∙ s.noted le;
   keeps = λ from before lo hi h.
       let i = Instructions (count - from) in
       subst (Keeps 0 (before ++ i ∷ code ∷ [])) (sym k)
-      (keeps_as 0 ((before ++ i ∷ []) ++ code ∷ []) (before ++ i ∷ code ∷ []) (followed mid.kept (Some (code ∷ [])))
+      (keeps_as 0 ((before ++ i ∷ []) ++ code ∷ []) (before ++ i ∷ code ∷ []) (followed mid.kept (Ok (code ∷ [])))
       (λ l. ap (λ (x : List Code). onto x l) (append_assoc before (i ∷ []) (code ∷ [])))
       (keeps_cut (before ++ i ∷ []) code mid.kept (s.keeps from before lo hi h)));
   out = o ∙ s.out;
@@ -69,16 +69,16 @@ noted_cut old mid new count code s k n o p = record {
 
 -- instructions and a cut behind them are noted at once
 noted_with_cut : (old new : Recorder) (count : ℕ) (code : Code) → new.noted ≡ count
-    → new.kept ≡ followed old.kept (Some (Instructions (count - old.noted) ∷ code ∷ [])) → new.out ≡ old.out → new.parts.items ≡ old.parts.items → Notes old new count (code ∷ [])
+    → new.kept ≡ followed old.kept (Ok (Instructions (count - old.noted) ∷ code ∷ [])) → new.out ≡ old.out → new.parts.items ≡ old.parts.items → Notes old new count (code ∷ [])
 noted_with_cut old new count code n k o p =
     let i = Instructions (count - old.noted) in
-    let mid : Recorder = record { kept = followed old.kept (Some (i ∷ [])); noted = count; out = old.out; parts = old.parts } in
-    let both = some_together (i ∷ []) (code ∷ []) (omega (arith, cut_small code)) in
+    let mid : Recorder = record { kept = followed old.kept (Ok (i ∷ [])); noted = count; out = old.out; parts = old.parts } in
+    let both = few_together (i ∷ []) (code ∷ []) (omega (arith, cut_small code)) in
     noted_cut old mid new count code (noted_now old mid count refl refl refl refl)
-    (k ∙ ap (followed old.kept) (sym both) ∙ sym (followed-regroup old.kept (Some (i ∷ [])) (Some (code ∷ [])))) n o p
+    (k ∙ ap (followed old.kept) (sym both) ∙ sym (followed-regroup old.kept (Ok (i ∷ [])) (Ok (code ∷ [])))) n o p
 
 pub noted_entry : (old new : Recorder) (count : ℕ) (c : Cut) → new.noted ≡ count
-    → new.kept ≡ followed old.kept (Some (codes_of_entry (entry (count - old.noted) c))) → new.out ≡ old.out → new.parts.items ≡ old.parts.items → Notes old new count (code_of_cut c)
+    → new.kept ≡ followed old.kept (Ok (codes_of_entry (entry (count - old.noted) c))) → new.out ≡ old.out → new.parts.items ≡ old.parts.items → Notes old new count (code_of_cut c)
 noted_entry old new count cut.Nothing n k o p = noted_now old new count n k o p
 noted_entry old new count (cut.Spawned first) n k o p = noted_with_cut old new count (Spawned first) n k o p
 noted_entry old new count cut.Ended n k o p = noted_with_cut old new count Ended n k o p
@@ -211,17 +211,12 @@ returned_apart Main o [] es main h =
 returned_apart Main o (p ∷ os) es main h = round_apart o (p ∷ os) es (closed o (synced es)) h (call_apart o es)
 returned_apart (Rest site) o os es main h = round_apart o os es (closed o (synced es)) h (call_apart o es)
 
--- once there are too many strands, no call does anything
-none_more : (since to : ℕ) (a b : List Code) (k : Recorded) → (IsSome k → ⊥) → cuts a ≤ cuts b → Keeps since a k → Keeps to b k
-none_more since to a b None none le h = omega (arith, le, h)
-none_more since to a b (Some kept) none le h = absurd (none refl)
-
 -- an instruction that begins, ends and joins nothing
 pub ticks : InstructionsNeedNoCall
 ticks r count from os es small open_ h = record {
   goes_on = omega (arith, h.goes_on);
   keeps = subst (λ (l : List Code). Keeps (count + 1 - r.noted) l r.kept) (sym (codes_ticked from os es)) (one_later r.noted count (codes_in from os es) r.kept h.goes_on h.keeps);
-  parts = λ some. let p = h.parts some in record { out = p.out ∙ sym (spawned_ticked from os es); parts = p.parts };
+  parts = record { out = h.parts.out ∙ sym (spawned_ticked from os es); parts = h.parts.parts };
   from_main = h.from_main;
   apart = with_block from os es (ticked es) open_ h.apart (ticked_apart es (block_of_open from os es open_ h.apart));
 }
@@ -235,9 +230,9 @@ no_opening (Some (Execution tag)) out q = refl
 quiet_kind : (mark : Option Mark) → IsQuiet mark → (site : ℕ) → mark ≡ Some (Invocation site) → ⊥
 quiet_kind mark q site e = subst IsQuiet e q
 
-pub quiet_begins : (old new : Recorder) (count : ℕ) → Stacks old new kind.Quiet old.out → IsSome old.kept → BeginsQuiet old new count
-quiet_begins old new count s some from mark os es quiet small open_ h =
-    let p = h.parts some in
+pub quiet_begins : (old new : Recorder) (count : ℕ) → Stacks old new kind.Quiet old.out → BeginsQuiet old new count
+quiet_begins old new count s from mark os es quiet small open_ h =
+    let p = h.parts in
     let o : Open = record { spawned = false; mark = mark; outer = ticked es } in
     let a = codes_in from os es in
     let codes = codes_begun false mark from os es open_ ∙ ap (λ (l : List Code). a ++ Instructions 1 ∷ l) (no_opening mark (out_in from os es) quiet) in
@@ -247,7 +242,7 @@ quiet_begins old new count s some from mark os es quiet small open_ h =
       keeps = subst (λ (n : ℕ). Keeps (count + 1 - n) (codes_in from (begun false mark es os) []) new.kept) (sym s.noted)
           (subst (λ (k : Recorded). Keeps (count + 1 - old.noted) (codes_in from (begun false mark es os) []) k) (sym s.kept)
           (subst (λ (l : List Code). Keeps (count + 1 - old.noted) l old.kept) (sym codes) kept));
-      parts = λ x. record {
+      parts = record {
         out = s.out;
         parts = parts_pushed from o os (record { kind = kind.Quiet; out = old.out }) old.parts.items new.parts.items
             open_ s.pushed (refl, quiet_kind mark quiet) (p.out ∙ sym (spawned_ticked from os es)) p.parts;
@@ -258,13 +253,13 @@ quiet_begins old new count s some from mark os es quiet small open_ h =
 
 -- a part begins that is cut
 cut_begins : (old mid new : Recorder) (count : ℕ) (k : PartKind) (code : Code) (out spawned : Bool) (mark : Option Mark) (from : Origin) (os : List Open)
-    (es : List Event) → Notes old mid (count + 1) (code ∷ []) → Stacks mid new k out → IsSome old.kept
+    (es : List Event) → Notes old mid (count + 1) (code ∷ []) → Stacks mid new k out
     → IsOfKind (record { spawned = spawned; mark = mark; outer = ticked es }) k
     → (old.out ≡ out_in from os es → opening spawned mark (out_in from os es) ≡ code ∷ [])
     → (old.out ≡ out_in from os es → out ≡ out_behind spawned (out_in from os (ticked es))) → IsOpen from os → RecordsIn from count os es old
     → RecordsIn from (count + 1) (begun spawned mark es os) [] new
-cut_begins old mid new count k code out spawned mark from os es n s some is code_is out_is open_ h =
-    let p = h.parts some in
+cut_begins old mid new count k code out spawned mark from os es n s is code_is out_is open_ h =
+    let p = h.parts in
     let o : Open = record { spawned = spawned; mark = mark; outer = ticked es } in
     let a = codes_in from os es in
     let codes = codes_begun spawned mark from os es open_ ∙ ap (λ (l : List Code). a ++ Instructions 1 ∷ l) (code_is p.out) in
@@ -274,7 +269,7 @@ cut_begins old mid new count k code out spawned mark from os es n s some is code
       keeps = subst (λ (x : ℕ). Keeps (count + 1 - x) (codes_in from (begun spawned mark es os) []) new.kept) (sym s.noted)
           (subst (λ (x : Recorded). Keeps (count + 1 - mid.noted) (codes_in from (begun spawned mark es os) []) x) (sym s.kept)
           (subst (λ (l : List Code). Keeps (count + 1 - mid.noted) l mid.kept) (sym codes) c.1));
-      parts = λ x. record {
+      parts = record {
         out = s.out;
         parts = parts_pushed from o os (record { kind = k; out = out }) old.parts.items new.parts.items open_
             (s.pushed ∙ ap (λ (l : List Part). l ++ record { kind = k; out = out } ∷ []) n.parts) is (out_is p.out) p.parts;
@@ -284,22 +279,22 @@ cut_begins old mid new count k code out spawned mark from os es n s some is code
     }
 
 pub child_begins : (old mid new : Recorder) (count next : ℕ) → Notes old mid next (Spawned (not old.out) ∷ []) → Stacks mid new kind.Child true
-    → IsSome old.kept → (count < MOST_LIMIT → next ≡ count + 1) → BeginsChild old new count
-child_begins old mid new count next n s some sat from mark os es small open_ h =
+    → (count < MOST_LIMIT → next ≡ count + 1) → BeginsChild old new count
+child_begins old mid new count next n s sat from mark os es small open_ h =
     cut_begins old mid new count kind.Child (Spawned (not old.out)) true true mark from os es
-    (subst (λ (x : ℕ). Notes old mid x (Spawned (not old.out) ∷ [])) (sat small) n) s some refl
+    (subst (λ (x : ℕ). Notes old mid x (Spawned (not old.out) ∷ [])) (sat small) n) s refl
     (λ e. ap (λ (b : Bool). Spawned (not b) ∷ []) (sym e)) (λ e. refl) open_ h
 
-pub call_begins : (old mid new : Recorder) (count next : ℕ) → Notes old mid next (Called ∷ []) → Stacks mid new kind.Call mid.out → IsSome old.kept
+pub call_begins : (old mid new : Recorder) (count next : ℕ) → Notes old mid next (Called ∷ []) → Stacks mid new kind.Call mid.out
     → (count < MOST_LIMIT → next ≡ count + 1) → BeginsCall old new count
-call_begins old mid new count next n s some sat from site os es small open_ h =
+call_begins old mid new count next n s sat from site os es small open_ h =
     cut_begins old mid new count kind.Call Called mid.out false (Some (Invocation site)) from os es
-    (subst (λ (x : ℕ). Notes old mid x (Called ∷ [])) (sat small) n) s some (refl, (site, refl)) (λ e. refl) (λ e. n.out ∙ e ∙ sym (spawned_ticked from os es)) open_ h
+    (subst (λ (x : ℕ). Notes old mid x (Called ∷ [])) (sat small) n) s (refl, (site, refl)) (λ e. refl) (λ e. n.out ∙ e ∙ sym (spawned_ticked from os es)) open_ h
 
 -- the block that runs joins
-pub block_joins : (old new : Recorder) (count : ℕ) → Joins old new count → new.out ≡ false → new.parts.items ≡ old.parts.items → IsSome old.kept → Syncs old new count
-block_joins old new count joins out same some from os es small open_ h =
-    let p = h.parts some in
+pub block_joins : (old new : Recorder) (count : ℕ) → Joins old new count → new.out ≡ false → new.parts.items ≡ old.parts.items → Syncs old new count
+block_joins old new count joins out same from os es small open_ h =
+    let p = h.parts in
     let a = codes_in from os es in
     let j = joins a h.goes_on h.keeps in
     let later = one_later new.noted count (a ++ to_join old.out) new.kept j.0 j.1 in
@@ -307,15 +302,15 @@ block_joins old new count joins out same some from os es small open_ h =
     record {
       goes_on = omega (arith, j.0);
       keeps = subst (λ (l : List Code). Keeps (count + 1 - new.noted) l new.kept) (sym codes) later;
-      parts = λ x. record { out = out ∙ sym (spawned_synced from os es); parts = subst (λ (l : List Part). AreParts from os (reverse l)) (sym same) p.parts };
+      parts = record { out = out ∙ sym (spawned_synced from os es); parts = subst (λ (l : List Part). AreParts from os (reverse l)) (sym same) p.parts };
       from_main = h.from_main;
       apart = with_block from os es (synced es) open_ h.apart (synced_apart es (block_of_open from os es open_ h.apart));
     }
 
 -- a block joins and ends
-pub block_ends : (old mid new : Recorder) (count : ℕ) → Joins old mid count → mid.out ≡ false → mid.parts.items ≡ old.parts.items → Closes mid new count → IsSome old.kept → Ends old new count
-block_ends old mid new count joins out same closes some from o os es quiet small open_ h =
-    let p = h.parts some in
+pub block_ends : (old mid new : Recorder) (count : ℕ) → Joins old mid count → mid.out ≡ false → mid.parts.items ≡ old.parts.items → Closes mid new count → Ends old new count
+block_ends old mid new count joins out same closes from o os es quiet small open_ h =
+    let p = h.parts in
     let a = codes_in from (o ∷ os) es in
     let j = joins a h.goes_on h.keeps in
     let c = closes (a ++ to_join old.out) from o os es h.from_main out (subst (λ (l : List Part). AreParts from (o ∷ os) (reverse l)) (sym same) p.parts) j.0 j.1 in
@@ -328,16 +323,16 @@ block_ends old mid new count joins out same closes some from o os es quiet small
       goes_on = omega (arith, c.0);
       keeps = keeps_as (count + 1 - new.noted) (a ++ (to_join (out_in from (o ∷ os) es) ++ (d ++ i))) (codes_in from os (ticked (closed o es))) new.kept (codes_ended from o os es h.from_main)
           (subst (λ (l : List Code). Keeps (count + 1 - new.noted) l new.kept) regroup later);
-      parts = λ x. record { out = c.2.out ∙ sym (spawned_ticked from os (closed o es)); parts = c.2.parts };
+      parts = record { out = c.2.out ∙ sym (spawned_ticked from os (closed o es)); parts = c.2.parts };
       from_main = main_round from o os h.from_main;
       apart = ended_apart from o os es h.from_main quiet h.apart;
     }
 
 pub call_ends : (old mid new : Recorder) (count next : ℕ) → Joins old mid count → mid.out ≡ false → mid.parts.items ≡ old.parts.items
-    → Closes mid new next → IsSome old.kept → (count < MOST_LIMIT → next ≡ count + 1) → Returns old new count
-call_ends old mid new count next joins out same ends some sat from o os es small open_ h =
+    → Closes mid new next → (count < MOST_LIMIT → next ≡ count + 1) → Returns old new count
+call_ends old mid new count next joins out same ends sat from o os es small open_ h =
     let closes = subst (λ (x : ℕ). Closes mid new x) (sat small) ends in
-    let p = h.parts some in
+    let p = h.parts in
     let a = codes_in from (o ∷ os) es in
     let j = joins a h.goes_on h.keeps in
     let later = one_later mid.noted count (a ++ to_join old.out) mid.kept j.0 j.1 in
@@ -351,7 +346,7 @@ call_ends old mid new count next joins out same ends some sat from o os es small
       keeps = keeps_as (count + 1 - new.noted) (a ++ (to_join (out_in from (o ∷ os) es) ++ Instructions 1 ∷ d)) (codes_in from os (closed o (synced es))) new.kept
           (codes_returned from o os es h.from_main)
           (subst (λ (l : List Code). Keeps (count + 1 - new.noted) l new.kept) regroup c.1);
-      parts = λ x. c.2;
+      parts = c.2;
       from_main = main_round from o os h.from_main;
       apart = returned_apart from o os es h.from_main h.apart;
     }
@@ -451,56 +446,6 @@ nothing_closes old new count none none' out noted kept codes Main o [] es main j
 nothing_closes old new count none none' out noted kept codes Main o (p ∷ os) es main joined parts le h = absurd (subst (λ (l : List Part). AreParts Main (o ∷ p ∷ os) (reverse l)) none parts)
 nothing_closes old new count none none' out noted kept codes (Rest site) o os es main joined parts le h = absurd (subst (λ (l : List Part). AreParts (Rest site) (o ∷ os) (reverse l)) none parts)
 
--- once there are too many strands, nothing is done
-idle : (r : Recorder) (count : ℕ) (from : Origin) (os os' : List Open) (es es' : List Event) (added : List Code) → (IsSome r.kept → ⊥)
-    → Same (codes_in from os es ++ added) (codes_in from os' es') → IsFromMain from os' → AreApart from os' es' → RecordsIn from count os es r → RecordsIn from (count + 1) os' es' r
-idle r count from os os' es es' added none same main apart h =
-    let a = cuts-append (codes_in from os es) added in
-    let b = same_cuts (codes_in from os es ++ added) (codes_in from os' es') same in
-    record {
-      goes_on = omega (arith, h.goes_on);
-      keeps = none_more (count - r.noted) (count + 1 - r.noted) (codes_in from os es) (codes_in from os' es') r.kept none (omega (arith, a, b)) h.keeps;
-      parts = λ some. absurd (none some);
-      from_main = main;
-      apart = apart;
-    }
-
-equal : (a b : List Code) → a ≡ b → Same b a
-equal a b e = λ l. ap (λ (x : List Code). onto x l) (sym e)
-
-idle_begins : (r : Recorder) (count : ℕ) (spawned : Bool) (mark : Option Mark) (from : Origin) (os : List Open) (es : List Event) → (IsSome r.kept → ⊥) → IsOpen from os
-    → RecordsIn from count os es r → RecordsIn from (count + 1) (begun spawned mark es os) [] r
-idle_begins r count spawned mark from os es none open_ h =
-    let o : Open = record { spawned = spawned; mark = mark; outer = ticked es } in
-    idle r count from os (begun spawned mark es os) es [] (Instructions 1 ∷ opening spawned mark (out_in from os es)) none
-    (equal (codes_in from (begun spawned mark es os) []) (codes_in from os es ++ Instructions 1 ∷ opening spawned mark (out_in from os es)) (codes_begun spawned mark from os es open_))
-    (main_in from o os open_ h.from_main) (begun_apart from o os es open_ refl h.apart) h
-
-pub idle_child : (r : Recorder) (count : ℕ) → (IsSome r.kept → ⊥) → BeginsChild r r count
-idle_child r count none from mark os es small open_ h = idle_begins r count true mark from os es none open_ h
-
-pub idle_call : (r : Recorder) (count : ℕ) → (IsSome r.kept → ⊥) → BeginsCall r r count
-idle_call r count none from site os es small open_ h = idle_begins r count false (Some (Invocation site)) from os es none open_ h
-
-pub idle_quiet : (r : Recorder) (count : ℕ) → (IsSome r.kept → ⊥) → BeginsQuiet r r count
-idle_quiet r count none from mark os es quiet small open_ h = idle_begins r count false mark from os es none open_ h
-
-pub idle_ends : (r : Recorder) (count : ℕ) → (IsSome r.kept → ⊥) → Ends r r count
-idle_ends r count none from o os es quiet small open_ h =
-    idle r count from (o ∷ os) os es (ticked (closed o es)) (to_join (out_in from (o ∷ os) es) ++ (ending_in from o os ++ Instructions 1 ∷ [])) none
-    (codes_ended from o os es h.from_main) (main_round from o os h.from_main) (ended_apart from o os es h.from_main quiet h.apart) h
-
-pub idle_returns : (r : Recorder) (count : ℕ) → (IsSome r.kept → ⊥) → Returns r r count
-idle_returns r count none from o os es small open_ h =
-    idle r count from (o ∷ os) os es (closed o (synced es)) (to_join (out_in from (o ∷ os) es) ++ Instructions 1 ∷ ending_in from o os) none
-    (codes_returned from o os es h.from_main) (main_round from o os h.from_main) (returned_apart from o os es h.from_main h.apart) h
-
-pub idle_syncs : (r : Recorder) (count : ℕ) → (IsSome r.kept → ⊥) → Syncs r r count
-idle_syncs r count none from os es small open_ h =
-    idle r count from os os es (synced es) (to_join (out_in from os es) ++ Instructions 1 ∷ []) none
-    (equal (codes_in from os (synced es)) (codes_in from os es ++ (to_join (out_in from os es) ++ Instructions 1 ∷ [])) (codes_synced from os es open_))
-    h.from_main (with_block from os es (synced es) open_ h.apart (synced_apart es (block_of_open from os es open_ h.apart))) h
-
 -- a rest that was run apart
 rest_apart : (from : Origin) (site : ℕ) (os : List Open) (es fs : List Event) → IsOpen from os → AreApart from os es → AreApart (Rest site) [] fs → AreApart from os (es ++ fs)
 rest_apart from site os es fs open_ h g = with_block from os es (es ++ fs) open_ h (append_apart es fs (block_of_open from os es open_ h) g)
@@ -514,9 +459,9 @@ settled old new count codes n le h =
 
 pub rest_follows : (old mid rest ready new : Recorder) (count cost : ℕ) → Notes old mid count [] → Notes rest ready cost []
     → new.kept ≡ followed mid.kept ready.kept → (count + cost ≤ MOST_LIMIT → new.noted ≡ count + cost) → new.out ≡ mid.out → new.parts.items ≡ mid.parts.items
-    → IsSome old.kept → Rests old rest new count cost
-rest_follows old mid rest ready new count cost n m kept noted out same some from site os es fs small open_ spawned no_joins h g =
-    let p = h.parts some in
+    → Rests old rest new count cost
+rest_follows old mid rest ready new count cost n m kept noted out same from site os es fs small open_ spawned no_joins h g =
+    let p = h.parts in
     let a = codes_in from os es in
     let b = codes_in (Rest site) [] fs in
     let at = noted small in
@@ -527,7 +472,7 @@ rest_follows old mid rest ready new count cost n m kept noted out same some from
       keeps = subst (λ (n : ℕ). Keeps n (codes_in from os (es ++ fs)) new.kept) zero_left
           (subst (λ (l : List Code). Keeps 0 l new.kept) (codes_rested from os es fs open_ spawned)
           (subst (λ (k : Recorded). Keeps 0 (a ++ b) k) (sym kept) both));
-      parts = λ x. record {
+      parts = record {
         out = out ∙ n.out ∙ p.out ∙ out_already from os es spawned ∙ sym (out_still from os es fs spawned no_joins);
         parts = subst (λ (l : List Part). AreParts from os (reverse l)) (sym (same ∙ n.parts)) p.parts;
       };
@@ -535,24 +480,11 @@ rest_follows old mid rest ready new count cost n m kept noted out same some from
       apart = rest_apart from site os es fs open_ h.apart g.apart;
     }
 
-pub idle_rests : (r rest : Recorder) (count cost : ℕ) → (IsSome r.kept → ⊥) → Rests r rest r count cost
-idle_rests r rest count cost none from site os es fs small open_ spawned no_joins h g =
-    let a = codes_in from os es in
-    let b = codes_in (Rest site) [] fs in
-    let c = cuts-append a b in
-    let d = ap cuts (codes_rested from os es fs open_ spawned) in
-    record {
-      goes_on = omega (arith, h.goes_on);
-      keeps = none_more (count - r.noted) (count + cost - r.noted) a (codes_in from os (es ++ fs)) r.kept none (omega (arith, c, d)) h.keeps;
-      parts = λ some. absurd (none some);
-      from_main = h.from_main;
-      apart = rest_apart from site os es fs open_ h.apart g.apart;
-    }
-
 -- what a whole run comes to
 kept_of : (t u : Tree) (k : Recorded) → Same (codes_of AsChild u) (codes_of AsChild t) → Keeps 0 (codes_of AsChild t) k → IsKept u k
-kept_of t u None same h = let a = same_cuts (codes_of AsChild u) (codes_of AsChild t) same in omega (arith, a, h)
-kept_of t u (Some kept) same h =
+kept_of t u (Err n) same h =
+    let a = same_cuts (codes_of AsChild u) (codes_of AsChild t) same in (omega (arith, a, h.0), omega (arith, a, h.1))
+kept_of t u (Ok kept) same h =
     let is : Same kept (codes_of AsChild u) = λ l. sym (nothing_behind kept l) ∙ h.1 l ∙ sym (same l) in
     let a = same_cuts kept (codes_of AsChild u) is in (omega (arith, a, h.0), same_merged kept (codes_of AsChild u) is)
 

@@ -1,5 +1,5 @@
 -- What is kept of a run's codes, and what each move adds to them.
-use Rattle.std.specs.Prelude.{ℕ, zero, suc, ◌+◌, ◌≡◌, ◌≤◌, ◌<◌, Bool, true, false, Option, Some, None, List, [], ◌∷◌, ◌++◌, refl}
+use Rattle.std.specs.Prelude.{ℕ, zero, suc, ◌+◌, ◌≡◌, ◌≤◌, ◌<◌, Bool, true, false, Option, Some, None, Ok, Err, List, [], ◌∷◌, ◌++◌, refl}
 use Rattle.std.proofs.Common.{arith, ap, sym, ◌∙◌}
 use Rattle.std.proofs.lemmas.Bool.{true≢false}
 use Rattle.std.proofs.lemmas.List.{append_assoc, append-nil}
@@ -12,7 +12,7 @@ use Rattle.cw_recorded.specs.Runs.{ticked, synced, begun}
 use Rattle.cw_greedy.specs.declared.code.Code.{Code}
 use Rattle.cw_greedy.specs.declared.code.Code.TheVariants.{Instructions, Spawned, Ended, Joined, Called}
 use Rattle.cw_model.specs.declared.limits.TheConstants.{MOST_STRANDS}
-use Rattle.cw_greedy.specs.Recorded.{Recorded, cuts, followed}
+use Rattle.cw_greedy.specs.Recorded.{Recorded, capped, cuts, followed}
 use Rattle.cw_greedy.specs.RecordLaws.{cuts-append, by_few, cut_small}
 use Rattle.cw_greedy.specs.Records.{instructions_before}
 use Rattle.cw_greedy.specs.Blocks.{InSeries, AsChild, codes_of, record_of, out_after}
@@ -47,13 +47,13 @@ same_cuts xs ys h =
 
 -- what is kept stands for any codes that are the same
 pub keeps_as : (since : ℕ) (a b : List Code) (k : Recorded) → Same a b → Keeps since a k → Keeps since b k
-keeps_as since a b None s h = let c = same_cuts a b s in omega (arith, c, h)
-keeps_as since a b (Some kept) s h = (h.0, same_through (kept ++ Instructions since ∷ []) a b h.1 s)
+keeps_as since a b (Err n) s h = let c = same_cuts a b s in (omega (arith, c, h.0), omega (arith, c, h.1))
+keeps_as since a b (Ok kept) s h = (h.0, same_through (kept ++ Instructions since ∷ []) a b h.1 s)
 
 -- instructions more need no code
 pub keeps_later : (since more : ℕ) (a : List Code) (k : Recorded) → Keeps since a k → Keeps (since + more) (a ++ Instructions more ∷ []) k
-keeps_later since more a None h = let c = cuts-append a (Instructions more ∷ []) in omega (arith, c, h)
-keeps_later since more a (Some kept) h = (
+keeps_later since more a (Err n) h = let c = cuts-append a (Instructions more ∷ []) in (omega (arith, c, h.0), omega (arith, c, h.1))
+keeps_later since more a (Ok kept) h = (
   h.0,
   λ l.
       onto-append kept (Instructions (since + more) ∷ []) l
@@ -63,23 +63,23 @@ keeps_later since more a (Some kept) h = (
       ∙ sym (onto-append a (Instructions more ∷ []) l),
 )
 
-one_more : (P : Recorded → Type 0) (kept : List Code) (c : Code) → (cuts (kept ++ c ∷ []) < MOST_STRANDS → P (Some (kept ++ c ∷ [])))
-    → (MOST_STRANDS ≤ cuts (kept ++ c ∷ []) → P None) → P (followed (Some kept) (Some (c ∷ [])))
+one_more : (P : Recorded → Type 0) (kept : List Code) (c : Code) → (cuts (kept ++ c ∷ []) < MOST_STRANDS → P (Ok (kept ++ c ∷ [])))
+    → (MOST_STRANDS ≤ cuts (kept ++ c ∷ []) → P (Err (capped (cuts (kept ++ c ∷ []))))) → P (followed (Ok kept) (Ok (c ∷ [])))
 one_more P [] c f g = f (omega (arith, cut_small c))
 one_more P (d ∷ kept) c f g = by_few P (d ∷ (kept ++ c ∷ [])) (λ h. f (omega (arith, h))) g
 
-pub keeps_cut : (a : List Code) (c : Code) (k : Recorded) → Keeps 0 a k → Keeps 0 (a ++ c ∷ []) (followed k (Some (c ∷ [])))
-keeps_cut a c None h = let f = cuts-append a (c ∷ []) in omega (arith, f, h)
-keeps_cut a c (Some kept) h =
+pub keeps_cut : (a : List Code) (c : Code) (k : Recorded) → Keeps 0 a k → Keeps 0 (a ++ c ∷ []) (followed k (Ok (c ∷ [])))
+keeps_cut a c (Err n) h = let f = cuts-append a (c ∷ []) in (omega (arith, f, h.0), omega (arith, f, h.1))
+keeps_cut a c (Ok kept) h =
     let same : Same kept a = λ l. sym (nothing_behind kept l) ∙ h.1 l in
     let more = same_before kept a (c ∷ []) same in
     one_more (Keeps 0 (a ++ c ∷ [])) kept c
     (λ few. (few, same_through ((kept ++ c ∷ []) ++ Instructions 0 ∷ []) (kept ++ c ∷ []) (a ++ c ∷ []) (nothing_behind (kept ++ c ∷ [])) more))
-    (λ many. let f = same_cuts (kept ++ c ∷ []) (a ++ c ∷ []) more in omega (arith, f, many))
+    (λ many. let f = same_cuts (kept ++ c ∷ []) (a ++ c ∷ []) more in (omega (arith, f, many), omega (arith, f)))
 
-pub keeps_noted : (since : ℕ) (a : List Code) (k : Recorded) → Keeps since a k → Keeps 0 a (followed k (Some (Instructions since ∷ [])))
-keeps_noted since a None h = h
-keeps_noted since a (Some kept) h =
+pub keeps_noted : (since : ℕ) (a : List Code) (k : Recorded) → Keeps since a k → Keeps 0 a (followed k (Ok (Instructions since ∷ [])))
+keeps_noted since a (Err n) h = (h.0, omega (arith, h.1))
+keeps_noted since a (Ok kept) h =
     let c = cuts-append kept (Instructions since ∷ []) in
     one_more (Keeps 0 a) kept (Instructions since)
     (λ few. (few, same_through ((kept ++ Instructions since ∷ []) ++ Instructions 0 ∷ []) (kept ++ Instructions since ∷ []) a (nothing_behind (kept ++ Instructions since ∷ [])) h.1))
@@ -288,16 +288,26 @@ same_kept : (kept a : List Code) → Same (kept ++ Instructions 0 ∷ []) a → 
 same_kept kept a h = λ l. sym (nothing_behind kept l) ∙ h l
 
 pub keeps_followed : (a b : List Code) (k m : Recorded) → Keeps 0 a k → Keeps 0 b m → Keeps 0 (a ++ b) (followed k m)
-keeps_followed a b None m h g = let f = cuts-append a b in omega (arith, f, h)
-keeps_followed a b (Some []) None h g = let f = cuts-append a b in omega (arith, f, g)
-keeps_followed a b (Some []) (Some m) h g =
+keeps_followed a b (Err n) (Err m) h g = let f = cuts-append a b in (omega (arith, f, h.0), omega (arith, f, h.1, g.1))
+keeps_followed a b (Err n) (Ok []) h g =
+    let f = cuts-append a b in
+    let e = same_cuts (Instructions 0 ∷ []) b g.1 in (omega (arith, f, h.0), omega (arith, e, f, h.1))
+keeps_followed a b (Err n) (Ok (d ∷ m)) h g =
+    let f = cuts-append a b in
+    let e = same_cuts (d ∷ m) b (same_kept (d ∷ m) b g.1) in (omega (arith, f, h.0), omega (arith, e, f, h.1))
+keeps_followed a b (Ok []) (Err m) h g =
+    let f = cuts-append a b in
+    let e = same_cuts (Instructions 0 ∷ []) a h.1 in (omega (arith, f, g.0), omega (arith, e, f, g.1))
+keeps_followed a b (Ok []) (Ok m) h g =
     (g.0, same_through (m ++ Instructions 0 ∷ []) b (a ++ b) g.1 (λ l. h.1 (onto b l) ∙ sym (onto-append a b l)))
-keeps_followed a b (Some (c ∷ k)) None h g = let f = cuts-append a b in omega (arith, f, g)
-keeps_followed a b (Some (c ∷ k)) (Some []) h g =
+keeps_followed a b (Ok (c ∷ k)) (Err m) h g =
+    let f = cuts-append a b in
+    let e = same_cuts (c ∷ k) a (same_kept (c ∷ k) a h.1) in (omega (arith, f, g.0), omega (arith, e, f, g.1))
+keeps_followed a b (Ok (c ∷ k)) (Ok []) h g =
     (h.0, λ l. h.1 l ∙ ap (onto a) (g.1 l) ∙ sym (onto-append a b l))
-keeps_followed a b (Some (c ∷ k)) (Some (d ∷ m)) h g =
+keeps_followed a b (Ok (c ∷ k)) (Ok (d ∷ m)) h g =
     let all = c ∷ (k ++ d ∷ m) in
     let same : Same all (a ++ b) = same_both (c ∷ k) a (d ∷ m) b (same_kept (c ∷ k) a h.1) (same_kept (d ∷ m) b g.1) in
     by_few (Keeps 0 (a ++ b)) all
     (λ few. (omega (arith, few), same_through (all ++ Instructions 0 ∷ []) all (a ++ b) (nothing_behind all) same))
-    (λ many. let f = same_cuts all (a ++ b) same in omega (arith, f, many))
+    (λ many. let f = same_cuts all (a ++ b) same in (omega (arith, f, many), omega (arith, f)))

@@ -1,6 +1,6 @@
 -- The record of a run so far: what is noted of it, and what a recorder keeps.
 use Rattle.std.specs.Prelude.{ℕ, ◌+◌, ◌-◌, ◌≡◌, ◌≤◌, ◌<◌, Bool, true, false, not, List, [], ◌∷◌, ◌++◌, reverse}
-use Rattle.std.specs.Prelude.{Option, Some, None, IsSome}
+use Rattle.std.specs.Prelude.{Option, Some, None, Ok, Err}
 use Rattle.cw_model.specs.declared.limits.TheConstants.{MOST_LIMIT}
 use Rattle.cw_model.specs.Trees.{Tree, Marked, Mark, Invocation, Execution, Event, Work, Series, Join, normal, tree_of}
 use Rattle.cw_model.specs.Trees as e
@@ -11,7 +11,7 @@ use Rattle.cw_greedy.specs.Records.{IsRecordOf}
 use Rattle.cw_greedy.specs.declared.code.Code.{Code}
 use Rattle.cw_greedy.specs.declared.code.Code.TheVariants.{Instructions, Spawned, Ended, Called}
 use Rattle.cw_model.specs.declared.limits.TheConstants.{MOST_STRANDS}
-use Rattle.cw_greedy.specs.Recorded.{Recorded, cuts}
+use Rattle.cw_greedy.specs.Recorded.{Recorded, capped, cuts}
 use Rattle.cw_greedy.specs.Blocks.{AsChild, codes_of, record_of, strand_count}
 use Rattle.cw_recorded.specs.declared.recorder.PartKind.{PartKind}
 use Rattle.cw_recorded.specs.declared.recorder.PartKind.TheVariants as kind
@@ -99,12 +99,12 @@ AreParts (Rest site) [] (p ∷ ps) = ⊥
 AreParts (Rest site) (o ∷ os) [] = ⊥
 AreParts (Rest site) (o ∷ os) (p ∷ ps) = IsPart (Rest site) o os p × AreParts (Rest site) os ps
 
--- these codes are kept, but for so many instructions behind them
+-- these codes are kept, but for so many instructions behind them, or counted, where too many strands begin in them
 abbrev pub Keeps : (since : ℕ) → List Code → Recorded → Type 0
-Keeps since codes None = MOST_STRANDS ≤ cuts codes
-Keeps since codes (Some kept) = (cuts kept < MOST_STRANDS) × Same (kept ++ Instructions since ∷ []) codes
+Keeps since codes (Err n) = (MOST_STRANDS ≤ cuts codes) × (n ≡ capped (cuts codes))
+Keeps since codes (Ok kept) = (cuts kept < MOST_STRANDS) × Same (kept ++ Instructions since ∷ []) codes
 
--- what is kept of the parts that are open, unless there are too many strands
+-- what is kept of the parts that are open
 pub record KeepsParts (from : Origin) (os : List Open) (es : List Event) (r : Recorder)
     : Type 0 where
   pub out : r.out ≡ out_in from os es
@@ -122,7 +122,7 @@ pub record RecordsIn (from : Origin) (count : ℕ) (os : List Open) (es : List E
     : Type 0 where
   pub goes_on : r.noted ≤ count
   pub keeps : Keeps (count - r.noted) (codes_in from os es) r.kept
-  pub parts : IsSome r.kept → KeepsParts from os es r
+  pub parts : KeepsParts from os es r
   pub from_main : IsFromMain from os
   pub apart : AreApart from os es
 
@@ -231,10 +231,11 @@ Starts r = RecordsIn Main 0 main_open [] r
 abbrev pub StartsRest : Recorder → Type 0
 StartsRest r = (site : ℕ) → RecordsIn (Rest site) 0 [] [] r
 
--- what is kept of the strands of a run: their record, or that they are too many
+-- what is kept of the strands of a run: their record, or how many begin in it, which are all but its first, where they
+-- are too many
 abbrev pub IsKept : Tree → Recorded → Type 0
-IsKept t None = MOST_STRANDS < strand_count t
-IsKept t (Some codes) = (strand_count t ≤ MOST_STRANDS) × IsRecordOf t (Some codes)
+IsKept t (Err n) = (MOST_STRANDS < strand_count t) × (capped (1 + n) ≡ capped (strand_count t))
+IsKept t (Ok codes) = (strand_count t ≤ MOST_STRANDS) × IsRecordOf t (Ok codes)
 
 -- a recorder, at the end of a run, keeps what its tree comes to
 abbrev pub Reads : Recorder → (count : ℕ) → Recorded → Type 0

@@ -1,6 +1,6 @@
 //! A recorder of a run's strands.
 
-ghost use Rattle.std.specs.Prelude.{◌≡◌, ◌≤◌, [], ◌∷◌, true, false, not, IfOk, OnOk, IsSome};
+ghost use Rattle.std.specs.Prelude.{◌≡◌, ◌≤◌, [], ◌∷◌, true, false, not, IfOk, OnOk};
 ghost use Rattle.cw_greedy.specs.Entries.{code_of_cut};
 ghost use Rattle.cw_greedy.specs.Recorded.{followed};
 ghost use Rattle.cw_recorded.specs.Recording.{BeginsCall, BeginsChild, BeginsQuiet, Closes, Ends, Joins, Notes, Reads, Rests, Returns, Stacks, Starts, StartsRest, Syncs};
@@ -104,10 +104,8 @@ impl Recorder {
     pub fn spawn(&mut self, count: u64) -> Result<(), AllocError>
         ensures { OnOk result (BeginsChild self.old self.new count) }
     {
-        if self.kept.fits() {
-            self.cut(count.wrapping_add(1), Cut::Spawned(!self.out))?;
-            self.stack(PartKind::Child, true)?;
-        }
+        self.cut(count.wrapping_add(1), Cut::Spawned(!self.out))?;
+        self.stack(PartKind::Child, true)?;
         Ok(())
     }
 
@@ -116,10 +114,8 @@ impl Recorder {
     pub fn call(&mut self, count: u64) -> Result<(), AllocError>
         ensures { OnOk result (BeginsCall self.old self.new count) }
     {
-        if self.kept.fits() {
-            self.cut(count.wrapping_add(1), Cut::Called)?;
-            self.stack(PartKind::Call, self.out)?;
-        }
+        self.cut(count.wrapping_add(1), Cut::Called)?;
+        self.stack(PartKind::Call, self.out)?;
         Ok(())
     }
 
@@ -128,9 +124,7 @@ impl Recorder {
     pub fn begin(&mut self, count: u64) -> Result<(), AllocError>
         ensures { OnOk result (BeginsQuiet self.old self.new count) }
     {
-        if self.kept.fits() {
-            self.stack(PartKind::Quiet, self.out)?;
-        }
+        self.stack(PartKind::Quiet, self.out)?;
         Ok(())
     }
 
@@ -139,10 +133,8 @@ impl Recorder {
     pub fn end(&mut self, count: u64) -> Result<(), AllocError>
         ensures { OnOk result (Ends self.old self.new count) }
     {
-        if self.kept.fits() {
-            self.join(count)?;
-            self.close(count)?;
-        }
+        self.join(count)?;
+        self.close(count)?;
         Ok(())
     }
 
@@ -151,10 +143,8 @@ impl Recorder {
     pub fn give_back(&mut self, count: u64) -> Result<(), AllocError>
         ensures { OnOk result (Returns self.old self.new count) }
     {
-        if self.kept.fits() {
-            self.join(count)?;
-            self.close(count.wrapping_add(1))?;
-        }
+        self.join(count)?;
+        self.close(count.wrapping_add(1))?;
         Ok(())
     }
 
@@ -163,9 +153,7 @@ impl Recorder {
     pub fn sync(&mut self, count: u64) -> Result<(), AllocError>
         ensures { OnOk result (Syncs self.old self.new count) }
     {
-        if self.kept.fits() {
-            self.join(count)?;
-        }
+        self.join(count)?;
         Ok(())
     }
 
@@ -176,13 +164,11 @@ impl Recorder {
     pub fn rest(&mut self, count: u64, rest: Recorder, cost: u64) -> Result<(), AllocError>
         ensures { OnOk result (Rests self.old rest self.new count cost) }
     {
-        if self.kept.fits() {
-            let mut rest = rest;
-            rest.settle(cost)?;
-            self.settle(count)?;
-            self.take_in(rest.kept)?;
-            self.noted = count.wrapping_add(cost);
-        }
+        let mut rest = rest;
+        rest.settle(cost)?;
+        self.settle(count)?;
+        self.take_in(rest.kept)?;
+        self.noted = count.wrapping_add(cost);
         Ok(())
     }
 

@@ -51,7 +51,7 @@ pub fn write_fault<W: Sink>(to: &mut W, fault: &Fault) -> Result<(), Fault>
         Fault::Memory => write_text(to, b"memory\n"),
         Fault::Write => write_text(to, b"write failed\n"),
         Fault::Arguments => write_text(to, b"arguments\n"),
-        Fault::Strands => write_text(to, b"too many strands\n"),
+        Fault::Strands(_) => write_text(to, b"too many strands\n"),
     }
 }
 

@@ -1,5 +1,5 @@
 -- The codes of a tree are read as its block.
-use Rattle.std.proofs.Common.{◌≡◌, ℕ, zero, suc, ◌+◌, true, false, List, [], ◌∷◌, ◌++◌, Option, Some, None, append_assoc, append-nil, arith, refl, ap, sym, ◌∙◌}
+use Rattle.std.proofs.Common.{◌≡◌, ℕ, zero, suc, ◌+◌, true, false, List, [], ◌∷◌, ◌++◌, Option, Some, None, Ok, append_assoc, append-nil, arith, refl, ap, sym, ◌∙◌}
 use Rattle.cw_model.specs.Trees.{Tree, Leaf, Seq, Par, Marked, Mark, Invocation, Execution, work}
 use Rattle.cw_greedy.specs.declared.code.Code.{Code}
 use Rattle.cw_greedy.specs.declared.code.Code.TheVariants.{Instructions, Spawned, Ended, Joined, Called}
@@ -199,14 +199,14 @@ sum_of AsRest (Marked (Execution tag) t) = sum_of InSeries t
 sum_of AsRest (Marked (Invocation site) t) = sum_call (codes_of InSeries t) ∙ sum_of InSeries t
 
 -- what a record stands for is read, and has its work
-pub record_is_read : (t : Tree) (codes : List Code) → IsRecordOf t (Some codes) → read codes [] (Last 0) ≡ Some (block_of t)
+pub record_is_read : (t : Tree) (codes : List Code) → IsRecordOf t (Ok codes) → read codes [] (Last 0) ≡ Some (block_of t)
 record_is_read t codes h =
     let own = codes_of AsChild t in
     let e : own ++ [] ≡ own = append-nil own in
     sym (reads_merged codes [] (Last 0)) ∙ ap (λ l. read l [] (Last 0)) h ∙ reads_merged own [] (Last 0)
     ∙ ap (λ l. read l [] (Last 0)) (sym e) ∙ reads t AsChild [] [] (Last 0) ∙ ap Some (end_of_none t)
 
-pub record_has_work : (t : Tree) (codes : List Code) → IsRecordOf t (Some codes) → instructions codes ≡ work t
+pub record_has_work : (t : Tree) (codes : List Code) → IsRecordOf t (Ok codes) → instructions codes ≡ work t
 record_has_work t codes h = sym (sum_merged codes) ∙ ap instructions h ∙ sum_merged (codes_of AsChild t) ∙ sum_of AsChild t
 
 -- and the children are those of the tree
@@ -255,5 +255,5 @@ spawned_of InSeries (Marked (Invocation site) t) = spawned_call (codes_of InSeri
 spawned_of AsRest (Marked (Execution tag) t) = spawned_of InSeries t
 spawned_of AsRest (Marked (Invocation site) t) = spawned_call (codes_of InSeries t) ∙ spawned_of InSeries t
 
-pub record_has_spawns : (t : Tree) (codes : List Code) → IsRecordOf t (Some codes) → spawned codes ≡ spawns_in t
+pub record_has_spawns : (t : Tree) (codes : List Code) → IsRecordOf t (Ok codes) → spawned codes ≡ spawns_in t
 record_has_spawns t codes h = sym (spawned_merged codes) ∙ ap spawned h ∙ spawned_merged (codes_of AsChild t) ∙ spawned_of AsChild t

@@ -1,5 +1,5 @@
 -- What stands on the board while strands are taken off and steps are done.
-use Rattle.std.proofs.Common.{◌≡◌, ◌≢◌, ℕ, zero, suc, ◌+◌, ◌-◌, ◌≤◌, ◌<◌, Bool, true, false, List, [], ◌∷◌, ◌++◌, Option, Some, None, length}
+use Rattle.std.proofs.Common.{◌≡◌, ◌≢◌, ℕ, zero, suc, ◌+◌, ◌-◌, ◌≤◌, ◌<◌, Bool, true, false, List, [], ◌∷◌, ◌++◌, Option, Some, None, Ok, length}
 use Rattle.std.proofs.Common.{length-append, length-set, set, get_or, get_or-set_same, get_or-set_other, arith, refl, ap, sym, ◌∙◌, subst}
 use Rattle.std.specs.Prelude.{slice_get, replicate, ◌*◌}
 use Rattle.std.proofs.lemmas.List.{ext_get_or, get_or-replicate, length-replicate}
@@ -600,7 +600,7 @@ on_one t p steps e h w =
     is ∙ ap (λ q. greedy_length q t) (sym e)
 
 -- the codes of a record
-pub record_of : (t : Tree) (r : Recorded) (codes : List Code) → Some codes ≡ r → IsRecordOf t r → IsRecordOf t (Some codes)
+pub record_of : (t : Tree) (r : Recorded) (codes : List Code) → Ok codes ≡ r → IsRecordOf t r → IsRecordOf t (Ok codes)
 record_of t r codes e h = subst (IsRecordOf t) (sym e) h
 
 pub some_planned : (block : Block) (strands : List Strand) → strands ≡ strands_of w.Start block → 1 ≤ length strands

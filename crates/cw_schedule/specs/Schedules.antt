@@ -7,6 +7,7 @@ use Rattle.cw_model.specs.Answers.{Ended, TrappedAt, OverLimit}
 use Rattle.cw_text.specs.declared.fault.Fault.{Fault}
 use Rattle.cw_text.specs.declared.fault.Fault.TheVariants as fault
 use Rattle.cw_model.specs.declared.limits.TheConstants.{MOST_PROCESSORS, MOST_STRANDS}
+use Rattle.cw_greedy.specs.Recorded.{capped}
 use Rattle.cw_greedy.specs.Blocks.{strand_count}
 use Rattle.cw_greedy.specs.Greedy.{greedy_length}
 use Rattle.cw_schedule.specs.State.{IsWithin}
@@ -44,12 +45,13 @@ pub record Schedules (code : Code) (args : List ℤ) (n p : ℕ) (s : Schedule) 
   pub greedy : s.greedy ≡ greedy_length p tree
   pub bounds : IsWithin p s.greedy tree
 
--- what was asked for is in range, and the run ends with more strands than are kept
-pub record HasTooManyStrands (code : Code) (args : List ℤ) (n processors : ℕ) : Type 0 where
+-- what was asked for is in range, and the run ends with more strands than are kept, so many
+pub record HasTooManyStrands (code : Code) (args : List ℤ) (n processors k : ℕ) : Type 0 where
   pub asked : is_asked code args n processors ≡ true
   pub tree : Tree
   pub ends : Ends code args n tree
   pub many : MOST_STRANDS < strand_count tree
+  pub told : k ≡ capped (strand_count tree)
 
 -- why a run has no schedule: what was asked for is out of range; or the run costs more than its limit, or traps, or has
 -- too many strands, or memory ran out
@@ -59,7 +61,7 @@ IsNotScheduled code args n processors fault.OverLimit =
     (is_asked code args n processors ≡ true) × (code_serial code args n ≡ Some OverLimit)
 IsNotScheduled code args n processors (fault.Trap trap line output) =
     (is_asked code args n processors ≡ true) × (code_serial code args n ≡ Some (TrappedAt trap line output.items))
-IsNotScheduled code args n processors fault.Strands = HasTooManyStrands code args n processors
+IsNotScheduled code args n processors (fault.Strands k) = HasTooManyStrands code args n processors k
 IsNotScheduled code args n processors fault.Memory = is_asked code args n processors ≡ true
 IsNotScheduled code args n processors _ = ⊥
 

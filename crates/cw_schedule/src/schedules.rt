@@ -38,7 +38,7 @@ pub struct Schedule {
 /// The error is `Arguments` exactly where the count of the arguments is not that of `main`'s parameters, or `n` is not
 /// in 1..=2^62, or `processors` is not in 1..=1,000,000; otherwise `OverLimit` exactly where the run costs more than
 /// `n`, `Trap` exactly where it traps, with its line and the values printed before, `Strands` exactly where it ends
-/// with more than 1,000,000 strands, and `Memory` where memory runs out.
+/// with more than 1,000,000 strands, with how many they are, and `Memory` where memory runs out.
 pub fn schedule_alone(
     alloc: Global,
     code: Arc<Verified>,
@@ -76,7 +76,7 @@ pub fn schedule_of_run(
     }
     let strands = ran?;
     if !strands.fits() {
-        return Err(Fault::Strands);
+        return Err(Fault::Strands(strands.count()));
     }
     let weights = weigh(alloc, &strands)?;
     let steps = greedy(alloc, &strands, processors)?;

@@ -62,7 +62,7 @@ record_at : (a b count : ℕ) (es : List Event) (r : Recorder) → RecordsIn (or
 record_at a b count es r h = record {
   goes_on = h.goes_on;
   keeps = h.keeps;
-  parts = λ some. let p = h.parts some in record { out = p.out; parts = p.parts };
+  parts = let p = h.parts in record { out = p.out; parts = p.parts };
   from_main = h.from_main;
   apart = h.apart;
 }

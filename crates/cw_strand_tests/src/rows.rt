@@ -149,7 +149,7 @@ fn apart(
     let job = Job::root(alloc, code.clone()?, row.args, limit, row.burden())?;
     match run_so(alloc, job, way, broken) {
         Ok(effect) => Ok(effect),
-        Err(_) => Err(Fault::Strands),
+        Err(_) => Err(Fault::Strands(0)),
     }
 }
 

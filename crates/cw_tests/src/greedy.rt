@@ -103,6 +103,10 @@ fn schedules_a_million_strands(rt: HostRuntime) -> Result<(), Fail> {
     all_hold_with(rt, "", HEADER, KEPT)
 }
 
+// In each turn a call, which brings two strands more: 1,999,998 with 400,000 calls, and 399,999 spawns and joins.
+const MORE_CALLS: &str =
+    "void f() { } int main() { cilk_for (int i = 0; i < 400000; i++) grain 1 { f(); } return 0; }";
+
 // More than are kept.
 const TOO_MANY: &[Row] = &[
     ("greedy 1 f --workers 1", MORE, 4, "", "too many strands\n"),
@@ -114,4 +118,41 @@ const TOO_MANY: &[Row] = &[
 #[test]
 fn schedules_no_more_strands(rt: HostRuntime) -> Result<(), Fail> {
     all_hold(rt, TOO_MANY)
+}
+
+// How many these are: 1, and 2 for each call and spawn and 1 for each join.
+const COUNTED: &[Row] = &[
+    (
+        "greedy 1 f --explain --workers 1",
+        MORE,
+        4,
+        "",
+        "too many strands\nf: the run has 1000003 strands, and a schedule is made of 1000000 at most; smaller arguments or coarser grains give fewer, and scale has no such limit\n",
+    ),
+    (
+        "greedy 1 f --explain --workers 4",
+        MORE,
+        4,
+        "",
+        "too many strands\nf: the run has 1000003 strands, and a schedule is made of 1000000 at most; smaller arguments or coarser grains give fewer, and scale has no such limit\n",
+    ),
+    (
+        "greedy 1 f --explain --workers 1",
+        MORE_CALLS,
+        4,
+        "",
+        "too many strands\nf: the run has 1999998 strands, and a schedule is made of 1000000 at most; smaller arguments or coarser grains give fewer, and scale has no such limit\n",
+    ),
+    (
+        "greedy 1 f --explain --workers 4",
+        MORE_CALLS,
+        4,
+        "",
+        "too many strands\nf: the run has 1999998 strands, and a schedule is made of 1000000 at most; smaller arguments or coarser grains give fewer, and scale has no such limit\n",
+    ),
+];
+
+#[test]
+fn counts_more_strands(rt: HostRuntime) -> Result<(), Fail> {
+    all_hold(rt, COUNTED)
 }

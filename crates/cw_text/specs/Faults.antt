@@ -18,7 +18,7 @@ fault_number (fault.Trap c l o) = 8
 fault_number fault.Memory = 9
 fault_number fault.Write = 10
 fault_number fault.Arguments = 11
-fault_number fault.Strands = 12
+fault_number (fault.Strands n) = 12
 
 -- the exit status of a program that ends with this fault
 abbrev pub fault_status : Fault → ℕ
@@ -33,7 +33,7 @@ fault_status fault.OverLimit = 4
 fault_status fault.Arguments = 5
 fault_status fault.Memory = 6
 fault_status fault.Write = 7
-fault_status fault.Strands = 4
+fault_status (fault.Strands n) = 4
 
 -- how a place is written
 abbrev pub place_text : Place → List ℕ
@@ -53,4 +53,4 @@ fault_text (fault.Trap c l o) =
 fault_text fault.Memory = codes "memory"
 fault_text fault.Write = codes "write failed"
 fault_text fault.Arguments = codes "arguments"
-fault_text fault.Strands = codes "too many strands"
+fault_text (fault.Strands n) = codes "too many strands"

@@ -54,8 +54,8 @@ pub enum Fault {
     Write,
     /// Arguments, or a limit or a burden, that are not those that were asked for.
     Arguments,
-    /// A run that ended whose strands are more than are kept for a schedule.
-    Strands,
+    /// A run that ended with so many strands, more than are kept for a schedule; 2^64 - 1 where they are as many or more.
+    Strands(u64),
 }
 
 impl Fault {
@@ -77,7 +77,7 @@ impl Fault {
             Fault::Memory => 9,
             Fault::Write => 10,
             Fault::Arguments => 11,
-            Fault::Strands => 12,
+            Fault::Strands(_) => 12,
         }
     }
 
@@ -95,7 +95,7 @@ impl Fault {
             | Fault::Size(_)
             | Fault::Code => 2,
             Fault::Trap { .. } => 3,
-            Fault::OverLimit | Fault::Strands => 4,
+            Fault::OverLimit | Fault::Strands(_) => 4,
             Fault::Arguments => 5,
             Fault::Memory => 6,
             Fault::Write => 7,
@@ -125,7 +125,7 @@ impl fmt::Display for Fault {
             Fault::Memory => write!(f, "memory"),
             Fault::Write => write!(f, "write failed"),
             Fault::Arguments => write!(f, "arguments"),
-            Fault::Strands => write!(f, "too many strands"),
+            Fault::Strands(_) => write!(f, "too many strands"),
         }
     }
 }

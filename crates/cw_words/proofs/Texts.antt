@@ -77,7 +77,7 @@ unless_weaker P Q fault.Code w h = h
 unless_weaker P Q fault.OverLimit w h = h
 unless_weaker P Q (fault.Trap t l o) w h = h
 unless_weaker P Q fault.Write w h = h
-unless_weaker P Q fault.Strands w h = h
+unless_weaker P Q (fault.Strands n) w h = h
 
 -- the options of numbers that the words write
 pub options_given : (v : Verb) (m : Mode) (limit charge processors top workers l b p t w : ℕ) (edges : Edges) (word : Text)

@@ -63,7 +63,7 @@ fault_copied code args n burden (fault.Trap c l o) fault.Code h r = absurd h
 fault_copied code args n burden (fault.Trap c l o) fault.OverLimit h r = absurd h
 fault_copied code args n burden (fault.Trap c l o) fault.Write h r = absurd h
 fault_copied code args n burden (fault.Trap c l o) fault.Arguments h r = absurd h
-fault_copied code args n burden (fault.Trap c l o) fault.Strands h r = absurd h
+fault_copied code args n burden (fault.Trap c l o) (fault.Strands k) h r = absurd h
 fault_copied code args n burden (fault.Lexical p) g h r = absurd r
 fault_copied code args n burden (fault.Syntax p) g h r = absurd r
 fault_copied code args n burden (fault.Types p) g h r = absurd r
@@ -74,7 +74,7 @@ fault_copied code args n burden fault.OverLimit g h r = same_fault code args n b
 fault_copied code args n burden fault.Memory g h r = same_fault code args n burden fault.Memory g h r
 fault_copied code args n burden fault.Write g h r = absurd r
 fault_copied code args n burden fault.Arguments g h r = same_fault code args n burden fault.Arguments g h r
-fault_copied code args n burden fault.Strands g h r = absurd r
+fault_copied code args n burden (fault.Strands k) g h r = absurd r
 
 -- what is told of a run is told of its copy
 pub copy_runs : (code : Code) (args : List ℤ) (n : ℕ) (burden : Burden) (a c : Result alone.Ended Fault) → IsCopy a c → RunsAsCode code args n burden a → RunsAsCode code args n burden c

@@ -48,7 +48,7 @@ fn copy_fault(alloc: Global, fault: &Fault) -> Fault
         Fault::Size(place) => Fault::Size(*place),
         Fault::Code => Fault::Code,
         Fault::Write => Fault::Write,
-        Fault::Strands => Fault::Strands,
+        Fault::Strands(count) => Fault::Strands(*count),
     }
 }
 

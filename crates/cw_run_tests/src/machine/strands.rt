@@ -55,11 +55,17 @@ fn are_kept(alloc: Global, chunks: &[Vec<Entry>], hand: &[i128]) -> Result<bool,
     Ok(numbers.as_slice() == hand)
 }
 
-// Whether this is kept of a run, and the strands are not too many.
-fn keeps(alloc: Global, setting: Setting, body: &[Instr], hand: &[i128]) -> Result<bool, Fault> {
+// Whether this is kept of a run of so many strands, which are not too many.
+fn keeps(
+    alloc: Global,
+    setting: Setting,
+    body: &[Instr],
+    hand: &[i128],
+    count: u64,
+) -> Result<bool, Fault> {
     let code = code_in(alloc, setting, body)?;
     let strands = strands_alone(alloc, code, &[], 1_000_000)?;
-    if !strands.fits() {
+    if !strands.fits() || strands.count() != count {
         return Ok(false);
     }
     let same = are_kept(alloc, strands.chunks(), hand)?;
@@ -83,7 +89,7 @@ const FIB_STRANDS: &[i128] = &[
 
 #[test]
 fn fib(rt: HostRuntime) -> Result<(), Fault> {
-    assert!(rt; keeps(rt.alloc(), Setting::Fib, FIB_OF_4, FIB_STRANDS)?);
+    assert!(rt; keeps(rt.alloc(), Setting::Fib, FIB_OF_4, FIB_STRANDS, 23)?);
     Ok(())
 }
 
@@ -117,6 +123,6 @@ const PRINT_STRANDS: &[i128] = &[2, FIRST, 3, ENDED, 2, NEXT, 3, ENDED, 2, JOINE
 
 #[test]
 fn prints(rt: HostRuntime) -> Result<(), Fault> {
-    assert!(rt; keeps(rt.alloc(), Setting::Show, PRINTS, PRINT_STRANDS)?);
+    assert!(rt; keeps(rt.alloc(), Setting::Show, PRINTS, PRINT_STRANDS, 6)?);
     Ok(())
 }

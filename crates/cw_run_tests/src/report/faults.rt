@@ -30,7 +30,7 @@ fn fault_of(alloc: Global, number: u8, line: u32) -> Fault {
         9 => Fault::Memory,
         10 => Fault::Write,
         11 => Fault::Arguments,
-        _ => Fault::Strands,
+        _ => Fault::Strands(1_000_001),
     }
 }
 

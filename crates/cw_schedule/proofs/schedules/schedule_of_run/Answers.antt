@@ -1,9 +1,10 @@
 use Rattle.std.proofs.Common.{refl, sym, subst, ◌∙◌}
+use Rattle.std.proofs.lemmas.Bool.{true≢false}
 use Rattle.cw_facts.specs.Options.{handed_on}
 use Rattle.cw_model.specs.Trees.{work}
 use Rattle.cw_code.specs.Code.{code_view}
 use Rattle.cw_machine.specs.Recorded.{Records, RecordsAsCode}
-use Rattle.cw_schedule.proofs.Told.{at_most, ends_so, not_scheduled, record_kept}
+use Rattle.cw_schedule.proofs.Told.{at_most, ends_so, not_scheduled, record_kept, too_many}
 use Rattle.cw_schedule.proofs.Within.{within}
 use Rattle.cw_schedule.proofs.schedules.schedule_of_run.Goals as goal
 
@@ -13,6 +14,14 @@ returns-in_err-strands c =
     let asked = sym c.is_asked.ensures ∙ c.if-not-is_asked.false in
     handed_on _ _ c.in_err-strands.field-0.0 c.from_residual.result
     (not_scheduled code c.args.args.now c.args.n c.args.processors c.in_err-strands.field-0.0 asked (subst (RecordsAsCode code c.args.args.now c.args.n) c.in_err-strands.was c.requires)) c.from_residual.ensures.1
+
+pub returns-then-not-fits : goal.returns-then-not-fits
+returns-then-not-fits c =
+    let code = code_view c.args.code.now.code in
+    let asked = sym c.is_asked.ensures ∙ c.if-not-is_asked.false in
+    let kept = c.in_ok-strands.strands in
+    let ran : Records code c.args.args.now c.args.n kept = subst (RecordsAsCode code c.args.args.now c.args.n) c.in_ok-strands.was c.requires in
+    too_many code c.args.args.now c.args.n c.args.processors c.count.result kept asked ran (λ ok. true≢false (sym (c.fits.ensures.1 ok) ∙ c.if-not-fits.true)) c.count.ensures
 
 pub weigh-requires : goal.weigh-requires
 weigh-requires c =

@@ -1,11 +1,7 @@
-use Rattle.std.proofs.Common.{sym, ◌∙◌, arith}
+use Rattle.std.proofs.Common.{arith}
 use Rattle.std.proofs.Math.Nat.{mod-eq_of_lt}
-use Rattle.std.proofs.lemmas.Bool.{true≢false}
-use Rattle.cw_recorded.proofs.Moves.{child_begins, idle_child}
+use Rattle.cw_recorded.proofs.Moves.{child_begins}
 use Rattle.cw_recorded.proofs.recorder.Recorder.spawn.Goals as goal
 
-pub returns-in_ok-stack : goal.returns-in_ok-stack
-returns-in_ok-stack c = child_begins c.args.self.now c.cut.new.self c.stack.new.self c.args.count _ c.in_ok-cut.ensures c.in_ok-stack.ensures (c.fits.ensures.0 c.if-fits.true) (λ small. mod-eq_of_lt (omega arith))
-
-pub returns-else-fits : goal.returns-else-fits
-returns-else-fits c = idle_child c.args.self.now c.args.count (λ some. true≢false (sym (c.fits.ensures.1 some) ∙ c.if-fits.false))
+pub returns : goal.returns
+returns c = child_begins c.args.self.now c.cut.new.self c.stack.new.self c.args.count _ c.in_ok-cut.ensures c.in_ok-stack.ensures (λ small. mod-eq_of_lt (omega arith))
