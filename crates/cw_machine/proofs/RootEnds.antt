@@ -1,7 +1,6 @@
 -- What the effect of a whole run tells of the run.
-use Rattle.std.proofs.Common.{◌≡◌, ◌⊎◌, inl, inr, ℕ, ◌+◌, ◌≤◌, ℤ, true, Option, Some, List, [], length, refl, sym, ap, ◌∙◌, subst, arith}
+use Rattle.std.proofs.Common.{◌≡◌, ◌⊎◌, inl, inr, ℕ, ◌+◌, ◌≤◌, ℤ, true, Option, Some, List, [], length, sym, ap, ◌∙◌, subst, arith}
 use Rattle.std.specs.Prelude.{slice_get}
-use Rattle.std.proofs.lemmas.List.{length-map}
 use Rattle.std.specs.Coded.{le_prop}
 use Rattle.std.proofs.Math.Bool.{Bool-set}
 use Rattle.std.proofs.Math.Logic.{∥∥₁_elim}
@@ -9,21 +8,22 @@ use Rattle.cw_model.specs.declared.burden.Burden.{Burden}
 use Rattle.cw_model.specs.declared.limits.TheConstants.{MOST_LIMIT}
 use Rattle.cw_model.specs.declared.trap.Trap.{Trap}
 use Rattle.cw_model.specs.Trees.{Marked, Invocation, tree_of, normal}
-use Rattle.cw_model.specs.Answers.{int_given, TrappedAt, OverLimit}
+use Rattle.cw_model.specs.Answers.{int_given, Ended, TrappedAt, OverLimit}
 use Rattle.cw_model.specs.Ints.{trap_number}
 use Rattle.cw_code.specs.declared.code.Func.{Func}
 use Rattle.cw_code.specs.Code.{Code, code_view}
-use Rattle.cw_code.specs.Run.{On, first_state, first_transition, code_serial}
+use Rattle.cw_code.specs.Run.{On, first_state, first_transition, reducers_of, code_serial}
 use Rattle.cw_strand_laws.specs.Jobs as jobs
 use Rattle.cw_strand_laws.specs.Jobs.{Came, Arrives, Returns, Falls, Beyond, Lost, IsOf, JobMeaning, Same, Passed, Short, root_job, course}
 use Rattle.cw_strand_laws.specs.RestLaws.{RootsAreSerial}
-use Rattle.cw_meter.specs.Whole.{AreMeasures, ReadsStrands}
+use Rattle.cw_meter.specs.Whole.{ReadsStrands}
 use Rattle.cw_greedy.specs.Recorded.{Recorded}
 use Rattle.cw_model.specs.Burdens.{no_burden}
 use Rattle.cw_meter.specs.Origins.{Main as MainOrigin}
 use Rattle.cw_meter.specs.Meters.{Meters}
 use Rattle.cw_meter.specs.declared.detail.Detail.{Detail}
 use Rattle.cw_meter.specs.declared.detail.Detail.TheVariants.{Measures as Measured, Strands as Recording}
+use Rattle.cw_meter.specs.Details.{IsLight}
 use Rattle.cw_meter_laws.specs.Opens.{whole}
 use Rattle.cw_runnable.specs.declared.verified.Verified.{Verified}
 use Rattle.cw_jobs.specs.declared.effect.Effect.{Effect}
@@ -36,14 +36,15 @@ use Rattle.cw_jobs.specs.Means.{IsMeaningOf, MeansIt, Tells, Counts, HasShown}
 use Rattle.cw_machine.specs.declared.alone.Ended as alone
 use Rattle.cw_machine.specs.Arrays.{IsFit}
 use Rattle.cw_machine.specs.declared.values.Values.{Values}
+use Rattle.cw_machine.specs.Metered.{Finishes}
 use Rattle.cw_machine.specs.Recorded.{Records}
 use Rattle.cw_machine.specs.Runs.{is_asked, is_request, IsEndOf, Gives, Runs}
-use Rattle.cw_machine.proofs.Updates.{ReturnsWithin, travelled, totals_are}
-use Rattle.cw_machine.proofs.EndsAs.{EndsAs, EndsAs-prop, did_end}
+use Rattle.cw_machine.proofs.Updates.{ReturnsWithin, travelled, totals_are, totals_of}
+use Rattle.cw_machine.proofs.EndsAs.{EndsAs-prop, did_end, finishes_as}
 use Rattle.cw_machine.proofs.Strands.{KeepsStrands, strands_prop, kept_is, kept_as}
 use Rattle.cw_machine.proofs.Metering.{gauge_of}
 use Rattle.cw_machine.proofs.Given.{IsGiven, IsGiven-prop, is_given}
-use Rattle.cw_machine.proofs.FromMain.{Main, main_of, asked_of, told, IsEnded, IsEnded-prop, IsTrapped, IsTrapped-prop, was_trapped, is_over, was_over, same_as}
+use Rattle.cw_machine.proofs.FromMain.{Main, main_of, asked_of, measured, told, IsEnded, IsEnded-prop, IsTrapped, IsTrapped-prop, was_trapped, is_over, was_over, same_as}
 use Rattle.cw_machine.proofs.FromMain.{same_totals_as, first_is, asked_count, asked_limit, asked_burden, main_room, main_arrays, main_readers}
 
 -- an effect that means the job of a whole run means what the definitions have as that job
@@ -143,62 +144,39 @@ module _ (laws : RootsAreSerial) (v : Verified) (ok : IsFit v) (f : Func) (args 
       cases jobs.OverLimit h w s = absurd h
       cases jobs.Memory h w s = absurd h
 
-  -- where all was counted, also with what the tree of the run has
-  pub ended : d ≡ Measured burden → (x : Option ℤ) (shown : Shown) (e : alone.Ended) → (end : IsEndOf v.code x shown e) → MeansIt v ok root.parts.value (effect.Ended x shown) (root_job f args n)
-      → (shown.cost ≤ n) × IsEnded (code_view v.code) burden e end.all (code_serial (code_view v.code) args n)
-  ended counted x shown e end m = cases m.effect m.tells m.counts (few (code_view v.code) f args n m.effect m.means) (serial m.effect m.means)
+  -- and with what its meter tells, where what is charged is in its range
+  pub finished : IsLight d → (x : Option ℤ) (shown : Shown) → MeansIt v ok root.parts.value (effect.Ended x shown) (root_job f args n)
+      → (shown.cost ≤ n) × Finishes (code_view v.code) args n d x shown
+  finished light x shown m = cases m.effect m.tells m.counts (few (code_view v.code) f args n m.effect m.means) (serial m.effect m.means)
     where
-      code : Code
-      code = code_view v.code
-
       most : n ≤ MOST_LIMIT
       most = asked_limit f args n burden asked
 
       cases : (w : jobs.Effect) → Tells (code_view v.code) (root_job f args n) root.parts.value.rest (effect.Ended x shown) w
           → Counts (code_view v.code) root.parts.value.detail root.parts.value.site (effect.Ended x shown) w → Few n w
           → (w ≡ jobs.Memory) ⊎ (jobs.answered (code_view v.code) w ≡ code_serial (code_view v.code) args n)
-          → (shown.cost ≤ n) × IsEnded (code_view v.code) burden e end.all (code_serial (code_view v.code) args n)
+          → (shown.cost ≤ n) × Finishes (code_view v.code) args n d x shown
       cases (jobs.Ended y arrays t cost) h counts w (inr s) =
           let has : HasShown (code_view v.code) shown t cost = h.2 in
-          let within : shown.cost ≤ n = let k = has.cost in let le = w.1 in omega (arith, k, le) in
-          let light = asked_burden f args n burden asked in
-          let g = gauge_of v ok (Measured burden) light in
-          let sites : length (code_view v.code).sites ≡ length v.code.sites.items = length-map v.code.sites.items _ in
-          let meters = subst (λ k. Meters g.detail g.tags MainOrigin k [] (whole t) shown.meter) (sym has.cost) (counts g (sym (r.detail ∙ counted))) in (
-            within,
-            subst (λ o. IsEnded (code_view v.code) burden e end.all o) s (
-              ap int_given (sym h.1) ∙ sym end.value,
-              same_as t.lines e.lines.items (sym has.lines ∙ sym end.lines),
-              same_totals_as _ e.totals.items (totals_are (code_view v.code) shown.totals.items t.updates has.totals (let le = w.0 in omega (arith, le, most)) ∙ sym end.totals),
-              subst (λ k. AreMeasures burden (k + 1) (code_view v.code).tags (normal (Marked (Invocation 0) (tree_of t.events))) end.all) (sym sites)
-                  (end.reads burden g.tags (code_view v.code).tags t.events (omega (arith, within, most)) light g.named refl meters),
-            ),
+          let g = gauge_of v ok d light in
+          let tree = normal (Marked (Invocation 0) (tree_of t.events)) in
+          let totals = totals_are (code_view v.code) shown.totals.items t.updates has.totals (let le = w.0 in omega (arith, le, most)) in (
+            (let k = has.cost in let le = w.1 in omega (arith, k, le)),
+            record {
+              trace = t;
+              answer = sym s ∙ ap (λ z. Some (Ended (int_given z) t.lines (totals_of t.updates (reducers_of (code_view v.code))) tree)) (sym h.1)
+                  ∙ ap (λ l. Some (Ended (int_given x) l (totals_of t.updates (reducers_of (code_view v.code))) tree)) (sym has.lines)
+                  ∙ ap (λ l. Some (Ended (int_given x) shown.lines.items l tree)) totals;
+              tags = g.tags;
+              named = g.named;
+              meters = subst (λ k. Meters g.detail g.tags MainOrigin k [] (whole t) shown.meter) (sym has.cost) (counts g (sym r.detail));
+            },
           )
       cases (jobs.Ended y arrays t cost) h counts w (inl s) = cc
       cases (jobs.Joined frame t c) h counts w s = absurd h
       cases (jobs.TrapIn t l ls c) h counts w s = absurd h
       cases jobs.OverLimit h counts w s = absurd h
       cases jobs.Memory h counts w s = absurd h
-
-  -- where its strands were kept, with what its tree comes to
-  pub recorded : d ≡ Recording → (x : Option ℤ) (shown : Shown) (kept : Recorded) → ReadsStrands shown.meter shown.cost kept
-      → MeansIt v ok root.parts.value (effect.Ended x shown) (root_job f args n) → EndsAs (KeepsStrands kept) (code_serial (code_view v.code) args n)
-  recorded records x shown kept reads m = cases m.effect m.tells m.counts (serial m.effect m.means)
-    where
-      cases : (w : jobs.Effect) → Tells (code_view v.code) (root_job f args n) root.parts.value.rest (effect.Ended x shown) w
-          → Counts (code_view v.code) root.parts.value.detail root.parts.value.site (effect.Ended x shown) w
-          → (w ≡ jobs.Memory) ⊎ (jobs.answered (code_view v.code) w ≡ code_serial (code_view v.code) args n)
-          → EndsAs (KeepsStrands kept) (code_serial (code_view v.code) args n)
-      cases (jobs.Ended y arrays t cost) h counts (inr s) =
-          let has : HasShown (code_view v.code) shown t cost = h.2 in
-          let g = gauge_of v ok Recording tt in
-          let meters = subst (λ k. Meters g.detail g.tags MainOrigin k [] (whole t) shown.meter) (sym has.cost) (counts g (sym (r.detail ∙ records))) in
-          subst (λ o. EndsAs (KeepsStrands kept) o) s (kept_as kept (normal (Marked (Invocation 0) (tree_of t.events))) (reads g.tags t.events meters))
-      cases (jobs.Ended y arrays t cost) h counts (inl s) = cc
-      cases (jobs.Joined frame t c) h counts s = absurd h
-      cases (jobs.TrapIn t l ls c) h counts s = absurd h
-      cases jobs.OverLimit h counts s = absurd h
-      cases jobs.Memory h counts s = absurd h
 
 -- whatever is a proposition and holds of the job's meaning holds
 on_root : {P : Type 0} → IsProp P → (v : Verified) (args : List ℤ) (n : ℕ) (burden : Burden) (d : Detail) (root : Job) (e : Effect) → IsRootOf v args n burden d root.parts.value → IsMeaningOf root e
@@ -222,7 +200,11 @@ module _ (laws : RootsAreSerial) (v : Verified) (args : List ℤ) (n : ℕ) (bur
       let serial = code_serial (code_view v.code) args n in
       let P = KeepsStrands kept in
       let e = did_end P serial (on_root (EndsAs-prop P (strands_prop kept) serial) v args n burden d root (effect.Ended x shown) r means
-      (λ ok main asked m. recorded laws v ok main.func args n burden d root main.found asked r records x shown kept reads m)) in
+      (λ ok main asked m.
+      let light : IsLight d = subst IsLight (sym records) tt in
+      let ended = (finished laws v ok main.func args n burden d root main.found asked r light x shown m).1 in
+      let h = subst (λ q. Finishes (code_view v.code) args n q x shown) records ended in
+      finishes_as (code_view v.code) args n Recording x shown P h (kept_as kept (normal (Marked (Invocation 0) (tree_of h.trace.events))) (reads h.tags h.trace.events h.meters)))) in
       record {
         asked = subst (λ b. is_request (code_view v.code) args n b ≡ true) light r.asked;
         value = e.value;
@@ -254,6 +236,10 @@ module _ (laws : RootsAreSerial) (v : Verified) (args : List ℤ) (n : ℕ) (bur
   pub ended_as_code : (x : Option ℤ) (shown : Shown) (e : alone.Ended) → IsMeaningOf root (effect.Ended x shown) → IsEndOf v.code x shown e → Runs (code_view v.code) args n burden e
   ended_as_code x shown e means end =
       let is_end = IsEnded-prop (code_view v.code) burden e end.all (code_serial (code_view v.code) args n) in
-      let both = on_root (hlevel (le_prop, is_end)) v args n burden (Measured burden) root (effect.Ended x shown) r means
-      (λ ok main asked m. ended laws v ok main.func args n burden (Measured burden) root main.found asked r refl x shown e end m) in
+      let P : Type 0 = (shown.cost ≤ n) × IsEnded (code_view v.code) burden e end.all (code_serial (code_view v.code) args n) in
+      let both = on_root {P = P} (hlevel (le_prop, is_end)) v args n burden (Measured burden) root (effect.Ended x shown) r means
+      (λ ok main asked m.
+      let light = asked_burden main.func args n burden asked in
+      let h = finished laws v ok main.func args n burden (Measured burden) root main.found asked r light x shown m in
+      (h.0, measured v args n burden x shown e r.asked h.0 end h.1)) in
       told v args n burden x shown e r.asked both.0 end both.1

@@ -1,13 +1,13 @@
 -- What a listener keeps of a run: whoever is told of each instruction that begins, ends or joins a part of it.
-use Rattle.std.specs.Prelude.{◌≡◌, ◌<◌, ℕ, ◌+◌, ℤ, Bool, false, List, [], ◌∷◌, Option, Some}
+use Rattle.std.specs.Prelude.{◌≡◌, ◌<◌, ℕ, ◌+◌, ℤ, Bool, List, [], Option, Some}
 use Rattle.cw_model.specs.declared.limits.TheConstants.{MOST_LIMIT}
 use Rattle.cw_model.specs.Frames.{no_frame}
 use Rattle.cw_model.specs.declared.total.Total.{Total}
 use Rattle.cw_model.specs.Trees.{Mark, Invocation, Marked, Event, tree_of, normal}
 use Rattle.cw_model.specs.Outcome.{Trace, Done, Trapped}
 use Rattle.cw_model.specs.Answers.{Ended}
-use Rattle.cw_measure.specs.OpenParts.{Open, closed}
-use Rattle.cw_meter.specs.Meters.{ticked, synced, begun}
+use Rattle.cw_measure.specs.OpenParts.{Open}
+use Rattle.cw_meter.specs.Meters.{ticked, begun}
 use Rattle.cw_recorded.specs.Origins.{Main}
 use Rattle.cw_recorded.specs.Recording.{IsOpen}
 use Rattle.cw_code.specs.Code.{Code, code_view}
@@ -33,22 +33,10 @@ abbrev pub Goes : {W : Type 0} → Keeping W → (old new : W) → (count : ℕ)
 Goes keeps old new count os os' es es' =
     count < MOST_LIMIT → IsOpen Main os → keeps count os es old → keeps (count + 1) os' es' new
 
--- a part begins, a block joins and ends, a call does, a block joins, or an instruction does none of these
+-- a part begins, or an instruction begins, ends and joins nothing
 abbrev pub Begins : {W : Type 0} → Keeping W → (old new : W) → (count : ℕ) → (spawned : Bool) → Option Mark → Type 0
 Begins keeps old new count spawned mark =
     (os : List Open) (es : List Event) → Goes keeps old new count os (begun spawned mark es os) es []
-
-abbrev pub EndsBlock : {W : Type 0} → Keeping W → (old new : W) → (count : ℕ) → Type 0
-EndsBlock keeps old new count =
-    (o : Open) (os : List Open) (es : List Event) → o.spawned ≡ false
-    → Goes keeps old new count (o ∷ os) os es (ticked (closed o es))
-
-abbrev pub EndsCall : {W : Type 0} → Keeping W → (old new : W) → (count : ℕ) → Type 0
-EndsCall keeps old new count =
-    (o : Open) (os : List Open) (es : List Event) → Goes keeps old new count (o ∷ os) os es (closed o (synced es))
-
-abbrev pub Joins : {W : Type 0} → Keeping W → (old new : W) → (count : ℕ) → Type 0
-Joins keeps old new count = (os : List Open) (es : List Event) → Goes keeps old new count os os es (synced es)
 
 abbrev pub NeedsNoCall : {W : Type 0} → Keeping W → Type 0
 NeedsNoCall {W = W} keeps =

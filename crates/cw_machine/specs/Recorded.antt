@@ -6,17 +6,10 @@ use Rattle.cw_model.specs.Trees.{Tree}
 use Rattle.cw_model.specs.Answers.{Ended}
 use Rattle.cw_text.specs.declared.fault.Fault.{Fault}
 use Rattle.cw_greedy.specs.Recorded.{Recorded}
-use Rattle.cw_recorded.specs.declared.recorder.Recorder.{Recorder}
-use Rattle.cw_recorded.specs.Origins.{Main}
-use Rattle.cw_recorded.specs.Recording.{RecordsIn, IsKept}
+use Rattle.cw_recorded.specs.Recording.{IsKept}
 use Rattle.cw_code.specs.Code.{Code}
 use Rattle.cw_code.specs.Run.{code_serial}
-use Rattle.cw_machine.specs.Listening.{Keeping}
 use Rattle.cw_machine.specs.Runs.{is_request, IsFailure}
-
--- a recorder keeps the strands of a run, whatever was asked for
-abbrev pub RecordsRun : Unit {0} → Keeping Recorder
-RecordsRun asked count os es r = RecordsIn Main count os es r
 
 -- what was asked for is in range, and the run ends, with this record of the strands of its tree
 pub record Records (code : Code) (args : List ℤ) (n : ℕ) (kept : Recorded) : Type 0 where

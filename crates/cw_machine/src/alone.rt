@@ -1,10 +1,12 @@
 //! A run with one worker.
 
-ghost use Rattle.std.specs.Prelude.{◌≡◌, true, IfOk};
+ghost use Rattle.std.specs.Prelude.{◌≡◌, ◌≤◌, true, IfOk};
 ghost use Rattle.std.specs.List.{enumerate_from, zip};
 ghost use Rattle.cw_code.specs.Code.{code_view};
 ghost use Rattle.cw_code.specs.Fits as fits;
+ghost use Rattle.cw_machine.specs.Metered.{FinishesAsCode};
 ghost use Rattle.cw_machine.specs.Runs as runs;
+ghost use Rattle.cw_meter.specs.Details.{burden_of};
 ghost use Rattle.cw_model.specs.Answers as answers;
 
 use crate::machine::Moved;
@@ -60,21 +62,34 @@ pub fn run_alone(
 ) -> Result<Ended, Fault>
     ensures { runs.RunsAsCode (code_view code.value.code) args.now n burden result }
 {
+    let detail = Detail::Measures(burden);
     let verified: &Verified = &code;
-    let main = verified.code.main as usize;
-    let f = verified.func(main);
+    let (value, shown) = run_whole(alloc, verified, args, n, burden, detail)?;
+    let ended = end_of(alloc, &verified.code, value, shown)?;
+    Ok(ended)
+}
+
+// A whole run of code on these arguments within `n` instructions, of which so much is kept: the value that it ended with,
+// if it gives one, and what it has shown. The errors are those of `run_alone`.
+pub(crate) fn run_whole(
+    alloc: Global,
+    code: &Verified,
+    args: &[i64],
+    n: u64,
+    burden: Burden,
+    detail: Detail,
+) -> Result<(Option<i64>, Shown), Fault>
+    requires { (burden_of detail).charge ≤ burden.charge }
+    ensures { FinishesAsCode (code_view code.now.code) args.now n burden detail result }
+{
+    let main = code.code.main as usize;
+    let f = code.func(main);
     if !is_asked(f.params, args.len(), n, burden) {
         return Err(Fault::Arguments);
     }
-    let mut run = Run::new(
-        alloc,
-        f,
-        verified.room(main),
-        args,
-        verified.code.reducers.as_slice(),
-        Detail::Measures(burden),
-    )?;
-    let (stop, count) = run.go(verified, n);
+    let reducers = code.code.reducers.as_slice();
+    let mut run = Run::new(alloc, f, code.room(main), args, reducers, detail)?;
+    let (stop, count) = run.go(code, n);
     match stop {
         Moved::Gave(value) => {
             let Run { machine, meter } = run;
@@ -84,8 +99,7 @@ pub fn run_alone(
                 meter,
                 cost: count,
             };
-            let ended = end_of(alloc, &verified.code, value, shown)?;
-            Ok(ended)
+            Ok((value, shown))
         }
         Moved::On => Err(Fault::OverLimit),
         Moved::Trapped(trap, line) => Err(Fault::Trap {

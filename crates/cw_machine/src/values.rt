@@ -3,8 +3,8 @@
 ghost use Rattle.cw_code.specs.Code.{code_view};
 ghost use Rattle.cw_machine.specs.Runs as runs;
 
-use crate::alone::{int_given, is_asked, main_takes};
-use crate::machine::{Machine, Moved};
+use crate::alone::{int_given, run_whole};
+use cw_meter::Detail;
 use cw_model::burden::Burden;
 use cw_model::total::Total;
 use cw_runnable::verified::Verified;
@@ -37,22 +37,10 @@ pub fn values_alone(
     ensures { runs.GivesAsCode (code_view code.value.code) args.now n burden result }
 {
     let verified: &Verified = &code;
-    if !is_asked(main_takes(verified), args.len(), n, burden) {
-        return Err(Fault::Arguments);
-    }
-    let mut machine = Machine::begun(alloc, verified, args)?;
-    match machine.run(verified, n) {
-        Moved::Gave(value) => Ok(Values {
-            value: int_given(value),
-            lines: machine.lines.into_vec(),
-            totals: machine.totals,
-        }),
-        Moved::On => Err(Fault::OverLimit),
-        Moved::Trapped(trap, line) => Err(Fault::Trap {
-            code: trap,
-            line,
-            output: machine.lines.into_vec(),
-        }),
-        Moved::NoMemory => Err(Fault::Memory),
-    }
+    let (value, shown) = run_whole(alloc, verified, args, n, burden, Detail::Values)?;
+    Ok(Values {
+        value: int_given(value),
+        lines: shown.lines.into_vec(),
+        totals: shown.totals,
+    })
 }
