@@ -21,9 +21,9 @@
                                            can give. Too little is told where one worker by four is below what is wanted and
                                            its share of what the machine gives is, too
     crew.py PROGRAM two [ROUNDS]           what two workers take in mode `run` of what one takes, by the clock and of a processor,
-                                           by medians of so many interleaved rounds (15), on each program of bench/programs/ and
-                                           examples/ that can take some 0.1 s: by the clock no more, and of a
-                                           processor at most 1.15 of it on fib and the chain
+                                           by the median of the ratios of so many rounds (15), on each program of bench/programs/
+                                           and examples/ that can take some 0.1 s: by the clock no more, and of a processor at
+                                           most 1.15 of it on fib and the chain
     crew.py PROGRAM shares [ROUNDS]        100,000 spawns of a product with two `const` factors (programs/shares.cilk) beside
                                            matrices of 1,000,000 elements and beside matrices of 4: its value, then seconds by
                                            1, 2 and 4 workers, the median of so many interleaved rounds (9) less that of the
@@ -278,11 +278,12 @@ def two(program, rounds="15"):
     for name, arguments, most in TWO:
         command = [program, "run", str(HERE.parent / f"{name}.cilk"), *arguments, "--limit", "100000000000", "--workers"]
         took = {workers: [] for workers in ("1", "2")}
-        for _ in range(int(rounds)):
-            for workers, found in took.items():
-                found.append(taken([*command, workers]))
-        one, crew = ([statistics.median(it) for it in zip(*found)] for found in took.values())
-        clock, processor = (b / a for a, b in zip(one, crew))
+        for turn in range(int(rounds)):
+            # either one first in turn; both of a round meet the same other work, so that a round is told by its ratio
+            for workers in (("1", "2"), ("2", "1"))[turn % 2]:
+                took[workers].append(taken([*command, workers]))
+        one = [statistics.median(it) for it in zip(*took["1"])]
+        clock, processor = (statistics.median(b / a for a, b in zip(*it)) for it in zip(*(zip(*found) for found in took.values())))
         bad = ["clock"] * (clock > NOISE) + ["processor"] * (processor > most)
         slow += bool(bad)
         print(f"{name} {' '.join(arguments)}: one {one[0]:.3f} s, {one[1]:.3f} s of a processor; two take {clock:.2f} by the clock, {processor:.2f} of a processor", *(["BAD", *bad] if bad else []), flush=True)
