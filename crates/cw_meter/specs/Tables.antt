@@ -1,13 +1,10 @@
 -- What each call on the tables of a run does.
-use Rattle.std.specs.Prelude.{◌≡◌, ℕ, ◌+◌, ◌≤◌, ◌<◌, Bool, true, false, List, [], ◌∷◌, ◌++◌, length, Option, Some}
+use Rattle.std.specs.Prelude.{◌≡◌, ℕ, ◌+◌, ◌≤◌, ◌<◌, Bool, true, false, List, [], ◌∷◌, ◌++◌, Option, Some}
 use Rattle.cw_model.specs.declared.burden.Burden.{Burden}
 use Rattle.cw_model.specs.declared.limits.TheConstants.{MOST_LIMIT, MOST_BURDEN}
 use Rattle.cw_model.specs.Trees.{Mark, Execution, Event, Join}
 use Rattle.cw_measure.specs.OpenParts.{Open, closed, no_joins}
-use Rattle.cw_measure.specs.StrandWeights as weights
 use Rattle.cw_sites.specs.OpenPaths.{here_in}
-use Rattle.cw_sites.specs.StepLists.{HasRoomForBlock}
-use Rattle.cw_sites.specs.Tables.{IsReady}
 use Rattle.cw_regions.specs.Regions.{Tags}
 use Rattle.cw_meter.specs.Origins.{Origin, Main, Rest, base_of, main_open}
 use Rattle.cw_meter.specs.declared.parts.Part.{Part}
@@ -77,18 +74,6 @@ TakesIn old rest new =
     → no_joins fs ≡ true → AreTold burden tags from count os es old
     → AreTold burden tags (Rest (here_in (base_of from) os)) cost [] fs rest
     → AreTold burden tags from (count + cost) os (es ++ fs) new
-
--- a call in place of this site can begin with the memory that the tables have
-pub record CanCall (t : Tables) (site : ℕ) : Type 0 where
-  pub ready : IsReady t.sites
-  pub there : site < length t.sites.rows.by_site.items
-
--- so can a spawned one, the first of its block since the last join
-pub record CanSpawn (t : Tables) (site : ℕ) : Type 0 where
-  pub first : t.spawned ≡ false
-  pub paths : HasRoomForBlock t.sites.paths
-  pub weights : weights.HasRoomForBlock t.path
-  pub call : CanCall t site
 
 abbrev pub part_of : PartKind → (site : ℕ) → (spawned : Bool) → Part
 part_of kind site spawned = record { kind = kind; site = site; spawned = spawned }

@@ -196,14 +196,11 @@ impl Meter {
         if !self.is_counted() {
             return self.open_call(count, site);
         }
-        if self.has_room() {
-            if self.tables.can_call(site) {
-                self.stack_within(PartKind::Call);
-                self.tables.call_ready(count.wrapping_add(1), site);
-                return Ok(());
-            }
+        if !self.has_room() {
+            return self.call_apart(count, site);
         }
-        self.call_apart(count, site)
+        self.stack_within(PartKind::Call);
+        self.tables.call(count.wrapping_add(1), site)
     }
 
     // The same in any case where all is counted. Apart, so that nothing is kept over the call of a function where there is
@@ -236,14 +233,11 @@ impl Meter {
         requires { details.is_counted self.old.detail ≡ true }
         ensures { OnOk result (Begins self.old self.new count true (Some (Invocation site))) }
     {
-        if self.has_room() {
-            if self.tables.can_spawn(site) {
-                self.stack_within(PartKind::SpawnedCall);
-                self.tables.spawn_ready(count.wrapping_add(1), site);
-                return Ok(());
-            }
+        if !self.has_room() {
+            return self.spawn_apart(count, site);
         }
-        self.spawn_apart(count, site)
+        self.stack_within(PartKind::SpawnedCall);
+        self.tables.spawn(count.wrapping_add(1), site)
     }
 
     // The same in any case.

@@ -1,11 +1,11 @@
 //! The tables of a run, told of one run together.
 
 ghost use Rattle.std.specs.Prelude.{◌≡◌, true, false, IfOk, OnOk, Some, None};
+ghost use Rattle.cw_measure.specs.StrandWeights as weights;
 ghost use Rattle.cw_model.specs.Trees.{Invocation};
 ghost use Rattle.cw_meter.specs.Moves.{ListsRegions, ListsSites};
 ghost use Rattle.cw_sites.specs.StepLists.{HasFirstChild};
-ghost use Rattle.cw_sites.specs.Tables.{IsReady};
-ghost use Rattle.cw_meter.specs.Tables.{part_of, CanCall, CanSpawn, Closes, JoinsSpawned, Opens, OpensRegion};
+ghost use Rattle.cw_meter.specs.Tables.{part_of, Closes, JoinsSpawned, Opens, OpensRegion};
 ghost use Rattle.cw_meter.specs.Tables.{Settles, StartsTables, StartsTablesOfRest, TakesIn};
 ghost use Rattle.cw_meter.specs.declared.parts.PartKind.TheVariants.{Call, Half, Quiet, Region, SpawnedCall};
 
@@ -90,65 +90,82 @@ impl Tables {
     pub fn call(&mut self, next: u64, site: u32) -> Result<(), AllocError>
         ensures { OnOk result (Opens self.old self.new next false (Some (Invocation site))) }
     {
+        if self.call_ready(next, site) {
+            return Ok(());
+        }
+        self.call_apart(next, site)
+    }
+
+    // The same, where that takes no memory. Tells whether this is so; where it is not, nothing is changed. So do all that
+    // end in `_ready`.
+    #[inline(always)]
+    fn call_ready(&mut self, next: u64, site: u32) -> bool
+        ensures opens { result ≡ true → Opens self.old self.new next false (Some (Invocation site)) }
+        ensures same { result ≡ false → self.new ≡ self.old }
+    {
+        late_paths_wait();
+        if self.sites.enter_ready(next, site) {
+            self.spawned = false;
+            return true;
+        }
+        false
+    }
+
+    // The same in any case. Apart, as all that end so: where no function is called, nothing is kept over its call.
+    #[cold]
+    #[inline(never)]
+    fn call_apart(&mut self, next: u64, site: u32) -> Result<(), AllocError>
+        ensures { OnOk result (Opens self.old self.new next false (Some (Invocation site))) }
+    {
         late_paths_wait();
         self.sites.enter(next, site)?;
         self.spawned = false;
         Ok(())
     }
 
-    /// Whether a call in place of this site can begin with the memory that the tables have.
+    /// A spawned call begins by the instruction before `next`, in this strand.
     #[inline(always)]
-    pub fn can_call(&self, site: u32) -> bool
-        ensures { result ≡ true → CanCall self.now site }
+    pub fn spawn(&mut self, next: u64, site: u32) -> Result<(), AllocError>
+        ensures { OnOk result (Opens self.old self.new next true (Some (Invocation site))) }
     {
-        if self.sites.rows.has(site) {
-            return self.sites.is_ready();
+        if self.spawn_ready(next, site) {
+            return Ok(());
         }
-        false
+        self.spawn_apart(next, site)
     }
 
-    /// As `call`, where that is so.
+    // The same for the first one of its block since the last join.
     #[inline(always)]
-    pub fn call_ready(&mut self, next: u64, site: u32)
-        requires { CanCall self.old site }
-        ensures { Opens self.old self.new next false (Some (Invocation site)) }
+    fn spawn_ready(&mut self, next: u64, site: u32) -> bool
+        ensures opens { result ≡ true → Opens self.old self.new next true (Some (Invocation site)) }
+        ensures same { result ≡ false → self.new ≡ self.old }
     {
-        late_paths_wait();
-        self.sites.enter_ready(next, site);
-        self.spawned = false;
-    }
-
-    /// Whether a spawned call of this site can begin so, the first of its block since the last join.
-    #[inline(always)]
-    pub fn can_spawn(&self, site: u32) -> bool
-        ensures { result ≡ true → CanSpawn self.now site }
-    {
-        if self.spawned {
-            return false;
-        }
-        if self.sites.paths.has_room_for_block() {
-            if self.path.has_room() {
-                return self.can_call(site);
+        if self.can_spawn() {
+            if self.sites.spawn_ready(next, site) {
+                self.path.note(next);
+                self.path.spawn_within(next);
+                self.spawned = false;
+                return true;
             }
         }
         false
     }
 
-    /// As `spawn`, where that is so.
+    // Whether the block that runs has not spawned since its last join, and the heaviest path has room for it.
     #[inline(always)]
-    pub fn spawn_ready(&mut self, next: u64, site: u32)
-        requires { CanSpawn self.old site }
-        ensures { Opens self.old self.new next true (Some (Invocation site)) }
+    fn can_spawn(&self) -> bool
+        ensures first { result ≡ true → self.now.spawned ≡ false }
+        ensures room { result ≡ true → weights.HasRoomForBlock self.now.path }
     {
-        self.sites.spawn_ready(next, site);
-        self.path.note(next);
-        self.path.spawn_within(next);
-        self.spawned = false;
+        if self.spawned {
+            return false;
+        }
+        self.path.has_room()
     }
 
-    /// A spawned call begins by the instruction before `next`, in this strand.
-    #[inline(always)]
-    pub fn spawn(&mut self, next: u64, site: u32) -> Result<(), AllocError>
+    // The same in any case.
+    #[inline(never)]
+    fn spawn_apart(&mut self, next: u64, site: u32) -> Result<(), AllocError>
         ensures { OnOk result (Opens self.old self.new next true (Some (Invocation site))) }
     {
         let first = !self.spawned;
@@ -201,18 +218,18 @@ impl Tables {
         ensures told { OnOk result (JoinsSpawned self.old self.new count) }
         ensures joined { OnOk result (self.new.spawned ≡ false) }
     {
-        if self.sites.is_ready() {
+        if self.sites.note_ready(count) {
             // The sites last, so that nothing is kept over a call that takes a child's steps out.
             self.path.note(count);
             self.path.join(count);
             self.spawned = false;
-            self.sites.join_ready(count);
+            self.sites.join_noted();
             return Ok(());
         }
         self.join_apart(count)
     }
 
-    // The same in any case. Apart, as what follows for parts: where no function is called, nothing is kept over its call.
+    // The same in any case.
     #[cold]
     #[inline(never)]
     fn join_apart(&mut self, count: u64) -> Result<(), AllocError>
@@ -231,63 +248,77 @@ impl Tables {
     pub fn close(&mut self, count: u64, part: Part) -> Result<(), AllocError>
         ensures { OnOk result (Closes self.old self.new count part) }
     {
-        if self.sites.is_ready() {
-            return self.close_ready(count, part);
+        match part.kind {
+            PartKind::Call => self.close_call(count, part.site, part.spawned),
+            _ => self.close_other(count, part),
         }
-        self.close_apart(count, part.kind, part.site, part.spawned)
     }
 
-    // The same, where the sites are ready.
+    // The same for a call in place, and what is kept of it.
     #[inline(always)]
-    fn close_ready(&mut self, count: u64, part: Part) -> Result<(), AllocError>
-        requires { IsReady self.old.sites }
+    fn close_call(&mut self, count: u64, site: u32, spawned: bool) -> Result<(), AllocError>
+        ensures { OnOk result (Closes self.old self.new count (part_of Call site spawned)) }
+    {
+        if self.end_call_ready(count, site, spawned) {
+            return Ok(());
+        }
+        self.close_apart(count, PartKind::Call, site, spawned)
+    }
+
+    // The same for any other part. What it is is asked last, so that a call in place is asked one thing only.
+    #[inline(always)]
+    fn close_other(&mut self, count: u64, part: Part) -> Result<(), AllocError>
         ensures { OnOk result (Closes self.old self.new count part) }
     {
-        match part.kind {
-            PartKind::Call => {
-                self.end_call_ready(count, part);
-                Ok(())
-            }
-            PartKind::SpawnedCall => self.end_child_ready(count, part),
-            _ => self.close_apart(count, part.kind, part.site, part.spawned),
-        }
-    }
-
-    // As `end_call`, where the sites are ready.
-    #[inline(always)]
-    fn end_call_ready(&mut self, count: u64, part: Part)
-        requires { IsReady self.old.sites }
-        ensures { part.kind ≡ Call → Closes self.old self.new count part }
-    {
-        late_paths_wait();
-        self.sites.leave_ready(count, part.site);
-        self.spawned = part.spawned;
-    }
-
-    // As `end_spawned_call`, where the sites are ready.
-    #[inline(always)]
-    fn end_child_ready(&mut self, count: u64, part: Part) -> Result<(), AllocError>
-        requires { IsReady self.old.sites }
-        ensures { OnOk result (part.kind ≡ SpawnedCall → Closes self.old self.new count part) }
-    {
-        if self.sites.paths.is_first_child() {
-            self.end_first_child_ready(count, part);
+        if self.close_child_ready(count, part) {
             return Ok(());
         }
         self.close_apart(count, part.kind, part.site, part.spawned)
     }
 
-    // The same, where no step lies between the block's base and the child.
+    // The same for a spawned call, where no step lies between the block's base and the child.
     #[inline(always)]
-    fn end_first_child_ready(&mut self, count: u64, part: Part)
-        requires ready { IsReady self.old.sites }
-        requires first { HasFirstChild self.old.sites.paths }
-        ensures { part.kind ≡ SpawnedCall → Closes self.old self.new count part }
+    fn close_child_ready(&mut self, count: u64, part: Part) -> bool
+        ensures closes { result ≡ true → Closes self.old self.new count part }
+        ensures same { result ≡ false → self.new ≡ self.old }
     {
-        self.sites.end_child_ready(count, part.site);
-        self.path.note(count);
-        self.path.end_child(count, self.burden);
-        self.spawned = true;
+        if !self.sites.paths.is_first_child() {
+            return false;
+        }
+        match part.kind {
+            PartKind::SpawnedCall => self.end_child_ready(count, part),
+            _ => false,
+        }
+    }
+
+    // As `end_call`.
+    #[inline(always)]
+    fn end_call_ready(&mut self, count: u64, site: u32, spawned: bool) -> bool
+        ensures closes { result ≡ true → Closes self.old self.new count (part_of Call site spawned) }
+        ensures same { result ≡ false → self.new ≡ self.old }
+    {
+        late_paths_wait();
+        if self.sites.leave_ready(count, site) {
+            self.spawned = spawned;
+            return true;
+        }
+        false
+    }
+
+    // As `end_spawned_call`.
+    #[inline(always)]
+    fn end_child_ready(&mut self, count: u64, part: Part) -> bool
+        requires { HasFirstChild self.old.sites.paths }
+        ensures closes { result ≡ true → part.kind ≡ SpawnedCall → Closes self.old self.new count part }
+        ensures same { result ≡ false → self.new ≡ self.old }
+    {
+        if self.sites.end_child_ready(count, part.site) {
+            self.path.note(count);
+            self.path.end_child(count, self.burden);
+            self.spawned = true;
+            return true;
+        }
+        false
     }
 
     // A part that is this ends, in any case.

@@ -6,7 +6,7 @@ use Rattle.cw_sites.specs.declared.paths.Block.{Block}
 use Rattle.cw_sites.specs.declared.paths.Paths.{Paths}
 use Rattle.cw_sites.specs.Compacting.{IsAddedUp, AddsUpWithin}
 use Rattle.cw_sites.specs.StepSums.{upto, AllBelow, IsClosedUp, StaysBelow}
-use Rattle.cw_sites.specs.StepLists.{InOrder, LaidFrom, Laid, Gathers, KeepsBlocks, SaysTheSame}
+use Rattle.cw_sites.specs.StepLists.{InOrder, IsWithinLimit, LaidFrom, Laid, Gathers, KeepsBlocks, SaysTheSame}
 use Rattle.cw_sites.specs.PathBounds.{most_steps, IsShortBlock, AreShort, IsBoundedBy, IsTight, IsTightWith, KeepsLimit}
 use Rattle.std.proofs.Math.Nat.{mul-add}
 use Rattle.cw_sites.specs.Laws.{PathsAreFew}
@@ -27,6 +27,10 @@ short_pushed n fs fs' f e h s = subst (AreShort n) (sym e) (short_push n fs f h 
 -- room for more
 pub looser : (room room' most : ℕ) (paths : Paths) → room ≤ room' → IsBoundedBy room most paths → IsBoundedBy room' most paths
 looser room room' most paths le h = let n = h.now in record { laid = h.laid; sites = h.sites; limit = h.limit; blocks = h.blocks; now = omega arith }
+
+-- within its limit a path is as after a step
+pub tight_within : (room most : ℕ) (paths : Paths) → IsWithinLimit paths → IsBoundedBy room most paths → IsTight most paths
+tight_within room most paths le h = let l = h.limit in record { laid = h.laid; sites = h.sites; limit = h.limit; blocks = h.blocks; now = omega arith }
 
 -- a block that is taken out of the list
 pub tight_with : (most : ℕ) (r r' : Paths) (f : Block) → r.blocks.items ≡ r'.blocks.items ++ f ∷ [] → r'.start ≡ r.start

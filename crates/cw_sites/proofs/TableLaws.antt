@@ -13,9 +13,9 @@ use Rattle.cw_sites.specs.declared.table.SiteTable.{SiteTable}
 use Rattle.cw_sites.specs.ChosenPaths.{Path, plus, steps_of}
 use Rattle.cw_sites.specs.StepSums.{Fits}
 use Rattle.cw_sites.specs.BlockPaths.{now_of}
-use Rattle.cw_sites.specs.StepLists.{strand_path, Laid}
-use Rattle.cw_sites.specs.PathBounds.{most_steps, IsTight}
-use Rattle.cw_sites.proofs.PathBoundLaws.{looser}
+use Rattle.cw_sites.specs.StepLists.{strand_path, IsWithinLimit, Laid}
+use Rattle.cw_sites.specs.PathBounds.{most_steps, GrowsWithin, IsBounded, IsTight}
+use Rattle.cw_sites.proofs.PathBoundLaws.{looser, tight_within}
 use Rattle.cw_sites.specs.StrandPaths.{StrandPath, whole, spawns, ends, joins}
 use Rattle.cw_sites.specs.OpenPaths.{here_in, block_path, path_in, Shows}
 use Rattle.cw_sites.specs.SiteRows.{row_of, worked, entered, left, work_tally, span_tally, CountsSite, FitsRow}
@@ -414,6 +414,19 @@ bounded_by most old new site p e less h = let P : Paths → Type 0 = IsTight mos
 
 pub tight_bounded : (most : ℕ) (table : SiteTable) → IsTightTable most table → IsBoundedTable most table
 tight_bounded most table h = record { paths = looser (most_steps most + 1) (2 * (most_steps most + 1)) most table.paths (omega arith) h.paths; here = h.here }
+
+-- the instructions so far are given to their sites without adding up: of a path within its limit, and of any
+pub flushed_within : (most : ℕ) (old new : SiteTable) → IsWithinLimit old.paths → GrowsWithin old.here old.paths new.paths → new.here ≡ old.here
+    → IsBoundedTable most old → IsTightTable most new
+flushed_within most old new le grows e h =
+    let less = h.here in
+    record { paths = grows (most_steps most + 1) most h.here (omega arith) (tight_within _ most old.paths le h.paths); here = omega arith }
+
+pub moved_within : (most : ℕ) (old mid new : SiteTable) (site : ℕ) → GrowsWithin old.here old.paths mid.paths → new.paths ≡ mid.paths → new.here ≡ site
+    → site < most → IsBoundedTable most old → IsBoundedTable most new
+moved_within most old mid new site grows p e less h =
+    let P : Paths → Type 0 = IsBounded most in
+    record { paths = subst P (sym p) (grows (2 * (most_steps most + 1)) most h.here (omega arith) h.paths); here = omega arith }
 
 pub blocks_read_chosen_paths : BlocksReadChosenPaths
 blocks_read_chosen_paths = record { blocks = finished-after_all; leaves = path_of-chosen_leaves }

@@ -51,6 +51,11 @@ ComesToFit old new = (room most : ℕ) → IsBoundedBy room most old → IsBound
 abbrev pub GrowsAt : (site : ℕ) → Paths → Paths → Type 0
 GrowsAt site old new = (room most : ℕ) → site < most → IsBoundedBy room most old → IsBoundedBy (room + 1) most new
 
+-- no path comes to be longer than a number that is no less than what it may be with one step more
+abbrev pub GrowsWithin : (site : ℕ) → Paths → Paths → Type 0
+GrowsWithin site old new =
+    (room most : ℕ) → site < most → most_steps most + 1 ≤ room → IsBoundedBy room most old → IsBoundedBy room most new
+
 abbrev pub FitsAt : (site : ℕ) → Paths → Paths → Type 0
 FitsAt site old new = (room most : ℕ) → site < most → IsBoundedBy room most old → IsTight most new
 

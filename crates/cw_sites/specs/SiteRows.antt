@@ -148,10 +148,6 @@ KeepTheSame old new = (q : ℕ) → kept_of new q ≡ kept_of old q
 abbrev pub Keeps : Rows → Rows → (site : ℕ) → Kept → Type 0
 Keeps old new site kept = (q : ℕ) → kept_of new q ≡ (if site == q then kept else kept_of old q)
 
--- each site has the row that it had
-abbrev pub SayTheSame : Rows → Rows → Type 0
-SayTheSame old new = (q : ℕ) → row_of new q ≡ row_of old q
-
 -- a row, and that of a piece that ran apart and of which no invocation is open: where some are open here, those of the
 -- piece lie in them
 abbrev pub summed : Row → Row → Row

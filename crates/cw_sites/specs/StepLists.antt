@@ -5,7 +5,7 @@ use Rattle.cw_sites.specs.ChosenPaths.{Path, plus, best, steps_of}
 use Rattle.cw_sites.specs.declared.steps.Steps.{Steps}
 use Rattle.cw_sites.specs.declared.paths.Block.{Block}
 use Rattle.cw_sites.specs.declared.paths.Paths.{Paths}
-use Rattle.cw_sites.specs.StepSums.{upto, whole, if_site, Fits}
+use Rattle.cw_sites.specs.StepSums.{upto, whole, if_site, Fits, HasSteps}
 use Rattle.cw_sites.specs.StrandPaths.{SeenBlock, StrandPath, takes, goes_on, longest_path, extends_by, forks}
 use Rattle.cw_sites.specs.StrandPaths.{appends, appends_block, whole as all_of}
 
@@ -109,6 +109,11 @@ Extends old new site count =
     Laid old → (q : ℕ) → Fits (plus (strand_path q old).now (steps_of q site count))
     → strand_path q new
     ≡ record { now = plus (strand_path q old).now (steps_of q site count); blocks = (strand_path q old).blocks }
+
+-- so many instructions more of the site whose steps lie at a place
+abbrev pub ExtendsAt : (place : ℕ) → Paths → Paths → (count : ℕ) → Type 0
+ExtendsAt place old new count =
+    (site : ℕ) → HasSteps old.start place site old.steps.items → Extends old new site count
 
 -- what a call does to the paths of each site
 abbrev pub Comes : (StrandPath → StrandPath) → Paths → Paths → Type 0

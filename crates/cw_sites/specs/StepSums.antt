@@ -50,6 +50,17 @@ AddsSteps start site count old new =
     (q : ℕ) → (whole q old - upto q old start) + if_site q site count < 2 ^ 64
     → whole q new ≡ whole q old + if_site q site count
 
+-- the path that lies from a place on has steps of a site at a place
+pub record HasSteps (start place site : ℕ) (steps : List Steps) : Type 0 where
+  pub behind : start ≤ place
+  pub within : place < length steps
+  pub is : (d : Steps) → (slice_index_or steps place d).site ≡ site
+
+-- the steps at a place become more, of whichever path and site they are
+abbrev pub GrowsSteps : (place count : ℕ) → List Steps → List Steps → Type 0
+GrowsSteps place count old new =
+    (start site : ℕ) → HasSteps start place site old → AddsSteps start site count old new
+
 -- steps that are of sites below a number stay so
 abbrev pub StaysBelow : List Steps → List Steps → Type 0
 StaysBelow old new = (most : ℕ) → AllBelow most old → AllBelow most new

@@ -1,5 +1,5 @@
 -- What a site table tells of a run so far.
-use Rattle.std.specs.Prelude.{◌≡◌, ℕ, ◌-◌, ◌^◌, ◌<◌, ◌≤◌, ◌==◌, Bool, true, false, ◌||◌, not, List, [], ◌∷◌, ◌++◌, length}
+use Rattle.std.specs.Prelude.{◌≡◌, ℕ, ◌-◌, ◌^◌, ◌<◌, ◌≤◌, ◌==◌, Bool, true, false, ◌||◌, not, List, [], ◌∷◌, ◌++◌}
 use Rattle.std.specs.Prelude.{Option, Some, None}
 use Rattle.cw_model.specs.Trees.{Mark, Invocation, Execution, Event, Join, tree_of}
 use Rattle.cw_model.specs.Rows.{SiteRow, is_site, site_row}
@@ -10,7 +10,7 @@ use Rattle.cw_sites.specs.declared.table.SiteTable.{SiteTable}
 use Rattle.cw_sites.specs.ChosenPaths.{plus, steps_of}
 use Rattle.cw_measure.specs.OpenParts.{no_joins}
 use Rattle.cw_sites.specs.StepSums.{Fits}
-use Rattle.cw_sites.specs.StepLists.{strand_path, HasRoom, Laid}
+use Rattle.cw_sites.specs.StepLists.{strand_path, Laid}
 use Rattle.cw_sites.specs.PathBounds.{IsBounded, IsTight}
 use Rattle.cw_sites.specs.OpenPaths.{here_in, path_in, Shows}
 use Rattle.cw_sites.specs.SiteRows.{row_of, worked, entered, left, calls_in, CountsSite, FitsRow}
@@ -35,11 +35,6 @@ called site es os = in_series (Some (Invocation site)) es os
 
 abbrev pub spawned : (site : ℕ) → List Event → List Open → List Open
 spawned site es os = in_fork (Some (Invocation site)) es os
-
--- what is so far can be given to the innermost invocation's site as it is
-pub record IsReady (table : SiteTable) : Type 0 where
-  pub here : table.here < length table.rows.by_site.items
-  pub paths : HasRoom table.paths
 
 -- the steps of a table's calls, where counts only grow
 pub record Flushed (old new : SiteTable) (count : ℕ) : Type 0 where
@@ -139,6 +134,12 @@ Joins old new count =
     → has_spawned es ≡ true
     → Small busy os (es ++ fs) → Tells base busy os es old → Tells base busy os ((es ++ fs) ++ Join ∷ []) new
 
+-- the same, where the table tells of all of the run so far
+abbrev pub JoinsNoted : SiteTable → SiteTable → Type 0
+JoinsNoted old new =
+    (base : ℕ) (busy : ℕ → ℕ) (os : List Open) (es : List Event) → has_spawned es ≡ true → Small busy os es
+    → Tells base busy os es old → Tells base busy os (es ++ Join ∷ []) new
+
 -- a row that is read once no part is open and the block has joined
 abbrev pub ReadsSite : SiteTable → (site : ℕ) → declared.SiteRow → Type 0
 ReadsSite table site row =
@@ -182,6 +183,10 @@ pub record IsTightTable (most : ℕ) (table : SiteTable) : Type 0 where
 
 abbrev pub FlushesBounded : SiteTable → SiteTable → Type 0
 FlushesBounded old new = (most : ℕ) → IsBoundedTable most old → IsTightTable most new
+
+-- a block joins then
+abbrev pub JoinsBounded : SiteTable → SiteTable → Type 0
+JoinsBounded old new = (most : ℕ) → IsTightTable most old → IsBoundedTable most new
 
 -- what is bounded stays so, where an invocation of this site comes to be the innermost one
 abbrev pub StaysBoundedIn : (site : ℕ) → SiteTable → SiteTable → Type 0

@@ -8,21 +8,21 @@
 //! the strand that runs before a step is put to it, and a block's base where it takes a rest in. So each step that is
 //! put pays for its moves and its adding up once, whatever the length of the paths that are joined.
 
-ghost use Rattle.std.specs.Prelude.{◌≡◌, ℕ, ◌+◌, ◌-◌, ◌^◌, ◌<◌, ◌==◌, true, length, min, if◌then◌else◌, IfOk, OnOk};
+ghost use Rattle.std.specs.Prelude.{◌≡◌, ℕ, ◌+◌, ◌-◌, ◌^◌, ◌<◌, ◌≤◌, ◌==◌, true, length, min, if◌then◌else◌, IfOk, OnOk};
 ghost use Rattle.std.specs.Vec.{vec_len, vec_capacity};
 ghost use Rattle.cw_sites.specs.Compacting.{AddsUpWithin, CountsOn, EndsWithin};
-ghost use Rattle.cw_sites.specs.PathBounds.{ComesToFit, FitsAt, FitsBeside, GrowsAt, IsTight, JoinsTight, JoinsTightWith, KeepsLimit};
+ghost use Rattle.cw_sites.specs.PathBounds.{ComesToFit, FitsAt, FitsBeside, GrowsAt, GrowsWithin, IsTight, JoinsTight, JoinsTightWith, KeepsLimit};
 ghost use Rattle.cw_sites.specs.PathBounds.{StaysShort, StaysTight, StaysTightBeside, StaysTightWith};
 ghost use Rattle.cw_sites.specs.PathCalls.{ReadsOwn, ReadsOwnBySite};
 ghost use Rattle.cw_sites.specs.StepLists.{strand_path, Comes, ComesWithin, ClosesBlock, Extends, GathersBase, GrowsByOne, IsShort, IsWithinLimit};
 ghost use Rattle.cw_sites.specs.StepLists.{HasFirstChild, HasRoom, HasRoomForBlock};
-ghost use Rattle.cw_sites.specs.StepLists.{AddsStep, Appends, AppendsBlock, ExtendsBy, Forks, JoinsBlock, KeepsBlocks};
+ghost use Rattle.cw_sites.specs.StepLists.{AddsStep, Appends, AppendsBlock, ExtendsAt, ExtendsBy, Forks, JoinsBlock, KeepsBlocks};
 ghost use Rattle.cw_sites.specs.StepLists.{Laid, LaidWith, LetsChildGo, SaysTheSame, TakesChild};
-ghost use Rattle.cw_sites.specs.StepSums.{StaysBelow};
+ghost use Rattle.cw_sites.specs.StepSums.{HasSteps, StaysBelow};
 ghost use Rattle.cw_sites.specs.StrandPaths.{nothing_run, begins, again, spawns, is_longer, ends, joins};
 
 use crate::compacting::{add_up, sum_up};
-use crate::steps::{Steps, add_steps, add_steps_within, close_up, take_out};
+use crate::steps::{Steps, add_steps, close_up, grow_steps, has_steps, take_out};
 use std::alloc::{AllocError, Global};
 
 /// A block that has spawned since its last join: weights of paths, and where their steps lie in the list.
@@ -108,31 +108,63 @@ impl Paths {
         Ok(at)
     }
 
-    /// Whether the path that runs is within its limit, and there is room for steps more.
+    /// Whether the path that runs is within its limit.
+    #[inline(always)]
+    pub fn is_within_limit(&self) -> bool
+        ensures { result ≡ true → IsWithinLimit self.now }
+    {
+        // As in `shorten`.
+        self.steps.len() <= self.start.wrapping_add(self.limit)
+    }
+
+    /// Whether that is so, and there is room for steps more.
     #[inline(always)]
     pub fn has_room(&self) -> bool
         ensures { result ≡ true → HasRoom self.now }
     {
-        // As in `shorten`.
-        let len = self.steps.len();
-        if len > self.start.wrapping_add(self.limit) {
-            return false;
+        if self.is_within_limit() {
+            return self.steps.len() < self.steps.capacity();
         }
-        len < self.steps.capacity()
+        false
     }
 
-    /// So many instructions of a site more, as `extend` tells, where there is room.
+    /// Whether the path that runs has steps of a site at this place.
     #[inline(always)]
-    pub fn extend_within(&mut self, place: usize, site: u32, count: u64) -> Option<usize>
+    pub fn has_steps(&self, place: usize, site: u32) -> bool
+        ensures { result ≡ true → HasSteps self.now.start place site self.now.steps.items }
+    {
+        has_steps(&self.steps, self.start, place, site)
+    }
+
+    /// So many instructions more of the site whose steps lie at this place in the path that runs.
+    #[inline(always)]
+    pub fn grow(&mut self, place: usize, count: u64)
+        requires within { place < length self.old.steps.items }
+        requires behind { self.old.start ≤ place }
+        ensures laid { Laid self.old → Laid self.new }
+        ensures strand_path { ExtendsAt place self.old self.new count }
+        ensures bounded { (site : ℕ) → GrowsWithin site self.old self.new }
+        ensures short { IsWithinLimit self.old → IsShort self.new }
+        ensures blocks { self.new.blocks ≡ self.old.blocks }
+    {
+        grow_steps(&mut self.steps, place, count);
+        self.weight = self.weight.wrapping_add(count);
+    }
+
+    /// So many instructions of a site more, as steps of their own, where there is room. Gives their place.
+    #[inline(always)]
+    pub fn put(&mut self, site: u32, count: u64) -> usize
         requires { HasRoom self.old }
         ensures laid { Laid self.old → Laid self.new }
         ensures strand_path { Extends self.old self.new site count }
-        ensures bounded { FitsAt site self.old self.new }
+        ensures bounded { GrowsWithin site self.old self.new }
+        ensures short { IsShort self.new }
         ensures blocks { self.new.blocks ≡ self.old.blocks }
     {
-        let at = add_steps_within(&mut self.steps, self.start, place, site, count);
+        let place = self.steps.len();
+        self.steps.push_reserved(Steps { site, count });
         self.weight = self.weight.wrapping_add(count);
-        at
+        place
     }
 
     // The path that runs is added up by site where it is longer than its limit.

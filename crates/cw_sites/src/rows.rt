@@ -2,7 +2,7 @@
 
 ghost use Rattle.std.specs.Prelude.{◌≡◌, ℕ, ◌+◌, ◌*◌, ◌^◌, ◌<◌, ◌≤◌, true, false, length, IfOk, OnOk};
 ghost use Rattle.cw_sites.specs.SiteRows as tallies;
-ghost use Rattle.cw_sites.specs.SiteRows.{kept_of, row_of, zero_row, Becomes, IsWhereItFits, OthersStay, SayTheSame};
+ghost use Rattle.cw_sites.specs.SiteRows.{kept_of, row_of, zero_row, Becomes, IsWhereItFits, OthersStay};
 ghost use Rattle.cw_sites.specs.SiteRows.{JoinsFirsts, JoinsFurther, JoinsOn, JoinsPage, JoinsRows, JoinsShelf, KeepTheSame, Keeps};
 
 use cw_pages::{PAGE, Pages, SHELF};
@@ -69,9 +69,9 @@ const NONE: Kept = Kept {
 };
 
 impl Row {
-    // So many instructions of its site more.
+    /// So many instructions of its site more.
     #[inline(always)]
-    fn add_own(&mut self, count: u64)
+    pub fn add_own(&mut self, count: u64)
         ensures { IsWhereItFits (tallies.worked count self.old) self.new }
     {
         self.own = self.own.wrapping_add(count);
@@ -82,11 +82,13 @@ impl Row {
     fn enter(&mut self, count: u64, path: u64)
         ensures { IsWhereItFits (tallies.entered count path self.old) self.new }
     {
-        if self.active == 0 {
-            self.enter_first(count, path);
-            return;
+        let first = self.active == 0;
+        self.calls = self.calls.wrapping_add(1);
+        self.active = self.active.wrapping_add(1);
+        if first {
+            self.at_work = count;
+            self.at_path = path;
         }
-        self.enter_again();
     }
 
     // An invocation of its site ends, at this work and on a path of this weight.
@@ -99,26 +101,6 @@ impl Row {
             return;
         }
         self.leave_inner();
-    }
-
-    // An invocation of its site begins that lies in no other one, at this work and on a path of this weight.
-    #[inline(always)]
-    fn enter_first(&mut self, count: u64, path: u64)
-        ensures { IsWhereItFits (tallies.entered_at true count path self.old) self.new }
-    {
-        self.calls = self.calls.wrapping_add(1);
-        self.active = self.active.wrapping_add(1);
-        self.at_work = count;
-        self.at_path = path;
-    }
-
-    // An invocation of its site begins that lies in another one.
-    #[inline(always)]
-    fn enter_again(&mut self)
-        ensures { IsWhereItFits (tallies.entered_at false 0 0 self.old) self.new }
-    {
-        self.calls = self.calls.wrapping_add(1);
-        self.active = self.active.wrapping_add(1);
     }
 
     // An invocation of its site ends that lies in no other one, and is summed.
@@ -261,34 +243,6 @@ impl Rows {
         kept.place = at.unwrap_or(kept.place);
         self.keep(place, kept)?;
         Ok(())
-    }
-
-    /// So many instructions more of a site that has a row among the first ones. Gives the place where its steps were put
-    /// last.
-    #[inline(always)]
-    pub fn work_here(&mut self, site: u32, count: u64) -> usize
-        requires { site < length self.old.by_site.items }
-        ensures own { Becomes (tallies.worked count) self.old self.new site }
-        ensures others { OthersStay self.old self.new site }
-        ensures as_long { length self.new.by_site.items ≡ length self.old.by_site.items }
-    {
-        let kept = &mut self.by_site[site as usize];
-        kept.row.add_own(count);
-        kept.place
-    }
-
-    /// The steps of such a site were put elsewhere, if a place is given.
-    #[inline(always)]
-    pub fn tell_here(&mut self, site: u32, at: Option<usize>)
-        requires { site < length self.old.by_site.items }
-        ensures same { SayTheSame self.old self.new }
-        ensures as_long { length self.new.by_site.items ≡ length self.old.by_site.items }
-    {
-        let Some(to) = at else {
-            return;
-        };
-        let kept = &mut self.by_site[site as usize];
-        kept.place = to;
     }
 
     /// An invocation of a site begins, at this work and on a path of this weight.

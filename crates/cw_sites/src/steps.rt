@@ -1,8 +1,8 @@
 //! The steps of paths, in one list: a path is a part of it, and has no order.
 
-ghost use Rattle.std.specs.Prelude.{◌≡◌, ◌+◌, ◌-◌, ◌^◌, ◌<◌, ◌≤◌, [], ◌∷◌, ◌++◌, length, OnErr, OnOk};
+ghost use Rattle.std.specs.Prelude.{◌≡◌, ◌+◌, ◌-◌, ◌^◌, ◌<◌, ◌≤◌, true, [], ◌∷◌, ◌++◌, length, OnErr, OnOk};
 ghost use Rattle.std.specs.Vec.{vec_len, vec_capacity};
-ghost use Rattle.cw_sites.specs.StepSums.{AddsSteps, AsBelow, ClosesUp, CutsOut, IsCutOut, IsMovedDown, StaysBelow, StaysBelowWith, WritesTwice, WritesWithin};
+ghost use Rattle.cw_sites.specs.StepSums.{AddsSteps, AsBelow, ClosesUp, CutsOut, GrowsSteps, HasSteps, IsCutOut, IsMovedDown, StaysBelow, StaysBelowWith, WritesTwice, WritesWithin};
 
 use std::alloc::AllocError;
 
@@ -29,54 +29,40 @@ pub fn add_steps(
     ensures short { length steps.new.items ≤ length steps.old.items + 1 }
     ensures kept { StaysBelowWith site steps.old.items steps.new.items }
 {
-    let len = steps.len();
-    if place >= start {
-        if place < len {
-            let one = steps[place];
-            if one.site == site {
-                steps[place] = Steps {
-                    site,
-                    count: one.count.wrapping_add(count),
-                };
-                return Ok(None);
-            }
-        }
+    if has_steps(steps, start, place, site) {
+        grow_steps(steps, place, count);
+        return Ok(None);
     }
+    let len = steps.len();
     put(steps, Steps { site, count })?;
     Ok(Some(len))
 }
 
-/// The same, where there is room for steps more.
+/// Whether the path that lies from `start` on has steps of the site at `place`.
 #[inline(always)]
-pub fn add_steps_within(
-    steps: &mut Vec<Steps>,
-    start: usize,
-    place: usize,
-    site: u32,
-    count: u64,
-) -> Option<usize>
-    requires { vec_len steps.old < vec_capacity steps.old }
-    ensures below { AsBelow start steps.old.items steps.new.items }
-    ensures all { AddsSteps start site count steps.old.items steps.new.items }
-    ensures longer { length steps.old.items ≤ length steps.new.items }
-    ensures short { length steps.new.items ≤ length steps.old.items + 1 }
-    ensures kept { StaysBelowWith site steps.old.items steps.new.items }
+pub fn has_steps(steps: &Vec<Steps>, start: usize, place: usize, site: u32) -> bool
+    ensures { result ≡ true → HasSteps start place site steps.now.items }
 {
-    let len = steps.len();
-    if place >= start {
-        if place < len {
-            let one = steps[place];
-            if one.site == site {
-                steps[place] = Steps {
-                    site,
-                    count: one.count.wrapping_add(count),
-                };
-                return None;
-            }
+    // In this order each of the three is one comparison and one branch.
+    if place < steps.len() {
+        if steps[place].site == site {
+            return place >= start;
         }
     }
-    steps.push_reserved(Steps { site, count });
-    Some(len)
+    false
+}
+
+/// So many instructions more of the site whose steps lie at `place`.
+#[inline(always)]
+pub fn grow_steps(steps: &mut Vec<Steps>, place: usize, count: u64)
+    requires { place < length steps.old.items }
+    ensures below { AsBelow place steps.old.items steps.new.items }
+    ensures all { GrowsSteps place count steps.old.items steps.new.items }
+    ensures as_long { length steps.new.items ≡ length steps.old.items }
+    ensures kept { StaysBelow steps.old.items steps.new.items }
+{
+    let one = &mut steps[place];
+    one.count = one.count.wrapping_add(count);
 }
 
 // These steps at the end.

@@ -1,11 +1,12 @@
 //! The table of a strand: the rows of the sites, and the chosen path so far.
 
-ghost use Rattle.std.specs.Prelude.{◌≡◌, ◌<◌, ℕ, [], true, length, OnOk};
+ghost use Rattle.std.specs.Prelude.{◌≡◌, ◌<◌, ℕ, [], true, false, length, OnOk};
+ghost use Rattle.cw_sites.specs.PathBounds.{GrowsWithin};
 ghost use Rattle.cw_sites.specs.PathCalls.{ReadsOwn};
-ghost use Rattle.cw_sites.specs.StepLists.{HasFirstChild, HasRoomForBlock, IsShort};
-ghost use Rattle.cw_sites.specs.StepSums.{sum_at};
-ghost use Rattle.cw_sites.specs.Tables.{Flushed, FlushesBounded, IsBoundedTable, IsReady, RowBegun, RowLeft, StaysBoundedIn, Tells};
-ghost use Rattle.cw_sites.specs.Tables.{EndsChild, EndsHalf, Enters, Joins, Leaves, Notes};
+ghost use Rattle.cw_sites.specs.StepLists.{HasFirstChild, HasRoom, HasRoomForBlock, IsShort, IsWithinLimit};
+ghost use Rattle.cw_sites.specs.StepSums.{sum_at, HasSteps};
+ghost use Rattle.cw_sites.specs.Tables.{Flushed, FlushesBounded, IsBoundedTable, JoinsBounded, RowBegun, RowLeft, StaysBoundedIn, Tells};
+ghost use Rattle.cw_sites.specs.Tables.{EndsChild, EndsHalf, Enters, Joins, JoinsNoted, Leaves, Notes};
 ghost use Rattle.cw_sites.specs.Tables.{JoinsPiece, StaysBoundedBeside};
 ghost use Rattle.cw_sites.specs.Tables.{ReadsPath, ReadsSite, Spawns, SpawnsHalf};
 
@@ -60,28 +61,10 @@ impl SiteTable {
         ensures bounded { OnOk result (FlushesBounded self.old self.new) }
         ensures short { OnOk result (IsShort self.new.paths) }
     {
-        if self.rows.has(self.here) {
-            self.flush_here(count)?;
+        if self.flush_within(count) {
             return Ok(());
         }
         self.flush_apart(count)?;
-        Ok(())
-    }
-
-    // The same where that site has a row among the first ones.
-    #[inline(always)]
-    fn flush_here(&mut self, count: u64) -> Result<(), AllocError>
-        requires { self.old.here < length self.old.rows.by_site.items }
-        ensures flushed { OnOk result (Flushed self.old self.new count) }
-        ensures bounded { OnOk result (FlushesBounded self.old self.new) }
-        ensures short { OnOk result (IsShort self.new.paths) }
-    {
-        let here = self.here;
-        let since = count.wrapping_sub(self.noted);
-        let place = self.rows.work_here(here, since);
-        let at = self.paths.extend(place, here, since)?;
-        self.rows.tell_here(here, at);
-        self.noted = count;
         Ok(())
     }
 
@@ -101,32 +84,84 @@ impl SiteTable {
         Ok(())
     }
 
-    /// Whether what is so far can be given to the innermost invocation's site as it is: it has a row, the path that runs
-    /// is within its limit, and there is room for steps.
+    // As `flush`, where that site has a row among the first ones and its steps take no memory. The path that runs need not be
+    // within its limit where no step is put. Tells whether this is so; where it is not, nothing is changed.
     #[inline(always)]
-    pub fn is_ready(&self) -> bool
-        ensures { result ≡ true → IsReady self.now }
+    fn flush_ready(&mut self, count: u64) -> bool
+        ensures flushed { result ≡ true → Flushed self.old self.new count }
+        ensures there { result ≡ true → self.new.here < length self.new.rows.by_site.items }
+        ensures bounded { result ≡ true → GrowsWithin self.old.here self.old.paths self.new.paths }
+        ensures short { result ≡ true → IsWithinLimit self.old.paths → IsShort self.new.paths }
+        ensures as_long { length self.new.rows.by_site.items ≡ length self.old.rows.by_site.items }
+        ensures blocks { self.new.paths.blocks ≡ self.old.paths.blocks }
+        ensures same { result ≡ false → self.new ≡ self.old }
     {
-        if self.rows.has(self.here) {
-            return self.paths.has_room();
+        let here = self.here;
+        if !self.rows.has(here) {
+            return false;
+        }
+        let place = self.rows.by_site[here as usize].place;
+        if self.paths.has_steps(place, here) {
+            self.flush_to(place, count);
+            return true;
+        }
+        if self.paths.has_room() {
+            self.flush_behind(count);
+            return true;
         }
         false
     }
 
-    // As `flush`, where that is so.
+    // As `flush_ready`, where the path that runs is within its limit besides, so that it may become a block's.
     #[inline(always)]
-    fn flush_ready(&mut self, count: u64)
-        requires { IsReady self.old }
-        ensures flushed { Flushed self.old self.new count }
+    fn flush_within(&mut self, count: u64) -> bool
+        ensures flushed { result ≡ true → Flushed self.old self.new count }
+        ensures there { result ≡ true → self.new.here < length self.new.rows.by_site.items }
+        ensures bounded { result ≡ true → FlushesBounded self.old self.new }
+        ensures short { result ≡ true → IsShort self.new.paths }
         ensures as_long { length self.new.rows.by_site.items ≡ length self.old.rows.by_site.items }
-        ensures blocks { self.new.paths.blocks.items ≡ self.old.paths.blocks.items }
-        ensures room { HasRoomForBlock self.old.paths → HasRoomForBlock self.new.paths }
+        ensures blocks { self.new.paths.blocks ≡ self.old.paths.blocks }
+        ensures same { result ≡ false → self.new ≡ self.old }
     {
-        let here = self.here;
+        if self.paths.is_within_limit() {
+            return self.flush_ready(count);
+        }
+        false
+    }
+
+    // As `flush`, where that site has a row and its steps lie at this place in the path that runs.
+    #[inline(always)]
+    fn flush_to(&mut self, place: usize, count: u64)
+        requires there { self.old.here < length self.old.rows.by_site.items }
+        requires has { HasSteps self.old.paths.start place self.old.here self.old.paths.steps.items }
+        ensures flushed { Flushed self.old self.new count }
+        ensures bounded { GrowsWithin self.old.here self.old.paths self.new.paths }
+        ensures short { IsWithinLimit self.old.paths → IsShort self.new.paths }
+        ensures as_long { length self.new.rows.by_site.items ≡ length self.old.rows.by_site.items }
+        ensures blocks { self.new.paths.blocks ≡ self.old.paths.blocks }
+    {
         let since = count.wrapping_sub(self.noted);
-        let place = self.rows.work_here(here, since);
-        let at = self.paths.extend_within(place, here, since);
-        self.rows.tell_here(here, at);
+        let kept = &mut self.rows.by_site[self.here as usize];
+        self.paths.grow(place, since);
+        kept.row.add_own(since);
+        self.noted = count;
+    }
+
+    // As `flush`, where that site has a row and there is room for its steps.
+    #[inline(always)]
+    fn flush_behind(&mut self, count: u64)
+        requires there { self.old.here < length self.old.rows.by_site.items }
+        requires room { HasRoom self.old.paths }
+        ensures flushed { Flushed self.old self.new count }
+        ensures bounded { GrowsWithin self.old.here self.old.paths self.new.paths }
+        ensures short { IsShort self.new.paths }
+        ensures as_long { length self.new.rows.by_site.items ≡ length self.old.rows.by_site.items }
+        ensures blocks { self.new.paths.blocks ≡ self.old.paths.blocks }
+    {
+        let since = count.wrapping_sub(self.noted);
+        let kept = &mut self.rows.by_site[self.here as usize];
+        kept.place = self.paths.put(self.here, since);
+        kept.row.add_own(since);
         self.noted = count;
     }
 
@@ -173,16 +208,22 @@ impl SiteTable {
         Ok(())
     }
 
-    /// As `enter`, where the table is ready and the site has a row.
+    /// As `enter`, where it takes no memory and both sites have a row among the first ones. Tells whether this is so; where
+    /// it is not, nothing is changed. So do all that end in `_ready`.
     #[inline(always)]
-    pub fn enter_ready(&mut self, count: u64, site: u32)
-        requires ready { IsReady self.old }
-        requires there { site < length self.old.rows.by_site.items }
-        ensures { Enters self.old self.new count site }
+    pub fn enter_ready(&mut self, count: u64, site: u32) -> bool
+        ensures told { result ≡ true → Enters self.old self.new count site }
+        ensures bounded { result ≡ true → StaysBoundedIn site self.old self.new }
+        ensures same { result ≡ false → self.new ≡ self.old }
     {
-        self.flush_ready(count);
-        let path = self.paths.weight;
-        self.begin_row_ready(site, path);
+        if self.rows.has(site) {
+            if self.flush_ready(count) {
+                let path = self.paths.weight;
+                self.begin_row_ready(site, path);
+                return true;
+            }
+        }
+        false
     }
 
     // As `begin_row`, where the site has a row.
@@ -195,13 +236,14 @@ impl SiteTable {
         self.here = site;
     }
 
-    // As `end_row`, where the innermost invocation's site has a row.
+    // As `end_row`, where the innermost invocation's site, which is given so that it is read once, has a row.
     #[inline(always)]
-    fn end_row_ready(&mut self, outer: u32)
-        requires { self.old.here < length self.old.rows.by_site.items }
+    fn end_row_ready(&mut self, here: u32, outer: u32)
+        requires there { here < length self.old.rows.by_site.items }
+        requires is_here { here ≡ self.old.here }
         ensures { RowLeft self.old self.new outer }
     {
-        self.rows.end_here(self.here, self.noted, self.paths.weight);
+        self.rows.end_here(here, self.noted, self.paths.weight);
         self.here = outer;
     }
 
@@ -217,17 +259,33 @@ impl SiteTable {
         Ok(())
     }
 
-    /// As `spawn`, the first of its block, where the table is ready, the site has a row, and there is room for a block.
+    /// As `spawn`, the first of its block.
     #[inline(always)]
-    pub fn spawn_ready(&mut self, count: u64, site: u32)
-        requires ready { IsReady self.old }
-        requires there { site < length self.old.rows.by_site.items }
-        requires room { HasRoomForBlock self.old.paths }
-        ensures { Spawns self.old self.new count site true }
+    pub fn spawn_ready(&mut self, count: u64, site: u32) -> bool
+        ensures told { result ≡ true → Spawns self.old self.new count site true }
+        ensures bounded { result ≡ true → StaysBoundedIn site self.old self.new }
+        ensures same { result ≡ false → self.new ≡ self.old }
     {
-        self.flush_ready(count);
-        self.paths.begin_within();
-        self.begin_row_ready(site, 0);
+        if self.can_spawn(site) {
+            if self.flush_within(count) {
+                self.paths.begin_within();
+                self.begin_row_ready(site, 0);
+                return true;
+            }
+        }
+        false
+    }
+
+    // Whether a block can begin with a child of this site, once the instructions so far are given to their sites.
+    #[inline(always)]
+    fn can_spawn(&self, site: u32) -> bool
+        ensures there { result ≡ true → site < length self.now.rows.by_site.items }
+        ensures room { result ≡ true → HasRoomForBlock self.now.paths }
+    {
+        if self.rows.has(site) {
+            return self.paths.has_room_for_block();
+        }
+        false
     }
 
     /// The innermost invocation, a call in place whose block has joined, ends inside one of the site `outer`.
@@ -253,40 +311,58 @@ impl SiteTable {
         Ok(())
     }
 
-    /// As `leave`, where the table is ready.
+    /// As `leave`.
     #[inline(always)]
-    pub fn leave_ready(&mut self, count: u64, outer: u32)
-        requires { IsReady self.old }
-        ensures { Leaves self.old self.new count outer }
+    pub fn leave_ready(&mut self, count: u64, outer: u32) -> bool
+        ensures told { result ≡ true → Leaves self.old self.new count outer }
+        ensures bounded { result ≡ true → StaysBoundedIn outer self.old self.new }
+        ensures same { result ≡ false → self.new ≡ self.old }
     {
-        self.flush_ready(count);
-        self.end_row_ready(outer);
+        let here = self.here;
+        if self.flush_ready(count) {
+            self.end_row_ready(here, outer);
+            return true;
+        }
+        false
     }
 
-    /// As `end_child`, where the table is ready and no step lies between the block's base and the child.
+    /// As `end_child`, where no step lies between the block's base and the child.
     #[inline(always)]
-    pub fn end_child_ready(&mut self, count: u64, outer: u32)
-        requires ready { IsReady self.old }
-        requires first { HasFirstChild self.old.paths }
-        ensures { EndsChild self.old self.new count outer }
+    pub fn end_child_ready(&mut self, count: u64, outer: u32) -> bool
+        requires { HasFirstChild self.old.paths }
+        ensures told { result ≡ true → EndsChild self.old self.new count outer }
+        ensures bounded { result ≡ true → StaysBoundedIn outer self.old self.new }
+        ensures same { result ≡ false → self.new ≡ self.old }
     {
-        self.flush_ready(count);
-        self.end_row_ready(outer);
-        self.paths.end_first();
+        let here = self.here;
+        if self.flush_within(count) {
+            self.end_row_ready(here, outer);
+            self.paths.end_first();
+            return true;
+        }
+        false
     }
 
-    /// As `join`, where the table is ready.
+    /// As `note`, before a join.
     #[inline(always)]
-    pub fn join_ready(&mut self, count: u64)
-        requires { IsReady self.old }
-        ensures { Joins self.old self.new count }
+    pub fn note_ready(&mut self, count: u64) -> bool
+        ensures told { result ≡ true → Notes self.old self.new count }
+        ensures bounded { result ≡ true → FlushesBounded self.old self.new }
+        ensures same { result ≡ false → self.new ≡ self.old }
     {
         // Mostly a call has just ended, and all is given to its site.
         if self.noted == count {
-            self.paths.join();
-            return;
+            return self.paths.is_within_limit();
         }
-        self.flush_ready(count);
+        self.flush_within(count)
+    }
+
+    /// As `join`, where all is noted.
+    #[inline(always)]
+    pub fn join_noted(&mut self)
+        ensures told { JoinsNoted self.old self.new }
+        ensures bounded { JoinsBounded self.old self.new }
+    {
         self.paths.join();
     }
 
