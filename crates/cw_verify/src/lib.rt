@@ -5,6 +5,7 @@ mod flat;
 mod found;
 pub mod fuse;
 mod leave;
+mod lines;
 mod meet;
 mod meeting;
 mod named;
