@@ -196,6 +196,15 @@ impl Meter {
         if !self.is_counted() {
             return self.open_call(count, site);
         }
+        self.call_counted(count, site)
+    }
+
+    /// The same where all is counted: what it is told knows that, so that it is not asked.
+    #[inline(always)]
+    pub fn call_counted(&mut self, count: u64, site: u32) -> Result<(), AllocError>
+        requires { details.is_counted self.old.detail ≡ true }
+        ensures { OnOk result (Begins self.old self.new count false (Some (Invocation site))) }
+    {
         if !self.has_room() {
             return self.call_apart(count, site);
         }
@@ -224,12 +233,12 @@ impl Meter {
         if !self.is_counted() {
             return self.open_spawned(count);
         }
-        self.count_spawn(count, site)
+        self.spawn_counted(count, site)
     }
 
-    // The same where all is counted.
+    /// The same where all is counted.
     #[inline(never)]
-    fn count_spawn(&mut self, count: u64, site: u32) -> Result<(), AllocError>
+    pub fn spawn_counted(&mut self, count: u64, site: u32) -> Result<(), AllocError>
         requires { details.is_counted self.old.detail ≡ true }
         ensures { OnOk result (Begins self.old self.new count true (Some (Invocation site))) }
     {
@@ -312,6 +321,15 @@ impl Meter {
         if !self.is_counted() {
             return self.leave_call(count);
         }
+        self.give_back_counted(count)
+    }
+
+    /// The same where all is counted.
+    #[inline(always)]
+    pub fn give_back_counted(&mut self, count: u64) -> Result<(), AllocError>
+        requires { details.is_counted self.old.detail ≡ true }
+        ensures { OnOk result (Returns self.old self.new count) }
+    {
         self.join(count)?;
         self.close(count.wrapping_add(1))?;
         Ok(())
@@ -325,6 +343,15 @@ impl Meter {
         if !self.is_counted() {
             return self.join_uncounted(count);
         }
+        self.sync_counted(count)
+    }
+
+    /// The same where all is counted.
+    #[inline(always)]
+    pub fn sync_counted(&mut self, count: u64) -> Result<(), AllocError>
+        requires { details.is_counted self.old.detail ≡ true }
+        ensures { OnOk result (Syncs self.old self.new count) }
+    {
         self.join(count)?;
         Ok(())
     }

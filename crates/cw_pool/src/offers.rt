@@ -1,7 +1,7 @@
 //! What a worker's offers bring.
 
 /// A job of fewer instructions was not worth its theft.
-const WORTH: u64 = 1_000;
+const WORTH: u64 = 16_000;
 
 /// So many offers in vain, one after another, are enough.
 const ENOUGH: u32 = 8;
@@ -10,7 +10,7 @@ const ENOUGH: u32 = 8;
 const MORE: u32 = 2;
 
 /// So many whiles at most go by without an offer.
-const LONGEST: u32 = 64;
+const LONGEST: u32 = 256;
 
 /// How many jobs of a worker came back for nothing, one after another.
 #[derive(Drop)]

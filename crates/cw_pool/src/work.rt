@@ -24,6 +24,9 @@ const SPINS: u32 = 64;
 /// After so many looks in vain a worker that has nothing to do sleeps.
 const PATIENCE: u32 = 1024;
 
+/// A worker that has slept begins with so many looks in vain: where it finds nothing again, it soon sleeps again.
+const SLEPT: u32 = 992;
+
 /// A post that waits, and the duty of the stolen job that is run above it. It must be finished.
 pub struct Below {
     pub(crate) post: Post,
@@ -90,7 +93,7 @@ impl Search {
         if self.tries < PATIENCE {
             return None;
         }
-        self.tries = 0;
+        self.tries = SLEPT;
         Some(yard.bell().prepare_wait())
     }
 
@@ -283,6 +286,7 @@ pub(crate) fn help<G: Gate, R: Wait>(
                 gate.turn(me, Moment::Stolen);
                 let effect = work(rt, alloc, yard, seat, gate, tally, job);
                 settle(yard, seat, gate, me, duty, effect);
+                search.rest();
             }
             None => {}
         }

@@ -6,7 +6,7 @@ use Rattle.cw_meter.specs.declared.parts.PartKind.TheVariants as kind
 use Rattle.std.proofs.Math.Nat.{mod-eq_of_lt}
 use Rattle.cw_meter.proofs.MeterLaws.{meter_begins}
 use Rattle.cw_meter.proofs.DetailLaws.{begins_counted}
-use Rattle.cw_meter.proofs.meter.Meter.count_spawn.Goals as goal
+use Rattle.cw_meter.proofs.meter.Meter.spawn_counted.Goals as goal
 
 pub returns : goal.returns
 returns c =
