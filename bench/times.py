@@ -2,7 +2,9 @@
 """Processor time of runs beside that of the same instructions in a switch loop of C, without measures and with them.
 
     times.py PROGRAM [ROUNDS]        the least of so many interleaved rounds (15), and the ratios beside those that are wanted;
-                                     wants gcc, which compiles bench/switch.c and bench/measures.c
+                                     wants gcc, which compiles bench/switch.c and bench/measures.c. Where LuaJIT or Lua 5.4
+                                     is installed, its interpreter takes the same programs (bench/programs.lua) in the same
+                                     rounds
     times.py PROGRAM gain [ROUNDS]   the same of `gain` by `scale`: of one function more, and of ten; and by the clock, with
                                      1, 2 and 4 workers
 
@@ -13,6 +15,7 @@ not.
 import os
 import pathlib
 import resource
+import shutil
 import subprocess
 import sys
 import tempfile
@@ -25,6 +28,9 @@ PROGRAMS = [("fib", "29", 0.65, 0.75), ("chain", "4000", 0.9, 0.85), ("sieve", "
             ("mergesort", "100000", 0.55, 0.6), ("matrix", "110", 0.6, 0.65), ("queens", "10", 0.7, 0.8)]
 
 CREWS = ("1", "2", "4")
+
+# other interpreters, LuaJIT without its compiler
+OTHERS = {"LuaJIT": ["luajit", "-joff"], "Lua": ["lua5.4"]}
 
 
 def source(name):
@@ -64,7 +70,24 @@ def commands(program, folder):
             "scale": ours("scale"),
             "measures": [f"{folder}/measures", code, LIMIT, "15000", size],
         }
+        for kind, words in OTHERS.items():
+            if shutil.which(words[0]):
+                found[name][kind] = [*words, f"{HERE}/programs.lua", name, size]
     return found
+
+
+def others(least):
+    """A table of runs beside other interpreters, where there are any."""
+    kinds = [kind for kind in OTHERS if ("fib", kind) in least]
+    if not kinds:
+        return
+    print("\n| program | `run` | " + " | ".join(f"{kind} | ratio" for kind in kinds) + " |")
+    print("|---|---" + "|---|---" * len(kinds) + "|")
+    ratios = {kind: [least[name, "run"] / least[name, kind] for name, *_ in PROGRAMS] for kind in kinds}
+    for k, (name, size, *_) in enumerate(PROGRAMS):
+        cells = " | ".join(f"{least[name, kind]:.3f} | {ratios[kind][k]:.2f}" for kind in kinds)
+        print(f"| {name} {size} | {least[name, 'run']:.3f} | {cells} |")
+    print("\n" + " ".join(f"In the mean {sum(them) / len(them):.2f} of {kind}, at most {max(them):.2f}." for kind, them in ratios.items()))
 
 
 def gains(program, rounds="15"):
@@ -120,6 +143,7 @@ def main(program, rounds="15"):
         print("| " + " | ".join(cells) + " |")
     mean = [sum(least[name, kind] / least[name, loop] for name, *_ in PROGRAMS) / len(PROGRAMS) for kind, loop in (("run", "switch"), ("scale", "measures"))]
     print(f"\nIn the mean {mean[0]:.2f} without measures and {mean[1]:.2f} with them; {above} ratios of {2 * len(PROGRAMS)} above what is wanted.")
+    others(least)
     return above
 
 

@@ -3,7 +3,7 @@
 ghost use Rattle.std.specs.Prelude.{◌≡◌, ◌+◌, ◌<◌, ◌^◌, ℤ, length, Some, slice_get, IfOk, OnOk};
 ghost use Rattle.cw_runnable.specs.declared.op.Op.TheVariants as op;
 ghost use Rattle.cw_machine.specs.Arrays as arrays;
-ghost use Rattle.cw_machine.specs.Shows.{HasRenewed, HasReviewed, StaysBut, IsAt, Does};
+ghost use Rattle.cw_machine.specs.Shows.{CutsOr, HasRenewed, HasReviewed, StaysBut, IsAt, Does};
 
 use crate::machine::{Machine, Moved, View};
 use cw_code::code::Halves;
@@ -175,29 +175,49 @@ impl Machine {
         Moved::On
     }
 
-    // An array is cut: its parts go into two slots.
-    #[inline(always)]
-    pub(crate) fn cut(&mut self, _code: &Verified, d: usize, h: &Halves, line: u32) -> Moved
-        requires { ∥ IsAt _code.now self.old (op.Cut d h.now line) ∥₁ }
-        ensures { Does _code.now self.old (op.Cut d h.now line) result self.new }
+    // An array is cut: its parts go into two slots. An error is a trap, or none where memory was refused. Apart, so that the
+    // loop of a run need not hold it.
+    #[inline(never)]
+    fn cut_apart(
+        &mut self,
+        _code: &Verified,
+        d: usize,
+        h: &Halves,
+        _line: u32,
+    ) -> Result<(), Option<Trap>>
+        requires { ∥ IsAt _code.now self.old (op.Cut d h.now _line) ∥₁ }
+        ensures { CutsOr _code.now self.old d h.now _line result self.new }
     {
         let v = self.view(h.array);
         let k = match cut_place(self.get(d), v.len) {
             Ok(k) => k,
-            Err(trap) => return Moved::Trapped(trap, line),
+            Err(trap) => return Err(Some(trap)),
         };
         let left = self.first_array + h.left as usize;
         let right = self.first_array + h.right as usize;
         let array = self.first_array + h.array as usize;
         match self.cuts.push(array) {
             Ok(()) => {}
-            Err(_) => return Moved::NoMemory,
+            Err(_) => return Err(None),
         }
         self.set_view(left, v.block, v.from, k);
         let from = beyond(v.from, k);
         self.set_view(right, v.block, from, v.len - k);
         self.place += 1;
-        Moved::On
+        Ok(())
+    }
+
+    // The same, and where it led.
+    #[inline(always)]
+    pub(crate) fn cut(&mut self, code: &Verified, d: usize, h: &Halves, line: u32) -> Moved
+        requires { ∥ IsAt code.now self.old (op.Cut d h.now line) ∥₁ }
+        ensures { Does code.now self.old (op.Cut d h.now line) result self.new }
+    {
+        match self.cut_apart(code, d, h, line) {
+            Ok(()) => Moved::On,
+            Err(Some(trap)) => Moved::Trapped(trap, line),
+            Err(None) => Moved::NoMemory,
+        }
     }
 
     // A cut ends: the elements of its parts lie in the array already.
