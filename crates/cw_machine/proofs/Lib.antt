@@ -47,6 +47,7 @@ pub mod Strands
 pub mod Keyed
 pub mod FromMain
 pub mod RootEnds
+pub mod Taken
 pub mod Given
 pub mod Home
 pub mod GivesNumbers

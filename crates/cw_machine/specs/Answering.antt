@@ -1,5 +1,5 @@
 -- The effect of a whole run.
-use Rattle.std.specs.Prelude.{◌≡◌, ℕ, ℤ, List, Result, Ok, Err}
+use Rattle.std.specs.Prelude.{◌≡◌, ℕ, ℤ, List, Option, Result, Ok, Err}
 use Rattle.std.specs.Global.{Vec}
 use Rattle.cw_model.specs.declared.burden.Burden.{Burden}
 use Rattle.cw_model.specs.declared.trap.Trap.{Trap}
@@ -9,10 +9,10 @@ use Rattle.cw_text.specs.declared.fault.Fault.{Fault}
 use Rattle.cw_text.specs.declared.fault.Fault.TheVariants as fault
 use Rattle.cw_jobs.specs.declared.effect.Effect.{Effect}
 use Rattle.cw_jobs.specs.declared.effect.Effect.TheVariants as effect
+use Rattle.cw_jobs.specs.declared.effect.Shown.{Shown}
 use Rattle.cw_jobs.specs.declared.job.Job.{Job}
 use Rattle.cw_jobs.specs.Jobs.{IsRootOf}
 use Rattle.cw_jobs.specs.Means.{IsMeaningOf}
-use Rattle.cw_machine.specs.declared.alone.Ended as alone
 
 -- an effect means the job of some whole run of this code, however much is kept of it
 pub record IsOfWhole (v : Verified) (e : Effect) : Type 0 where
@@ -28,21 +28,38 @@ pub record IsOfWhole (v : Verified) (e : Effect) : Type 0 where
 abbrev pub IsOfRun : Effect → Type 0
 IsOfRun e = (v : Verified) × IsOfWhole v e
 
--- a run that ended, or memory, where there was none to tell of one
-abbrev pub IsEndOrMemory : Result alone.Ended Fault → Type 0
+-- something is told of a run that ended, or memory, where there was none for it
+abbrev pub IsEndOrMemory : {A : Type 0} → Result A Fault → Type 0
 IsEndOrMemory (Ok e) = Unit {0}
 IsEndOrMemory (Err f) = f ≡ fault.Memory
 
+-- something is told of it in any case
+abbrev pub IsEnd : {A : Type 0} → Result A Fault → Type 0
+IsEnd (Ok e) = Unit {0}
+IsEnd (Err f) = ⊥
+
 -- this trap in this line, with these values printed before
-abbrev pub IsTrapAfter : Trap → (line : ℕ) → (lines : List ℤ) → Result alone.Ended Fault → Type 0
+abbrev pub IsTrapAfter : {A : Type 0} → Trap → (line : ℕ) → (lines : List ℤ) → Result A Fault → Type 0
 IsTrapAfter trap line lines r =
     (output : Vec ℤ) × (r ≡ Err (fault.Trap trap line output)) × (output.items ≡ lines)
 
--- WHAT IS TOLD OF AN EFFECT: memory only where the effect says that it was wanting, or of a run that ended
-abbrev pub IsAnswerOf : Effect → Result alone.Ended Fault → Type 0
-IsAnswerOf (effect.Ended value shown) r = IsEndOrMemory r
-IsAnswerOf (effect.Joined frame replaced shown) r = ⊥
-IsAnswerOf (effect.Trapped trap line lines cost back) r = IsTrapAfter trap line lines.items r
-IsAnswerOf (effect.OverLimit back) r = r ≡ Err fault.OverLimit
-IsAnswerOf (effect.Memory back) r = r ≡ Err fault.Memory
-IsAnswerOf (effect.GivenUp back) r = r ≡ Err fault.Memory
+-- WHAT IS TOLD OF AN EFFECT, where this is told of a run that ended: memory where the effect says that it was wanting
+abbrev pub TellsOf : {A : Type 0} → (ended : Option ℤ → Shown → Type 0) → Effect → Result A Fault → Type 0
+TellsOf ended (effect.Ended value shown) r = ended value shown
+TellsOf ended (effect.Joined frame replaced shown) r = ⊥
+TellsOf ended (effect.Trapped trap line lines cost back) r = IsTrapAfter trap line lines.items r
+TellsOf ended (effect.OverLimit back) r = r ≡ Err fault.OverLimit
+TellsOf ended (effect.Memory back) r = r ≡ Err fault.Memory
+TellsOf ended (effect.GivenUp back) r = r ≡ Err fault.Memory
+
+-- of a run that ended its value and what it has shown
+abbrev pub TakesOut : Effect → Result (Option ℤ × Shown) Fault → Type 0
+TakesOut e r = TellsOf (λ value shown. r ≡ Ok (value, shown)) e r
+
+-- memory only where the effect says that it was wanting, or of a run that ended
+abbrev pub IsAnswerOf : {A : Type 0} → Effect → Result A Fault → Type 0
+IsAnswerOf e r = TellsOf (λ value shown. IsEndOrMemory r) e r
+
+-- memory only where the effect says so
+abbrev pub AreValuesOf : {A : Type 0} → Effect → Result A Fault → Type 0
+AreValuesOf e r = TellsOf (λ value shown. IsEnd r) e r

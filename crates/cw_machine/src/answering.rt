@@ -10,18 +10,48 @@ ghost use Rattle.cw_meter.specs.declared.detail.Detail.TheVariants as kept;
 ghost use Rattle.cw_model.specs.declared.burden.Burden.{Burden};
 ghost use Rattle.cw_model.specs.Burdens.{no_burden};
 ghost use Rattle.cw_runnable.specs.declared.verified.Verified as verified;
-ghost use Rattle.cw_machine.specs.Answering.{IsOfRun, IsOfWhole, IsAnswerOf};
+ghost use Rattle.cw_machine.specs.Answering.{AreValuesOf, IsAnswerOf, IsOfRun, IsOfWhole, TakesOut};
 ghost use Rattle.cw_machine.specs.Recorded.{RecordsAsCode};
 ghost use Rattle.cw_machine.specs.Runs.{GivesAsCode, RunsAsCode};
 
 use crate::alone::{Ended, end_of, int_given};
 use crate::values::Values;
 use cw_greedy::strands::Strands;
-use cw_jobs::effect::Effect;
+use cw_jobs::effect::{Effect, Shown};
 use cw_runnable::verified::Verified;
 use cw_strand_laws::laws::the_root_answers_what_the_code_gives;
 use cw_text::Fault;
 use std::alloc::Global;
+
+// The value of a run that ended and what it has shown, by its effect; else why it has none.
+fn ended_in(effect: Effect) -> Result<(Option<i64>, Shown), Fault>
+    requires { ∥ IsOfRun effect ∥₁ }
+    ensures { TakesOut effect result }
+{
+    the_root_answers_what_the_code_gives();
+    match effect {
+        Effect::Ended { value, shown } => Ok((value, shown)),
+        Effect::Trapped {
+            trap,
+            line,
+            lines,
+            cost: _,
+            back: _,
+        } => Err(Fault::Trap {
+            code: trap,
+            line,
+            output: lines.into_vec(),
+        }),
+        Effect::OverLimit { back: _ } => Err(Fault::OverLimit),
+        Effect::Memory { back: _ } => Err(Fault::Memory),
+        Effect::GivenUp { back: _ } => Err(Fault::Memory),
+        Effect::Joined {
+            frame: _,
+            replaced: _,
+            shown: _,
+        } => unreachable!(),
+    }
+}
 
 /// What a run of this code answers whose job, that of the whole run of which all was counted, came to this effect: as
 /// `run_alone` answers, whoever ran the job, on however many workers.
@@ -36,103 +66,41 @@ pub fn answer(alloc: Global, code: &Verified, effect: Effect) -> Result<Ended, F
         → IsMeaningOf root effect → RunsAsCode (code_view code.now.code) args n burden result }
 {
     the_root_answers_what_the_code_gives();
-    match effect {
-        Effect::Ended { value, shown } => {
-            let ended = end_of(alloc, &code.code, value, shown)?;
-            Ok(ended)
-        }
-        Effect::Trapped {
-            trap,
-            line,
-            lines,
-            cost: _,
-            back: _,
-        } => Err(Fault::Trap {
-            code: trap,
-            line,
-            output: lines.into_vec(),
-        }),
-        Effect::OverLimit { back: _ } => Err(Fault::OverLimit),
-        Effect::Memory { back: _ } => Err(Fault::Memory),
-        Effect::GivenUp { back: _ } => Err(Fault::Memory),
-        Effect::Joined {
-            frame: _,
-            replaced: _,
-            shown: _,
-        } => unreachable!(),
-    }
+    let (value, shown) = ended_in(effect)?;
+    let ended = end_of(alloc, &code.code, value, shown)?;
+    Ok(ended)
 }
 
 /// What a run gives whose job, that of the whole run, came to this effect, however much was kept of it: as `values_alone`
-/// answers. The errors are those of `answer`.
+/// answers. The errors are those of `answer`; of a run that ended none comes.
 pub fn values_of(effect: Effect) -> Result<Values, Fault>
     requires { ∥ IsOfRun effect ∥₁ }
-    ensures { (v : verified.Verified) (args : List ℤ) (n : ℕ) (burden : Burden) (d : details.Detail)
+    ensures tells { AreValuesOf effect result }
+    ensures as_code { (v : verified.Verified) (args : List ℤ) (n : ℕ) (burden : Burden) (d : details.Detail)
         (root : jobs.Job)
         → IsRootOf v args n burden d root.parts.value
         → IsMeaningOf root effect → GivesAsCode (code_view v.code) args n burden result }
 {
     the_root_answers_what_the_code_gives();
-    match effect {
-        Effect::Ended { value, shown } => Ok(Values {
-            value: int_given(value),
-            lines: shown.lines.into_vec(),
-            totals: shown.totals,
-        }),
-        Effect::Trapped {
-            trap,
-            line,
-            lines,
-            cost: _,
-            back: _,
-        } => Err(Fault::Trap {
-            code: trap,
-            line,
-            output: lines.into_vec(),
-        }),
-        Effect::OverLimit { back: _ } => Err(Fault::OverLimit),
-        Effect::Memory { back: _ } => Err(Fault::Memory),
-        Effect::GivenUp { back: _ } => Err(Fault::Memory),
-        Effect::Joined {
-            frame: _,
-            replaced: _,
-            shown: _,
-        } => unreachable!(),
-    }
+    let (value, shown) = ended_in(effect)?;
+    Ok(Values {
+        value: int_given(value),
+        lines: shown.lines.into_vec(),
+        totals: shown.totals,
+    })
 }
 
 /// The strands of a run whose job, that of the whole run of which the strands were kept, came to this effect: as
 /// `strands_alone` answers. The errors are those of `answer`.
 pub fn strands_of(effect: Effect) -> Result<Strands, Fault>
     requires { ∥ IsOfRun effect ∥₁ }
-    ensures { (v : verified.Verified) (args : List ℤ) (n : ℕ) (root : jobs.Job)
+    ensures tells { IsAnswerOf effect result }
+    ensures as_code { (v : verified.Verified) (args : List ℤ) (n : ℕ) (root : jobs.Job)
         → IsRootOf v args n no_burden kept.Strands root.parts.value
         → IsMeaningOf root effect → RecordsAsCode (code_view v.code) args n result }
 {
     the_root_answers_what_the_code_gives();
-    match effect {
-        Effect::Ended { value: _, shown } => {
-            let strands = shown.meter.strands(shown.cost)?;
-            Ok(strands)
-        }
-        Effect::Trapped {
-            trap,
-            line,
-            lines,
-            cost: _,
-            back: _,
-        } => Err(Fault::Trap {
-            code: trap,
-            line,
-            output: lines.into_vec(),
-        }),
-        Effect::OverLimit { back: _ } => Err(Fault::OverLimit),
-        Effect::Memory { back: _ } => Err(Fault::Memory),
-        Effect::GivenUp { back: _ } => Err(Fault::Memory),
-        Effect::Joined {
-            frame: _,
-            replaced: _,
-            shown: _,
-        } => unreachable!(),
-    }
+    let (_, shown) = ended_in(effect)?;
+    let strands = shown.meter.strands(shown.cost)?;
+    Ok(strands)
 }

@@ -3,7 +3,7 @@
 ghost use Rattle.std.specs.Prelude.{◌≡◌, true, false};
 ghost use Rattle.cw_code.specs.Code.{code_view};
 ghost use Rattle.cw_meter.specs.declared.detail.Detail.TheVariants as details;
-ghost use Rattle.cw_machine.specs.Answering.{IsAnswerOf};
+ghost use Rattle.cw_machine.specs.Answering.{AreValuesOf, IsAnswerOf};
 ghost use Rattle.cw_machine.specs.Recorded.{RecordsAsCode};
 ghost use Rattle.cw_machine.specs.Runs.{GivesAsCode, RunsAsCode};
 ghost use Rattle.cw_model.specs.Burdens.{no_burden};
@@ -85,7 +85,8 @@ pub(crate) fn values_by(
     burden: Burden,
 ) -> Result<Values, Fault>
     requires { IsEffectOf outcome.code.value args.now n burden details.Values outcome.effect }
-    ensures { GivesAsCode (code_view outcome.code.value.code) args.now n burden result }
+    ensures as_code { GivesAsCode (code_view outcome.code.value.code) args.now n burden result }
+    ensures tells { IsKnown outcome → AreValuesOf outcome.effect result }
 {
     let is_known = outcome.is_known();
     let Outcome {
@@ -109,7 +110,8 @@ pub(crate) fn strands_by(
     n: u64,
 ) -> Result<Strands, Fault>
     requires { IsEffectOf outcome.code.value args.now n no_burden details.Strands outcome.effect }
-    ensures { RecordsAsCode (code_view outcome.code.value.code) args.now n result }
+    ensures as_code { RecordsAsCode (code_view outcome.code.value.code) args.now n result }
+    ensures tells { IsKnown outcome → IsAnswerOf outcome.effect result }
 {
     let is_known = outcome.is_known();
     let Outcome {

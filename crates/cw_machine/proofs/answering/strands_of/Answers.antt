@@ -1,35 +1,28 @@
-use Rattle.std.proofs.Common.{◌∙◌, Some, refl, sym, ap, subst}
-use Rattle.std.specs.Coded.{le_prop}
-use Rattle.std.proofs.Math.Logic.{∥∥₁_elim}
-use Rattle.cw_model.specs.Answers.{TrappedAt}
+use Rattle.std.proofs.Common.{rules, ◌≡◌, refl, sym, subst}
+use Rattle.std.specs.Prelude.{Err}
+use Rattle.cw_code.specs.Code.{code_view}
 use Rattle.cw_model.specs.Burdens.{no_burden}
 use Rattle.cw_meter.specs.declared.detail.Detail.TheVariants.{Strands}
 use Rattle.cw_jobs.specs.declared.effect.Effect.{Effect}
 use Rattle.cw_jobs.specs.Means.{IsMeaningOf}
-use Rattle.cw_machine.proofs.RootEnds.{recorded_as_code, trapped_as_code, over_as_code, comes_to_no_join}
+use Rattle.cw_machine.specs.Answering.{IsAnswerOf}
+use Rattle.cw_machine.specs.Recorded.{RecordsAsCode}
+use Rattle.cw_machine.proofs.RootEnds.{recorded_as_code}
+use Rattle.cw_machine.proofs.Taken.{answer_fails, ended_is, fails_as_code}
 use Rattle.cw_machine.proofs.answering.strands_of.Goals as goal
 
-pub returns-in-Ended : goal.returns-in-Ended
-returns-in-Ended c = λ v args n root r means.
-    recorded_as_code c.the_root_answers_what_the_code_gives.ensures v args n no_burden Strands root r refl refl c.in-Ended.value c.in-Ended.shown _ (subst (λ (e : Effect). IsMeaningOf root e) c.in-Ended.is means) c.in_ok-strands-in-Ended.ensures
+pub returns-in_err-shown-clause-tells : goal.returns-in_err-shown-clause-tells
+returns-in_err-shown-clause-tells c =
+    let is : c.from_residual.result ≡ Err c.in_err-shown.field-0.0 = search rules in
+    subst (λ r. IsAnswerOf c.args.effect r) (sym is) (answer_fails _ c.args.effect c.in_err-shown.field-0.0 c.in_err-shown.ensures)
 
-pub returns-in-Trapped : goal.returns-in-Trapped
-returns-in-Trapped c = λ v args n root r means. (
-  r.asked,
-  trapped_as_code c.the_root_answers_what_the_code_gives.ensures v args n no_burden Strands root r c.in-Trapped.trap c.in-Trapped.line c.in-Trapped.lines c.in-Trapped.cost c.in-Trapped.back
-      (subst (λ (e : Effect). IsMeaningOf root e) c.in-Trapped.is means)
-      ∙ ap (λ l. Some (TrappedAt c.in-Trapped.trap c.in-Trapped.line l)) (sym c.into_vec.ensures.items),
-)
+pub returns-in_err-shown-clause-as_code : goal.returns-in_err-shown-clause-as_code
+returns-in_err-shown-clause-as_code c = λ v args n root r means.
+    let is : c.from_residual.result ≡ Err c.in_err-shown.field-0.0 = search rules in
+    subst (λ k. RecordsAsCode (code_view v.code) args n k) (sym is)
+    (fails_as_code c.the_root_answers_what_the_code_gives.ensures v args n no_burden Strands root r c.args.effect c.in_err-shown.field-0.0 c.in_err-shown.ensures means)
 
-pub returns-in-OverLimit : goal.returns-in-OverLimit
-returns-in-OverLimit c = λ v args n root r means. (
-  r.asked,
-  over_as_code c.the_root_answers_what_the_code_gives.ensures v args n no_burden Strands root r c.in-OverLimit.back
-      (subst (λ (e : Effect). IsMeaningOf root e) c.in-OverLimit.is means),
-)
-
-pub unreachable-requires : goal.unreachable-requires
-unreachable-requires c = ∥∥₁_elim c.requires (hlevel le_prop) (λ of.
-    let whole = of.1 in
-    comes_to_no_join c.the_root_answers_what_the_code_gives.ensures of.0 whole.args whole.limit whole.burden whole.detail whole.root whole.is c.in-Joined.frame c.in-Joined.replaced c.in-Joined.shown
-    (subst (λ (e : Effect). IsMeaningOf whole.root e) c.in-Joined.is whole.means))
+pub returns-clause-as_code : goal.returns-clause-as_code
+returns-clause-as_code c = λ v args n root r means.
+    recorded_as_code c.the_root_answers_what_the_code_gives.ensures v args n no_burden Strands root r refl refl c.in_ok-shown.field-0-0 c.in_ok-shown.shown _
+    (subst (λ (e : Effect). IsMeaningOf root e) (ended_is c.args.effect c.in_ok-shown.field-0-0 c.in_ok-shown.shown c.in_ok-shown.ensures) means) c.in_ok-strands.ensures

@@ -22,9 +22,9 @@ strands_of-requires c =
       },
     ) ∣₁
 
-pub returns-in_err-strands : goal.returns-in_err-strands
-returns-in_err-strands c =
+pub returns-in_err-strands-clause-as_code : goal.returns-in_err-strands-clause-as_code
+returns-in_err-strands-clause-as_code c =
     let end = c.requires in
     let is : c.from_residual.result ≡ Err c.in_err-strands.field-0.0 = search rules in
     subst (λ r. RecordsAsCode (code_view c.args.outcome.code.value.code) c.args.args.now c.args.n r) (sym is)
-    (c.in_err-strands.ensures c.args.outcome.code.value c.args.args.now c.args.n end.root end.is end.means)
+    (c.in_err-strands.ensures.as_code c.args.outcome.code.value c.args.args.now c.args.n end.root end.is end.means)

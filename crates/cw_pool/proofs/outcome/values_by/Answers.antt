@@ -21,9 +21,9 @@ values_of-requires c =
       },
     ) ∣₁
 
-pub returns-in_err-values : goal.returns-in_err-values
-returns-in_err-values c =
+pub returns-in_err-values-clause-as_code : goal.returns-in_err-values-clause-as_code
+returns-in_err-values-clause-as_code c =
     let end = c.requires in
     let is : c.from_residual.result ≡ Err c.in_err-values.field-0.0 = search rules in
     subst (λ r. GivesAsCode (code_view c.args.outcome.code.value.code) c.args.args.now c.args.n c.args.burden r) (sym is)
-    (c.in_err-values.ensures c.args.outcome.code.value c.args.args.now c.args.n c.args.burden Values end.root end.is end.means)
+    (c.in_err-values.ensures.as_code c.args.outcome.code.value c.args.args.now c.args.n c.args.burden Values end.root end.is end.means)
