@@ -27,3 +27,8 @@ returns-in_err-values-clause-as_code c =
     let is : c.from_residual.result ≡ Err c.in_err-values.field-0.0 = search rules in
     subst (λ r. GivesAsCode (code_view c.args.outcome.code.value.code) c.args.args.now c.args.n c.args.burden r) (sym is)
     (c.in_err-values.ensures.as_code c.args.outcome.code.value c.args.args.now c.args.n c.args.burden Values end.root end.is end.means)
+
+pub returns-then-is_known-clause-as_code : goal.returns-then-is_known-clause-as_code
+returns-then-is_known-clause-as_code c =
+    let end = c.requires in
+    c.in_ok-values.ensures.as_code c.args.outcome.code.value c.args.args.now c.args.n c.args.burden Values end.root end.is end.means
