@@ -24,7 +24,8 @@
     crew.py PROGRAM two [ROUNDS]           what two workers take in mode `run` of what one takes, by the clock and of a processor,
                                            by the median of the ratios of so many rounds (15), on each program of bench/programs/
                                            and examples/ that can take some 0.1 s: by the clock no more, and of a processor at
-                                           most 1.15 of it on fib and the chain
+                                           most 1.15 of it on fib and the chain. A row that is off is told by the median of
+                                           three times as many rounds, and if it still is of seven times as many
     crew.py PROGRAM shares [ROUNDS]        100,000 spawns of a product with two `const` factors (programs/shares.cilk) beside
                                            matrices of 1,000,000 elements and beside matrices of 4: its value, then seconds by
                                            1, 2 and 4 workers, the median of so many interleaved rounds (9) less that of the
@@ -98,8 +99,10 @@ GIVEN_UP = [
 GRIND = ["valgrind", "-q", "--leak-check=full", "--show-leak-kinds=all", "--errors-for-leak-kinds=all", "--error-exitcode=99"]
 
 # programs with a size by which they take some 0.1 s, in examples/ and beside this script (those left out are over at once), and
-# what two workers may take of a processor of what one takes; by the clock so much more may be noise
+# what two workers may take of a processor of what one takes; by the clock so much more may be noise. Where a row is off, twice
+# as many rounds are taken beside the first ones, and four times as many beside these: it is judged by all of them
 NOISE = 1.03
+MORE = (1, 2, 4)
 TWO = [(f"examples/{name}", words.split(), most) for name, words, most in (
     ("collatz", "50000", 2), ("dot", "1600000", 2), ("fib", "31", 1.15), ("fib_cutoff", "31", 2), ("histogram", "3000000", 2),
     ("longest", "40000", 2), ("matrix", "200", 2), ("mergesort", "100000", 2), ("mergesort_parallel", "80000", 2), ("prefix", "800000", 2),
@@ -275,20 +278,28 @@ def speed(program, rounds="9"):
     return short
 
 
+def both(command, took, rounds):
+    """Runs a command so many times more with one and with two workers: what one takes, and the medians of the ratios."""
+    for turn in range(rounds):
+        # either one first in turn; both of a round meet the same other work, so that a round is told by its ratio
+        for workers in (("1", "2"), ("2", "1"))[turn % 2]:
+            took[workers].append(taken([*command, workers]))
+    one = [statistics.median(it) for it in zip(*took["1"])]
+    return one, [statistics.median(b / a for a, b in zip(*it)) for it in zip(*(zip(*found) for found in took.values()))]
+
+
 def two(program, rounds="15"):
     slow = 0
     for name, arguments, most in TWO:
         command = [program, "run", str(HERE.parent / f"{name}.cilk"), *arguments, "--limit", "100000000000", "--workers"]
         took = {workers: [] for workers in ("1", "2")}
-        for turn in range(int(rounds)):
-            # either one first in turn; both of a round meet the same other work, so that a round is told by its ratio
-            for workers in (("1", "2"), ("2", "1"))[turn % 2]:
-                took[workers].append(taken([*command, workers]))
-        one = [statistics.median(it) for it in zip(*took["1"])]
-        clock, processor = (statistics.median(b / a for a, b in zip(*it)) for it in zip(*(zip(*found) for found in took.values())))
-        bad = ["clock"] * (clock > NOISE) + ["processor"] * (processor > most)
+        for more in MORE:
+            one, (clock, processor) = both(command, took, more * int(rounds))
+            bad = ["clock"] * (clock > NOISE) + ["processor"] * (processor > most)
+            if not bad:
+                break
         slow += bool(bad)
-        print(f"{name} {' '.join(arguments)}: one {one[0]:.3f} s, {one[1]:.3f} s of a processor; two take {clock:.2f} by the clock, {processor:.2f} of a processor", *(["BAD", *bad] if bad else []), flush=True)
+        print(f"{name} {' '.join(arguments)}: one {one[0]:.3f} s, {one[1]:.3f} s of a processor; two take {clock:.2f} by the clock, {processor:.2f} of a processor, in {len(took['1'])} rounds", *(["BAD", *bad] if bad else []), flush=True)
     return slow
 
 
