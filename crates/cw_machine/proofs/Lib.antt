@@ -10,6 +10,7 @@ pub mod Operands
 pub mod Together
 pub mod Rowing
 pub mod Indexing
+pub mod Elements
 pub mod Moving
 pub mod Singly
 pub mod Order
