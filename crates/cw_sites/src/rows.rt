@@ -96,29 +96,12 @@ impl Row {
     fn leave(&mut self, count: u64, path: u64)
         ensures { IsWhereItFits (tallies.left count path self.old) self.new }
     {
-        if self.active == 1 {
-            self.leave_last(count, path);
-            return;
+        let last = self.active == 1;
+        self.active = self.active.saturating_sub(1);
+        if last {
+            self.work = self.work.wrapping_add(count.saturating_sub(self.at_work));
+            self.span = self.span.wrapping_add(path.saturating_sub(self.at_path));
         }
-        self.leave_inner();
-    }
-
-    // An invocation of its site ends that lies in no other one, and is summed.
-    #[inline(always)]
-    fn leave_last(&mut self, count: u64, path: u64)
-        ensures { IsWhereItFits (tallies.left_at true count path self.old) self.new }
-    {
-        self.work = self.work.wrapping_add(count.saturating_sub(self.at_work));
-        self.span = self.span.wrapping_add(path.saturating_sub(self.at_path));
-        self.active = self.active.saturating_sub(1);
-    }
-
-    // An invocation of its site ends that lies in another one.
-    #[inline(always)]
-    fn leave_inner(&mut self)
-        ensures { self.new ≡ tallies.left_at false 0 0 self.old }
-    {
-        self.active = self.active.saturating_sub(1);
     }
 }
 

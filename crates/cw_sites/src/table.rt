@@ -96,10 +96,24 @@ impl SiteTable {
         ensures blocks { self.new.paths.blocks ≡ self.old.paths.blocks }
         ensures same { result ≡ false → self.new ≡ self.old }
     {
-        let here = self.here;
-        if !self.rows.has(here) {
-            return false;
+        if self.rows.has(self.here) {
+            return self.flush_there(count);
         }
+        false
+    }
+
+    // The same, where that site has a row among the first ones.
+    #[inline(always)]
+    fn flush_there(&mut self, count: u64) -> bool
+        requires there { self.old.here < length self.old.rows.by_site.items }
+        ensures flushed { result ≡ true → Flushed self.old self.new count }
+        ensures bounded { result ≡ true → GrowsWithin self.old.here self.old.paths self.new.paths }
+        ensures short { result ≡ true → IsWithinLimit self.old.paths → IsShort self.new.paths }
+        ensures as_long { length self.new.rows.by_site.items ≡ length self.old.rows.by_site.items }
+        ensures blocks { self.new.paths.blocks ≡ self.old.paths.blocks }
+        ensures same { result ≡ false → self.new ≡ self.old }
+    {
+        let here = self.here;
         let place = self.rows.by_site[here as usize].place;
         if self.paths.has_steps(place, here) {
             self.flush_to(place, count);
@@ -216,8 +230,9 @@ impl SiteTable {
         ensures bounded { result ≡ true → StaysBoundedIn site self.old self.new }
         ensures same { result ≡ false → self.new ≡ self.old }
     {
-        if self.rows.has(site) {
-            if self.flush_ready(count) {
+        // One question for both sites.
+        if self.rows.has(site.max(self.here)) {
+            if self.flush_there(count) {
                 let path = self.paths.weight;
                 self.begin_row_ready(site, path);
                 return true;
