@@ -59,7 +59,9 @@ fn main(rt: HostRuntime) -> ExitCode {
     ExitCode::from(status)
 }
 
-// Answers on a source, with as many workers as are asked for; gives the exit status.
+// Answers on a source, with as many workers as are asked for; gives the exit status. Apart for each kind of source, and the
+// words apart: how long `main` is decides where the loops of a run come to lie, and so what calls with measures take.
+#[inline(never)]
 fn answer<R: Threads + Wait + Copy + Drop + Send + 'static, D: Input, W: Sink, E: Sink>(
     rt: &R,
     alloc: Global,
@@ -81,6 +83,7 @@ fn answer<R: Threads + Wait + Copy + Drop + Send + 'static, D: Input, W: Sink, E
 }
 
 // The words behind the program's own name.
+#[inline(never)]
 fn words_of(rt: &(impl Env + AllocGlobal), alloc: Global) -> Result<Vec<String>, Fault> {
     match env::args(rt) {
         Ok(args) => Ok(args.skip(1).collect(alloc)?),
