@@ -12,6 +12,7 @@ pub mod Rowing
 pub mod Indexing
 pub mod Elements
 pub mod Moving
+pub mod Zeroing
 pub mod Singly
 pub mod Order
 pub mod Passing

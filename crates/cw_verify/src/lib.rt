@@ -1,6 +1,7 @@
 //! Code that a run can trust.
 #![tactic(auto)]
 
+mod calls;
 mod flat;
 mod found;
 pub mod fuse;
