@@ -3,11 +3,13 @@
 
     answers.py PROGRAM [OTHER]   the reports of each example; with OTHER, which both answer byte for byte alike, its status and
                                  standard error too, in each mode by one worker and by four, within a limit that the run
-                                 passes, of sources that are cut off behind their first half, and of the help
+                                 passes, of sources that are cut off behind their first half, of sums, differences and
+                                 products of numbers at the ends of 64 bits, and of the help
 
 The files come from the other implementation of the language (bench/reference), never from cilkwork. The last line is how
 many answers were held; the status is 1 where one differs.
 """
+import itertools
 import pathlib
 import subprocess
 import sys
@@ -15,6 +17,7 @@ import sys
 EXAMPLES = pathlib.Path(__file__).resolve().parent.parent / "examples"
 ENDINGS = {"run": ".out", "scale": ".scale.csv", "sites": ".sites.csv", "greedy": ".greedy.csv", "gain": ".gain.csv"}
 PROCESSORS = "8"
+ENDS = ["0", "1", "(0 - 1)", "3037000500", "9223372036854775807", "(0 - 9223372036854775807 - 1)"]
 HELP = [["--help"], ["--version"], ["help"], *[[verb, "--help"] for verb in ("check", *ENDINGS)], ["nothing"], ["greedy", "2"]]
 
 
@@ -49,6 +52,9 @@ def alike(program, other, files):
             tries += [([*words, "--limit", "100"], b"")]
         for words, given in tries:
             yield words, answer(program, words, given) == answer(other, words, given)
+    for one, sign, two in itertools.product(ENDS, "+-*", ENDS):
+        source = f"int main() {{ int a = {one}; int b = {two}; return a {sign} b; }}".encode()
+        yield [one, sign, two], answer(program, [], source) == answer(other, [], source)
     for words in HELP:
         yield words, answer(program, words) == answer(other, words)
 
