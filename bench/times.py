@@ -7,8 +7,11 @@
                                      rounds
     times.py PROGRAM gain [ROUNDS]   the same of `gain` by `scale`: of one function more, and of ten; and by the clock, with
                                      1, 2 and 4 workers
+    times.py short ROUNDS PROGRAM..  of several built programs in one series: the least of so many interleaved short runs of
+                                     `run` less that of a run of 1, beside C. Where a machine changes its speed now and
+                                     then, short runs find its better moments sooner
 
-Sizes are such that what begins and ends a process is a small part, and rounds short: a machine that is shared is now and
+Other sizes are such that what begins and ends a process is a small part, and rounds short: a machine that is shared is now and
 then slower for seconds. Where other work runs beside, ratios still compare, since the rounds are interleaved; seconds do
 not.
 """
@@ -28,6 +31,8 @@ LIMIT = "4611686018427387904"
 PROGRAMS = [("fib", "29", 0.42, 0.58), ("chain", "4000", 0.55, 0.62), ("sieve", "1000000", 0.36, 0.34),
             ("mergesort", "100000", 0.4, 0.4), ("matrix", "110", 0.42, 0.4), ("queens", "10", 0.48, 0.46)]
 
+# sizes of short runs
+SHORT = {"fib": "26", "chain": "1200", "sieve": "200000", "mergesort": "15000", "matrix": "50", "queens": "8"}
 CREWS = ("1", "2", "4")
 
 # other interpreters, LuaJIT without its compiler
@@ -109,6 +114,23 @@ def gains(program, rounds="15"):
     return above
 
 
+def short(rounds, programs):
+    """A table of short runs of several programs."""
+    least = {}
+    with tempfile.TemporaryDirectory() as folder:
+        asked = [commands(os.path.abspath(it), folder) for it in programs]
+        for _ in range(int(rounds)):
+            for name, size in SHORT.items():
+                for k, command in enumerate([asked[0][name]["switch"], *(it[name]["run"] for it in asked)]):
+                    for n in (size, "1"):
+                        least[name, k, n] = min(least.get((name, k, n), 1e9), taken([*command[:-1], n]))
+    print("| program | C | " + " | ".join(programs) + " |\n|---|---" + "|---" * len(programs) + "|")
+    for name, size in SHORT.items():
+        row = [least[name, k, size] - least[name, k, "1"] for k in range(len(programs) + 1)]
+        print(f"| {name} {size} | {row[0]:.4f} | " + " | ".join(f"{it / row[0]:.3f}" for it in row[1:]) + " |")
+    return 0
+
+
 def crews(program, rounds):
     """A table of `gain --top 10` by workers, and how many functions it tells."""
     least, told = {}, {}
@@ -149,6 +171,8 @@ def main(program, rounds="15"):
 
 
 if __name__ == "__main__":
+    if sys.argv[1:2] == ["short"] and len(sys.argv) > 3:
+        sys.exit(short(sys.argv[2], sys.argv[3:]))
     words = [it for it in sys.argv[1:] if it != "gain"]
     if len(words) not in (1, 2):
         sys.exit(__doc__)
