@@ -1,12 +1,12 @@
 //! The tree of a whole source.
 
-ghost use Rattle.std.specs.Prelude.{◌≡◌, ◌-◌, ◌≤◌, length, drop, IfOk, MatchResult};
+ghost use Rattle.std.specs.Prelude.{◌≡◌, ◌-◌, ◌≤◌, length, drop, IfOk, IfSome, MatchResult};
 ghost use Rattle.cw_model.specs.declared.limits.TheConstants.{MOST_SOURCE_BYTES};
 ghost use Rattle.cw_model.specs.Text.{end_line};
 ghost use Rattle.cw_model.specs.Tokens.{IsTokenCut};
-ghost use Rattle.cw_model.specs.Grammar.{Derives, first_line};
+ghost use Rattle.cw_model.specs.Grammar.{Derives, HasSyntaxFault, first_line};
 ghost use Rattle.cw_tree.specs.SyntaxView.{program_of};
-ghost use Rattle.cw_parse.specs.Parsed.{AreRefused, HasNoTree, IsParsed, IsUnparsed};
+ghost use Rattle.cw_parse.specs.Parsed.{HasNoTree, IsParsed, IsUnparsed};
 
 use crate::input::Reading;
 use crate::item::whole;
@@ -101,7 +101,8 @@ pub fn first_refused(
     tokens: &[Token],
 ) -> Result<Option<usize>, AllocError>
     requires { IsTokenCut source.now tokens.now }
-    ensures { IfOk result (λ found. AreRefused source.now tokens.now found) }
+    ensures { IfOk result (λ found. IfSome found (λ place.
+        HasSyntaxFault source.now tokens.now (first_line source.now (drop place tokens.now)))) }
 {
     let text = source.bytes();
     let names = Names::of(alloc, text, tokens)?;
