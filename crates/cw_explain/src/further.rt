@@ -42,8 +42,6 @@ impl fmt::Display for Said<'_> {
 fn said_of(around: &Around<'_>) -> Option<&'static str> {
     let rows = if around.is_inside { WORDS } else { OUTSIDE };
     match row_of(around, rows, around.is_at_front()) {
-        // a while that ends a C program's do has no block
-        None if around.is_like(&["while"], &[], &[";"]) => None,
         None if around.is_inside && around.is_bare() => Some(BARE),
         says => says,
     }
