@@ -22,6 +22,8 @@ def pieces(lines):
     for line in lines:
         if begun := LABEL.match(line):
             label, piece = begun[1], []
+        elif line.endswith(":") or line.startswith("\tret"):
+            label = None
         elif label and line.startswith("\t") and not line.startswith("\t."):
             piece.append(line)
             if line.startswith("\tj"):
