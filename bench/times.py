@@ -11,9 +11,9 @@
                                      `run` less that of a run of 1, beside C. Where a machine changes its speed now and
                                      then, short runs find its better moments sooner
 
-Other sizes are such that what begins and ends a process is a small part, and rounds short: a machine that is shared is now and
-then slower for seconds. Where other work runs beside, ratios still compare, since the rounds are interleaved; seconds do
-not.
+Other sizes are such that what begins and ends a process is a small part, and rounds short: a machine that is shared is
+now and then slower for seconds. Where other work runs beside, ratios still compare, since the rounds are interleaved;
+seconds do not.
 """
 import os
 import pathlib
@@ -171,8 +171,8 @@ def main(program, rounds="15"):
 
 
 if __name__ == "__main__":
-    if sys.argv[1:2] == ["short"] and len(sys.argv) > 3:
-        sys.exit(short(sys.argv[2], sys.argv[3:]))
+    if sys.argv[1:2] == ["short"]:
+        sys.exit(short(sys.argv[2], sys.argv[3:]) if len(sys.argv) > 3 else __doc__)
     words = [it for it in sys.argv[1:] if it != "gain"]
     if len(words) not in (1, 2):
         sys.exit(__doc__)
