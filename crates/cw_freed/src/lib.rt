@@ -15,7 +15,8 @@
 //! | a join of the block that runs | `sync(count)` |
 //! | any other | none (`laws::instructions_need_no_call`) |
 //!
-//! No call looks anything up in a table, and none takes memory but for the stack of open parts.
+//! No call looks anything up in a table, and none takes memory but for the stack of open parts. After an error, which says
+//! that memory ran out, a meter tells of nothing.
 #![tactic(auto)]
 
 pub mod laws;

@@ -1,6 +1,6 @@
 //! What a piece of a run keeps of its strand dag, to be joined with the pieces beside it.
 
-ghost use Rattle.std.specs.Prelude.{◌≡◌, ◌<◌, ◌≤◌, ◌++◌, ◌∷◌, [], Ok, Err, IfOk, OnOk, IsOk, IsTrue, ◌↔◌};
+ghost use Rattle.std.specs.Prelude.{◌≡◌, ◌<◌, ◌≤◌, ◌++◌, ◌∷◌, [], Ok, Err, IfOk, OnErr, OnOk, IsOk, IsTrue, ◌↔◌};
 ghost use Rattle.cw_greedy.specs.Entries.{code_of_cut, codes_kept, codes_of_chunks, codes_of_entry, entry};
 ghost use Rattle.cw_greedy.specs.Recorded.{capped, cuts, followed};
 ghost use Rattle.cw_model.specs.declared.limits.TheConstants.{MOST_STRANDS};
@@ -72,8 +72,9 @@ impl Piece {
     /// So many instructions more, and a cut behind them. Where the strands are too many they are counted on, and nothing
     /// else is kept. The error is want of memory, after which all is kept but these.
     pub fn note(&mut self, before: u64, cut: Cut) -> Result<(), AllocError>
-        ensures { OnOk result
+        ensures noted { OnOk result
             (self.new ≡ followed self.old (Ok (codes_of_entry (entry before cut)))) }
+        ensures kept { OnErr result (self.new ≡ self.old) }
     {
         let cuts = self.cuts.saturating_add(cut_by(cut));
         if cuts >= MOST_STRANDS {

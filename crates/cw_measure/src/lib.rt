@@ -13,6 +13,8 @@
 //! (`Since`) is any list of instructions and of joins of a block that has not spawned, so a machine counts instructions
 //! and calls only where it spawns, ends a child or joins a block that has spawned; before the weight is read, it notes.
 //!
+//! After an error, which says that memory ran out, a path tells of nothing.
+//!
 //! What calls of sites and executions of tags are summed by is one theory (`specs/Outermost`): a tally over the parts
 //! with some mark that lie in no other part with it, of whatever is metered along a part. `cw_sites` and `cw_regions`
 //! are instances.

@@ -16,7 +16,8 @@
 //! The rest of a block that a strand of its own runs has a recorder of its own (`apart`), in which a child of the block
 //! is out from the first. Where the rest has come to the block's join, `rest` puts its codes behind those of the block.
 //!
-//! Once the strands are too many, they are counted on, and no entry is kept.
+//! Once the strands are too many, they are counted on, and no entry is kept. After an error, which says that memory ran
+//! out, a recorder tells of nothing.
 #![tactic(auto)]
 
 pub mod laws;

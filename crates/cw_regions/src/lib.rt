@@ -18,7 +18,7 @@
 //!
 //! A piece that runs apart inside of open executions begins with a table of its own (`new`), and is told of none of
 //! them. Where it has ended, `join` adds it, as the next piece of the block that runs, and leaves out what lies inside
-//! of open executions.
+//! of open executions. After an error, which says that memory ran out, a table tells of nothing.
 #![tactic(auto)]
 
 pub mod laws;

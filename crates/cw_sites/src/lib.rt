@@ -39,6 +39,8 @@
 //! then tells of all events in serial order, as if none had run apart (`laws::pieces_are_one`): ties too. A join takes one
 //! step for each row that the piece has and for each step of its path, which is at most twice the sites and a constant.
 //!
+//! After an error, which says that memory ran out, a table tells of nothing.
+//!
 //! What a machine states against the trace of the code's meaning: with the waiting calls of the state as open parts
 //! and the trace's events cut into `es ++ fs`, the table tells of `es`, and `fs` are `Since` its last call up to the
 //! count: instructions, and joins of a block that had spawned nothing. So an instruction that is none of the above only

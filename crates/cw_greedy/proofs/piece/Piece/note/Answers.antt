@@ -4,8 +4,8 @@ use Rattle.cw_greedy.specs.Recorded.{cuts, followed, recorded}
 use Rattle.cw_greedy.specs.RecordLaws.{Counts, cuts-append, few_is, stored_few, stored_many}
 use Rattle.cw_greedy.proofs.piece.Piece.note.Goals as goal
 
-pub returns-then-cuts-ge-MOST_STRANDS : goal.returns-then-cuts-ge-MOST_STRANDS
-returns-then-cuts-ge-MOST_STRANDS c =
+pub returns-then-cuts-ge-MOST_STRANDS-clause-noted : goal.returns-then-cuts-ge-MOST_STRANDS-clause-noted
+returns-then-cuts-ge-MOST_STRANDS-clause-noted c =
     let n = c.self.inside.cuts in
     let l = codes_kept c.self.inside.chunks.items c.self.inside.last.items in
     let m = codes_of_entry (entry c.args.before c.args.cut) in
@@ -16,8 +16,8 @@ returns-then-cuts-ge-MOST_STRANDS c =
     c.drop.view_is ∙ c.too_many.ensures ∙ e ∙ ap (λ x. followed x (recorded (cuts m) m)) c.self.view_is
     ∙ ap (followed c.args.self.now) (few_is (cuts m) m (omega (arith, c.cut_by.ensures.value, c.cut_by.ensures.small)))
 
-pub returns : goal.returns
-returns c =
+pub returns-clause-noted : goal.returns-clause-noted
+returns-clause-noted c =
     let n = c.self.inside.cuts in
     let l = codes_kept c.self.inside.chunks.items c.self.inside.last.items in
     let e = entry c.args.before c.args.cut in

@@ -8,5 +8,5 @@ pub returns : goal.returns
 returns c =
     let old = c.args.self.now in
     let before : c.saturating_sub.result ≡ c.args.count - old.noted = omega (arith, c.saturating_sub.ensures) in
-    let kept = c.in_ok-note.ensures ∙ ap (λ (n : ℕ). followed old.kept (Ok (codes_of_entry (entry n c.args.cut)))) before in
+    let kept = c.in_ok-note.ensures.noted ∙ ap (λ (n : ℕ). followed old.kept (Ok (codes_of_entry (entry n c.args.cut)))) before in
     noted_entry old (record { kept = c.note.new.self; noted = c.args.count; out = old.out; parts = old.parts }) c.args.count c.args.cut refl kept refl refl
