@@ -27,7 +27,7 @@ use Rattle.cw_loops.proofs.Numbers.{between, add_range, range_is, tested}
 use Rattle.cw_loops.proofs.Tables.{keys}
 use Rattle.cw_loops.proofs.Arguments.{Fresh, FreshPairs, table, pairs}
 use Rattle.cw_loops.proofs.Leaf.{entry, Turns}
-use Rattle.cw_loops.proofs.Pieces.{at_leaf, at_node}
+use Rattle.cw_model.specs.lemmas.LoopPieces.{at_leaf, at_node}
 use Rattle.cw_loops.proofs.LeafCall.{Gone, leaf_call, grain_gives, whole_left, whole_right, first_right}
 use Rattle.cw_loops.proofs.Cuts.{Half, Both, halves_piece, Cutting, Long, cuts_lag}
 use Rattle.cw_loops.specs.lemmas.Outcomes.{then_same}

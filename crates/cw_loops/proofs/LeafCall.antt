@@ -17,7 +17,7 @@ use Rattle.cw_model.specs.Outcome.{Outcome, Done, then_do, quiet, shows, pay}
 use Rattle.cw_model.specs.Loops.{leaf_turns}
 use Rattle.cw_model.specs.LoopLaws.{for_body}
 use Rattle.cw_model.specs.Meaning.{Normal, onward, going, scoped, Returned, SameDepth, Calls, turns, run_all, call, end_of_call}
-use Rattle.cw_loops.proofs.Pieces.{leaf_piece}
+use Rattle.cw_model.specs.lemmas.LoopPieces.{leaf_piece}
 use Rattle.cw_loops.specs.Lowered.{is_plain, low, high, range, on_line, leaf_turn, leaf_block, node_block, loop_function}
 use Rattle.cw_loops.proofs.Alike.{Whole, whole_done, then_then, after_quiet, pay_pay}
 use Rattle.cw_loops.proofs.Chained.{whole_pay, whole_then, whole_after, chain_nil, chain_join}

@@ -5,7 +5,6 @@ mod Numbers
 mod Tables
 mod Leaf
 mod Lags
-mod Pieces
 mod LeafCall
 mod Arguments
 mod Cuts

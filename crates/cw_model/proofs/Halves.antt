@@ -10,13 +10,14 @@ use Rattle.std.proofs.lemmas.List.Sums.{sum_by-append, sum_by-cons}
 use Rattle.cw_model.specs.declared.trap.Trap.{Trap}
 use Rattle.cw_model.specs.Trees.{Tree, Leaf, Seq, Par, Event, Series, Fork, Join, works, tree_of}
 use Rattle.cw_model.specs.Frames.{Frame}
-use Rattle.cw_model.specs.Outcome.{Trace, shows, joined, Done, Trapped, Piece, ◌>>=◌, quiet, gives, show, pay, as_one}
+use Rattle.cw_model.specs.Outcome.{Trace, shows, joined, Done, Trapped, Piece, quiet}
 use Rattle.cw_model.specs.Loops.{leaf_start, turn_start, turn_end, leaf_end, node_start, node_call, node_end, leaf_turns}
 use Rattle.cw_model.specs.Loops.{halves, turns_tree, loop_tree, inner_nodes, Turn, TurnsLead, no_turn, one_turn}
 use Rattle.cw_model.specs.LoopLaws.{IsBody, spent, lines_of, additions_of, trees_of, RunsAsPlain, TrapsAsPlain}
 use Rattle.cw_model.specs.TreeLaws.{Regrouped, same, further, to_the_right, nothing_after, in_series, in_fork}
 use Rattle.cw_model.specs.lemmas.Regrouping.{same_normal}
 use Rattle.cw_model.proofs.Endings.{Ends, at_end, at_limit, weaken, itself, after_ends, then_ends, pay_ends, one_part, one_then_ends, when_done, when_trapped}
+use Rattle.cw_model.specs.lemmas.LoopPieces.{leaf_piece, node_piece}
 use Rattle.cw_model.specs.lemmas.Parts.{PartsAre, parts_nil, parts_works, parts_series, parts_fork, parts_join, regrouped_parts, tree_of_parts}
 
 step : (from : ℤ) (m : ℕ) → from +ℤ pos 1 +ℤ pos m ≡ from +ℤ pos (suc m)
@@ -24,24 +25,6 @@ step from m = omega (arith, ints)
 
 steps : (from : ℤ) (l m : ℕ) → from +ℤ pos l +ℤ pos m ≡ from +ℤ pos (l + m)
 steps from l m = omega (arith, ints)
-
--- a leaf, and an inner node with what its halves do
-abbrev pub leaf_piece : ℕ → ℤ → (ℤ → Frame → Piece Frame) → Frame → Piece Frame
-leaf_piece n from body frame = do
-  _ ← pay leaf_start
-  frame' ← leaf_turns n from body frame
-  _ ← pay leaf_end
-  gives frame'
-
-abbrev pub node_piece : (k q : ℕ) → (first second : Frame → Piece Frame) → Frame → Piece Frame
-node_piece k q first second frame = do
-  _ ← pay (node_start k q)
-  frame' ← as_one Fork (λ left. first frame left)
-  _ ← pay (node_call k)
-  frame'' ← as_one Series (λ left. second frame' left)
-  _ ← show (shows (Join ∷ []))
-  _ ← pay (node_end q)
-  gives frame''
 
 -- what a loop costs beside its bodies, at most so deep
 abbrev pub cost_at : (depth grain k q n : ℕ) → ℕ

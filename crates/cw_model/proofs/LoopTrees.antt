@@ -9,7 +9,8 @@ use Rattle.cw_model.specs.Trees.{Tree, Leaf, Seq, Par, work}
 use Rattle.cw_model.specs.Frames.{Frame}
 use Rattle.cw_model.specs.Outcome.{Piece}
 use Rattle.cw_model.specs.Loops.{leaf_start, leaf_end, node_start, node_call, node_end, halves, turns_tree, loop_tree, inner_nodes, loop_cost}
-use Rattle.cw_model.proofs.Halves.{leaf_piece, node_piece, cost_at, nodes_of_leaf, nodes_of_node, cost_of_leaf, costs_of_node}
+use Rattle.cw_model.specs.lemmas.LoopPieces.{leaf_piece, node_piece}
+use Rattle.cw_model.proofs.Halves.{cost_at, nodes_of_leaf, nodes_of_node, cost_of_leaf, costs_of_node}
 
 work-turns_tree : (ts : List Tree) → work (turns_tree ts) ≡ leaf_end + 11 * length ts + sum_by work ts
 work-turns_tree [] = refl

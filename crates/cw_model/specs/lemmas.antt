@@ -8,3 +8,4 @@ pub mod Parts
 pub mod Regrouping
 pub mod Fits
 pub mod Freed
+pub mod LoopPieces

@@ -35,7 +35,7 @@ instructions_of_cut cut.Ended codes = refl
 instructions_of_cut cut.Joined codes = refl
 instructions_of_cut cut.Called codes = refl
 
-instructions-append : (a b : List Code) → instructions (a ++ b) ≡ instructions a + instructions b
+pub instructions-append : (a b : List Code) → instructions (a ++ b) ≡ instructions a + instructions b
 instructions-append [] b = omega arith
 instructions-append (Instructions n ∷ a) b = omega (arith, instructions-append a b)
 instructions-append (Spawned first ∷ a) b = instructions-append a b
@@ -57,7 +57,7 @@ sum_chunk chunks i chunk entries l is e =
     ap instructions (next_chunk chunks i chunk entries l is e) ∙ instructions-append (codes_of_entries entries) (codes_of_chunks (drop (i + 1) chunks))
 
 -- their spawns
-spawned-append : (a b : List Code) → spawned (a ++ b) ≡ spawned a + spawned b
+pub spawned-append : (a b : List Code) → spawned (a ++ b) ≡ spawned a + spawned b
 spawned-append [] b = omega arith
 spawned-append (Instructions n ∷ a) b = spawned-append a b
 spawned-append (Spawned first ∷ a) b = omega (arith, spawned-append a b)

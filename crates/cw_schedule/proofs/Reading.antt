@@ -7,6 +7,7 @@ use Rattle.cw_greedy.specs.Jumping.{Block, Last, Fork}
 use Rattle.cw_greedy.specs.Blocks.{add_before, put_before, block_of, Stands, InSeries, AsChild, AsRest, codes_of}
 use Rattle.cw_greedy.specs.Records.{instructions_before, merged, IsRecordOf}
 use Rattle.cw_greedy.specs.Counts.{spawns_in}
+use Rattle.cw_schedule.proofs.Chunks.{instructions-append, spawned-append}
 use Rattle.cw_schedule.specs.Reading.{Frame, InChild, InRest, add_at_end, fork_at_end, joined, after_join, read, instructions, spawned}
 
 -- a tree at the end of a block
@@ -170,28 +171,20 @@ sum_merged (Ended ∷ codes) = sum_merged codes
 sum_merged (Joined ∷ codes) = sum_merged codes
 sum_merged (Called ∷ codes) = sum_merged codes
 
-sum-append : (a b : List Code) → instructions (a ++ b) ≡ instructions a + instructions b
-sum-append [] b = omega arith
-sum-append (Instructions n ∷ a) b = omega (arith, sum-append a b)
-sum-append (Spawned first ∷ a) b = sum-append a b
-sum-append (Ended ∷ a) b = sum-append a b
-sum-append (Joined ∷ a) b = sum-append a b
-sum-append (Called ∷ a) b = sum-append a b
-
 sum_call : (codes : List Code) → instructions (codes ++ Called ∷ []) ≡ instructions codes
-sum_call codes = omega (arith, sum-append codes (Called ∷ []))
+sum_call codes = omega (arith, instructions-append codes (Called ∷ []))
 
 sum_fork : (child rest : List Code) → instructions (child ++ Ended ∷ (rest ++ Joined ∷ [])) ≡ instructions child + instructions rest
-sum_fork child rest = omega (arith, sum-append child (Ended ∷ (rest ++ Joined ∷ [])), sum-append rest (Joined ∷ []))
+sum_fork child rest = omega (arith, instructions-append child (Ended ∷ (rest ++ Joined ∷ [])), instructions-append rest (Joined ∷ []))
 
 sum_of : (at : Stands) (t : Tree) → instructions (codes_of at t) ≡ work t
 sum_of at (Leaf k) = omega arith
-sum_of InSeries (Seq t u) = omega (arith, sum-append (codes_of InSeries t) (codes_of InSeries u), sum_of InSeries t, sum_of InSeries u)
-sum_of AsChild (Seq t u) = omega (arith, sum-append (codes_of InSeries t) (codes_of InSeries u), sum_of InSeries t, sum_of InSeries u)
-sum_of AsRest (Seq t u) = omega (arith, sum-append (codes_of InSeries t) (codes_of AsRest u), sum_of InSeries t, sum_of AsRest u)
+sum_of InSeries (Seq t u) = omega (arith, instructions-append (codes_of InSeries t) (codes_of InSeries u), sum_of InSeries t, sum_of InSeries u)
+sum_of AsChild (Seq t u) = omega (arith, instructions-append (codes_of InSeries t) (codes_of InSeries u), sum_of InSeries t, sum_of InSeries u)
+sum_of AsRest (Seq t u) = omega (arith, instructions-append (codes_of InSeries t) (codes_of AsRest u), sum_of InSeries t, sum_of AsRest u)
 sum_of InSeries (Par t u) = omega (arith, sum_fork (codes_of AsChild t) (codes_of AsRest u), sum_of AsChild t, sum_of AsRest u)
 sum_of AsChild (Par t u) = omega (arith, sum_fork (codes_of AsChild t) (codes_of AsRest u), sum_of AsChild t, sum_of AsRest u)
-sum_of AsRest (Par t u) = omega (arith, sum-append (codes_of AsChild t) (Ended ∷ codes_of AsRest u), sum_of AsChild t, sum_of AsRest u)
+sum_of AsRest (Par t u) = omega (arith, instructions-append (codes_of AsChild t) (Ended ∷ codes_of AsRest u), sum_of AsChild t, sum_of AsRest u)
 sum_of AsChild (Marked mark t) = sum_of InSeries t
 sum_of InSeries (Marked (Execution tag) t) = sum_of InSeries t
 sum_of InSeries (Marked (Invocation site) t) = sum_call (codes_of InSeries t) ∙ sum_of InSeries t
@@ -226,14 +219,6 @@ spawned_merged (Spawned first ∷ codes) = ap (λ m. 1 + m) (spawned_merged code
 spawned_merged (Ended ∷ codes) = spawned_merged codes
 spawned_merged (Joined ∷ codes) = spawned_merged codes
 spawned_merged (Called ∷ codes) = spawned_merged codes
-
-spawned-append : (a b : List Code) → spawned (a ++ b) ≡ spawned a + spawned b
-spawned-append [] b = omega arith
-spawned-append (Instructions n ∷ a) b = spawned-append a b
-spawned-append (Spawned first ∷ a) b = omega (arith, spawned-append a b)
-spawned-append (Ended ∷ a) b = spawned-append a b
-spawned-append (Joined ∷ a) b = spawned-append a b
-spawned-append (Called ∷ a) b = spawned-append a b
 
 spawned_fork : (child rest : List Code) → spawned (child ++ Ended ∷ (rest ++ Joined ∷ [])) ≡ spawned child + spawned rest
 spawned_fork child rest = omega (arith, spawned-append child (Ended ∷ (rest ++ Joined ∷ [])), spawned-append rest (Joined ∷ []))
