@@ -1,8 +1,6 @@
 -- What is frozen in the outermost call stays as it is.
 use Rattle.std.proofs.Common.{◌≡◌, inl, inr, ⊎_elim, ℕ, suc, ◌+◌, ◌<◌, ℤ, Bool, true, false, if◌then◌else◌, Option, Some, None, List, [], ◌∷◌, ◌++◌, length, refl, sym, ap, ◌∙◌, subst, arith}
-use Rattle.std.specs.Coded.{Coded, Coded-set, code_by, coded×, coded_option, coded_ℕ, coded_bool}
 use Rattle.std.specs.Prelude.{take, drop, map, slice_get, slice_set, is_none}
-use Rattle.std.proofs.lemmas.Option.{same_Some}
 use Rattle.std.proofs.lemmas.Bool.{false≢true}
 use Rattle.cw_facts.specs.Lists.{set_other}
 use Rattle.cw_facts.specs.Tests.{first_true, second_true}
@@ -23,11 +21,11 @@ use Rattle.cw_code.specs.Run.{put_in, slot_taken, Entering, begun, call_of, move
 use Rattle.cw_code.specs.Run.{back, resumes, closed, resumes_uncut, cut_ends, cut_arrays, synced, passed_by, lent_by, act, step}
 use Rattle.cw_code.specs.Fits.{Row, Outer, Shape, frozen_rows, is_full_in, full_in_all, none_frozen, slots_cut, slots_uncut, changes, changes_back, is_thawed, with_gone}
 use Rattle.cw_code.specs.Fits.{slots_lent, with_lent, closed_shape, uncut_shape, leaves, nexts, CoversEach, Table, FlowsInto, FlowsIntoEach, Fits}
-use Rattle.cw_code.specs.Good.{IsNotAmong, slots_in, arrays_round, all_of, CutsAgree, Seat, AllResume, GoodState, Facts}
+use Rattle.cw_code.specs.Good.{IsNotAmong, slots_in, arrays_round, all_of, CutsAgree, AllResume, GoodState, Facts}
 use Rattle.cw_code.specs.Staying.{outermost}
 use Rattle.cw_code.specs.Frozen.{is_join, all_frozen, IsFrozenIn, IsFrozenAt, outermost_arrays, AreBlocks, JoinsInside, changed_by, FrozenStay, FrozenSpared}
+use Rattle.cw_code.specs.lemmas.Seats.{one_shape}
 use Rattle.cw_code.specs.lemmas.Acts.{IsLocal, IsOneOf, recur_of, start_of, acts_both}
-use Rattle.cw_code.proofs.Staying.{seats_lie}
 use Rattle.cw_code.proofs.Unstuck.{facts}
 
 as_many_rows : (there out : List Outer) → CoversEach there out → length (frozen_rows there) ≡ length (frozen_rows out)
@@ -91,15 +89,6 @@ parts_apart from [] given a n = tt
 parts_apart from (b ∷ passed) [] a n = tt
 parts_apart from (b ∷ passed) (xs ∷ given) a n = (n.0, parts_apart from passed given a n.1)
 
-func_code : Coded Func
-func_code = code_by (ℕ × (ℕ × (Bool × (ℕ × (ℕ × (ℕ × (ℕ × ℕ))))))) (coded× coded_ℕ (coded× coded_ℕ (coded× coded_bool (coded× coded_ℕ (coded× coded_ℕ (coded× coded_ℕ (coded× coded_ℕ coded_ℕ)))))))
-    (λ f. (f.start, (f.end, (f.gives_int, (f.params, (f.slots, (f.array_params, (f.arrays, f.readers))))))))
-    (λ t. record { start = t.0; end = t.1.0; gives_int = t.1.1.0; params = t.1.1.1.0; slots = t.1.1.1.1.0; array_params = t.1.1.1.1.1.0; arrays = t.1.1.1.1.1.1.0; readers = t.1.1.1.1.1.1.1 })
-    (λ _. refl)
-
-some_shape : (x y : Shape) → Some x ≡ Some y → x ≡ y
-some_shape x y e = cc
-
 -- the blocks that stand round a call that nothing waits for
 as_many_blocks : (outer : List Outer) (around : List Around) → CutsAgree outer around → AreBlocks around → length (frozen_rows outer) ≡ length around
 as_many_blocks [] [] c b = refl
@@ -110,24 +99,6 @@ as_many_blocks (o ∷ outer) (Caller w ∷ around) c b = absurd b
 as_many_blocks (o ∷ outer) (Block o' ∷ around) c b = ap suc (as_many_blocks outer around c.1 b)
 
 module _ (code : Code) (fits : Fits code) where
-  -- a place has one shape
-  one_shape : (place : ℕ) (seat other : Seat code fits place) → seat.shape ≡ other.shape
-  one_shape place seat other =
-      let inside = (seats_lie code fits).inside place other in
-      let e = (seats_lie code fits).one place other.index other.func seat other.is_func inside in
-      shapes seat.index other.index seat.func other.func e seat.is_func other.is_func seat.shape other.shape seat.at other.at
-    where
-      shapes : (i k : ℕ) (f g : Func) → i ≡ k → (fi : slice_get code.funcs i ≡ Some f) (gk : slice_get code.funcs k ≡ Some g) (x y : Shape)
-          → (fits.each i f fi).table place ≡ Some x → (fits.each k g gk).table place ≡ Some y → x ≡ y
-      shapes i k f g e fi gk x y tx ty =
-          let table = λ (i : ℕ) (f : Func) (p : slice_get code.funcs i ≡ Some f). (fits.each i f p).table place in
-          let same : f ≡ g = same_Some f g (sym fi ∙ ap (slice_get code.funcs) e ∙ gk) in
-          let tables : table i f fi ≡ table k g gk =
-          subst (λ l. (q : slice_get code.funcs l ≡ Some g) → table i f fi ≡ table l g q) e
-          (subst (λ h. (q : slice_get code.funcs i ≡ Some h) → table i f fi ≡ table i h q) same
-          (λ q. ap (λ p. table i f p) (Coded-set (coded_option func_code) (slice_get code.funcs i) (Some f) fi q))) gk in
-          some_shape x y (sym tx ∙ tables ∙ ty)
-
   module _ (depth a : ℕ) (xs : List ℤ) where
     -- a call at a place has the slot as frozen, and full
     abbrev Here : (place : ℕ) → Slots (List ℤ) → Type 0
@@ -206,7 +177,7 @@ module _ (code : Code) (fits : Fits code) where
 
       -- it is frozen in the shape of the state's place
       in_shape : IsFrozenAt code fits s.place depth a → Frozen shape
-      in_shape t = subst Frozen (one_shape s.place t.0 good.seat) t.1
+      in_shape t = subst Frozen (one_shape code fits s.place t.0 good.seat).1 t.1
 
       -- the call goes on at a place, with other arrays
       goes : (around : List Around) (p : ℕ) (out : Shape) (zs : Slots (List ℤ)) → FlowsInto table p out

@@ -14,17 +14,15 @@ use Rattle.cw_code.specs.Staying.{IsInside, outermost, FitStays, SeatsLie}
 use Rattle.cw_code.proofs.Unstuck.{facts}
 use Rattle.cw_code.specs.lemmas.Acts.{IsOneOf, acts_both, closing, uncutting, returning}
 use Rattle.cw_code.specs.lemmas.Lying.{one_function}
+use Rattle.cw_code.specs.lemmas.Seats.{lies_within}
 
 module _ (code : Code) (fits : Fits code) where
-  within : (place : ℕ) (seat : Seat code fits place) → IsInside seat.func place
-  within place seat = (fits.each seat.index seat.func seat.is_func).is_table.within place seat.shape seat.at
-
   alone : (place k : ℕ) (f : Func) (seat : Seat code fits place) → slice_get code.funcs k ≡ Some f → IsInside f place → seat.index ≡ k
   alone place k f seat is h =
-      one_function 0 code.funcs (length code.instrs) seat.index k place seat.func f fits.lie seat.is_func is (within place seat) h
+      one_function 0 code.funcs (length code.instrs) seat.index k place seat.func f fits.lie seat.is_func is (lies_within code fits place seat) h
 
   pub seats_lie : SeatsLie code fits
-  seats_lie = record { inside = within; one = alone }
+  seats_lie = record { inside = lies_within code fits; one = alone }
 
   module _ (k : ℕ) (f : Func) (is : slice_get code.funcs k ≡ Some f) where
     abbrev Keeps : Transition → Type 0

@@ -1,5 +1,6 @@
 -- Lemmas, which the proofs of crates above cite.
 pub mod Slots
 pub mod Lying
+pub mod Seats
 pub mod Runs
 pub mod Acts

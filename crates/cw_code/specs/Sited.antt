@@ -1,0 +1,16 @@
+-- A run calls at the sites of its code alone.
+use Rattle.std.specs.Prelude.{◌≡◌, ℕ, ◌+◌, ℤ, true, List, length, Some}
+use Rattle.cw_model.specs.declared.total.Total.{Total}
+use Rattle.cw_model.specs.Trees.{Tree}
+use Rattle.cw_model.specs.Rows.{sites_below}
+use Rattle.cw_model.specs.Answers.{Ended}
+use Rattle.cw_code.specs.Code.{Code}
+use Rattle.cw_code.specs.Run.{code_serial}
+
+-- where a run ends, each invocation in its tree is of a site of the code, whose numbers begin at 1;
+-- number 0 is the run's own call
+abbrev pub CallsAtItsSites : Code → Type 0
+CallsAtItsSites code =
+    (args : List ℤ) (n : ℕ) (value : ℤ) (lines : List ℤ) (totals : List Total) (tree : Tree)
+    → code_serial code args n ≡ Some (Ended value lines totals tree)
+    → sites_below (length code.sites + 1) tree ≡ true
