@@ -1,7 +1,7 @@
 -- Reducers, functions and whole sources.
-use Rattle.std.proofs.Common.{◌≡◌, ◌≢◌, ℕ, zero, suc, ◌<◌, ◌≤◌, Bool, true, false, List, [], ◌∷◌, ◌++◌, length as len, drop}
+use Rattle.std.proofs.Common.{◌≡◌, ◌≢◌, ℕ, zero, suc, ◌<◌, ◌≤◌, Bool, true, false, List, [], ◌∷◌, ◌++◌, length as len, take, drop}
 use Rattle.std.proofs.Common.{◌-◌, Ok, Err, Some, refl, sym, ap, subst, ◌∙◌, append_assoc, arith, inl, inr}
-use Rattle.std.proofs.lemmas.List.{append-nil, length-append}
+use Rattle.std.proofs.lemmas.List.{append-nil, length-append, take-append-drop}
 use Rattle.cw_model.specs.declared.token.Token.{Token}
 use Rattle.cw_model.specs.declared.token.Kind.{Kind}
 use Rattle.cw_model.specs.declared.token.Kind.TheVariants as kind
@@ -9,10 +9,10 @@ use Rattle.cw_model.specs.declared.syntax.Reduction.{Reduction}
 use Rattle.cw_model.specs.declared.syntax.Reduction.TheVariants.{Sum, Max}
 use Rattle.cw_model.specs.Syntax.{Block, Param, Reducer, Function, Program}
 use Rattle.cw_model.specs.Grammar as grammar
-use Rattle.cw_model.specs.Grammar.{name_of, gives_int_of, reduction_of, ReadsParams, ReadsFunction, ReadsItems, Derives, HasSyntaxFault, first_line}
+use Rattle.cw_model.specs.Grammar.{name_of, gives_int_of, reduction_of, ReadsParams, ReadsFunction, ReadsItems, CanBegin, Derives, HasSyntaxFault, first_line}
 use Rattle.cw_parse.specs.declared.marks.Mark.TheVariants as mark
 use Rattle.cw_parse.specs.Reading.{Read, Reader, by_first}
-use Rattle.cw_parse.specs.Parsed.{HasOneTree}
+use Rattle.cw_parse.specs.Parsed.{HasOneTree, IsRefusedAt}
 use Rattle.cw_parse.specs.Parts.{list, param, lines, reduction, reducer, function, Item, Total, Code, item, Items, put_item, items, whole}
 use Rattle.cw_parse.proofs.Reader.{Front, Stuck, IsUnique, SomeText, Done, tok, done, bind_ok, bind_err, ok_is}
 use Rattle.cw_parse.proofs.Exact.{Exact, Branch, First, any, any_stops, mark as token_of, same_exact, fewer_exact, first_exact, at_first, done_exact}
@@ -317,37 +317,62 @@ module _ (text : List ℕ) where
       let n : len ts - e ≡ len front = omega arith in
       rw n (ap (drop (len front)) parts ∙ drop_front front rest)
 
+  take_front : (front rest : List Token) → take (len front) (front ++ rest) ≡ front
+  take_front [] rest = refl
+  take_front (t ∷ front) rest = ap (λ l. t ∷ l) (take_front front rest)
+
+  front_is : (ts front rest : List Token) (e : ℕ) → ts ≡ front ++ rest → e ≡ len rest → take (len ts - e) ts ≡ front
+  front_is ts front rest e parts left =
+      let all = ap len parts ∙ length-append front rest in
+      let n : len ts - e ≡ len front = omega arith in
+      rw n (ap (take (len front)) parts ∙ take_front front rest)
+
   -- what reading a whole source answers
   abbrev pub Answer : List Token → Read Items → Type 0
   Answer ts (Ok x) = Derives text ts (program x.0)
-  Answer ts (Err e) = HasSyntaxFault text ts (first_line text (drop (len ts - e) ts))
+  Answer ts (Err e) = IsRefusedAt text ts (len ts - e)
+
+  -- where tokens are refused, a fault is in that line
+  pub fault_there : (ts : List Token) (place : ℕ) → IsRefusedAt text ts place → HasSyntaxFault text ts (first_line text (drop place ts))
+  fault_there ts place r = record {
+    before = take place ts;
+    rest = drop place ts;
+    parts = sym (take-append-drop place ts);
+    goes_on = r.goes_on;
+    no_further = r.no_further;
+    no_end = r.no_end;
+    same_line = refl;
+  }
 
   fault : (m : ℕ) (ts : List Token) (e : ℕ) → ((p : Program) → Derives text ts p → ⊥) → StuckItems m 1 ts e → Answer ts (Err e)
   fault m ts e none d = record {
-    before = d.front;
-    rest = d.rest;
-    parts = d.parts;
-    goes_on = (d.more, program d.value, record { some = d.some; items = d.completes });
-    no_further = λ t us is g. further t us is g.0 g.1 g.2;
+    within = omega arith;
+    goes_on = subst (λ w. CanBegin text w) (sym front) (d.more, program d.value, record { some = d.some; items = d.completes });
+    no_further = λ t us is g. begun t us (sym rest ∙ is) (subst (λ w. CanBegin text (w ++ t ∷ [])) front g);
     no_end = λ _ p r. none p r;
-    same_line = ap (first_line text) (rest_is ts d.front d.rest e d.parts d.left);
   }
     where
+      front : take (len ts - e) ts ≡ d.front
+      front = front_is ts d.front d.rest e d.parts d.left
+
+      rest : drop (len ts - e) ts ≡ d.rest
+      rest = rest_is ts d.front d.rest e d.parts d.left
+
       further : (t : Token) (us : List Token) → d.rest ≡ t ∷ us → (more : List Token) (p : Program) → Derives text ((d.front ++ t ∷ []) ++ more) p → ⊥
       further t us is more p r = d.dead t us is more (p.reducers, p.functions) (subst (λ w. Its 1 w (p.reducers, p.functions)) (append_assoc d.front (t ∷ []) more) r.items)
+
+      begun : (t : Token) (us : List Token) → d.rest ≡ t ∷ us → CanBegin text (d.front ++ t ∷ []) → ⊥
+      begun t us is g = further t us is g.0 g.1 g.2
 
   none_at_all : Answer [] (Err 0)
   none_at_all =
       let x = (one_exact (Unit {0}) 0 1).some in
       let one = subst (λ w. One 1 w x.value []) (append-nil x.text) (x.reads []) in
       record {
-        before = [];
-        rest = [];
-        parts = refl;
+        within = omega arith;
         goes_on = (x.text, program (put_item x.value.0 ([], [])), record { some = λ none. none_of_none one none; items = join ([], []) one grammar.no_item });
         no_further = λ t us is g. absurd cc;
         no_end = λ none p d. d.some refl;
-        same_line = refl;
       }
 
   pub whole_answers : (ts : List Token) → Answer ts (whole text (len ts) ts)

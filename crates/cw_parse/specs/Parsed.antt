@@ -1,10 +1,10 @@
 -- Which tokens parsing takes, and why it refuses others.
-use Rattle.std.specs.Prelude.{◌≡◌, ℕ, List, []}
+use Rattle.std.specs.Prelude.{◌≡◌, ◌≤◌, ℕ, List, [], ◌∷◌, ◌++◌, length, take, drop, Option, None, Some}
 use Rattle.cw_model.specs.declared.token.Token.{Token}
 use Rattle.cw_model.specs.Lines.{IsLeastLine}
 use Rattle.cw_model.specs.Sizes.{token_faults}
 use Rattle.cw_model.specs.Syntax.{Program}
-use Rattle.cw_model.specs.Grammar.{Derives, HasSyntaxFault}
+use Rattle.cw_model.specs.Grammar.{CanBegin, Derives, HasSyntaxFault}
 use Rattle.cw_text.specs.declared.fault.Fault.{Fault}
 use Rattle.cw_text.specs.declared.fault.Fault.TheVariants as fault
 
@@ -35,6 +35,19 @@ abbrev pub HasNoTree : List ℕ → List Token → Fault → Type 0
 HasNoTree text ts (fault.Syntax p) = HasSyntaxFault text ts p.line
 HasNoTree text ts fault.Memory = Unit {0}
 HasNoTree text ts _ = ⊥
+
+-- the tokens are no source: those before a place begin one, and with the token there they begin none; where no token is
+-- left there, the source ends too early
+pub record IsRefusedAt (text : List ℕ) (ts : List Token) (place : ℕ) : Type 0 where
+  pub within : place ≤ length ts
+  pub goes_on : CanBegin text (take place ts)
+  pub no_further : (t : Token) (us : List Token) → drop place ts ≡ t ∷ us → CanBegin text (take place ts ++ t ∷ []) → ⊥
+  pub no_end : drop place ts ≡ [] → (program : Program) → Derives text ts program → ⊥
+
+-- where they are refused, or that they are a source
+abbrev pub AreRefused : List ℕ → List Token → Option ℕ → Type 0
+AreRefused text ts None = (program : Program) × Derives text ts program
+AreRefused text ts (Some place) = IsRefusedAt text ts place
 
 -- tokens have at most one tree
 abbrev pub HasOneTree : List ℕ → List Token → Type 0

@@ -1,12 +1,10 @@
 //! The tree of a whole source.
 
-ghost use Rattle.std.specs.Prelude.{◌≡◌, ◌-◌, ◌≤◌, length, drop, IfOk, IfSome, MatchResult};
-ghost use Rattle.cw_model.specs.declared.limits.TheConstants.{MOST_SOURCE_BYTES};
-ghost use Rattle.cw_model.specs.Text.{end_line};
+ghost use Rattle.std.specs.Prelude.{◌≡◌, ◌-◌, length, drop, IfOk, MatchResult};
 ghost use Rattle.cw_model.specs.Tokens.{IsTokenCut};
-ghost use Rattle.cw_model.specs.Grammar.{Derives, HasSyntaxFault, first_line};
+ghost use Rattle.cw_model.specs.Grammar.{Derives, first_line};
 ghost use Rattle.cw_tree.specs.SyntaxView.{program_of};
-ghost use Rattle.cw_parse.specs.Parsed.{HasNoTree, IsParsed, IsUnparsed};
+ghost use Rattle.cw_parse.specs.Parsed.{AreRefused, HasNoTree, IsParsed, IsUnparsed};
 
 use crate::input::Reading;
 use crate::item::whole;
@@ -18,27 +16,12 @@ use cw_text::{Fault, Place, Source};
 use cw_tree::syntax::Ast;
 use std::alloc::{AllocError, Global};
 
-// The line of a text's end.
-fn end_line(text: &[u8]) -> u32
-    requires { length text.now ≤ MOST_SOURCE_BYTES }
-    ensures { result ≡ end_line text.now }
-{
-    let mut line = 1;
-    for byte in text {
-        if *byte == b'\n' {
-            line += 1;
-        }
-    }
-    line
-}
-
 // The line of the first one of the last tokens, or of the text's end where none is left.
-fn line_of(text: &[u8], tokens: &[Token], left: usize) -> u32
-    requires { length text.now ≤ MOST_SOURCE_BYTES }
-    ensures { result ≡ first_line text.now (drop (length tokens.now - left) tokens.now) }
+fn line_of(source: &Source, tokens: &[Token], left: usize) -> u32
+    ensures { result ≡ first_line source.now (drop (length tokens.now - left) tokens.now) }
 {
     match &tokens[tokens.len().saturating_sub(left)..] {
-        [] => end_line(text),
+        [] => source.end_line(),
         [first, ..] => first.line,
     }
 }
@@ -87,7 +70,7 @@ fn tree_with(alloc: Global, source: &Source, names: &Names, tokens: &[Token]) ->
         Ok(ast) => Ok(ast),
         Err(Stop::Memory) => Err(Fault::Memory),
         Err(Stop::At(left)) => {
-            let line = line_of(text, tokens, left);
+            let line = line_of(source, tokens, left);
             Err(Fault::Syntax(Place { line }))
         }
     }
@@ -101,8 +84,7 @@ pub fn first_refused(
     tokens: &[Token],
 ) -> Result<Option<usize>, AllocError>
     requires { IsTokenCut source.now tokens.now }
-    ensures { IfOk result (λ found. IfSome found (λ place.
-        HasSyntaxFault source.now tokens.now (first_line source.now (drop place tokens.now)))) }
+    ensures { IfOk result (λ found. AreRefused source.now tokens.now found) }
 {
     let text = source.bytes();
     let names = Names::of(alloc, text, tokens)?;

@@ -1,7 +1,7 @@
 //! The text of a program.
 
 ghost use Rattle.std.specs.Prelude.{◌≡◌, MatchResult};
-ghost use Rattle.cw_model.specs.Text.{IsSourceText};
+ghost use Rattle.cw_model.specs.Text.{end_line, IsSourceText};
 ghost use Rattle.cw_text.specs.Sources.{IsNoSource};
 
 use crate::fault::{Fault, Place};
@@ -57,5 +57,18 @@ impl Source {
         ensures valid { IsSourceText self.now }
     {
         self.bytes.as_slice()
+    }
+
+    /// The line of the text's end: 1 and its LF bytes.
+    pub fn end_line(&self) -> u32
+        ensures { result ≡ end_line self.now }
+    {
+        let mut line = 1;
+        for byte in self.bytes.as_slice() {
+            if *byte == b'\n' {
+                line += 1;
+            }
+        }
+        line
     }
 }

@@ -105,7 +105,7 @@ impl<'a> Known<'a> {
         }
     }
 
-    /// The newest name is gone, if there is one, and an older one of its spelling is found again.
+    /// The newest name is gone, and an older one of its spelling is found again. It asks that there is one.
     pub fn forget(&mut self)
         requires { 1 ≤ length self.old }
         ensures { self.new ≡ oldest (length self.old - 1) self.old }

@@ -90,7 +90,7 @@ impl<'a> Table<'a> {
         }
     }
 
-    /// The last name is gone, if there is one.
+    /// The last name is gone. It asks that there is one.
     pub fn forget(&mut self)
         requires { 1 ≤ length self.old }
         ensures { self.new ≡ take (length self.old - 1) self.old }

@@ -3,7 +3,7 @@ use Rattle.cw_model.specs.Grammar.{Derives, HasSyntaxFault, first_line}
 use Rattle.cw_tree.specs.SyntaxView.{program_of}
 use Rattle.cw_parse.specs.Reading.{Fails}
 use Rattle.cw_parse.specs.Parts.{whole}
-use Rattle.cw_parse.proofs.Items.{Answer, whole_answers}
+use Rattle.cw_parse.proofs.Items.{Answer, fault_there, whole_answers}
 use Rattle.cw_parse.proofs.Cuts.{fewer_tokens}
 use Rattle.cw_parse.proofs.parser.tree_with.Goals as goal
 
@@ -25,6 +25,10 @@ returns-in-Err-At c =
     let text = c.bytes-text.result.now in
     let ts = c.args.tokens.now in
     let stops : whole text (length ts) ts ≡ Err c.in-Err-At.left = subst (λ s. Fails s (whole text (length ts) ts)) c.in-Err-At.field-0-is c.in-Err-At.ensures in
-    let answer : HasSyntaxFault text ts (first_line text (drop (length ts - c.in-Err-At.left) ts)) = subst (λ r. Answer text ts r) stops (whole_answers text ts) in
-    let line = c.line_of-line.ensures ∙ ap (λ n. first_line text (drop (length ts - n) ts)) c.in-Err-At.left-is in
-    subst (λ w. HasSyntaxFault w ts c.line_of-line.result) c.bytes-text.ensures.value (subst (λ l. HasSyntaxFault text ts l) (sym line) answer)
+    let answer : HasSyntaxFault text ts (first_line text (drop (length ts - c.in-Err-At.left) ts)) =
+    fault_there text ts (length ts - c.in-Err-At.left) (subst (λ r. Answer text ts r) stops (whole_answers text ts)) in
+    let source = c.args.source.now in
+    let there : HasSyntaxFault source ts (first_line source (drop (length ts - c.in-Err-At.left) ts)) =
+    subst (λ w. HasSyntaxFault w ts (first_line w (drop (length ts - c.in-Err-At.left) ts))) c.bytes-text.ensures.value answer in
+    let line = c.line_of-line.ensures ∙ ap (λ n. first_line source (drop (length ts - n) ts)) c.in-Err-At.left-is in
+    subst (λ l. HasSyntaxFault source ts l) (sym line) there
