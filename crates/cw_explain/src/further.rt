@@ -7,8 +7,7 @@ use crate::lexical::OfText;
 use crate::others::Named;
 use crate::phrase::Marks;
 use crate::refusals::Refusals;
-use crate::unparsed::{BARE, row_of};
-use crate::words::{OUTSIDE, WORDS};
+use crate::unparsed::{BARE, nowhere};
 use cw_lex::{Uncut, first_uncut};
 use cw_model::token::Token;
 use cw_reasons::MOST_TOLD;
@@ -40,8 +39,9 @@ impl fmt::Display for Said<'_> {
 
 // What is said of the token, if no source has it there, whatever stands before its statement.
 fn said_of(around: &Around<'_>) -> Option<&'static str> {
-    let rows = if around.is_inside { WORDS } else { OUTSIDE };
-    match row_of(around, rows, around.is_at_front()) {
+    match nowhere(around, around.is_at_front()) {
+        // a while that ends a C program's do has no block
+        None if around.is_like(&["while"], &[], &[";"]) => None,
         None if around.is_inside && around.is_bare() => Some(BARE),
         says => says,
     }

@@ -56,9 +56,13 @@ fn write_no_token<W: fmt::Write>(f: &mut fmt::Formatter<W>, byte: u8) -> fmt::Re
     }
     write!(f, "starts no token")?;
     match byte {
-        b'&' | b'|' => write!(
+        b'&' => write!(
             f,
-            ": there is no && and no ||; an if inside an if, or * and + of values that are 0 or 1"
+            ": there is no &&, but an if inside an if, or * of values that are 0 or 1; no operation on bits (n % 2 is the last one); and no address: an array is passed by its name"
+        ),
+        b'|' => write!(
+            f,
+            ": there is no ||, but an if in the else of an if, or + of values that are 0 or 1; and no operation on bits"
         ),
         b'#' => write!(f, ": there are no directives"),
         b'"' | b'\'' => write!(f, ": there is no text, only integers"),

@@ -135,7 +135,7 @@ fn sync_for(line: u32, since: Option<Start>) -> &'static str {
         return "; put one right before the block";
     }
     if start.line == line {
-        return "; put one between the two";
+        return "; put one at the end of the turn of a while around it, else between the two";
     }
     "; put one right before this statement"
 }
@@ -190,7 +190,7 @@ fn ends<'a>(name: Word<'a>, holder: Holder, line: u32, since: Option<Start>) -> 
 // A call that is given an array twice.
 fn given_twice<'a>(name: Word<'a>, callee: Word<'a>) -> Phrase<'a> {
     Phrase::of(
-        "@b is given @a twice: the arrays of a call differ; cut @a and pass its parts",
+        "@b is given @a twice: one array stands for two parameters only where both are const; put const before both where @b only reads, else cut @a and pass its parts",
         [name, callee],
         [0; 3],
     )
@@ -243,7 +243,7 @@ fn outer_array(name: Word<'_>, touch: Touch, head: u32, is_const: bool) -> Phras
 // A loop's body that touches an array of the loop in another way than it may.
 fn other_element<'a>(name: Word<'a>, touch: Touch, variable: Word<'a>, head: u32) -> Phrase<'a> {
     let remedy = match touch {
-        Touch::Read => "; copy what other turns need before the loop",
+        Touch::Read => "; before the loop copy what other turns need, its length to an integer",
         Touch::Written | Touch::Passed | Touch::Cut | Touch::NamedInOver => PARTS,
     };
     Phrase {

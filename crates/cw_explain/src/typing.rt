@@ -126,7 +126,7 @@ fn of_name<'a>(reason: &'a IllTyped<'_>) -> Phrase<'a> {
             name,
         ),
         IllTyped::NotInteger(name, other, line) => other_at(
-            "an integer must stand here, and @a is @b (line @1)",
+            not_integer(*other),
             name,
             *other,
             *line,
@@ -156,6 +156,15 @@ fn of_name<'a>(reason: &'a IllTyped<'_>) -> Phrase<'a> {
         IllTyped::NotReducer(name, how) => named(no_reducer(*how), name),
         IllTyped::ReducesOtherwise(name, how, line) => named_at(other_reducer(*how), name, *line),
         _ => of_call(reason),
+    }
+}
+
+// Of a name that is no integer's.
+fn not_integer(other: Other) -> &'static str {
+    match other {
+        Other::Reducer =>
+            "an integer must stand here, and @a is @b (line @1): += and max= tell it values, and no statement reads it; the run writes it at its end",
+        _ => "an integer must stand here, and @a is @b (line @1)",
     }
 }
 

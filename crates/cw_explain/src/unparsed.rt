@@ -2,9 +2,7 @@
 
 ghost use Rattle.std.specs.Prelude.{◌≡◌, ◌≤◌, All, IfOk, length, true};
 ghost use Rattle.cw_explain.specs.Going.{CanFollow, GoesOn, followed};
-ghost use Rattle.cw_model.specs.Text.{end_line};
 ghost use Rattle.cw_model.specs.Tokens.{IsTokenCut};
-ghost use Rattle.cw_model.specs.declared.limits.TheConstants.{MOST_SOURCE_BYTES};
 
 use crate::around::Around;
 use crate::grammar::{ALL, keyword, shown};
@@ -12,7 +10,7 @@ use crate::near::nearest;
 use crate::phrase::Marks;
 use crate::shortened::Shortened;
 use crate::word::Word;
-use crate::words::{INSIDE, ITEMS, MIDDLES, OUTSIDE, Row, STARTS, WORDS};
+use crate::words::{HABITS, INSIDE, ITEMS, MIDDLES, OUTSIDE, Row, STARTS, WORDS};
 use cw_lex::lex;
 use cw_model::token::{Kind, Token};
 use cw_parse::{first_refused, parse};
@@ -64,27 +62,13 @@ fn is_end_reached(alloc: Global, text: &[u8]) -> Result<bool, Fault>
 {
     let source = Source::read(alloc, text)?;
     let tokens = lex(alloc, &source)?;
-    let end = end_line(source.bytes());
+    let end = source.end_line();
     match parse(alloc, &source, tokens.as_slice()) {
         Ok(_) => Ok(true),
         Err(Fault::Syntax(place)) => Ok(place.line == end),
         Err(Fault::Memory) => Err(Fault::Memory),
         Err(_) => Ok(false),
     }
-}
-
-// The line of a text's end.
-fn end_line(text: &[u8]) -> u32
-    requires { length text.now ≤ MOST_SOURCE_BYTES }
-    ensures { result ≡ end_line text.now }
-{
-    let mut line = 1;
-    for byte in text {
-        if *byte == b'\n' {
-            line += 1;
-        }
-    }
-    line
 }
 
 // A text with a word behind it, each on a line of its own.
@@ -149,8 +133,8 @@ pub fn first_unparsed<'a>(
 /// What is said of a block without braces.
 pub const BARE: &str = "the block of @^ has braces, also where it is one statement: { .. }";
 
-/// The text of the first row that fits; one that says only how the statement begins counts where `by_front` is true.
-pub fn row_of(around: &Around<'_>, rows: &[Row], by_front: bool) -> Option<&'static str> {
+// The text of the first row that fits; one that says only how the statement begins counts where `by_front` is true.
+fn row_of(around: &Around<'_>, rows: &[Row], by_front: bool) -> Option<&'static str> {
     for (front, before, from, says) in rows {
         let counts = by_front || !before.is_empty() || !from.is_empty();
         if counts && around.is_like(front, before, from) {
@@ -158,6 +142,40 @@ pub fn row_of(around: &Around<'_>, rows: &[Row], by_front: bool) -> Option<&'sta
         }
     }
     None
+}
+
+// What stands in no source in a function, of the first table.
+fn of_words(around: &Around<'_>, by_front: bool) -> Option<&'static str> {
+    row_of(around, WORDS, by_front)
+}
+
+// The same of the second one.
+fn of_habits(around: &Around<'_>, by_front: bool) -> Option<&'static str> {
+    row_of(around, HABITS, by_front)
+}
+
+// What stands in no source outside of functions.
+fn of_outside(around: &Around<'_>, by_front: bool) -> Option<&'static str> {
+    row_of(around, OUTSIDE, by_front)
+}
+
+/// The text of the first row that fits a token which stands in no source there.
+pub fn nowhere(around: &Around<'_>, by_front: bool) -> Option<&'static str> {
+    if !around.is_inside {
+        return of_outside(around, by_front);
+    }
+    match of_words(around, by_front) {
+        None => of_habits(around, by_front),
+        says => says,
+    }
+}
+
+// What stands where it does not, by what stands before it.
+fn misplaced(around: &Around<'_>) -> Option<&'static str> {
+    if around.is_inside {
+        return row_of(around, INSIDE, true);
+    }
+    row_of(around, ITEMS, true)
 }
 
 // Why the source cannot go on.
@@ -171,15 +189,13 @@ fn why_of<'a>(around: &Around<'a>, expected: &[&'static str]) -> Why<'a> {
     if let Some((name, word)) = near_of(around, found, expected) {
         return Why::Near(name, word);
     }
-    let rows = if around.is_inside { WORDS } else { OUTSIDE };
-    if let Some(says) = row_of(around, rows, true) {
+    if let Some(says) = nowhere(around, true) {
         return Why::Says(says);
     }
     if let Some(why) = missing(around, found, expected) {
         return why;
     }
-    let rows = if around.is_inside { INSIDE } else { ITEMS };
-    if let Some(says) = row_of(around, rows, true) {
+    if let Some(says) = misplaced(around) {
         return Why::Says(says);
     }
     match around.open {

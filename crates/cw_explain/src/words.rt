@@ -255,6 +255,12 @@ pub static WORDS: &[Row] = &[
         "there is no struct: there are integers and arrays of them",
     ),
     (
+        &[],
+        &["sizeof"],
+        &["("],
+        "there is no sizeof: len(a) is the number of elements of an array",
+    ),
+    (
         &["type", "x", ","],
         &[],
         &[],
@@ -400,15 +406,9 @@ pub static WORDS: &[Row] = &[
     ),
     (
         &[],
-        &["sizeof"],
-        &["("],
-        "there is no sizeof: len(a) is the number of elements of an array",
-    ),
-    (
-        &[],
         &["int"],
         &["*"],
-        "there are no pointers: an array parameter is int a[], or const int a[] where it is only read",
+        "there are no pointers: int a[n]; makes an array, and its name is passed to a parameter int a[]",
     ),
     (
         &[],
@@ -448,12 +448,6 @@ pub static WORDS: &[Row] = &[
     ),
     (
         &["x"],
-        &["x"],
-        &["operator", "="],
-        "there is no @0=: write @1 = @1 @0 ..;",
-    ),
-    (
-        &["x"],
         &["]"],
         &["operator", "="],
         "there is no @0=: write the element out, a[i] = a[i] @0 ..;",
@@ -469,6 +463,64 @@ pub static WORDS: &[Row] = &[
         &["x"],
         &["++"],
         "++ stands in the head of a cilk_for alone; write @1 = @1 + 1;",
+    ),
+];
+
+/// The same, in a table of its own: a function that reads a table is proved with all of its rows.
+pub static HABITS: &[Row] = &[
+    (
+        &["x"],
+        &["x"],
+        &["-", "="],
+        "there is no -=: write @1 = @1 - ..; or, where @1 is a reducer, @1 += -(..);",
+    ),
+    (
+        &["x"],
+        &["x"],
+        &["operator", "="],
+        "there is no @0=: write @1 = @1 @0 ..;",
+    ),
+    (
+        &["reducer"],
+        &[],
+        &[],
+        "a reducer is declared outside of functions",
+    ),
+    (
+        &["*"],
+        &[],
+        &[],
+        "there are no pointers: the first element is a[0]",
+    ),
+    (
+        &[],
+        &["return"],
+        &["*"],
+        "there are no pointers: the first element is a[0]",
+    ),
+    (
+        &["x"],
+        &["x", "="],
+        &["*"],
+        "there are no pointers: the first element is a[0]",
+    ),
+    (
+        &[],
+        &[],
+        &["max", "("],
+        "there is no max of two values: write an if that gives a name the greater one",
+    ),
+    (
+        &["cilk_for", "("],
+        &["over", "(", "x", ")"],
+        &["grain"],
+        "the grain stands before over: grain .. over (..)",
+    ),
+    (
+        &["cilk_for", "("],
+        &[",", "x", ")"],
+        &["grain"],
+        "the grain stands before over: grain .. over (..)",
     ),
 ];
 
@@ -649,6 +701,12 @@ pub static INSIDE: &[Row] = &[
         "no if stands right in front of this else, or one that has an else already",
     ),
     (&[], &["1"], &["x"], "a number has decimal digits alone"),
+    (
+        &[],
+        &["0"],
+        &["1"],
+        "no 0 stands before other digits of a number",
+    ),
 ];
 
 /// Names of C's library, and what stands in their place.
@@ -671,6 +729,8 @@ pub static LIBRARY: &[(&str, &str)] = &[
         "free",
         "an array ends with the block that it is declared in",
     ),
+    ("min", "an if that gives a name the lesser value"),
+    ("abs", "an if that gives a name its value or 0 less it"),
     ("exit", "a return out of each function that runs"),
     ("abort", "a division by 0 traps"),
     ("assert", "an if whose block tells what is wrong"),
@@ -692,7 +752,10 @@ pub static LIBRARY: &[(&str, &str)] = &[
 
 /// What is said of a byte that starts no token, behind its rule: what C writes with it.
 pub static BYTES: &[(u8, &str)] = &[
-    (b'#', "; leave the line out"),
+    (
+        b'#',
+        "; leave the line out; what a #define stands for is written where it is used, and a grain in the head of its cilk_for, as grain 8",
+    ),
     (b'"', "; print(x); writes one, with a line feed"),
     (
         b'?',

@@ -9,11 +9,11 @@ static TOKENS: &[(&str, &str)] = &[
     ),
     (
         "int main(int n) {\n  if (n && 1) { } // & and @\n  return 0;\n}",
-        "refused 1 line 2\nt:2: the byte 38 ('&') starts no token: there is no && and no ||; an if inside an if, or * and + of values that are 0 or 1\n  2 |   if (n && 1) { } // & and @\n",
+        "refused 1 line 2\nt:2: the byte 38 ('&') starts no token: there is no &&, but an if inside an if, or * of values that are 0 or 1; no operation on bits (n % 2 is the last one); and no address: an array is passed by its name\n  2 |   if (n && 1) { } // & and @\n",
     ),
     (
         "#include <cilk/cilk.h>\nint main() { return 0; }",
-        "refused 1 line 1\nt:1: the byte 35 ('#') starts no token: there are no directives; leave the line out\n  1 | #include <cilk/cilk.h>\n",
+        "refused 1 line 1\nt:1: the byte 35 ('#') starts no token: there are no directives; leave the line out; what a #define stands for is written where it is used, and a grain in the head of its cilk_for, as grain 8\n  1 | #include <cilk/cilk.h>\n",
     ),
     (
         "int main() {\n  print(\"x\");\n  return 0;\n}",

@@ -35,7 +35,7 @@ static TAKEN: &[(&str, &str)] = &[
     ),
     (
         "int f() { return 1; }\nint main(int n) {\n  int x = 0;\n  while (n > 0) {\n    print(x);\n    x = cilk_spawn f();\n    n = n - 1;\n  }\n  cilk_sync;\n  return x;\n}",
-        "refused 4 line 5\nt:5: x is read in line 5, and the call spawned in line 6 gives its result at the next cilk_sync; a turn of the while before spawned it; put one at the end of the turn\n  5 |     print(x);\n  6 |     x = cilk_spawn f();\nt:6: x is written in line 6, and the call spawned in line 6 gives its result at the next cilk_sync; put one between the two\n",
+        "refused 4 line 5\nt:5: x is read in line 5, and the call spawned in line 6 gives its result at the next cilk_sync; a turn of the while before spawned it; put one at the end of the turn\n  5 |     print(x);\n  6 |     x = cilk_spawn f();\nt:6: x is written in line 6, and the call spawned in line 6 gives its result at the next cilk_sync; put one at the end of the turn of a while around it, else between the two\n",
     ),
     (
         "int f() { return 1; }\nint main(int n) {\n  if (n) {\n    int x = 0;\n    x = cilk_spawn f();\n  }\n  return 0;\n}",
@@ -61,12 +61,12 @@ static TAKEN: &[(&str, &str)] = &[
     // in one line nothing is said of turns
     (
         "int f() { return 1; }\nint main() {\n  int x = 0;\n  x = cilk_spawn f(); print(x);\n  cilk_sync;\n  return x;\n}",
-        "refused 4 line 4\nt:4: x is read in line 4, and the call spawned in line 4 gives its result at the next cilk_sync; put one between the two\n  4 |   x = cilk_spawn f(); print(x);\n",
+        "refused 4 line 4\nt:4: x is read in line 4, and the call spawned in line 4 gives its result at the next cilk_sync; put one at the end of the turn of a while around it, else between the two\n  4 |   x = cilk_spawn f(); print(x);\n",
     ),
     // the test of a while, which a turn before spawned
     (
         "int f() { return 1; }\nint main(int n) {\n  int x = 1;\n  while (x > 0) {\n    x = cilk_spawn f();\n  }\n  return x;\n}",
-        "refused 4 line 4\nt:4: x is read in line 4, and the call spawned in line 5 gives its result at the next cilk_sync; a turn of the while before spawned it; put one at the end of the turn\n  4 |   while (x > 0) {\n  5 |     x = cilk_spawn f();\nt:5: x is written in line 5, and the call spawned in line 5 gives its result at the next cilk_sync; put one between the two\nt:7: x is read in line 7, and the call spawned in line 5 gives its result at the next cilk_sync; put one right before this statement\n",
+        "refused 4 line 4\nt:4: x is read in line 4, and the call spawned in line 5 gives its result at the next cilk_sync; a turn of the while before spawned it; put one at the end of the turn\n  4 |   while (x > 0) {\n  5 |     x = cilk_spawn f();\nt:5: x is written in line 5, and the call spawned in line 5 gives its result at the next cilk_sync; put one at the end of the turn of a while around it, else between the two\nt:7: x is read in line 7, and the call spawned in line 5 gives its result at the next cilk_sync; put one right before this statement\n",
     ),
     // what a turn before passed
     (
@@ -89,7 +89,7 @@ static TAKERS: &[(&str, &str)] = &[
     // one that was joined is not told, nor one behind the while
     (
         "int f() { return 1; }\nint main(int n) {\n  int x = 0;\n  x = cilk_spawn f();\n  cilk_sync;\n  while (n > 0) {\n    print(x);\n    x = cilk_spawn f();\n    n = n - 1;\n  }\n  cilk_sync;\n  x = cilk_spawn f();\n  cilk_sync;\n  return x;\n}",
-        "refused 4 line 7\nt:7: x is read in line 7, and the call spawned in line 8 gives its result at the next cilk_sync; a turn of the while before spawned it; put one at the end of the turn\n  7 |     print(x);\n  8 |     x = cilk_spawn f();\nt:8: x is written in line 8, and the call spawned in line 8 gives its result at the next cilk_sync; put one between the two\n",
+        "refused 4 line 7\nt:7: x is read in line 7, and the call spawned in line 8 gives its result at the next cilk_sync; a turn of the while before spawned it; put one at the end of the turn\n  7 |     print(x);\n  8 |     x = cilk_spawn f();\nt:8: x is written in line 8, and the call spawned in line 8 gives its result at the next cilk_sync; put one at the end of the turn of a while around it, else between the two\n",
     ),
     // names of two blocks, one behind the other
     (
@@ -126,7 +126,7 @@ static TAKERS: &[(&str, &str)] = &[
 static TWICE: &[(&str, &str)] = &[
     (
         "void f(int a[], int b[]) { }\nint main() {\n  int a[4];\n  f(a, a);\n  return 0;\n}",
-        "refused 4 line 4\nt:4: f is given a twice: the arrays of a call differ; cut a and pass its parts\n  4 |   f(a, a);\n",
+        "refused 4 line 4\nt:4: f is given a twice: one array stands for two parameters only where both are const; put const before both where f only reads, else cut a and pass its parts\n  4 |   f(a, a);\n",
     ),
     (
         "void f(int a[], const int b[]) { }\nint main() {\n  int a[4];\n  f(a, a);\n  return 0;\n}",
@@ -158,7 +158,7 @@ static LOOPS: &[(&str, &str)] = &[
     ),
     (
         "int main() {\n  int a[4];\n  cilk_for (int i = 0; i < 4; i++) over (a) {\n    cilk_for (int j = 0; j < a[i]; j++) { }\n  }\n  return 0;\n}",
-        "refused 4 line 4\nt:4: a is an array of the cilk_for in line 3: its body names it only as a[i], the element of its own turn, and not in a further cilk_for; copy what other turns need before the loop\n  3 |   cilk_for (int i = 0; i < 4; i++) over (a) {\n  4 |     cilk_for (int j = 0; j < a[i]; j++) { }\n",
+        "refused 4 line 4\nt:4: a is an array of the cilk_for in line 3: its body names it only as a[i], the element of its own turn, and not in a further cilk_for; before the loop copy what other turns need, its length to an integer\n  3 |   cilk_for (int i = 0; i < 4; i++) over (a) {\n  4 |     cilk_for (int j = 0; j < a[i]; j++) { }\n",
     ),
     // of two arrays the one that is written
     (
@@ -177,7 +177,7 @@ static LOOPS: &[(&str, &str)] = &[
     ),
     (
         "int main() {\n  int a[4];\n  cilk_for (int i = 0; i < 4; i++) over (a) {\n    a[i] = a[0];\n  }\n  return 0;\n}",
-        "refused 4 line 4\nt:4: a is an array of the cilk_for in line 3: its body names it only as a[i], the element of its own turn, and not in a further cilk_for; copy what other turns need before the loop\n  3 |   cilk_for (int i = 0; i < 4; i++) over (a) {\n  4 |     a[i] = a[0];\n",
+        "refused 4 line 4\nt:4: a is an array of the cilk_for in line 3: its body names it only as a[i], the element of its own turn, and not in a further cilk_for; before the loop copy what other turns need, its length to an integer\n  3 |   cilk_for (int i = 0; i < 4; i++) over (a) {\n  4 |     a[i] = a[0];\n",
     ),
     // passed as a whole, cut, and named in a further loop
     (

@@ -132,7 +132,7 @@ static PROGRAMS: &[(&str, &str)] = &[
     ),
     (
         STENCIL,
-        "refused 4 line 3\nt:3: a is an array of the cilk_for in line 2: its body names it only as a[i], the element of its own turn, and not in a further cilk_for; copy what other turns need before the loop\n  2 |   cilk_for (int i = 0; i < len(b) - 1; i++) grain 100 over (a, b) {\n  3 |     b[i] = (a[i] + a[i + 1]) / 2;\n",
+        "refused 4 line 3\nt:3: a is an array of the cilk_for in line 2: its body names it only as a[i], the element of its own turn, and not in a further cilk_for; before the loop copy what other turns need, its length to an integer\n  2 |   cilk_for (int i = 0; i < len(b) - 1; i++) grain 100 over (a, b) {\n  3 |     b[i] = (a[i] + a[i + 1]) / 2;\n",
     ),
     (
         QUARTERS,

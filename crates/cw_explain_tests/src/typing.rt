@@ -68,7 +68,7 @@ static NAMES: &[(&str, &str)] = &[
     ),
     (
         "reducer sum s;\nint main() {\n  s = 1;\n  return 0;\n}",
-        "refused 3 line 3\nt:3: an integer must stand here, and s is a reducer (line 1)\n  1 | reducer sum s;\n  3 |   s = 1;\n",
+        "refused 3 line 3\nt:3: an integer must stand here, and s is a reducer (line 1): += and max= tell it values, and no statement reads it; the run writes it at its end\n  1 | reducer sum s;\n  3 |   s = 1;\n",
     ),
     (
         "int main(int n) {\n  return n[0];\n}",
@@ -111,7 +111,7 @@ static NAMES: &[(&str, &str)] = &[
     // the value names what it may not
     (
         "reducer max m;\nint main() {\n  m max= m;\n  return 0;\n}",
-        "refused 3 line 3\nt:3: an integer must stand here, and m is a reducer (line 1)\n  1 | reducer max m;\n  3 |   m max= m;\n",
+        "refused 3 line 3\nt:3: an integer must stand here, and m is a reducer (line 1): += and max= tell it values, and no statement reads it; the run writes it at its end\n  1 | reducer max m;\n  3 |   m max= m;\n",
     ),
 ];
 
