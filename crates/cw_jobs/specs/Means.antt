@@ -25,6 +25,11 @@ pub record HasShown (code : Code) (shown : Shown) (t : Trace) (count : ℕ) : Ty
   pub lines : shown.lines.items ≡ t.lines
   pub totals : HoldsTotals code shown.totals.items t.updates
 
+-- it is that a job was given up
+abbrev pub IsGivenUp : Effect → Type 0
+IsGivenUp (effect.GivenUp back) = Unit {0}
+IsGivenUp _ = ⊥
+
 -- an effect tells one of the definitions: that a job was given up says no more than that memory was wanting
 abbrev pub Tells : (code : Code) → jobs.Job → Rest → Effect → jobs.Effect → Type 0
 Tells code j r (effect.Ended value shown) (jobs.Ended x arrays t cost) =

@@ -10,8 +10,8 @@ use cw_model::limits::{MOST_BURDEN, MOST_LIMIT};
 use cw_slices::Slice;
 use std::alloc::{AllocError, Global};
 
-// Whether there are as many arguments as parameters, and the limit and the burden are in their ranges.
-pub(crate) fn is_asked(params: usize, count: usize, n: u64, burden: Burden) -> bool
+/// Whether there are as many arguments as parameters, and the limit and the burden are in their ranges.
+pub fn is_asked(params: usize, count: usize, n: u64, burden: Burden) -> bool
     ensures { result ≡ jobs.is_asked params count n burden }
 {
     count == params && 1 <= n && n <= MOST_LIMIT && burden.charge <= MOST_BURDEN

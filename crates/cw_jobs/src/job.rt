@@ -25,7 +25,7 @@ impl Job {
     ghost use Rattle.cw_model.specs.declared.limits.TheConstants.{MOST_BURDEN};
     ghost use Rattle.cw_meter.specs.Details.{IsLight};
     ghost use Rattle.cw_jobs.specs.Jobs.{IsRefused, IsRoot, IsRootOf};
-    ghost use Rattle.cw_jobs.specs.Means.{IsMeaningOf};
+    ghost use Rattle.cw_jobs.specs.Means.{IsGivenUp, IsMeaningOf};
 
     /// The job of a whole run of which all is counted: `main` on these arguments, within `n` instructions. `burden` is what is
     /// charged for a spawn, by which the burdened spans alone are told.
@@ -83,9 +83,10 @@ impl Job {
         Ok(Job { parts })
     }
 
-    /// It is given up, and not run. Takes no memory.
+    /// It is given up, and not run: the effect says so, and brings the arrays of its slots home. Takes no memory.
     pub fn give_up(self) -> Effect
-        ensures { IsMeaningOf self result }
+        ensures means { IsMeaningOf self result }
+        ensures given { IsGivenUp result }
     {
         let Job { parts } = self;
         let Parts {

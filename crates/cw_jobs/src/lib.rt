@@ -3,6 +3,6 @@
 
 pub mod call;
 pub mod effect;
-mod first;
+pub mod first;
 pub mod job;
 pub mod totals;

@@ -16,7 +16,6 @@ pub mod Zeroing
 pub mod Singly
 pub mod Order
 pub mod Passing
-pub mod Seats
 pub mod Stepping
 pub mod Blocks
 pub mod Reading

@@ -9,6 +9,7 @@ use Rattle.cw_model.specs.Trees.{Tree}
 use Rattle.cw_model.specs.Outcome.{Trace, Done, Over}
 use Rattle.cw_model.specs.Answers.{Ended, TrappedAt}
 use Rattle.cw_text.specs.declared.fault.Fault.{Fault}
+use Rattle.cw_text.specs.declared.fault.Fault.TheVariants as fault
 use Rattle.cw_code.specs.declared.code.Func.{Func}
 use Rattle.cw_code.specs.declared.code.Instr.{Instr}
 use Rattle.cw_code.specs.declared.code.Instr.TheVariants as instr
@@ -135,7 +136,11 @@ abbrev pub StandsOrEnds : Code → List ℤ → (n : ℕ) → Option Standing �
 StandsOrEnds code args n (Some st) = Stands code args n st
 StandsOrEnds code args n None = EndsAlone code args n
 
+-- why it is not told where a run stands: as a run fails; a trap is told, and is no such reason
+abbrev pub IsUntold : Code → List ℤ → (n : ℕ) → Fault → Type 0
+IsUntold code args n (fault.Trap trap line output) = ⊥
+IsUntold code args n why = IsFailure code args n no_burden why
+
 -- where a run of code traps, or why it does not
 abbrev pub StandsAsCode : Code → List ℤ → (n : ℕ) → Result (Option Standing) Fault → Type 0
-StandsAsCode code args n result =
-    MatchResult result (StandsOrEnds code args n) (IsFailure code args n no_burden)
+StandsAsCode code args n result = MatchResult result (StandsOrEnds code args n) (IsUntold code args n)

@@ -13,9 +13,9 @@ use crate::machine::Moved;
 use crate::run::Run;
 use cw_code::code::Code;
 use cw_jobs::effect::Shown;
+use cw_jobs::first::is_asked;
 use cw_meter::{Detail, Readings};
 use cw_model::burden::Burden;
-use cw_model::limits::{MOST_BURDEN, MOST_LIMIT};
 use cw_model::syntax::Name;
 use cw_model::total::Total;
 use cw_regions::RegionRow;
@@ -186,11 +186,4 @@ pub(crate) fn int_given(value: Option<i64>) -> i64
         Some(v) => v,
         None => 0,
     }
-}
-
-// Whether there are as many arguments as parameters, and the limit and the burden are in their ranges.
-pub(crate) fn is_asked(params: usize, count: usize, n: u64, burden: Burden) -> bool
-    ensures { result ≡ runs.is_asked params count n burden }
-{
-    count == params && 1 <= n && n <= MOST_LIMIT && burden.charge <= MOST_BURDEN
 }

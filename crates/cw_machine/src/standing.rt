@@ -7,10 +7,11 @@ ghost use Rattle.cw_machine.specs.Calls.{SeesEach};
 ghost use Rattle.cw_machine.specs.Shows.{IsAlone, IsAt};
 ghost use Rattle.cw_machine.specs.Standing.{HaltsAny, IsHad, StandsAsCode};
 
-use crate::alone::{is_asked, main_takes};
+use crate::alone::main_takes;
 use crate::machine::{Machine, Moved};
 use crate::steps::op_at;
 use cw_code::code::UnaryOperator;
+use cw_jobs::first::is_asked;
 use cw_model::burden::{Burden, Edges};
 use cw_model::syntax::Operator;
 use cw_model::trap::Trap;

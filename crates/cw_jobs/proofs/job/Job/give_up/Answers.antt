@@ -6,8 +6,8 @@ use Rattle.cw_jobs.specs.Means.{MeansIt, IsMeaningOf}
 use Rattle.cw_jobs.proofs.GivenUp.{given_up}
 use Rattle.cw_jobs.proofs.job.Job.give_up.Goals as goal
 
-pub returns : goal.returns
+pub returns-clause-means : goal.returns-clause-means
 unfolding IsMeaningOf
-returns c = λ ok j is.
+returns-clause-means c = λ ok j is.
     let p = c.args.self.parts.value in
     ∣ subst (λ (q : Parts). MeansIt (code_of p) ok p (effect.GivenUp q.rest.slices) j) (sym c.into_inner-rest.ensures) (given_up (code_of p) ok p j) ∣₁
