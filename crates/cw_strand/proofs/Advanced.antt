@@ -1,5 +1,5 @@
 -- A strand has gone on by one instruction.
-use Rattle.std.proofs.Common.{◌≡◌, ◌≢◌, Bool, true, ◌+◌, ◌<◌, ℕ, ℤ, Option, ◌∷◌, refl, sym, ap, subst, ◌∙◌, inl, arith}
+use Rattle.std.proofs.Common.{◌≡◌, ◌≢◌, Bool, true, ◌+◌, ◌<◌, ℕ, ℤ, Option, ◌∷◌, refl, sym, ap, subst, ◌∙◌, inl, inr, arith}
 use native.Mathlib.Nat.{ℕ_set}
 use Rattle.std.proofs.Math.Logic.{∥∥₁_elim}
 use Rattle.cw_machine.specs.declared.run.Stop.{Stop}
@@ -17,7 +17,7 @@ use Rattle.cw_strand.specs.declared.strand.Event.TheVariants as event
 use Rattle.cw_strand.specs.declared.strand.Spawns.{Spawns}
 use Rattle.cw_strand.specs.declared.strand.Step.TheVariants as step
 use Rattle.cw_strand.specs.Holds.{outs, IsGoing, IsRunning}
-use Rattle.cw_strand.specs.Losing.{LeavesBy}
+use Rattle.cw_strand.specs.Losing.{LeavesBy, StandsAs, WasGivenUp}
 use Rattle.cw_strand.specs.Moves.{HasCome, hands_out, HandsOutAt, ComesOr, ComesWithin, AdvancesBy, EndsAfter, EndsAt, EndsStill, IsBefore, RunsOn}
 use Rattle.cw_strand.proofs.Losing.{comes_from}
 use Rattle.cw_strand.proofs.RunsOn.{sound_of, join_goes, over_goes}
@@ -82,11 +82,15 @@ advances_from (advance.Came (step.Ended e)) old mid new of same still h = (
   subst (EndsAfter e) still h.1,
 )
 
-pub leaves_from : (a : Advance) (old mid new : Strand) → IsGoing old → LeavesBy a mid new → LeavesBy a old new
-leaves_from advance.Ran old mid new going h = going
-leaves_from (advance.Came (step.Spawned job)) old mid new going h = h
-leaves_from (advance.Came step.AtSync) old mid new going h = inl going
-leaves_from (advance.Came (step.Ended e)) old mid new going h = comes_from e old mid (inl going) h
+pub leaves_from : (a : Advance) (old mid new : Strand) → IsGoing old → (WasGivenUp mid → ⊥) → LeavesBy a mid new → LeavesBy a old new
+leaves_from advance.Ran old mid new going not h = going
+leaves_from (advance.Came (step.Spawned job)) old mid new going not h = h
+leaves_from (advance.Came step.AtSync) old mid new going not h = inl (going, not_after h)
+  where
+    not_after : StandsAs mid new → WasGivenUp new → ⊥
+    not_after (inl went) = went.1
+    not_after (inr same) = λ up. not (sym same ∙ up)
+leaves_from (advance.Came (step.Ended e)) old mid new going not h = comes_from e old mid (inl (going, not)) h
 
 -- what a strand that went on behind an instruction came to, beside its end
 pub came_on : (reason : Type 0) (old mid new : Strand) → outs mid ≡ outs old → mid.count ≡ old.count + 1 → new.count ≡ mid.count → ComesOr reason event.AtSync mid new → AdvancesBy advance.Ran old new

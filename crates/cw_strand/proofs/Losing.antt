@@ -12,7 +12,7 @@ use Rattle.cw_strand.specs.declared.strand.Mode.TheVariants as mode
 use Rattle.cw_strand.specs.declared.strand.Strand.{Strand}
 use Rattle.cw_strand.specs.Giving.{IsMemory}
 use Rattle.cw_strand.specs.Holds.{stops, has_failed, IsGoing}
-use Rattle.cw_strand.specs.Losing.{MayLack, StandsAs, ComesFrom, LeavesAt, GoesOn, TellsFailure}
+use Rattle.cw_strand.specs.Losing.{MayStop, WasGivenUp, StandsAs, ComesFrom, LeavesAt, GoesOn, TellsFailure}
 
 -- one that has stopped for something else lacks none
 pub lacks_not : (m : Mode) → stops m ≡ true → has_failed m ≡ false → (m ≡ mode.Going) ⊎ (has_failed m ≡ true) → ⊥
@@ -30,13 +30,30 @@ waits_not m s waits = true≢false (sym s ∙ ap stops waits)
 pub goes_not_waits : mode.Going ≡ mode.Waiting → ⊥
 goes_not_waits e = cc
 
-pub stopped_lost : (m : Mode) → stops m ≡ true → ((trap : Trap) (line : ℕ) → m ≢ mode.Trapped trap line) → m ≢ mode.Over → has_failed m ≡ true
-stopped_lost mode.Going s t o = absurd (true≢false (sym s))
-stopped_lost mode.Waiting s t o = absurd (true≢false (sym s))
-stopped_lost (mode.Trapped trap line) s t o = absurd (t trap line refl)
-stopped_lost mode.Over s t o = absurd (o refl)
-stopped_lost mode.Memory s t o = refl
-stopped_lost mode.GivenUp s t o = refl
+-- one that has stopped, and not for one of these, has no memory
+pub stopped_lost : (m : Mode) → stops m ≡ true → ((trap : Trap) (line : ℕ) → m ≢ mode.Trapped trap line) → m ≢ mode.Over → m ≢ mode.GivenUp → m ≡ mode.Memory
+stopped_lost mode.Going s t o g = absurd (true≢false (sym s))
+stopped_lost mode.Waiting s t o g = absurd (true≢false (sym s))
+stopped_lost (mode.Trapped trap line) s t o g = absurd (t trap line refl)
+stopped_lost mode.Over s t o g = absurd (o refl)
+stopped_lost mode.Memory s t o g = refl
+stopped_lost mode.GivenUp s t o g = absurd (g refl)
+
+-- one that stands otherwise was not given up
+pub going_not_up : (m : Mode) → m ≡ mode.Going → m ≡ mode.GivenUp → ⊥
+going_not_up m going up = true≢false (sym (ap has_failed up) ∙ ap has_failed going)
+
+pub waiting_not_up : mode.Waiting ≡ mode.GivenUp → ⊥
+waiting_not_up e = cc
+
+pub trapped_not_up : (trap : Trap) (line : ℕ) → mode.Trapped trap line ≡ mode.GivenUp → ⊥
+trapped_not_up trap line e = cc
+
+pub over_not_up : mode.Over ≡ mode.GivenUp → ⊥
+over_not_up e = cc
+
+pub memory_not_up : mode.Memory ≡ mode.GivenUp → ⊥
+memory_not_up e = cc
 
 -- memory that was wanting is a failure
 pub memory_fails : (e : Effect) → IsMemory e → TellsFailure e
@@ -48,26 +65,30 @@ memory_fails (effect.Memory back) m = tt
 memory_fails (effect.GivenUp back) m = absurd m
 
 went_before : (old mid : Strand) → StandsAs old mid → IsGoing mid → IsGoing old
-went_before old mid (inl going) g = going
+went_before old mid (inl going) g = going.0
 went_before old mid (inr same) g = sym same ∙ g
 
-lacked_before : (old mid : Strand) → StandsAs old mid → MayLack mid → MayLack old
-lacked_before old mid (inl going) l = inl going
-lacked_before old mid (inr same) (inl g) = inl (sym same ∙ g)
-lacked_before old mid (inr same) (inr lost) = inr (ap has_failed (sym same) ∙ lost)
+stopped_before : (m : Mode) (old mid : Strand) → StandsAs old mid → MayStop m mid → MayStop m old
+stopped_before m old mid (inl going) l = inl going.0
+stopped_before m old mid (inr same) (inl g) = inl (sym same ∙ g)
+stopped_before m old mid (inr same) (inr stopped) = inr (sym same ∙ stopped)
+
+given_up_before : (old mid : Strand) → StandsAs old mid → WasGivenUp mid → WasGivenUp old
+given_up_before old mid (inl going) up = absurd (going.1 up)
+given_up_before old mid (inr same) up = sym same ∙ up
 
 -- an effect, told of the strand as it stood before
 pub comes_from : (e : Effect) (old mid : Strand) → StandsAs old mid → ComesFrom e mid → ComesFrom e old
 comes_from (effect.Ended value shown) old mid s c = went_before old mid s c
-comes_from (effect.Joined frame replaced shown) old mid s c = tt
-comes_from (effect.Trapped trap line lines cost back) old mid s c = tt
-comes_from (effect.OverLimit back) old mid s c = tt
-comes_from (effect.Memory back) old mid s c = lacked_before old mid s c
-comes_from (effect.GivenUp back) old mid s c = lacked_before old mid s c
+comes_from (effect.Joined frame replaced shown) old mid s c = went_before old mid s c
+comes_from (effect.Trapped trap line lines cost back) old mid s c = stopped_before (mode.Trapped trap line) old mid s c
+comes_from (effect.OverLimit back) old mid s c = stopped_before mode.Over old mid s c
+comes_from (effect.Memory back) old mid s c = stopped_before mode.Memory old mid s c
+comes_from (effect.GivenUp back) old mid s c = given_up_before old mid s c
 
 -- an event of one that went on
 pub leaves_going : (e : Event) (old new : Strand) → IsGoing old → GoesOn e new → LeavesAt e old new
 leaves_going (event.Spawned job) old new going on = on
-leaves_going event.AtSync old new going on = inl going
-leaves_going (event.AtEnd end) old new going on = inl going
+leaves_going event.AtSync old new going on = inl (going, on)
+leaves_going (event.AtEnd end) old new going on = inl (going, on)
 leaves_going event.Ran old new going on = (going, on)

@@ -8,6 +8,8 @@ use Rattle.cw_strand.specs.declared.strand.Event.{Event}
 use Rattle.cw_strand.specs.declared.strand.Event.TheVariants as event
 use Rattle.cw_strand.specs.declared.strand.Step.{Step}
 use Rattle.cw_strand.specs.declared.strand.Step.TheVariants as step
+use Rattle.cw_strand.specs.declared.strand.Mode.{Mode}
+use Rattle.cw_strand.specs.declared.strand.Mode.TheVariants as mode
 use Rattle.cw_strand.specs.declared.strand.Strand.{Strand}
 use Rattle.cw_strand.specs.Holds.{IsGoing, IsWaiting, HasFailed}
 use Rattle.cw_strand.specs.Giving.{passes_limit}
@@ -16,17 +18,26 @@ use Rattle.cw_strand.specs.Giving.{passes_limit}
 abbrev pub MayLack : Strand → Type 0
 MayLack self = IsGoing self ⊎ HasFailed self
 
--- how a strand stands has changed only if it went on
-abbrev pub StandsAs : (old new : Strand) → Type 0
-StandsAs old new = IsGoing old ⊎ (new.mode ≡ old.mode)
+-- it goes on, or has stopped so; it was given up
+abbrev pub MayStop : Mode → Strand → Type 0
+MayStop m self = IsGoing self ⊎ (self.mode ≡ m)
 
--- A STRAND THAT STOOD SO HAS THIS EFFECT: its call has ended only if it went on; and memory was wanting, or it was given
--- up, only where that may have been
+abbrev pub WasGivenUp : Strand → Type 0
+WasGivenUp self = self.mode ≡ mode.GivenUp
+
+-- how a strand stands has changed only if it went on, and then it was not given up
+abbrev pub StandsAs : (old new : Strand) → Type 0
+StandsAs old new = (IsGoing old × (WasGivenUp new → ⊥)) ⊎ (new.mode ≡ old.mode)
+
+-- A STRAND THAT STOOD SO HAS THIS EFFECT: its call has ended, or it is at its join, only if it went on; it says that it was
+-- given up only if it was; and of one that had stopped it says what it had stopped for
 abbrev pub ComesFrom : Effect → Strand → Type 0
 ComesFrom (effect.Ended value shown) self = IsGoing self
-ComesFrom (effect.Memory back) self = MayLack self
-ComesFrom (effect.GivenUp back) self = MayLack self
-ComesFrom _ self = Unit {0}
+ComesFrom (effect.Joined frame replaced shown) self = IsGoing self
+ComesFrom (effect.Trapped trap line lines cost back) self = MayStop (mode.Trapped trap line) self
+ComesFrom (effect.OverLimit back) self = MayStop mode.Over self
+ComesFrom (effect.Memory back) self = MayStop mode.Memory self
+ComesFrom (effect.GivenUp back) self = WasGivenUp self
 
 -- SO IT STANDS AFTER AN EVENT: it goes on where it handed a job out; else it has changed only if it went on
 abbrev pub Leaves : Step → (old new : Strand) → Type 0
@@ -49,11 +60,11 @@ abbrev pub LeavesEnd : Option Effect → (old new : Strand) → Type 0
 LeavesEnd None old new = new.mode ≡ old.mode
 LeavesEnd (Some e) old new = ComesFrom e old
 
--- it goes on where it handed a job out, or where nothing came
+-- it goes on where it handed a job out, or where nothing came; else it may have stopped, but was not given up
 abbrev pub GoesOn : Event → Strand → Type 0
 GoesOn (event.Spawned job) new = IsGoing new
 GoesOn event.Ran new = IsGoing new
-GoesOn _ new = Unit {0}
+GoesOn _ new = WasGivenUp new → ⊥
 
 -- what a rest has shown is taken in: by a strand that waits, within the limit
 abbrev pub TakesIn : Strand → Effect → Type 0

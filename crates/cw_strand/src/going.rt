@@ -5,7 +5,7 @@ ghost use Rattle.cw_strand.specs.declared.strand.Mode.TheVariants as mode;
 ghost use Rattle.cw_jobs.specs.Means.{IsMeaningOf};
 ghost use Rattle.cw_machine.specs.declared.run.Stop.TheVariants as stops;
 ghost use Rattle.cw_strand.specs.Holds.{floor_of, its_job, its_parts, outs, HasStopped, IsAtSync, IsRunning};
-ghost use Rattle.cw_strand.specs.Losing.{ComesFrom, GoesOn, Leaves, LeavesAt, LeavesEnd};
+ghost use Rattle.cw_strand.specs.Losing.{ComesFrom, GoesOn, Leaves, LeavesAt, LeavesEnd, WasGivenUp};
 ghost use Rattle.cw_strand.specs.Moves as moves;
 ghost use Rattle.cw_strand.specs.Moves.{EndsBy, HandsNothing, HandsOutAt, HasCome, IsSame, JoinsBy, KeptBy, ComesOr, ComesTo, ComesWithin, EndsAt, RunsOn};
 
@@ -102,7 +102,7 @@ impl Strand {
         ensures keeps { ComesTo result self.old self.new }
         ensures nothing { HandsNothing result }
         ensures counts { self.new.count ≡ self.old.count }
-        ensures goes { GoesOn result self.new }
+        ensures goes { (WasGivenUp self.old → ⊥) → GoesOn result self.new }
     {
         if self.lent.is_empty() {
             return Event::AtEnd(End::Stopped);

@@ -12,7 +12,7 @@ use Rattle.cw_strand.specs.declared.strand.Mode.{Mode}
 use Rattle.cw_strand.specs.declared.strand.Mode.TheVariants as mode
 use Rattle.cw_strand.specs.declared.strand.Strand.{Strand}
 use Rattle.cw_strand.specs.Holds.{stops, has_failed, IsGoing, IsWaiting, HasFailed}
-use Rattle.cw_strand.specs.Losing.{MayLack, StandsAs, ComesFrom, LeavesEnd, TellsFailure}
+use Rattle.cw_strand.specs.Losing.{MayLack, MayStop, StandsAs, ComesFrom, LeavesEnd, TellsFailure}
 use Rattle.cw_world.specs.Scenes.{Posted, Stage, Goes, Made, Answered}
 use Rattle.cw_world.specs.Posts.{IsBackIn}
 use Rattle.cw_world.specs.Events.{IsBegun}
@@ -26,6 +26,10 @@ bool_cases true = inr refl
 pub goes_not_lost : (m : Mode) → m ≡ mode.Going → has_failed m ≡ true → ⊥
 goes_not_lost m going lost = true≢false (sym lost ∙ ap has_failed going)
 
+ran_out : (self : Strand) → MayStop mode.Memory self → MayLack self
+ran_out self (inl going) = inl going
+ran_out self (inr lost) = inr (ap has_failed lost)
+
 -- a strand, after it was looked whether it has ended
 pub after_end : (r : Option Effect) (mid new : Strand) → LeavesEnd r mid new → LacksAfter r new → MayLack mid
 after_end None mid new same lost = inr (ap has_failed (sym same) ∙ lost)
@@ -33,19 +37,19 @@ after_end (Some (effect.Ended value shown)) mid new comes told = inl comes
 after_end (Some (effect.Joined frame replaced shown)) mid new comes told = absurd told
 after_end (Some (effect.Trapped trap line lines cost back)) mid new comes told = absurd told
 after_end (Some (effect.OverLimit back)) mid new comes told = absurd told
-after_end (Some (effect.Memory back)) mid new comes told = comes
-after_end (Some (effect.GivenUp back)) mid new comes told = comes
+after_end (Some (effect.Memory back)) mid new comes told = ran_out mid comes
+after_end (Some (effect.GivenUp back)) mid new comes told = inr (ap has_failed comes)
 
 pub after_event : (e : Effect) (old : Strand) → ComesFrom e old → IsAnsweredMemory e → MayLack old
 after_event (effect.Ended value shown) old comes told = inl comes
 after_event (effect.Joined frame replaced shown) old comes told = absurd told
 after_event (effect.Trapped trap line lines cost back) old comes told = absurd told
 after_event (effect.OverLimit back) old comes told = absurd told
-after_event (effect.Memory back) old comes told = comes
-after_event (effect.GivenUp back) old comes told = comes
+after_event (effect.Memory back) old comes told = ran_out old comes
+after_event (effect.GivenUp back) old comes told = inr (ap has_failed comes)
 
 pub after_stop : (old new : Strand) → StandsAs old new → HasFailed new → MayLack old
-after_stop old new (inl going) lost = inl going
+after_stop old new (inl going) lost = inl going.0
 after_stop old new (inr same) lost = inr (ap has_failed (sym same) ∙ lost)
 
 -- one whose newest job came back unrun

@@ -9,7 +9,7 @@ use Rattle.cw_pool.proofs.work.run_above.Goals as goal
 pub settle-requires-clause-settles : goal.settle-requires-clause-settles
 settle-requires-clause-settles g c = (
   c.in-Some.ensures.found.0,
-  (c.in-Some.stolen, c.in-Some.ensures.found.1, subst (λ j. IsMeaningOf j c.give_up.result) c.in-Err.ensures c.give_up.ensures),
+  (c.in-Some.stolen, c.in-Some.ensures.found.1, subst (λ j. IsMeaningOf j c.give_up.result) c.in-Err.ensures c.give_up.ensures.means),
 )
 
 pub returns-in-Ok-clause-stands : goal.returns-in-Ok-clause-stands

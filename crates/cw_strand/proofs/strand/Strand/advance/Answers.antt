@@ -1,6 +1,7 @@
-use Rattle.std.proofs.Common.{◌<◌, sym, subst}
+use Rattle.std.proofs.Common.{◌<◌, sym, subst, ◌∙◌}
 use Rattle.std.specs.Prelude.{◌-◌}
 use Rattle.cw_strand.specs.Holds.{its_end}
+use Rattle.cw_strand.proofs.Losing.{going_not_up}
 use Rattle.cw_strand.proofs.Advanced.{advances_from, leaves_from, still_counts}
 use Rattle.cw_strand.proofs.strand.Strand.advance.Goals as goal
 
@@ -26,7 +27,8 @@ returns-in-None-clause-advances c =
     advances_from c.step.result c.args.self.now c.end_at_join.new.self c.step.new.self c.end_at_join.ensures.of h.1 h.2 c.step.ensures.advances
 
 pub returns-in-None-clause-leaves : goal.returns-in-None-clause-leaves
-returns-in-None-clause-leaves c = leaves_from c.step.result c.args.self.now c.end_at_join.new.self c.step.new.self c.in-Going.is c.step.ensures.leaves
+returns-in-None-clause-leaves c = leaves_from c.step.result c.args.self.now c.end_at_join.new.self c.step.new.self c.in-Going.is
+    (going_not_up c.end_at_join.new.self.mode (c.in-None.ensures.leaves ∙ c.in-Going.is)) c.step.ensures.leaves
 
 pub returns-in-None-clause-does : goal.returns-in-None-clause-does
 returns-in-None-clause-does c = λ going unended lt.

@@ -1,4 +1,4 @@
-use Rattle.std.proofs.Common.{◌≡◌, true, sym, ap, ◌∙◌, subst, inl}
+use Rattle.std.proofs.Common.{◌≡◌, true, sym, ap, ◌∙◌, subst, inr}
 use Rattle.std.specs.Prelude.{map, reverse}
 use Rattle.cw_machine.specs.declared.run.Stop.TheVariants as stop
 use Rattle.cw_jobs.specs.Means.{IsMeaningOf}
@@ -38,4 +38,4 @@ returns-in-Joined-clause-joins c =
     )
 
 pub returns-in-Joined-clause-leaves : goal.returns-in-Joined-clause-leaves
-returns-in-Joined-clause-leaves c = comes_from c.join_effect.result c.args.self.now c.run_on-stop.new.self (inl c.requires.going) c.join_effect.ensures.comes
+returns-in-Joined-clause-leaves c = comes_from c.join_effect.result c.args.self.now c.run_on-stop.new.self (inr (c.run_on-stop.ensures.comes.going ∙ sym c.requires.going)) c.join_effect.ensures.comes

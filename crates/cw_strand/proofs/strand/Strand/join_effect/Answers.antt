@@ -40,3 +40,6 @@ returns-in-Err-clause-comes c = inl c.requires.comes.going
 
 pub returns-in-Ok-clause-counts : goal.returns-in-Ok-clause-counts
 returns-in-Ok-clause-counts c = c.shown.ensures.counted
+
+pub returns-in-Ok-clause-comes : goal.returns-in-Ok-clause-comes
+returns-in-Ok-clause-comes c = c.requires.comes.going

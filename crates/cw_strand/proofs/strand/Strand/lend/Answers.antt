@@ -3,6 +3,7 @@ use Rattle.cw_machine.specs.declared.run.Stop.TheVariants as stop
 use Rattle.cw_strand.proofs.Cutting.{cut_sound}
 use Rattle.cw_strand.proofs.Halts.{spared_runs}
 use Rattle.cw_strand.proofs.HandedOn.{lent_step}
+use Rattle.cw_strand.proofs.Losing.{memory_not_up}
 use Rattle.cw_strand.proofs.strand.Strand.lend.Goals as goal
 
 pub invariant_of-job : goal.invariant_of-job
@@ -26,3 +27,6 @@ returns-in-Ok-clause-counts c = c.in-Ok.ensures.cut.count
 
 pub returns-in-Err-clause-counts : goal.returns-in-Err-clause-counts
 returns-in-Err-clause-counts c = c.rest.ensures.counts ∙ c.in-Err.ensures.kept.count
+
+pub returns-in-Err-clause-goes : goal.returns-in-Err-clause-goes
+returns-in-Err-clause-goes c = c.rest.ensures.goes memory_not_up

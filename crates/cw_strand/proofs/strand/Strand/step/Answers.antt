@@ -3,6 +3,7 @@ use Rattle.cw_strand.specs.declared.strand.Advance.TheVariants as advance
 use Rattle.cw_strand.specs.declared.strand.Mode.TheVariants as mode
 use Rattle.cw_strand.proofs.Advanced.{advances_from, leaves_from}
 use Rattle.cw_strand.proofs.Halts.{over_runs}
+use Rattle.cw_strand.proofs.Losing.{over_not_up}
 use Rattle.cw_strand.proofs.strand.Strand.step.Goals as goal
 
 pub pause-requires-clause-running : goal.pause-requires-clause-running
@@ -21,7 +22,7 @@ returns-clause-advances c =
 pub returns-clause-leaves : goal.returns-clause-leaves
 returns-clause-leaves c =
     let self = c.args.self.now in
-    leaves_from (advance.Came c.pause.result) self (record self { mode = mode.Over }) c.pause.new.self c.requires.before.going c.pause.ensures.leaves
+    leaves_from (advance.Came c.pause.result) self (record self { mode = mode.Over }) c.pause.new.self c.requires.before.going over_not_up c.pause.ensures.leaves
 
 pub returns-clause-does : goal.returns-clause-does
 returns-clause-does c = λ lt.

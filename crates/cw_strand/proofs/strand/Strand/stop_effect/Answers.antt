@@ -2,7 +2,7 @@ use Rattle.std.proofs.Common.{length, refl, sym, ap, subst, inr}
 use Rattle.cw_jobs.specs.declared.call.Parts.{Parts}
 use Rattle.cw_jobs.specs.declared.effect.Effect.TheVariants as effect
 use Rattle.cw_machine.specs.JobRuns as runs
-use Rattle.cw_strand.specs.Holds.{its_job, has_failed}
+use Rattle.cw_strand.specs.Holds.{its_job}
 use Rattle.cw_strand.proofs.Ends.{may_with, gives_with, may_trapped, may_over, may_give_up, trap_means, over_means, up_means, memory_means}
 use Rattle.cw_strand.proofs.Losing.{stopped_lost}
 use Rattle.cw_strand.proofs.strand.Strand.stop_effect.Goals as goal
@@ -54,11 +54,17 @@ returns-in-GivenUp-clause-means c =
     (effect.GivenUp c.given_up-in-GivenUp.result) c.in-GivenUp.is
     (subst (λ (q : Parts). runs.GivesUp self.run.machine (length q.rest.slices.items) c.given_up-in-GivenUp.result.items) c.deref_mut-in-GivenUp.ensures.value c.given_up-in-GivenUp.ensures)
 
+pub returns-in-Trapped-clause-comes : goal.returns-in-Trapped-clause-comes
+returns-in-Trapped-clause-comes c = inr c.in-Trapped.is
+
+pub returns-in-Over-clause-comes : goal.returns-in-Over-clause-comes
+returns-in-Over-clause-comes c = inr c.in-Over.is
+
 pub returns-in-GivenUp-clause-comes : goal.returns-in-GivenUp-clause-comes
-returns-in-GivenUp-clause-comes c = inr (ap has_failed c.in-GivenUp.is)
+returns-in-GivenUp-clause-comes c = c.in-GivenUp.is
 
 pub returns-in_default-clause-means : goal.returns-in_default-clause-means
 returns-in_default-clause-means c = memory_means (its_job c.args.self.now) (effect.Memory c.new-in_default.result) tt
 
 pub returns-in_default-clause-comes : goal.returns-in_default-clause-comes
-returns-in_default-clause-comes c = inr (stopped_lost c.args.self.now.mode c.requires.stopped c.in_default.not-Trapped c.in_default.not-Over)
+returns-in_default-clause-comes c = inr (stopped_lost c.args.self.now.mode c.requires.stopped c.in_default.not-Trapped c.in_default.not-Over c.in_default.not-GivenUp)
