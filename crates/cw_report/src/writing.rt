@@ -9,7 +9,7 @@ use crate::sink::Sink;
 use cw_text::Fault;
 use itoa::Buffer;
 
-/// Writes the whole text; a failed write is not tried again. With no text the sink is left alone.
+/// Writes the whole text. With no text the sink is left alone.
 ///
 /// The error is `Write` where a write failed or took no byte: the sink took a beginning of the text,
 /// and counts one more failed write.
