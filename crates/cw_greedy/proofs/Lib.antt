@@ -8,4 +8,5 @@ mod Blocks
 mod Counts
 mod Slots
 mod Progress
+mod Ranks
 mod Rounds

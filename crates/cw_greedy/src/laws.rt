@@ -40,8 +40,9 @@ pub fn jumps_are_greedy()
     ensures { JumpsAreGreedy }
 {}
 
-/// A step lets the first ready strands in serial order do one instruction each, and no other; a strand is ready where
-/// something is left of it and all strands with an edge of the dag into it are done.
+/// A step lets the first ready strands in serial order do one instruction each, and no other strand. A strand is ready if
+/// some of its instructions are left and all strands with an edge of the dag into it are done. It is among the first if
+/// fewer than `processors` ready strands come before it in serial order.
 pub fn steps_go_by_edges()
     ensures { (processors : ℕ) (t : Tree) (p : Place) → IsLeaf t p → StepsByEdges processors t p }
 {}
