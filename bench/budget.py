@@ -2,8 +2,8 @@
 """What the gate takes, crate by crate: runs `rt ci` and tells the processor time of its checks.
 
     budget.py [WORD..]    rt ci, with these words and as many lanes as the gate gives it, from the top of the repository; then
-                          a table: seconds of a processor that each crate's proof, its tests and its must-fail edits took (the
-                          proof before them in it), and sums
+                          a table in the form of bench/budget.csv: the seconds of processor time that each crate's proof, its
+                          tests and its must-fail edits took (with the proof before them), and sums
 
 Some kits keep what an earlier run on the machine passed: it is not proved again and has no time, names of crates as words
 prove these alone, and --anew as the only word proves all. Others prove all, and take no word. The times are those of checks
@@ -18,9 +18,11 @@ import subprocess
 import sys
 import time
 
-from gate import LANES
-
+sys.dont_write_bytecode = True
 TOP = pathlib.Path(__file__).resolve().parent.parent
+sys.path.insert(0, str(TOP / "building"))
+from costs import LANES  # noqa: E402
+
 TICKS = os.sysconf("SC_CLK_TCK")
 KINDS = ["proof", "tests", "edits"]
 
@@ -71,14 +73,14 @@ def look(top, found):
 
 
 def table(found):
-    """The table, with the crates that took most first."""
+    """Prints the table as bench/budget.csv has it, with the crates that took most first."""
     taken = {}
     for (_, (crate, kind)), seconds in found.items():
         row = taken.setdefault(crate, dict.fromkeys(KINDS, 0))
         row[kind] += seconds
-    print("| crate | " + " | ".join(KINDS) + " |\n|---|" + "---|" * len(KINDS))
+    print(f"crate,{','.join(KINDS)},note")
     for crate, row in sorted(taken.items(), key=lambda it: -sum(it[1].values())):
-        print(f"| `{crate}` | " + " | ".join(f"{row[it]:.0f}" if row[it] else "" for it in KINDS) + " |")
+        print(f"{crate},{','.join(f'{row[it]:.0f}' for it in KINDS)},")
     sums = [sum(row[it] for row in taken.values()) / 60 for it in KINDS]
     print(f"\nMinutes of a processor: {', '.join(f'{it} {much:.0f}' for it, much in zip(KINDS, sums))}; {sum(sums):.0f} in all.")
 

@@ -6,17 +6,19 @@
 The sample before `rt ci` takes some two minutes: the reports of examples/ against the other implementation, that one
 against answers worked out by hand, the random programs of the walks of worlds, whether each wrong body can be made, and
 some turned clauses; and beside them ./build with its install into a temporary folder. It wants python3 and the kit alone.
-Where one of them differs from what stands there, nothing else is run. After `rt ci` the program that it built is held to
-the one that ./build made and to random programs, and the wrong bodies of one crate are tried over the libraries that it
+If one of them differs from what is expected, nothing else is run. After `rt ci` the program that it built must be byte for
+byte the one that ./build made and have its SHA-256 in building/PROVED; if not, the functions that differ are listed. It is
+run on examples/ and on random programs, and the wrong bodies of one crate are tried over the libraries that `rt ci`
 left. The last line is that of `rt ci`, `N passed, M failed`; where one of these differs, it says how many failed.
 
-Its first line says how long it expects to take, by the table in docs/DEVELOPING.md; each line of `rt ci` on a crate begins
+Its first line says how long it expects to take, by bench/budget.csv; each line of `rt ci` on a crate begins
 with the minutes since.
 
 `rt ci` gets a lane for each processor, four at most, unless RT_JOBS says how many: of itself it begins a crate only where
 the memory that it reckons with is free, and reckons so much for the crate at the head of the longest chain that this one
 would wait for nearly all others. The four greatest checks of this repository take some 14 GB together.
 """
+import filecmp
 import os
 import re
 import shutil
@@ -25,8 +27,16 @@ import sys
 import tempfile
 import time
 
-BEGUN = time.monotonic()
+sys.dont_write_bytecode = True
 TOP = os.path.normpath(os.path.join(os.path.dirname(os.path.abspath(__file__)), ".."))
+sys.path.insert(0, os.path.join(TOP, "building"))
+import costs  # noqa: E402
+import kits  # noqa: E402
+import recording  # noqa: E402
+import records  # noqa: E402
+from costs import LANES  # noqa: E402
+
+BEGUN = time.monotonic()
 PROGRAM = os.path.join(TOP, "crates", "cilkwork", "out", "cilkwork")
 BUILT = os.path.join(TOP, "bin", "cilkwork")
 BEFORE = [
@@ -36,38 +46,21 @@ BEFORE = [
     ["bench/wrong/wrong.py"],
     ["bench/turned/turn.py", "--every", "100", "--jobs", "4"],
 ]
-LANES = min(len(os.sched_getaffinity(0)), 4)
 SEEDS = ["1", "40", "consts"]
 WRONG = ["bench/wrong/wrong.py", "--turn", "--jobs", str(min(LANES, 2))]
 # what the samples take beside `rt ci`, in seconds of a processor
 SAMPLES = 700
-# and a crate with no row of its own in the table
-SMALL = [60, 0, 0]
 INSTALLED = ["bin/cilkwork"] + ["share/doc/cilkwork/" + it for it in ("GUIDE.md", "LANGUAGE.md", "examples/fib.cilk")]
 WORDED = ["man/man1/cilkwork.1", "bash-completion/completions/cilkwork", "zsh/site-functions/_cilkwork", "fish/vendor_completions.d/cilkwork.fish"]
 
 
-def taken():
-    """What each crate's proof, tests and edits take by the table in docs/DEVELOPING.md, in seconds of a processor."""
-    with open(os.path.join(TOP, "docs", "DEVELOPING.md"), encoding="utf-8") as file:
-        rows = re.findall(r"^\| `(\w+)` \|(.*)\|(.*)\|(.*)\|$", file.read(), re.M)
-    return {name: [int((re.findall(r"\d+", it) or ["0"])[0]) for it in cells] for name, *cells in rows}
-
-
 def expectation():
-    """How long the gate takes from nothing: its lanes are full, or it waits for the longest chain of crates."""
+    """Returns how long the gate takes from nothing: until its lanes have done all, or the longest chain of crates is done."""
     with open(os.path.join(TOP, "crates.txt"), encoding="utf-8") as file:
         lines = [line.partition("#")[0].partition(":") for line in file]
-    each, proved, chain, total = taken(), {}, 0, 0
-    for head, _, uses in lines:
-        if head.strip():
-            name = head.split()[0]
-            proof, *others = each.get(name, SMALL)
-            proved[name] = proof + max((proved.get(it, 0) for it in uses.split()), default=0)
-            chain, total = max(chain, proved[name] + max(others)), total + proof + sum(others)
-    clock = max(total / LANES, chain) + SAMPLES / LANES
+    clock, total, chain = costs.expected({head.split()[0]: uses.split() for head, _, uses in lines if head.strip()})
     said = "expected: %d minutes on %d processors, where nothing is kept from an earlier run here (%d minutes of a processor; longest chain %d)"
-    return said % (clock / 60, LANES, (total + SAMPLES) / 60, chain / 60)
+    return said % ((clock + SAMPLES / LANES) / 60, LANES, (total + SAMPLES) / 60, chain / 60)
 
 
 def stamped(line):
@@ -120,8 +113,24 @@ def sample():
         return failed + ([] if build_passes(ran, log, prefix) else ["build"])
 
 
+def is_proved_program():
+    """Returns whether ./build made the program that `rt ci` built, and building/PROVED has its sum; reports what differs."""
+    kit = kits.found()
+    recorded, proved = records.proved_by(kit.line), records.sum_of_file(PROGRAM)
+    if not filecmp.cmp(PROGRAM, BUILT, shallow=False):
+        print("./build does not make the program that was proved:\n    proved   %s\n    ./build  %s" % (proved, records.sum_of_file(BUILT)))
+        print("\n".join(recording.differences(kit, print)), flush=True)
+        return False
+    if recorded.program != proved or recorded.sources != records.sum_of_sources(kit.crates(records.TOP)):
+        print("building/PROVED does not have the program that was proved, or its sources: run ./build --record and commit what it writes")
+        print("    proved    %s\n    recorded  %s" % (proved, recorded.program), flush=True)
+        return False
+    print("./build made the proved program, byte for byte: SHA-256 " + proved, flush=True)
+    return True
+
+
 def program_passes():
-    """Holds the program that `rt ci` built to what ./build made and to random programs, on a copy that may be run."""
+    """Returns whether the program that `rt ci` built is the one of ./build, and a copy that may be run answers correctly."""
     if not os.path.isfile(PROGRAM):
         print("rt ci left no program")
         return False
@@ -129,8 +138,8 @@ def program_passes():
         copy = os.path.join(folder, "cilkwork")
         shutil.copyfile(PROGRAM, copy)
         os.chmod(copy, 0o755)
-        tried = [["building/answers.py", copy, BUILT], ["bench/reference/fuzz.py", copy] + SEEDS]
-        return all([passes(words) for words in tried])
+        tried = [["building/answers.py", copy], ["bench/reference/fuzz.py", copy] + SEEDS]
+        return all([is_proved_program(), *(passes(words) for words in tried)])
 
 
 def run_ci():

@@ -26,8 +26,8 @@ import time
 
 HERE = pathlib.Path(__file__).resolve().parent
 LIMIT = "4611686018427387904"
-# programs, their argument, and the ratios that are wanted without measures and with them, of a proved build and where C takes
-# some 0.083 s for fib: another processor may be faster by half in C alone
+# programs, their argument, and the ratios that are wanted without measures and with them, where C takes about 0.083 s for fib:
+# another processor may be faster by half in C only
 PROGRAMS = [("fib", "29", 0.42, 0.58), ("chain", "4000", 0.55, 0.62), ("sieve", "1000000", 0.36, 0.34),
             ("mergesort", "100000", 0.4, 0.4), ("matrix", "110", 0.42, 0.4), ("queens", "10", 0.48, 0.46)]
 

@@ -3,7 +3,7 @@ import os
 import pathlib
 import shutil
 
-import native
+import records
 
 DOCUMENTS = ["docs/GUIDE.md", "docs/LANGUAGE.md", "CHANGELOG.md"]
 
@@ -21,15 +21,15 @@ def installed(program, prefix):
     """Copies the program, its page of the manual, its completions, documents and examples; gives the files by what they are."""
     prefix = pathlib.Path(prefix).expanduser().absolute()
     put(program, prefix / "bin/cilkwork", 0o755)
-    for file in sorted((native.TOP / "share").rglob("*")):
+    for file in sorted((records.TOP / "share").rglob("*")):
         if file.is_file():
-            put(file, prefix / "share" / file.relative_to(native.TOP / "share"))
+            put(file, prefix / "share" / file.relative_to(records.TOP / "share"))
     place = prefix / "share/doc/cilkwork"
     for name in DOCUMENTS:
-        put(native.TOP / name, place / pathlib.Path(name).name)
+        put(records.TOP / name, place / pathlib.Path(name).name)
     # here documents and examples lie beside one another
     guide = place / "GUIDE.md"
     guide.write_text(guide.read_text().replace("](../examples", "](examples"))
-    for file in sorted((native.TOP / "examples").iterdir()):
+    for file in sorted((records.TOP / "examples").iterdir()):
         put(file, place / "examples" / file.name)
     return prefix

@@ -1,73 +1,78 @@
-"""The program as the kit proves and builds it here, with a line for each crate that is proved."""
+"""Proves the program and the crates below it with `rt ci`, in parallel, and takes from the kit what earlier runs have proved."""
 import os
 import pathlib
 import re
+import shutil
 import subprocess
 import sys
 import time
 
-import native
+import costs
 
-# what a proof takes of a processor, as it was measured of this repository: at the least, and for each line of sources
-LEAST, EACH_LINE = 30, 0.22
-# so many seconds of a guess count as much as what was seen, so that the first small crates do not decide
+# what a proof reads of a crate, and what a run of a program needs
+READ = ("src", "specs", "proofs", "data", "stdin", "stdout", "args", "status")
+# until so many seconds of proofs are done, the estimate counts them as if they had gone at the expected pace
 TRUST = 300
 
 
-def weight(crate):
-    """Seconds of a processor that the proof of a crate is guessed to take."""
-    files = (pathlib.Path(crate.folder) / "src").rglob("*.rt")
-    return LEAST + EACH_LINE * sum(len(it.read_bytes().splitlines()) for it in files)
-
-
 def minutes(seconds):
-    """So many seconds in words."""
+    """Returns a duration in words."""
     return f"about {round(seconds / 60)} minutes" if seconds >= 90 else "about a minute"
 
 
 class Progress:
-    """Which crates are proved, by what the kit says as it begins each of them, lowest first."""
+    """Reports each crate that is proved, and how long the others will take."""
 
     def __init__(self, crates, say):
-        self.weights = {it.name: weight(it) for it in crates}
-        self.left, self.running, self.say = list(self.weights), None, say
-        self.begun, self.proved = time.monotonic(), 0.0
+        self.seconds = {it.name: costs.measured().get(it.name, costs.SMALL)[0] for it in crates}
+        self.uses = {it.name: [dep.name for dep in it.deps] for it in crates}
+        self.left, self.say = list(self.seconds), say
+        self.begun, self.proved = time.monotonic(), 0
 
-    def guess(self):
-        """The seconds that are left: the weights of what is left, by how fast those went that were proved here."""
-        usual = TRUST / min(len(os.sched_getaffinity(0)), 4)
-        rate = (time.monotonic() - self.begun + usual) / (self.proved + TRUST)
-        return rate * sum(self.weights[it] for it in self.left)
+    def remaining(self):
+        """Returns an estimate of the seconds that are left, at the pace of the proofs so far."""
+        pace = (time.monotonic() - self.begun + TRUST / costs.LANES) / (self.proved + TRUST) * costs.LANES
+        return pace * costs.expected({name: self.uses[name] for name in self.left})[0]
 
-    def begins(self, name):
-        """The kit begins this crate, so those before it are proved."""
-        while name in self.left and self.left[0] != name:
-            self.tell()
-        self.running = name
-
-    def tell(self):
-        """Tells that the first crate that was left is proved: here where the kit had begun it, else by an earlier run."""
-        name = self.left.pop(0)
-        is_new = name == self.running
-        self.proved += self.weights[name] if is_new else 0
-        ahead = f"{len(self.left)} of {len(self.weights)} left, {minutes(self.guess())}" if self.left else "none left"
-        self.say(f"proved {name}{'' if is_new else ' by an earlier run'}; {ahead}")
+    def read(self, line):
+        """Reads a line of `rt ci`, and reports the crate that it says is proved."""
+        found = re.match(r"rt: (\w+) (proved$|is kept)", line)
+        if found and found[1] in self.left:
+            self.left.remove(found[1])
+            self.proved += self.seconds[found[1]] if found[2] == "proved" else 0
+            ahead = f"{len(self.left)} of {len(self.seconds)} left, {minutes(self.remaining())}" if self.left else "none left"
+            self.say(f"proved {found[1]}{'' if found[2] == 'proved' else ' by an earlier run'}; {ahead}")
 
 
-def proved(kit, say):
-    """Proves all that the program stands on, and the program; gives where the kit has built it."""
-    crate, _ = native.crates_of(kit)
-    progress = Progress([*crate.below(), crate], say)
-    say(f"proving {len(progress.left)} crates: {minutes(progress.guess())} by a guess, where nothing is kept")
-    said = []
-    words = ["rt", "run", "--", "--version"]
-    with subprocess.Popen(words, cwd=crate.folder, stdout=subprocess.DEVNULL, stderr=subprocess.PIPE, text=True, errors="replace") as ran:
-        for line in ran.stderr:
-            said.append(line)
-            if begun := re.match(r"rt: chose --jobs \d+ for (\w+)", line):
-                progress.begins(begun[1])
-    if ran.returncode:
-        sys.exit(f"Not proved (status {ran.returncode}):\n{''.join(said[-40:])}")
-    while progress.left:
-        progress.tell()
-    return f"{crate.folder}/out/cilkwork"
+def copy_crates(top, crates, to):
+    """Copies what the proofs of crates read to a folder, which becomes the top of a repository of these crates."""
+    (to / ".git").mkdir(parents=True)
+    names = {it.name for it in crates}
+    for it in crates:
+        for part in READ:
+            file = pathlib.Path(it.folder, part)
+            if file.exists():
+                (shutil.copytree if file.is_dir() else shutil.copy)(file, to / "crates" / it.name / part)
+    lines = (top / "crates.txt").read_text().splitlines(True)
+    (to / "crates.txt").write_text("".join(it for it in lines if it.split(":")[0].split()[:1] and it.split(":")[0].split()[0] in names))
+    shutil.copy(top / "HANDLES", to)
+
+
+def prove(kit, top, to, say):
+    """Proves the program of the sources below `top` and the crates below it, in a copy at `to`, and returns the program.
+
+    The libraries that the program uses stay built in the copy. Exits if a crate is not proved."""
+    crates = kit.crates(top)
+    copy_crates(top, crates, to)
+    progress = Progress(crates, say)
+    say(f"proving {len(crates)} crates: {minutes(progress.remaining())} if nothing is kept from an earlier run")
+    env = {"RT_JOBS": str(costs.LANES), **os.environ, "PYTHONUNBUFFERED": "1"}
+    lines = []
+    with subprocess.Popen([kit.folder / "bin/rt", "ci"], cwd=to, env=env, stdout=subprocess.PIPE, stderr=subprocess.STDOUT, text=True, errors="replace") as ran:
+        for line in ran.stdout:
+            lines.append(line)
+            progress.read(line)
+    made = to / "crates/cilkwork/out/cilkwork"
+    if ran.returncode or not made.exists():
+        sys.exit(f"Not proved (status {ran.returncode}):\n{''.join(lines[-40:])}")
+    return made
