@@ -64,12 +64,12 @@ def supported():
 Then run ./build again. 'rt version' must print one of these lines:{lines}"""
 
 
-def found():
-    """Returns the kit whose `rt` is on the path. Exits if there is none, or one that this repository was not proved with."""
+def found(is_new=False):
+    """Returns the kit whose `rt` is on the path. Exits if there is none, or, unless it may be new, one that did not prove this repository."""
     if not shutil.which("rt"):
         sys.exit(f"The command rt is not on the path.\n{supported()}")
     version, page = [subprocess.run(["rt", word], capture_output=True, text=True) for word in ("version", "doc")]
     line = version.stdout.strip()
-    if line not in [it.kit for it in records.proved()]:
+    if version.returncode or not is_new and line not in [it.kit for it in records.proved()]:
         sys.exit(f"The rt on the path belongs to another kit: {line or version.stderr.strip()}.\n{supported()}")
     return Kit(pathlib.Path(page.stdout.strip()).parent, line)

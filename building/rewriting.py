@@ -70,7 +70,7 @@ class Rewriting:
 
     def text(self, items):
         """Yields the text of the rewritten module in pieces; several processes rewrite the bodies."""
-        with multiprocessing.Pool(min(len(os.sched_getaffinity(0)), 4)) as pool:
+        with multiprocessing.get_context("fork").Pool(min(len(os.sched_getaffinity(0)), 4)) as pool:
             batch = []
             for task in self.tasks(items):
                 batch.append(task)
