@@ -1,4 +1,4 @@
--- A body takes no more slots than its function declares names.
+-- A body needs at most as many slots as its function declares names.
 use Rattle.std.proofs.Common.{Bool, true, false, not, if◌then◌else◌, map, filter, ◌≡◌, ℕ, suc, ◌+◌, ◌≤◌, max, List}
 use Rattle.std.proofs.Common.{[], ◌∷◌, ◌++◌, length, refl, ap, arith}
 use Rattle.std.proofs.lemmas.List.{length_push}
