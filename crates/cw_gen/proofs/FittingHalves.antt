@@ -1,4 +1,4 @@
--- The call of a loop's function on one half of its range fits.
+-- The call of a loop's function on one half of its range is well formed.
 use Rattle.std.proofs.Common.{◌≡◌, ℕ, ◌+◌, ◌-◌, List, [], ◌∷◌, length, true, ◌&&◌, Some, sym, ap, ◌∙◌, subst, arith}
 use Rattle.std.specs.Prelude.{slice_get}
 use Rattle.cw_facts.specs.Tests.{both_true}

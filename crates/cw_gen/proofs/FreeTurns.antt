@@ -1,4 +1,4 @@
--- Where no call on a half stands, a lowered statement holds what is taken after it in a source; so turns close.
+-- In a lowered statement without a call on a half, the same names are held as in a source; so the iterations close.
 use Rattle.std.proofs.Common.{◌≡◌, ℕ, ◌+◌, true, List, ◌∷◌, ◌++◌, refl, sym, ap, ◌∙◌, subst, Contains}
 use Rattle.std.proofs.lemmas.Bool.{and_parts}
 use Rattle.cw_model.specs.declared.syntax.CallKind.TheVariants.{Plain, Spawned}
@@ -37,7 +37,7 @@ mutual
       let p = and_parts (has_no_half s) (has_no_half_in b) h in
       all_same fs b depth (held_after fs depth s taken) p.1 ∙ ap (taken_after_all fs depth b) (held_same fs s depth taken p.0)
 
--- the least set of a turn is that of a turn that does the same
+-- the least set of an iteration is the least set of an equal function
 least_moved : (turn other : Taken → Taken) (before after after' : Taken) → ((set : Taken) → other set ≡ turn set) → after' ≡ after → IsLeastClosed turn before after → IsLeastClosed other before after'
 least_moved turn other before after after' same e l = record {
   holds_before = λ t c. subst (λ s. Contains s t) (sym e) (l.holds_before t c);
@@ -45,7 +45,7 @@ least_moved turn other before after after' same e l = record {
   least = λ set h g t c. l.least set h (λ t' c'. g t' (subst (λ s. Contains s t') (sym (same set)) c')) t (subst (λ s. Contains s t) e c);
 }
 
--- the turns of a lowered program close
+-- the iterations of a lowered program close
 pub turns_close : (program : Program) → WhilesAreLeast → TurnsClose (lowered program).functions
 turns_close program least level e b before h =
     let fs : List Function = (lowered program).functions in

@@ -42,7 +42,7 @@ use Rattle.cw_gen.proofs.FreeCarried.{deeper, AllCarried, deeper_all, inside_mor
 use Rattle.cw_gen.proofs.FreeAfter.{call_same, lent_call_same, stmt_carries, block_carries}
 use Rattle.cw_gen.proofs.FreeLoops.{Nothing, loop_free}
 
--- how much less deep the body of a loop lies in its function
+-- the difference between the depth of a loop's body in the source and in its function
 record Shift (source : ℕ) : Type 0 where
   shift : ℕ
   is : source + 1 ≡ 2 + shift
@@ -55,7 +55,7 @@ both_free : (gs xs ys : List Function) → AllFree gs xs → AllFree gs ys → A
 both_free gs [] ys h g = g
 both_free gs (x ∷ xs) ys h g = (h.0, both_free gs xs ys h.1 g)
 
--- what is free in the source is free in the lowered text
+-- names that are free in the source are free in the lowered text
 module _ (shift depth : ℕ) (owners : List Name) (held taken : Taken) (all : AllCarried shift depth owners held taken) where
   names_free : (xs : List Name) → are_free taken xs ≡ true → are_free held xs ≡ true
   names_free xs h = free_all held xs (λ x o. free_carried shift depth owners held taken all x (free_each taken xs h x o))
@@ -63,7 +63,7 @@ module _ (shift depth : ℕ) (owners : List Name) (held taken : Taken) (all : Al
   low_free : is_taken held low ≡ false
   low_free = loose_free low held (plain_carried shift depth owners held taken all low refl)
 
-  -- and what nothing holds there nothing holds in it
+  -- names that are not held in the source are not held in the lowered text
   names_loose : (xs : List Name) → are_loose taken xs ≡ true → are_loose held xs ≡ true
   names_loose xs h = loose_all held xs (λ x o. loose_carried shift depth owners held taken all x (loose_each taken xs h x o))
 
@@ -407,7 +407,7 @@ module _ (program : Program) (least : WhilesAreLeast) (gs : List Function) (same
         (found_right gs (made_by line k s) (made_in (k + loop_count s) b) found) in
         ((here.0, rest.0), both_free gs (made_by line k s) (made_in (k + loop_count s) b) here.1 rest.1)
 
-  -- a function of the source, and those of its loops
+  -- a function of the source, and the functions of its loops
   function_frees : (f : Function) (k : ℕ) → faults_of program f ≡ [] → owner_faults_of program.functions f ≡ [] → is_source_function f ≡ true
       → Found gs (made_in k f.body) → BlockFree gs 1 [] (lower_block [] k f.body) × AllFree gs (made_in k f.body)
   function_frees f k types owns src found =

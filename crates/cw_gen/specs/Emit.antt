@@ -37,8 +37,8 @@ abbrev pub distance : ℕ → ℕ
 distance n = min n most_jump
 
 -- the numbers of the lists of array slots: list 0 belongs to no call and is empty; the list of a call site has the
--- number of the site; from the number `first` on, each function has three lists, for a loop's function those of its
--- first call and of its calls on the left and on the right half
+-- number of the site; from the number `first` on, each function has three lists, which a loop's function uses for its
+-- first call and for its calls on the left and on the right half
 abbrev pub whole_list : (first callee : ℕ) → ℕ
 whole_list first callee = distance (first + 3 * callee)
 

@@ -47,6 +47,6 @@ IsRefusal program _ = ⊥
 abbrev pub source_of : Core → Program
 source_of core = program_of core.source.typed.tree
 
--- the result is the code of the program, or a reason why there is none
+-- the result is the code of the program, or a reason for its rejection
 abbrev pub Answers : Program → Result made_code.Code Fault → Type 0
 Answers program r = MatchResult r (λ code. Generates program (code_view code)) (IsRefusal program)
