@@ -86,7 +86,7 @@ module _ {c : Surroundings} {ints arrays : List Name} {known : Known} {owners : 
       let k = and_parts (keeps_loop around d) (keeps_loop around e) keeps in
       both_true (can_evaluate c d) (can_evaluate c e) (expr_can d s.0 k.0 (first_well c (read_by d) (read_by e) well)) (expr_can e s.1 k.1 (second_well c (read_by d) (read_by e) well))
 
--- the rule for the head of a loop is stricter than the rule for the statements beside it
+-- the rule for the head of a loop is stricter than the rule for the other statements
 pub head_keeps : (around : Around) (e : Expr) → keeps_loop (for_head around) e ≡ true → keeps_loop around e ≡ true
 head_keeps NoLoop e h = h
 head_keeps (InLoop outer i over) (Number n) h = refl

@@ -21,7 +21,7 @@ use std::alloc::{AllocError, Global};
 
 /// Lowers each `cilk_for` of the program to a function that halves its range. The result represents the functions of
 /// the `lowered` program, with a slot for each local and an index for each function: the functions of the source
-/// first, then the functions of the loops, each after those of the loops in its body. So it has the answers of the
+/// first, then the functions of the loops, in which inner loops precede outer ones. So it has the answers of the
 /// source, by the law `lowering_keeps_answers`. It keeps its source.
 ///
 /// # Errors

@@ -2,8 +2,8 @@
 //! `cilk_for`.
 //!
 //! The integers and the arrays of a function have separate slots, from 0. The indices of functions count the
-//! functions of the source first, in order, and then the functions of the loops; the indices of reducers and tags are
-//! those of the source.
+//! functions of the source first, in order, and then the functions of the loops; reducers and tags have the indices
+//! of the source.
 
 use cw_model::syntax::{CallKind, Operator, Reduction};
 
