@@ -10,7 +10,7 @@ use Rattle.cw_text.specs.declared.fault.Fault.TheVariants as fault
 abbrev pub IsCut : List ℕ → Vec Token → Type 0
 IsCut text tokens = IsTokenCut text tokens.items
 
--- the condition on the text under which cutting it returns this fault
+-- the condition that the text satisfies if cutting it returns this fault
 abbrev pub HasNoCut : List ℕ → Fault → Type 0
 HasNoCut text (fault.Lexical p) = HasLexicalFault text p.line
 HasNoCut text (fault.Size p) = HasNameFault text p.line

@@ -14,7 +14,7 @@ passes class.Digit b = is_digit b
 passes class.Word b = is_word_byte b
 passes class.Inner b = is_inner b
 
--- the condition on a text with this front
+-- the condition that a text satisfies if it has this front
 abbrev pub IsFront : List ℕ → Front → Type 0
 IsFront bytes front.Separator = is_separator (slice_index bytes 0) ≡ true
 IsFront bytes (front.Comment len) = (0 < len) × IsLongest bytes len × (is_comment (take len bytes) ≡ true)

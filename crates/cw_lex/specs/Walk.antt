@@ -24,7 +24,7 @@ pub record IsNextFault (text : List ℕ) (from : ℕ) (found : At Uncut) : Type 
   pub faulty : IsNoToken found.reason (drop at text)
   pub same_line : found.line ≡ line_at text at
 
--- the condition on the text after `from` for each kind of result
+-- the condition that the text after `from` satisfies for each result
 abbrev pub IsNext : (text : List ℕ) (from : ℕ) → Next → Type 0
 IsNext text from (next.Token t) = IsNextToken text from t
 IsNext text from next.End = IsGap text from (length text)
