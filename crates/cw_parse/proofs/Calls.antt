@@ -51,7 +51,7 @@ module _ (U : Type 0) {A : Type 0} (n : ℕ) (G : Token → List Token → A →
     (t, token_of kind.LeftParen ∷ (x.text ++ []), tok is, (token_of kind.LeftParen, x.text ++ [], tok refl, x.reads [])),
   )
 
-  -- if tokens that open a call are stuck at `rest`, they still open a call with any other tokens from there on
+  -- if a call is stuck at the token `w`, tokens that open a call still open one with any tokens after `w`
   no_call_dead : (ts front rest : List Token) → ts ≡ front ++ rest → Opens ts → (w : Token) (us : List Token) → rest ≡ w ∷ us
       → ((vs : List Token) (b : A) (after : List Token) → P (front ++ w ∷ vs) b after → ⊥) → (vs : List Token) → Opens (front ++ w ∷ vs)
   no_call_dead ts [] rest e o w us is dead vs = absurd (alive (e ∙ is) o)
@@ -67,7 +67,8 @@ module _ (U : Type 0) {A : Type 0} (n : ℕ) (G : Token → List Token → A →
       two : {zs : List Token} → zs ≡ x ∷ z ∷ (front ++ rest) → Opens zs → Opens (x ∷ z ∷ (front ++ w ∷ vs))
       two h (opens {t = t} {u = u} i i') = let a : t ≡ x = cc in let b : u ≡ z = cc in opens (ap (λ (y : Token). y.kind) (sym a) ∙ i) (ap (λ (y : Token). y.kind) (sym b) ∙ i')
 
-  -- if another part is stuck at `rest`, and the tokens open a call after a change from there on, they opened one before
+  -- if another part is stuck at the token `w`, tokens that open a call with other tokens after `w` also open one with
+  -- their own
   no_other_dead : (ts front rest : List Token) → ts ≡ front ++ rest → (w : Token) (us : List Token) → rest ≡ w ∷ us
       → ((vs : List Token) (b : A) (after : List Token) → Q (front ++ w ∷ vs) b after → ⊥) → (vs : List Token) → Opens (front ++ w ∷ vs) → Opens ts
   no_other_dead ts [] rest e w us is dead vs (opens i i') = absurd (let x = some_other w i in dead (x.text ++ []) x.value [] (x.reads []))

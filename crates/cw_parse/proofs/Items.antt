@@ -327,7 +327,7 @@ module _ (text : List ℕ) where
       let n : len ts - e ≡ len front = omega arith in
       rw n (ap (take (len front)) parts ∙ take_front front rest)
 
-  -- what the result of reading a whole source implies
+  -- the consequence of the result of reading a whole source
   abbrev pub Answer : List Token → Read Items → Type 0
   Answer ts (Ok x) = Derives text ts (program x.0)
   Answer ts (Err e) = IsRefusedAt text ts (len ts - e)

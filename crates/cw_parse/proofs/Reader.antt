@@ -49,7 +49,7 @@ pub record Stuck {A : Type 0} (R : List Token → A → List Token → Type 0) (
   pub completes : (after : List Token) → R (front ++ (more ++ after)) value after
   pub dead : (t : Token) (us : List Token) → rest ≡ t ∷ us → (vs : List Token) (b : A) (after : List Token) → R (front ++ t ∷ vs) b after → Stops s after → ⊥
 
--- `G`, with what follows it, begins with a token that `s` accepts
+-- the tokens that `G` reads, with the tokens after them, are empty or begin with a kind that `s` accepts
 abbrev pub Follows : {A B : Type 0} → (A → List Token → B → List Token → Type 0) → (Kind → Bool) → (Kind → Bool) → Type 0
 Follows {A} {B} G s s' = (a : A) (us : List Token) (b : B) (rest : List Token) → G a us b rest → Stops s' rest → Stops s us
 

@@ -41,7 +41,7 @@ pub record IsFirstPassed (tokens : List Token) (at : At TooNested) : Type 0 wher
   pub least : IsLeastLine (token_faults 0 0 tokens) at.line
   pub holds : IsPassedByTokens tokens at.line at.reason
 
--- the condition on tokens under which the check of limits returns this fault
+-- the condition that tokens satisfy if the check of limits returns this fault
 abbrev pub IsRefused : List Token → Fault → Type 0
 IsRefused tokens (fault.Size p) = IsLeastLine (token_faults 0 0 tokens) p.line
 IsRefused tokens _ = ⊥

@@ -22,7 +22,7 @@ pub record IsUnderivable (text : List ℕ) (ts : List Token) (line : ℕ) : Type
   pub short : IsShort ts
   pub fault : HasSyntaxFault text ts line
 
--- the condition on the tokens of a text under which parsing returns this fault: the least line of a token that exceeds
+-- the condition that the tokens of a text satisfy if parsing returns this fault: the least line of a token that exceeds
 -- a limit; if no token exceeds one, the first token that cannot continue
 abbrev pub IsUnparsed : List ℕ → List Token → Fault → Type 0
 IsUnparsed text ts (fault.Size p) = IsLeastLine (token_faults 0 0 ts) p.line
@@ -30,7 +30,7 @@ IsUnparsed text ts (fault.Syntax p) = IsUnderivable text ts p.line
 IsUnparsed text ts fault.Memory = Unit {0}
 IsUnparsed text ts _ = ⊥
 
--- the condition on the tokens of a text under which building the tree returns this fault
+-- the condition that the tokens of a text satisfy if building the tree returns this fault
 abbrev pub HasNoTree : List ℕ → List Token → Fault → Type 0
 HasNoTree text ts (fault.Syntax p) = HasSyntaxFault text ts p.line
 HasNoTree text ts fault.Memory = Unit {0}

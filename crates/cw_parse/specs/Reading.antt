@@ -20,7 +20,7 @@ abbrev pub ◌>>=◌ : {A B : Type 0} → Read A → (A × List Token → Read B
 (Ok x) >>= f = f x
 (Err e) >>= f = Err e
 
--- a function of the code stops at a token exactly where the reader stops; out of memory implies nothing
+-- if a function of the code stops at a token, the reader stops at the same token; out of memory implies nothing
 abbrev pub Fails : {Y : Type 0} → Stop → Result Y ℕ → Type 0
 Fails stop.Memory read = Unit {0}
 Fails (stop.At n) read = read ≡ Err n
