@@ -21,13 +21,13 @@ abbrev pub ResolvedFits : Type 0
 ResolvedFits =
     (program : Program) → limit_faults program ≡ [] → type_faults program ≡ [] → is_fitting (resolved program) ≡ true
 
--- the integers of a block need at most as many slots as there are names
+-- the number of slots that the integers of a block need is at most the number of names
 abbrev pub FewInts : Type 0
 FewInts =
     (lists : Lists) (l : Locals) (n : ℕ) (b : Block) →
     ints_in_block n (resolved_block lists l b) ≤ max n (length l.ints + declares_in_block b)
 
--- the arrays of a block need at most as many slots as there are names
+-- the number of slots that the arrays of a block need is at most the number of names
 abbrev pub FewArrays : Type 0
 FewArrays =
     (lists : Lists) (l : Locals) (n : ℕ) (b : Block) →

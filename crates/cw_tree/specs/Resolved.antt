@@ -24,7 +24,7 @@ pub record Use : Type 0 where
   pub name : Name
   pub slot : ℕ
 
--- a use of a function, a reducer or a tag with its index among those of the program
+-- a use of a function, a reducer or a tag with its index in the program
 pub record Listed : Type 0 where
   pub name : Name
   pub index : ℕ
@@ -218,7 +218,8 @@ abbrev pub head_reads : Head → List Use
 head_reads head = reads head.from ++ (reads head.to ++ head.captured)
 
 abbrev mutual
-  -- the integers that a statement reads, in order; a loop reads those of its head and those that its body captures
+  -- the integers that a statement reads, in order; a loop reads the integers of its head and the integers that its body
+  -- captures
   pub reads_in : Stmt → List Use
   reads_in (Declare u e) = reads e
   reads_in (DeclareArray u e) = reads e
@@ -362,7 +363,7 @@ locals_of ps = record {
   arrays = map (λ p. p.name) (filter (λ p. wants_array p) ps);
 }
 
--- a function with a resolved body; it has a slot for each local that is known at the same time as others
+-- a function with a resolved body; its numbers of slots suffice for the locals that are known at the same time
 abbrev pub function_with : model.Function → Locals → Block → Function
 function_with f locals body = record {
   name = f.name;

@@ -17,7 +17,7 @@ pub fn resolved_is_right()
     ensures { ResolvedIsRight }
 {}
 
-/// States that a body needs at most as many slots as there are names.
+/// States that the number of slots that a body needs is at most the number of names.
 pub fn few_slots()
     ensures ints { FewInts }
     ensures arrays { FewArrays }

@@ -16,7 +16,7 @@ pub struct Use {
     pub slot: u32,
 }
 
-/// Represents a use of a function, a reducer or a tag, with its index among those of the program.
+/// Represents a use of a function, a reducer or a tag, with its index in the program.
 #[derive(Drop, Debug)]
 pub struct Listed {
     pub name: Name,
