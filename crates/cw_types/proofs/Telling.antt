@@ -1,4 +1,4 @@
--- What the recorded entry satisfies after several lines are recorded.
+-- The condition on the recorded entry after several lines are recorded.
 use Rattle.std.proofs.Common.{Bool, true, false, not, ◌||◌, ◌≡◌, ℕ, nat_le, if◌then◌else◌, arith, List, [], ◌∷◌, Contains, Option, Some, None, IfSome, refl, sym, ap, ◌∙◌, subst}
 use Rattle.std.proofs.lemmas.Bool.Decides.{nat_tests}
 use Rattle.std.specs.Option.{option_to_list}

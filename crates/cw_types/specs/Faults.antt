@@ -1,4 +1,4 @@
--- Why a source exceeds a limit, or breaks a rule of names and types.
+-- The reasons why a source exceeds a limit or breaks a rule of names and types.
 use Rattle.std.specs.Prelude.{◌≡◌, ℕ, List, [], ◌∷◌}
 use Rattle.cw_model.specs.Syntax.{Program}
 use Rattle.cw_model.specs.Lines.{IsLeastLine}
@@ -45,7 +45,7 @@ where_none (other ∷ others) lines = []
 abbrev pub refused_lines : Program → List ℕ
 refused_lines program = where_none (limit_faults program) (type_faults program)
 
--- the condition on the program under which the check returns this fault
+-- the condition that the program satisfies if the check returns this fault
 abbrev pub IsIllTyped : Program → Fault → Type 0
 IsIllTyped program (fault.Size p) = IsLeastLine (limit_faults program) p.line
 IsIllTyped program (fault.Types p) = IsFirstTypeFault program p.line

@@ -1,4 +1,4 @@
--- How a value changes in an operation that may run out of memory.
+-- The change of a value by an operation that may run out of memory.
 use Rattle.std.specs.Prelude.{◌≡◌, Result, MatchResult}
 
 -- the value becomes `made`, or it is unchanged because memory ran out

@@ -1,4 +1,4 @@
--- What it means that a line exceeds a limit on the parts of a program for a reason.
+-- The meaning of a reason that is recorded for a line that exceeds a limit on the parts of a program.
 use Rattle.std.specs.Prelude.{◌≡◌, ◌<◌, ℕ, List, ◌++◌, length, map, Contains}
 use Rattle.cw_model.specs.declared.limits.TheConstants.{MOST_DECLARED, MOST_FUNCTIONS, MOST_PARAMETERS}
 use Rattle.cw_model.specs.declared.limits.TheConstants.{MOST_REDUCERS, MOST_TAG_BYTES}

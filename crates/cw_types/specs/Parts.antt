@@ -1,4 +1,4 @@
--- What it means that a part of a statement breaks a rule.
+-- The meaning of a reason for a part of a statement that breaks a rule.
 use Rattle.std.specs.Prelude.{ℕ, List, [], ◌∷◌, ◌++◌, Option}
 use Rattle.cw_model.specs.declared.syntax.NameKind.TheVariants.{Array}
 use Rattle.cw_model.specs.Syntax.{Name, Expr, Function, Program}

@@ -1,4 +1,4 @@
--- What it means that a rule of names and types is broken at a line for a reason.
+-- The meaning of a reason for a broken rule of names and types at a line.
 use Rattle.std.specs.Prelude.{◌≡◌, ℕ, ◌+◌, Bool, true, false, ◌&&◌, nat_le, List, [], ◌∷◌, Option, Some, None}
 use Rattle.std.specs.Prelude.{MatchOption, Contains, is_some, length, map, option_map}
 use Rattle.std.specs.List.{slice_get}

@@ -1,4 +1,4 @@
--- What it means that a reason of names and types is recorded for a line of a program.
+-- The meaning of a reason of names and types that is recorded for a line of a program.
 use Rattle.std.specs.Prelude.{◌≡◌, ◌≢◌, ℕ, Bool, true, false, List, [], ◌++◌, Some, Contains, map}
 use Rattle.std.specs.Borrow.{Bor}
 use Rattle.std.specs.List.{slice_get}
@@ -34,14 +34,14 @@ pub record IsRepeatedIn (names : List (Name × ℕ)) (line : ℕ) (r : IllTyped)
   pub is : r ≡ reason.Repeated word other
   pub both : AreBothIn names (word.now, other) (word.now, line)
 
--- if a name repeats one of these earlier names, the reason is correct for it
+-- the reason is correct wherever this name repeats one of these earlier names
 abbrev pub IsRepeatedOf : List Declared → Name → IllTyped → Type 0
 IsRepeatedOf earlier x r =
     (names : List (Name × ℕ)) → (line : ℕ) →
     ((other : ℕ) → Contains {X = Name × ℕ} (map (λ d. (d.name, d.line)) earlier) (x, other) → AreBothIn names (x, other) (x, line)) →
     IsRepeatedIn names line r
 
--- if a name occurs in a line and in this other line, the reason is correct for it
+-- the reason is correct for each line in which this name occurs, if it also occurs in this other line
 abbrev pub IsRepeating : Name → (other : ℕ) → IllTyped → Type 0
 IsRepeating x other r =
     (names : List (Name × ℕ)) → (line : ℕ) → AreBothIn names (x, other) (x, line) → IsRepeatedIn names line r
