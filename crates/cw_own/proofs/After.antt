@@ -1,4 +1,4 @@
--- What is held after a statement and after a block, by names and by slots.
+-- The locals held after a statement and after a block, by names and by slots.
 use Rattle.std.proofs.Common.{◌≡◌, ℕ, pos, ◌+◌, ◌≤◌, ◌==◌, nat_lt, Bool, true, false, not, ◌&&◌, ◌||◌, if◌then◌else◌, List, [], ◌∷◌, ◌++◌}
 use Rattle.std.proofs.Common.{length, map, Option, Some, None, option_map, ◌⊎◌, inl, inr, ⊎_elim, subst, refl, sym, ap, ◌∙◌}
 use Rattle.std.specs.List.{list_all}
@@ -219,7 +219,7 @@ holds_end program returns known locals depth outside b before here cuts taken ro
     (λ le. still_none (less k) (cuts k) (fewer k) (neither_second ((outside holding.is_cut).arrays k) (cuts k) ((entry holding.is_cut).arrays_end k le)))))
     (drop_block program returns known locals b (held p taken) (all_of p depth outside row less) k fine (last p)))
 
--- what is held after a branch
+-- the locals held after a branch
 pub holds_goes : (program : Program) (lists : Lists) (returns : Returns) (known : Known) (locals : Locals) (depth : ℕ) (outside : Outside) (b : Block) (here : Held) (cuts : Slots) (taken : Taken) →
     AtTop returns outside cuts → faults_in_block program returns known b ≡ [] →
     Holds locals depth outside taken (held_within (known_row locals) (after_all (known_row locals) (spec.resolved_block lists locals b) here))
@@ -363,7 +363,7 @@ knows_cut program known locals a l r k c =
     knows_array ((l, name_kind.Array) ∷ known) (spec.with_array l locals) r
     (fresh_name program ((l, name_kind.Array) ∷ known) (spec.with_array l locals) r one (new_beside program known l r c.right c.apart)) one
 
--- what is held after a branch that continues
+-- the locals held after a branch that continues
 pub branch_after : (program : Program) (lists : Lists) (returns : Returns) (known : Known) (locals : Locals) (depth : ℕ) (outside : Outside) (b : Block) (taken : Taken) (here : Held) (cuts : Slots) →
     Knows known locals → Steady depth outside → AtTop returns outside cuts → faults_in_block program returns known b ≡ [] → Holds locals depth outside taken here cuts →
     Holds (all_locals locals b) depth outside (taken_after_all program.functions depth b taken)
@@ -376,7 +376,7 @@ branch_after program lists returns known locals depth outside b taken here cuts 
     (after_all (known_row locals) (spec.resolved_block lists locals b) here) (cuts_after_all (spec.resolved_block lists locals b) cuts)
     k fine h (no_more_all (spec.resolved_block lists locals b) cuts) last)
 
--- what is held after any number of iterations
+-- the locals held after any number of iterations
 pub while_after : (program : Program) (lists : Lists) (returns : Returns) (known : Known) (locals : Locals) (depth : ℕ) (outside : Outside)
     (e : Expr) (b : Block) (taken : Taken) (here : Held) (cuts : Slots) →
     Knows known locals → Steady depth outside → AtTop returns outside cuts → faults_in_block program returns known b ≡ [] → Holds locals depth outside taken here cuts →
@@ -392,7 +392,7 @@ while_after program lists returns known locals depth outside e b taken here cuts
     (holds_either locals depth outside taken _ here row cuts (cuts_after_all b' cuts) h
     (branch_after program lists returns known locals depth outside b taken here cuts k steady top fine h last)))
 
--- what is held after a sync block without names of its own before it
+-- the locals held after a sync block without names of its own before it
 pub scope_after : (program : Program) (lists : Lists) (known : Known) (locals : Locals) (depth : ℕ) (outside : Outside) (b : Block) (taken : Taken) (here : Held) (cuts : Slots) →
     Knows known locals → Steady depth outside → faults_in_block program Nowhere known b ≡ [] → Holds locals depth outside taken here cuts →
     Holds (all_locals locals b) (depth + 1) (entered outside depth here) (taken_after_all program.functions (depth + 1) b taken)

@@ -1,4 +1,4 @@
--- The names that are taken, with their holders, are what the rows hold.
+-- The names that are taken, with their holders, are the locals that the rows hold.
 use Rattle.std.proofs.Common.{◌≡◌, ℕ, ◌+◌, ◌≤◌, ◌==◌, Bool, true, false, not, ◌&&◌, ◌||◌, ◌∷◌, ◌++◌, refl, sym, ap, ◌∙◌, arith}
 use Rattle.std.proofs.lemmas.Bool.Decides.{nat_tests}
 use Rattle.std.proofs.Math.Bool.{or-false, and-false, or_assoc, and-true}
@@ -21,14 +21,14 @@ use Rattle.cw_own.proofs.Showing.{Shows, shows_as, shows_row, shows_either, show
 abbrev pub spun : (Holder → Bool) → ℕ → Held → Slots
 spun p depth here = λ k. (p (SpawnIn depth) && here.arrays k) || (p (ReaderIn depth) && here.frozen k)
 
--- what holders of a kind hold, among spawns of a sync block and cuts
+-- the locals that holders of a kind hold, among spawns of a sync block and cuts
 abbrev pub part : (Holder → Bool) → ℕ → Held → Slots → Row
 part p depth here cuts = record {
   ints = λ k. p (SpawnIn depth) && here.ints k;
   arrays = λ k. spun p depth here k || (p CutOf && cuts k);
 }
 
--- what holders of a kind hold, including those from outside
+-- the locals that holders of a kind hold, including those from outside
 abbrev pub all_of : (Holder → Bool) → ℕ → ((Holder → Bool) → Row) → Held → Slots → Row
 all_of p depth outside here cuts = either_row (outside p) (part p depth here cuts)
 
@@ -226,7 +226,7 @@ holds_freed locals depth outside taken here cuts steady h p =
     ∙ freed_arrays ((outside p).arrays k) (p (SpawnIn depth)) (here.arrays k) (p (ReaderIn depth)) (here.frozen k) (p CutOf) (cuts k) (depth == depth) (equal depth depth refl)))
     (h left))
 
--- what is held from outside at the start of a sync block
+-- the locals held from outside at the start of a sync block
 abbrev pub entered : ((Holder → Bool) → Row) → ℕ → Held → (Holder → Bool) → Row
 entered outside depth here p = record {
   ints = λ k. (outside p).ints k || (p (SpawnIn depth) && here.ints k);

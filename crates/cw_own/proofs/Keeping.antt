@@ -1,4 +1,5 @@
--- What is held after a statement is what it holds if nothing was held before, and a part of what was held before.
+-- The locals held after a statement are those held after it if nothing was held before, and a part of those held
+-- before.
 use Rattle.std.proofs.Common.{◌≡◌, ℕ, Bool, true, false, not, ◌&&◌, ◌||◌, List, [], ◌∷◌, ◌==◌, Option, Some, None, refl, sym, ap, ◌∙◌}
 use Rattle.std.proofs.Math.Bool.{and-true}
 use Rattle.cw_model.specs.declared.syntax.CallKind.TheVariants.{Plain, Spawned}

@@ -238,11 +238,11 @@ pub over_shown : (known : Known) (locals : Locals) (xs : List Name) → Knows kn
 over_shown known locals xs k h =
     shows_as locals (λ y. is_among y xs || false) (λ y. is_among y xs) _ (λ y. sym (or-false (is_among y xs))) (uses_shown known locals xs (λ y. false) no_slot k h (shows_none locals))
 
--- what is held, as three parts
+-- the locals held, in three parts
 abbrev pub taken_rows : Held → Held → Slots → rows.Taken
 taken_rows outer here cuts = record { outer = outer; here = here; cuts = cuts }
 
--- what is held from outside, by holders and by slots
+-- the locals held from outside, by holders and by slots
 pub record Stands (depth : ℕ) (outside : Outside) (outer : Held) : Type 0 where
   pub steady : Steady depth outside
   pub taken : outside no_reader ≡ record { ints = outer.ints; arrays = outer.arrays }
@@ -289,7 +289,7 @@ sees locals depth outside outer taken here cuts s h = record {
       (h any_holder));
 }
 
--- what is held at the end of a block
+-- the locals held at the end of a block
 ended : (locals : Locals) (depth : ℕ) (outside : Outside) (outer : Held) (closing : Closing) (taken : Taken) (here : Held) (cuts : Slots)
     → Stands depth outside outer → Holds locals depth outside taken here cuts →
     Sees locals (own.at_end closing depth taken) (rules.at_end closing (taken_rows outer here cuts))

@@ -33,7 +33,7 @@ drop_both [] second rows = refl
 drop_both (x ∷ first) second [] = none_dropped (length second)
 drop_both (x ∷ first) second (r ∷ rows) = drop_both first second rows
 
--- what a statement leaves held of what it sees is what is held after it
+-- the locals that a statement leaves held of those that it sees are the locals held after it
 pub left_is : (known : Row) (s : Stmt) (taken : Taken) → left_by known s (seen_by known taken s) ≡ taken_after known s taken
 left_is known (Declare u e) taken = refl
 left_is known (DeclareArray u e) taken = refl

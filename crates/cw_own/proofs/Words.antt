@@ -12,7 +12,7 @@ four_or false true true d = refl
 four_or false true false d = refl
 four_or false false c d = refl
 
--- what two steps hold is what the second step holds, and what it keeps of the first
+-- two steps hold the locals of the second step, and the part of the first step's locals that the second keeps
 pub two_steps : (a b h k l : Bool) → (a || ((b || (h && k)) && l)) ≡ ((a || (b && l)) || (h && (k && l)))
 two_steps true b h k l = refl
 two_steps false true h k true = refl
@@ -26,7 +26,7 @@ two_steps false false true true l = refl
 two_steps false false true false l = refl
 two_steps false false false k l = refl
 
--- what two branches hold is what each holds, and what either keeps
+-- two branches hold the locals that each holds, and those that either keeps
 pub two_ways : (a b h k l : Bool) → ((a || (h && k)) || (b || (h && l))) ≡ ((a || b) || (h && (k || l)))
 two_ways true b h k l = refl
 two_ways false true true true l = refl
@@ -36,7 +36,7 @@ two_ways false false true true l = refl
 two_ways false false true false l = refl
 two_ways false false false k l = refl
 
--- what an iteration keeps was held before
+-- the locals that an iteration keeps were held before
 pub turn_adds : (a h k : Bool) → (h || (a || (h && k))) ≡ (h || a)
 turn_adds a true k = refl
 turn_adds true false k = refl

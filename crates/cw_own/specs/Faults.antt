@@ -1,4 +1,4 @@
--- Why a program does not keep ownership.
+-- The reasons why a program does not keep ownership.
 use Rattle.std.specs.Prelude.{◌≡◌, MatchOption, map}
 use Rattle.cw_model.specs.Syntax.{Program}
 use Rattle.cw_model.specs.Lines.{IsLeastLine}
@@ -14,7 +14,7 @@ use Rattle.cw_own.specs.declared.reason.Disowned.{Disowned}
 use Rattle.cw_own.specs.Reasons.{IsDisowned, reasons_told}
 use Rattle.cw_own.specs.Views.{line_and_reason, reason_of}
 
--- the condition on the program under which the check returns this fault; out of memory implies nothing
+-- the condition that the program satisfies if the check returns this fault; out of memory implies nothing
 abbrev pub BreaksOwnership : Program → Fault → Type 0
 BreaksOwnership program (fault.Ownership p) = IsLeastLine (ownership_faults program) p.line
 BreaksOwnership program fault.Memory = Unit {0}

@@ -169,7 +169,7 @@ at_end Leaves taken = taken
 abbrev pub left_at_end : Closing → (known : Row) → Taken → Block → List ℕ
 left_at_end closing known taken b = left_lines (at_end closing (taken_after_all known b taken)) b
 
--- what the test and the body of a `while` see as held: also what an iteration holds
+-- the locals that the test and the body of a `while` see as held, which include those that an iteration holds
 abbrev pub seen_by : (known : Row) → Taken → Stmt → Taken
 seen_by known taken (While e b) =
     record { outer = taken.outer; here = either_held taken.here (gain known b); cuts = taken.cuts }

@@ -13,7 +13,8 @@ use Rattle.cw_own.specs.declared.taken.Taken as code
 use Rattle.cw_own.specs.Sets.{Slots, no_slot, with_slot, without_slot, either, both, slots_of, Row, with_int}
 use Rattle.cw_own.specs.Sets.{with_array}
 
--- what the spawns of a sync block hold: the integers and the arrays that they took, and the arrays that they only read
+-- the locals that the spawns of a sync block hold: the integers and the arrays that they took, and the arrays that they
+-- only read
 pub record Held : Type 0 where
   pub ints : Slots
   pub arrays : Slots
@@ -35,7 +36,7 @@ taking_array slot held = record { ints = held.ints; arrays = with_slot slot held
 abbrev pub freezing : ℕ → Held → Held
 freezing slot held = record { ints = held.ints; arrays = held.arrays; frozen = with_slot slot held.frozen }
 
--- the union of what two hold
+-- the union of two values
 abbrev pub either_held : Held → Held → Held
 either_held h k = record {
   ints = either h.ints k.ints;
@@ -51,7 +52,8 @@ held_within known h = record {
   frozen = both known.arrays h.frozen;
 }
 
--- what spawns outside the innermost sync block hold, what spawns inside it hold, and the arrays that are cut
+-- the locals that spawns outside the innermost sync block hold, those that spawns inside it hold, and the arrays that
+-- are cut
 pub record Taken : Type 0 where
   pub outer : Held
   pub here : Held
@@ -73,20 +75,20 @@ array_taken taken slot = taken.outer.arrays slot || (taken.here.arrays slot || t
 abbrev pub array_held : Taken → ℕ → Bool
 array_held taken slot = array_taken taken slot || (taken.outer.frozen slot || taken.here.frozen slot)
 
--- what is held at the start of a sync block
+-- the locals held at the start of a sync block
 abbrev pub inside : Taken → Taken
 inside taken = record { outer = either_held taken.outer taken.here; here = none_held; cuts = taken.cuts }
 
--- what is held at the start of the block of a cut of this array
+-- the locals held at the start of the block of a cut of this array
 abbrev pub inside_cut : ℕ → Taken → Taken
 inside_cut a taken =
     record { outer = either_held taken.outer taken.here; here = none_held; cuts = with_slot a taken.cuts }
 
--- what is held after a join
+-- the locals held after a join
 abbrev pub joined : Taken → Taken
 joined taken = record { outer = taken.outer; here = none_held; cuts = taken.cuts }
 
--- what is held after two branches: the union of what they leave held of the known locals
+-- the locals held after two branches: the known locals that either branch leaves held
 abbrev pub after_branches : (known : Row) → (branch other : Taken) → Taken
 after_branches known branch other = record {
   outer = branch.outer;
@@ -123,7 +125,7 @@ known_after known (DeclareArray u e) = with_array u.slot known
 known_after known _ = known
 
 abbrev mutual
-  -- what the spawns of the innermost sync block hold after a statement, if these locals are known before it
+  -- the locals that the spawns of the innermost sync block hold after a statement, if these locals are known before it
   pub after : (known : Row) → Stmt → Held → Held
   after known (Call kind site target f es) here = taken_by_call kind target es here
   after known Sync here = none_held
@@ -131,21 +133,21 @@ abbrev mutual
   after known (If e b) here = either_held (held_within known (after_all known b here)) here
   after known (IfElse e b c) here =
       either_held (held_within known (after_all known b here)) (held_within known (after_all known c here))
-  -- what was held before, and what one iteration holds that begins with nothing held
+  -- the locals held before, and those that one iteration holds if it begins with nothing held
   after known (While e b) here = either_held here (held_within known (after_all known b none_held))
   after known _ here = here
 
-  -- what the spawns of the innermost sync block hold after a block
+  -- the locals that the spawns of the innermost sync block hold after a block
   pub after_all : (known : Row) → Block → Held → Held
   after_all known End here = here
   after_all known (Then line s b) here = after_all (known_after known s) b (after known s here)
 
--- what one iteration of a `while` holds that begins with nothing held
+-- the locals that one iteration of a `while` holds if it begins with nothing held
 abbrev pub gain : (known : Row) → Block → Held
 gain known b = held_within known (after_all known b none_held)
 
 abbrev mutual
-  -- what one iteration of each `while` of a statement holds, in order, outer loops first
+  -- the locals that one iteration of each `while` of a statement holds, in order, outer loops first
   pub turns : (known : Row) → Stmt → List Held
   turns known (If e b) = turns_in known b
   turns known (IfElse e b c) = turns_in known b ++ turns_in known c
@@ -156,7 +158,7 @@ abbrev mutual
   turns known (Region tag b) = turns_in known b
   turns known _ = []
 
-  -- what one iteration of each `while` of a block holds, in order
+  -- the locals that one iteration of each `while` of a block holds, in order
   pub turns_in : (known : Row) → Block → List Held
   turns_in known End = []
   turns_in known (Then line s b) = turns known s ++ turns_in (known_after known s) b
@@ -176,17 +178,17 @@ abbrev mutual
   cuts_after_all End cuts = cuts
   cuts_after_all (Then line s b) cuts = cuts_after_all b (cuts_after s cuts)
 
--- what is held after a statement
+-- the locals held after a statement
 abbrev pub taken_after : (known : Row) → Stmt → Taken → Taken
 taken_after known s taken =
     record { outer = taken.outer; here = after known s taken.here; cuts = cuts_after s taken.cuts }
 
--- what is held after a statement, if its test and its blocks see this as held
+-- the locals held after a statement whose test and blocks see these locals as held
 abbrev pub left_by : (known : Row) → Stmt → Taken → Taken
 left_by known (While e b) seen = seen
 left_by known s seen = taken_after known s seen
 
--- what one iteration of each `while` in the inner blocks of a statement holds
+-- the locals that one iteration of each `while` in the inner blocks of a statement holds
 abbrev pub turns_within : (known : Row) → Stmt → List Held
 turns_within known (While e b) = turns_in known b
 turns_within known s = turns known s
@@ -195,7 +197,7 @@ turns_within known s = turns known s
 abbrev pub BeginWith : List Held → List Held → Type 0
 BeginWith first rows = rows ≡ first ++ drop (length first) rows
 
--- what is held after a block
+-- the locals held after a block
 abbrev pub taken_after_all : (known : Row) → Block → Taken → Taken
 taken_after_all known b taken =
     record { outer = taken.outer; here = after_all known b taken.here; cuts = cuts_after_all b taken.cuts }

@@ -119,35 +119,35 @@ why_of_call around taken call =
     why_call (around_of around) (taken_of taken) (used call.target) (listed_of call.callee)
     (map argument_of call.arguments.items)
 
--- what the spawns of a sync block hold after these lines, without the locals whose scope ends with them
+-- the locals that the spawns of a sync block hold after these lines, without the locals whose scope ends with them
 abbrev pub after_lines : (known : code_row.Row) → List code_line.Line → code_held.Held → Held
 after_lines known lines here = held_within (row_of known) (after_all (row_of known) (block_of lines) (held_of here))
 
--- what the spawns of a sync block hold after an `if` with these lines
+-- the locals that the spawns of a sync block hold after an `if` with these lines
 abbrev pub after_if : (known : code_row.Row) → List code_line.Line → code_held.Held → Held
 after_if known lines here = either_held (after_lines known lines here) (held_of here)
 
--- what the spawns of a sync block hold after a `while` with these lines
+-- the locals that the spawns of a sync block hold after a `while` with these lines
 abbrev pub after_while : (known : code_row.Row) → List code_line.Line → code_held.Held → Held
 after_while known lines here = either_held (held_of here) (gain (row_of known) (block_of lines))
 
--- what the test and the blocks of a statement see as held
+-- the locals that the test and the blocks of a statement see as held
 abbrev pub sees : (known : code_row.Row) → code_taken.Taken → code_stmt.Stmt → Taken
 sees known taken stmt = seen_by (row_of known) (taken_of taken) (stmt_of stmt)
 
--- what is held after a statement whose blocks see this as held
+-- the locals held after a statement whose blocks see these locals as held
 abbrev pub left_after : (known : code_row.Row) → code_taken.Taken → code_stmt.Stmt → Taken
 left_after known taken stmt = left_by (row_of known) (stmt_of stmt) (taken_of taken)
 
--- what is held after an inner sync block: only its cuts can change it
+-- the locals held after an inner sync block, which differ from those before it only in cuts
 abbrev pub left_by_scope : (known : code_row.Row) → code_taken.Taken → List code_line.Line → Taken
 left_by_scope known taken lines = left_by (row_of known) (Scope (block_of lines)) (taken_of taken)
 
--- what is held after the block of a cut, whose array is free again
+-- the locals held after the block of a cut, whose array is free again
 abbrev pub left_by_cut : (known : code_row.Row) → code_taken.Taken → code_cut.Cut → List code_line.Line → Taken
 left_by_cut known taken cut lines = left_by (row_of known) (cut_of cut lines) (taken_of taken)
 
--- what is held after an `if` with these lines
+-- the locals held after an `if` with these lines
 abbrev pub left_by_if : (known : code_row.Row) → code_taken.Taken → List code_line.Line → Taken
 left_by_if known taken lines =
     record {
@@ -156,23 +156,23 @@ left_by_if known taken lines =
       cuts = (taken_of taken).cuts;
     }
 
--- what is held after these lines
+-- the locals held after these lines
 abbrev pub taken_after_lines : (known : code_row.Row) → code_taken.Taken → List code_line.Line → Taken
 taken_after_lines known taken lines = taken_after_all (row_of known) (block_of lines) (taken_of taken)
 
--- what one iteration of each `while` of a statement holds
+-- the locals that one iteration of each `while` of a statement holds
 abbrev pub turns_of : (known : code_row.Row) → code_stmt.Stmt → List Held
 turns_of known stmt = turns (row_of known) (stmt_of stmt)
 
--- what one iteration of each `while` in the inner blocks of a statement holds
+-- the locals that one iteration of each `while` in the inner blocks of a statement holds
 abbrev pub turns_inside : (known : code_row.Row) → code_stmt.Stmt → List Held
 turns_inside known stmt = turns_within (row_of known) (stmt_of stmt)
 
--- what one iteration of each `while` in these lines holds
+-- the locals that one iteration of each `while` in these lines holds
 abbrev pub turns_of_lines : (known : code_row.Row) → List code_line.Line → List Held
 turns_of_lines known lines = turns_in (row_of known) (block_of lines)
 
--- what one iteration of each `while` holds, for a `while` with these lines as its body
+-- the locals that one iteration of each `while` holds, for a `while` with these lines as its body
 abbrev pub turns_of_while : (known : code_row.Row) → List code_line.Line → List Held
 turns_of_while known lines = gain (row_of known) (block_of lines) ∷ turns_of_lines known lines
 

@@ -1,9 +1,4 @@
 //! Computes the locals that one iteration of each `while` holds.
-//!
-//! The locals held after a statement are those held before it, minus those that the statement frees, plus those that
-//! it takes and freezes. So any number of iterations holds what was held before the loop, and what one iteration
-//! holds that begins with nothing held. Therefore each body is traversed once to compute this and once more to find
-//! its faults.
 
 ghost use Rattle.std.specs.Prelude.{◌≡◌, ◌∷◌, [], length, slice_set, map, true};
 ghost use Rattle.std.specs.List.{list_all};
@@ -73,7 +68,8 @@ pub fn know(known: &mut Row, stmt: &Stmt)
     }
 }
 
-/// Holds what one iteration of each `while` holds, in order, as far as memory sufficed, and the watched local.
+/// Holds the locals that one iteration of each `while` holds, in order, as far as memory sufficed, and the watched
+/// local.
 #[derive(Drop)]
 pub struct Gains {
     pub rows: Vec<Held>,
@@ -118,8 +114,8 @@ impl Gains {
     }
 }
 
-// Computes what the spawns of the innermost sync block hold after these statements; appends what an iteration of each
-// `while` holds.
+// Computes the locals that the spawns of the innermost sync block hold after these statements; appends those that an
+// iteration of each `while` holds.
 #[cycle(gains)]
 fn after_all(known: &Row, lines: &[Line], here: &mut Held, gains: &mut Gains)
     requires { small_block (block_of lines.now) ≡ true }
@@ -135,8 +131,8 @@ fn after_all(known: &Row, lines: &[Line], here: &mut Held, gains: &mut Gains)
     }
 }
 
-// Computes what the spawns of the innermost sync block hold after a block, without the locals whose scope ends with
-// it.
+// Computes the locals that the spawns of the innermost sync block hold after a block, without the locals whose scope
+// ends with it.
 #[cycle(gains)]
 fn after_block(known: &Row, lines: &[Line], here: &mut Held, gains: &mut Gains)
     requires { small_block (block_of lines.now) ≡ true }
@@ -147,8 +143,8 @@ fn after_block(known: &Row, lines: &[Line], here: &mut Held, gains: &mut Gains)
     *here = here.within(known, &gains.watch);
 }
 
-// Appends what an iteration of each `while` holds in a block that joins its spawns at its end, so that nothing of it
-// remains held.
+// Appends the locals that an iteration of each `while` holds in a block that joins its spawns at its end; none of
+// them remains held.
 #[cycle(gains)]
 fn after_scope(known: &Row, lines: &[Line], gains: &mut Gains)
     requires { small_block (block_of lines.now) ≡ true }
@@ -158,7 +154,7 @@ fn after_scope(known: &Row, lines: &[Line], gains: &mut Gains)
     after_all(known, lines, &mut inside, gains);
 }
 
-// Computes what is held after an `if` with this block.
+// Computes the locals held after an `if` with this block.
 #[cycle(gains)]
 fn after_if(known: &Row, lines: &[Line], here: &mut Held, gains: &mut Gains)
     requires { small_block (block_of lines.now) ≡ true }
@@ -170,7 +166,7 @@ fn after_if(known: &Row, lines: &[Line], here: &mut Held, gains: &mut Gains)
     *here = branch.either(here);
 }
 
-// Computes what is held after a statement with two branches.
+// Computes the locals held after a statement with two branches.
 #[cycle(gains)]
 fn after_either(known: &Row, stmt: &Stmt, here: &mut Held, gains: &mut Gains)
     requires small { small_stmt (stmt_of stmt.now) ≡ true }
@@ -204,8 +200,8 @@ fn after_either(known: &Row, stmt: &Stmt, here: &mut Held, gains: &mut Gains)
     }
 }
 
-// Computes what is held after a `while` with this block: what was held before it and what one iteration holds that
-// begins with nothing held. The entry for this loop precedes the entries of its body.
+// Computes the locals held after a `while` with this block: those held before it, and those that one iteration holds
+// if it begins with nothing held. The entry for this loop precedes the entries of its body.
 #[cycle(gains)]
 fn after_while(known: &Row, lines: &[Line], here: &mut Held, gains: &mut Gains)
     requires { small_block (block_of lines.now) ≡ true }
@@ -219,7 +215,7 @@ fn after_while(known: &Row, lines: &[Line], here: &mut Held, gains: &mut Gains)
     *here = here.either(&gain);
 }
 
-// Computes what is held after a statement.
+// Computes the locals held after a statement.
 #[cycle(gains)]
 fn after(known: &Row, stmt: &Stmt, here: &mut Held, gains: &mut Gains)
     requires { small_stmt (stmt_of stmt.now) ≡ true }
@@ -254,7 +250,7 @@ fn after(known: &Row, stmt: &Stmt, here: &mut Held, gains: &mut Gains)
     }
 }
 
-/// Appends what one iteration of each `while` of a function holds, and records whether memory sufficed.
+/// Appends the locals that one iteration of each `while` of a function holds, and records whether memory sufficed.
 pub fn turns(known: &Row, lines: &[Line], gains: &mut Gains)
     requires { small_block (block_of lines.now) ≡ true }
     ensures { Grown gains.old gains.new (turns_of_lines known.now lines.now) }

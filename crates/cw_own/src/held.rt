@@ -16,8 +16,8 @@ pub struct Since {
     pub frozen: Option<u32>,
 }
 
-/// Holds what spawns hold: the locals that they took, the arrays that they froze, which may only be read until the
-/// join, and the lines since which they hold the watched local.
+/// Holds the locals that spawns took, the arrays that they froze, which may only be read until the join, and the
+/// lines since which they hold the watched local.
 #[derive(Clone, Copy)]
 pub struct Held {
     pub taken: Row,
@@ -80,7 +80,7 @@ impl Held {
         *self = Held::none();
     }
 
-    /// Returns the union of what two values hold.
+    /// Returns the union of two values.
     pub fn either(&self, other: &Held) -> Held
         ensures { held_of result ≡ either_held (held_of self.now) (held_of other.now) }
     {
@@ -94,7 +94,7 @@ impl Held {
         }
     }
 
-    /// Returns what is held of these locals.
+    /// Returns the part of these locals that is held.
     pub fn within(&self, known: &Row, watch: &Watch) -> Held
         ensures { held_of result ≡ held_within (row_of known.now) (held_of self.now) }
     {

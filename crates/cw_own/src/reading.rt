@@ -1,6 +1,6 @@
-//! Finds the rule that a statement breaks by what it reads, writes and passes. Each function examines one part of a
-//! statement, and records the first rule that this part breaks, unless an earlier part broke one. So a statement that
-//! keeps the rules causes only reads.
+//! Finds the rule that a statement breaks by its reads, writes and passed arrays. Each function examines one part of
+//! a statement, and records the first rule that this part breaks, unless an earlier part broke one. So a statement
+//! that keeps the rules causes only reads.
 #![tactic(auto, using(crate::proofs::Small::found_nothing, crate::proofs::Small::found_grouped))]
 
 ghost use Rattle.std.specs.Prelude.{◌≡◌, Some, map, option_map, true};

@@ -2,7 +2,7 @@
 
 use cw_tree::resolved::{Listed, Use};
 
-/// Represents what a statement does with a name.
+/// Represents a use of a name by a statement.
 #[derive(Clone, Copy)]
 pub enum Touch {
     Read,
@@ -22,7 +22,7 @@ pub enum Holder {
     Cut,
 }
 
-/// Represents the begin of holding a name.
+/// Represents the start of holding a name.
 #[derive(Clone, Copy)]
 pub struct Start {
     pub line: u32,

@@ -23,14 +23,14 @@ use crate::taken::Taken;
 use crate::told::Told;
 use cw_tree::resolved::{Cut, Head, Line, Stmt, Use};
 
-/// Holds what one iteration of each remaining `while` holds, in order.
+/// Holds the locals that one iteration of each remaining `while` holds, in order.
 #[derive(Drop)]
 pub struct Turns<'a> {
     pub left: &'a [Held],
 }
 
 impl<'a> Turns<'a> {
-    // Removes and returns what an iteration of the next `while` holds.
+    // Removes and returns the locals that an iteration of the next `while` holds.
     fn next(&mut self) -> &'a Held
         requires { 0 < length self.old.left.now }
         ensures { rows_of self.old.left.now ≡ held_of result.now ∷ rows_of self.new.left.now }
@@ -41,8 +41,8 @@ impl<'a> Turns<'a> {
     }
 }
 
-// Adds, for a `while`, what an iteration holds: its test and its body see this as held. For any other statement,
-// `taken` is unchanged.
+// Adds, for a `while`, the locals that an iteration holds: its test and its body see them as held. For any other
+// statement, `taken` is unchanged.
 fn see(known: &Row, taken: &mut Taken, stmt: &Stmt, rest: &mut Turns<'_>)
     requires { BeginWith (turns_of known.now stmt.now) (rows_of rest.old.left.now) }
     ensures seen { taken_of taken.new ≡ sees known.now taken.old stmt.now }
@@ -103,7 +103,7 @@ fn note_left<'a>(taken: &Taken, lines: &'a [Line], told: &mut Told<'a>)
     }
 }
 
-// Records the lines of these statements that break a rule; `taken` becomes what is held after them.
+// Records the lines of these statements that break a rule; `taken` becomes the locals held after them.
 #[cycle(rules)]
 #[tactic(auto, using(crate::proofs::Small::kept_append))]
 fn note_all<'a>(
@@ -133,8 +133,8 @@ fn note_all<'a>(
     }
 }
 
-// Records the lines that break a rule in a block that joins no spawn at its end; `taken` becomes what is held at its
-// end.
+// Records the lines that break a rule in a block that joins no spawn at its end; `taken` becomes the locals held at
+// its end.
 #[cycle(rules)]
 #[tactic(auto, using(crate::proofs::Small::kept_append))]
 fn note_block<'a>(
@@ -156,7 +156,8 @@ fn note_block<'a>(
     note_left(taken, lines, told);
 }
 
-/// Records the lines of a sync block that break a rule; `taken` becomes what is held after it has joined its spawns.
+/// Records the lines of a sync block that break a rule; `taken` becomes the locals held after it has joined its
+/// spawns.
 #[cycle(rules)]
 #[tactic(auto, using(crate::proofs::Small::kept_append))]
 pub fn note_sync_block<'a>(
@@ -180,7 +181,7 @@ pub fn note_sync_block<'a>(
     note_left(taken, lines, told);
 }
 
-// Records the lines that break a rule in an `if` with this block; `taken` becomes what is held after it.
+// Records the lines that break a rule in an `if` with this block; `taken` becomes the locals held after it.
 #[cycle(rules)]
 #[tactic(auto, using(crate::proofs::Small::kept_append))]
 fn note_if<'a>(
@@ -203,7 +204,7 @@ fn note_if<'a>(
     taken.here = branch.here.within(known, &told.watch).either(&taken.here);
 }
 
-// Records the lines that break a rule in a statement with two branches; `taken` becomes what is held after it.
+// Records the lines that break a rule in a statement with two branches; `taken` becomes the locals held after it.
 #[cycle(rules)]
 #[tactic(auto, using(crate::proofs::Small::kept_append))]
 fn note_either<'a>(
@@ -247,7 +248,7 @@ fn note_either<'a>(
     }
 }
 
-// Records the lines that break a rule in a `while` with this block; `taken` already contains all that is held after
+// Records the lines that break a rule in a `while` with this block; `taken` already contains all locals held after
 // the loop.
 #[cycle(rules)]
 fn note_while<'a>(
@@ -268,7 +269,7 @@ fn note_while<'a>(
     note_block(around, known, &mut inside, lines, rest, told);
 }
 
-// Records the lines that break a rule in an inner sync block; `taken` becomes what is held after it.
+// Records the lines that break a rule in an inner sync block; `taken` becomes the locals held after it.
 #[cycle(rules)]
 fn note_scope<'a>(
     around: &Option<Loop<'a>>,
@@ -290,7 +291,8 @@ fn note_scope<'a>(
     taken.cuts = inside.cuts;
 }
 
-// Records the lines that break a rule in a loop with this head in this line; `taken` becomes what is held after it.
+// Records the lines that break a rule in a loop with this head in this line; `taken` becomes the locals held after
+// it.
 #[cycle(rules)]
 fn note_for<'a>(
     known: &Row,
@@ -316,7 +318,7 @@ fn note_for<'a>(
     note_scope(&around, &known, taken, lines, rest, told);
 }
 
-// Records the lines that break a rule in a cut, whose parts are known in its block; `taken` becomes what is held
+// Records the lines that break a rule in a cut, whose parts are known in its block; `taken` becomes the locals held
 // after it.
 #[cycle(rules)]
 fn note_cut<'a>(
@@ -347,7 +349,7 @@ fn note_cut<'a>(
     taken.cuts = inside.cuts;
 }
 
-// Records the lines that break a rule in the inner blocks of a statement; `taken` becomes what is held after the
+// Records the lines that break a rule in the inner blocks of a statement; `taken` becomes the locals held after the
 // statement.
 #[cycle(rules)]
 #[tactic(auto, using(crate::proofs::Small::kept_append))]

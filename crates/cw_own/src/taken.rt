@@ -97,7 +97,7 @@ impl Taken {
         }
     }
 
-    /// Returns what is held at the start of a sync block.
+    /// Returns the locals held at the start of a sync block.
     pub fn inside(&self) -> Taken
         ensures { taken_of result ≡ inside (taken_of self.now) }
     {
@@ -115,7 +115,7 @@ impl Taken {
         self.here.clear();
     }
 
-    /// Returns what is held after two branches: the union of what they leave held of the known locals.
+    /// Returns the locals held after two branches: the known locals that either branch leaves held.
     pub fn after_branches(known: &Row, branch: &Taken, other: &Taken, watch: &Watch) -> Taken
         ensures { taken_of result
             ≡ after_branches (row_of known.now) (taken_of branch.now) (taken_of other.now) }
@@ -128,7 +128,7 @@ impl Taken {
         }
     }
 
-    /// Returns what is held at the start of the block of a cut of this array.
+    /// Returns the locals held at the start of the block of a cut of this array.
     pub fn inside_cut(&self, array: u32, watch: &Watch) -> Taken
         requires { array < MOST_DECLARED }
         ensures { taken_of result ≡ inside_cut array (taken_of self.now) }
