@@ -1,4 +1,4 @@
--- What types and ownership know of the names at a statement agrees with what the test of lowerable programs knows.
+-- Types and ownership agree with the test of lowerable programs on the names at a statement.
 use Rattle.std.proofs.Common.{◌≡◌, Bool, true, false, List, [], ◌∷◌, ◌++◌, refl, sym, ◌∙◌, ap, append_assoc}
 use Rattle.std.specs.Prelude.{if◌then◌else◌, not, ◌&&◌, ◌||◌, Option}
 use Rattle.std.proofs.lemmas.Bool.{and_parts, or_parts}
@@ -16,7 +16,7 @@ use Rattle.cw_loops.specs.SourceLike.{is_source_expr}
 use Rattle.cw_loops.specs.lemmas.Naming.{among_left, among_right, neither_among, pushed, passed}
 use Rattle.cw_loops.specs.lemmas.Knowing.{Unknown, not_both, known_more, known_array_more}
 
--- both agree for each name: on its kind, on the names outside of the loop, and on what a statement may do with it
+-- both agree for each name: on its kind, on the names outside of the loop, and on the allowed uses of the name
 pub record Agree (c : Surroundings) (ints arrays : List Name) (known : Known) (owners : List Name) (around : Around) (returns : Returns) : Type 0 where
   pub ints_are : (x : Name) → is_int known x ≡ is_among x (c.outer ++ ints)
   pub arrays_are : (x : Name) → is_array known x ≡ is_among x (c.arrays ++ arrays)

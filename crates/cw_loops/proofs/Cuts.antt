@@ -52,13 +52,13 @@ start_runs kind name es line fs calls frame given f cost left found paid = rw fo
 abbrev pub halves_piece : ℕ → (first : ℕ → Outcome Frame) (second : Frame → ℕ → Outcome Frame) → (c left : ℕ) → Outcome Frame
 halves_piece k first second c left = then_do (pay c left) (λ _ l. then_do (joined_up Fork (first l)) (λ frame1 l. then_do (pay (3 + k) l) (λ _ l. joined_up Series (second frame1 l))))
 
--- what a half leaves
+-- the result of a half
 pub record Half (ints : List (Name × ℤ)) (over : List Name) (Ok : Frame → (Name → List ℤ) → Type 0) (frame : Frame) (returned : Returned) : Type 0 where
   pub slices : Name → List ℤ
   pub gives : returned ≡ (None, record { ints = ints; arrays = table over slices; sliced = [] })
   pub ok : Ok frame slices
 
--- what both halves leave in their cuts
+-- the results of both halves in their cuts
 pub record Both (at : List (Name × List ℤ) → Frame) (arrays : (l r : Name → List ℤ) → List (Name × List ℤ))
     (Ok : Frame → (l r : Name → List ℤ) → Type 0) (frame : Frame) (way : Completion) : Type 0 where
   pub lefts : Name → List ℤ
@@ -309,7 +309,7 @@ module _ (name : Name) (line : ℕ) (f : Function) (over : List Name) (fs' : Lis
         length-append (table done s) ((a, s a) ∷ (table rest s ++ pairs done sl sr)) ∙ ap (λ n. length (table done s) + suc n) e
         ∙ sym (length-append (table done s) ((a, s a) ∷ (table rest j ++ pairs done l r)))
 
-    -- what the cuts leave
+    -- the state after the cuts
     abbrev Left : (done todo : List Name) → Frame → Completion → Type 0
     Left done todo = Both at_node (λ l r. table done s ++ (table todo (λ a. l a ++ r a) ++ pairs done l r)) Ok2
 

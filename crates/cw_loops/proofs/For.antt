@@ -194,7 +194,7 @@ module _ (c : Surroundings) (fo go : List (Name × ℤ)) (Slot : (fa ga : List (
             let same : length (find [] a (ga ++ la)) ≡ length (find [] a (fa ++ la)) = ap length (local a o) in
             length-take-le n (drop (natural lo) (find [] a (ga ++ la))) (omega (arith, length-drop (natural lo) (find [] a (ga ++ la))))
 
-    -- what the loop leaves
+    -- the state after the loop
     ends : (lo : ℤ) (n : ℕ) → Agrees over i0 arrays0 c.sliced lo n f0 (λ a. take n (drop (natural lo) (find [] a (ga ++ la))))
         → (f : Frame) (r : Returned) → Half ((low, lo) ∷ (high, lo +ℤ pos n) ∷ cs) over (Put over lo n f0) f r →
         Out c fo go Slot ints arrays f0 (Normal f) (Normal (slices_back over (natural lo) r.1 g0))

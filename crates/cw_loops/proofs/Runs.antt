@@ -1,4 +1,4 @@
--- What the statements of a generated function do, one equation for each.
+-- The statements of a generated function, with an equation for the execution of each.
 use Rattle.std.proofs.Common.{◌≡◌, ℕ, suc, ◌+◌, true, false, ℤ, List, refl, ◌∙◌}
 use Rattle.std.specs.Prelude.{nat_lt, if◌then◌else◌}
 use Rattle.cw_model.specs.declared.limits.TheConstants.{MOST_DEPTH}

@@ -1,4 +1,4 @@
--- What statements do in the frame of the source and in the frame of the function.
+-- Statements in the frame of the source and in the frame of the function.
 use Rattle.std.proofs.Common.{◌≡◌, ℕ, zero, suc, ◌+◌, ◌-◌, ◌≤◌, ◌<◌, ◌^◌, Bool, true, false, ℤ, pos, negsuc, List, [], ◌∷◌, ◌++◌, length, take, arith, refl, sym, ◌∙◌, ap, append_assoc}
 use Rattle.std.specs.Prelude.{nat_lt, if◌then◌else◌, Option, Some, None, slice_set, replicate}
 use Rattle.std.proofs.lemmas.Bool.{ltb-true, and_parts}

@@ -89,7 +89,7 @@ abbrev pub new_arrays : Stmt → List Name
 new_arrays (DeclareArray a e) = a ∷ []
 new_arrays _ = []
 
--- each name is plain, is an integer of the source's frame, and has the same value in both frames
+-- each name is plain, may be read, and is an integer of the source's frame
 abbrev pub can_capture : Surroundings → List Name → List Name → Bool
 can_capture c ints [] = true
 can_capture c ints (x ∷ xs) = is_plain x && (can_read c x && (is_among x (c.outer ++ ints) && can_capture c ints xs))

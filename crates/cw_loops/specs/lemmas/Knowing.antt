@@ -46,7 +46,7 @@ not_both (k ∷ ks) x h = go (same_name x k.0) (is_array_kind k.1) h (λ g. not_
     go true array g more = not_true array g
     go false array g more = more g
 
--- what a statement declares for the statements after it
+-- the name that a statement declares for the statements after it
 pub data Adds (s : Stmt) : Type 0 where
   an_int : (x : Name) (e : Expr) → s ≡ Declare x e → Adds s
   an_array : (a : Name) (e : Expr) → s ≡ DeclareArray a e → Adds s
