@@ -39,13 +39,14 @@ use Rattle.cw_gen.proofs.Codes.{Bound, first_store, here, GivesBack, GivenBy}
 use Rattle.cw_gen.proofs.Texts.{Compiled}
 use Rattle.cw_gen.proofs.Simple.{Onwards}
 
--- what is held after a call: a spawn takes the name of its result and its arrays, and freezes the arrays that it reads
+-- the locals held after a call: a spawn takes the name of its result and its arrays, and freezes the arrays that it
+-- reads
 abbrev pub taken_on : CallKind → (level : ℕ) → Option Name → (given read : List Name) → Taken → Taken
 taken_on Plain level target xs ys taken' = taken'
 taken_on Spawned level target xs ys taken' = frozen_by level ys (taken_by level (target_names target ++ xs) taken')
 
--- what a call passes to a function with this entry: its arrays, by name and out of their slots, and a frame of values;
--- and what the arrays are after the function has ended
+-- the values that a call passes to a function with this entry: its arrays, by name and out of their slots, and a frame
+-- of values; and the arrays after the function has ended
 pub record Hands (marks : Marks) (locals : Locals) (taken' : Taken) (frame : Frame) (f : Function) (fn : Func) : Type 0 where
   pub names : List Name
   pub outs : List run.Taken
@@ -115,7 +116,7 @@ module _ (code : Code) (fs : List Function) (lists : Lists) where
       pub agrees : AgreesOf false names after_it (set_result target v frame).ints slots' (results' ∷ int_waits outer)
       pub count : length slots' ≡ size
 
-    -- what was held is held after a spawn also reads arrays
+    -- a spawn that also reads arrays keeps held names held
     past : (level : ℕ) (read : List Name) (cuts : Bool) (d : ℕ) (x : Name) (more taken' : Taken) → holds cuts d x taken' ≡ true
         → holds cuts d x (map (λ z. (z, ReaderIn level)) read ++ (more ++ taken')) ≡ true
     past level read cuts d x more taken' h = holds_behind cuts d x (map (λ z. (z, ReaderIn level)) read) (more ++ taken') (holds_behind cuts d x more taken' h)
@@ -125,7 +126,7 @@ module _ (code : Code) (fs : List Function) (lists : Lists) where
     arrived_own Plain back arrived h k = k
     arrived_own Spawned back arrived h k = both_own marks back arrived h k
 
-    -- what a call returns immediately and what it returns at the next join
+    -- the arrays that a call returns immediately, and those that it returns at the next join
     plain_back : (around : List Around) (pc : ℕ) (slots : Slots ℤ) (store : Store) (back : Results (List ℤ)) (t : Trace) → AllOwn marks back →
         record (at around pc [] (record { slots = slots; arrays = store.arrays; results = store.results; arrived = store.arrived }) t)
         { arrays = settled (told_at marks back) (owned marks store.arrays) }
@@ -263,7 +264,7 @@ module _ (code : Code) (fs : List Function) (lists : Lists) where
       lent = read;
     }
 
-    -- the state at the begin of the function
+    -- the state at the start of the function
     abbrev pub entered : (around : List Around) (pc : ℕ) → Store → CallKind → (mark slot : Option ℕ) → (inner : ℕ) → (moved : List ℕ)
         → List run.Taken → Marks → Func → (vs : List ℤ) → List (List ℤ) → Trace → State
     entered around pc store kind mark slot inner moved outs callee fn vs xss u =
@@ -319,7 +320,7 @@ module _ (code : Code) (fs : List Function) (lists : Lists) where
         ∙ ap (λ ls. On (record first { arrays = ls; readers = read })) (sym (owned_full callee xss more (short f fn compiled xss m)))
         ∙ ap (λ ls. On (record first { readers = ls })) (sym (read_full callee xss more (short f fn compiled xss m)))
 
-    -- a call, from the begin of its function on
+    -- a call, from the start of its function on
     module _ (bound : ℕ) (calls : Calls) (run_calls : CallsRun bound depth calls) where
       pub inside_runs : (around : List Around) (locals : Locals) (taken' : Taken) (level : ℕ) (kind : CallKind) (entry : Entry) (mark : Option ℕ)
           (target : Option Name) (line pc : ℕ) (size : Room) (f : Function) (fn : Func) (frame : Frame) (h : Hands marks locals taken' frame f fn)

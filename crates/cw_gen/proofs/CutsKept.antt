@@ -37,7 +37,7 @@ in_freed q depth taken h = in_kept (λ t. not (is_spawn_in depth t.1)) (q, CutOf
 
 module _ (fs : List Function) (lists : Lists) (tables : Tables) (size : Room) where
   mutual
-    -- where no return is allowed, no statement surely returns
+    -- if no return is allowed, no statement surely returns
     stmt_goes : (level : ℕ) (locals : Locals) (taken : Taken) (s : Stmt) → StmtFine fs lists tables size.marks size Nowhere level locals taken s → surely_returns s ≡ false
     stmt_goes level locals taken (Return e) fine = absurd fine.0
     stmt_goes level locals taken (IfElse e b c) fine = first_false (block_returns b) (block_returns c) (block_goes level locals taken b fine.1.0)

@@ -30,7 +30,7 @@ use Rattle.cw_gen.proofs.Stores.{Store, Waits, Outside, int_waits, array_waits, 
 abbrev pub cut_halves : Locals → (x y : Name) → Halves
 cut_halves locals x y = record { array = slot_of x locals.arrays; left = length locals.arrays; right = length (locals.arrays ++ y ∷ []) }
 
--- what waits outside of a cut, including the array
+-- the results that wait outside of a cut, including its array
 abbrev pub cut_waits : Locals → (x : Name) → List ℤ → Store → Waits
 cut_waits locals x xs store = record { ints = store.results; arrays = (slot_of x locals.arrays, xs) ∷ store.arrived }
 

@@ -114,11 +114,11 @@ pub arguments_there : (kind : CallKind) (n m : ℕ) → n ≡ m → has_argument
 arguments_there Plain n m e = at_most n m (omega (arith, e))
 arguments_there Spawned n m e = equal n m e
 
--- what is held after a spawn that takes some names and only reads others
+-- the locals held after a spawn that takes some names and only reads others
 abbrev pub spawned : (depth : ℕ) → (names reads : List Name) → Taken → Taken
 spawned depth names reads taken = frozen_by depth reads (taken_by depth names taken)
 
--- what was held before a spawn is held after it
+-- names held before a spawn are held after it
 pub spawn_keeps : (depth : ℕ) (names reads : List Name) (taken : Taken) (d : ℕ) (y : Name) → holds false d y taken ≡ true → holds false d y (spawned depth names reads taken) ≡ true
 spawn_keeps depth names reads taken d y q = holds_behind false d y (map (λ z. (z, ReaderIn depth)) reads) (taken_by depth names taken)
     (holds_behind false d y (map (λ z. (z, SpawnIn depth)) names) taken q)
@@ -127,7 +127,7 @@ spawn_keeps depth names reads taken d y q = holds_behind false d y (map (λ z. (
 pub spawn_holds : (depth : ℕ) (names reads : List Name) (taken : Taken) (y : Name) → is_among y names ≡ true → holds false depth y (spawned depth names reads taken) ≡ true
 spawn_holds depth names reads taken y h = holds_behind false depth y (map (λ z. (z, ReaderIn depth)) reads) (taken_by depth names taken) (held_by_spawn false depth y names taken h)
 
--- what is frozen after a spawn
+-- the arrays frozen after a spawn
 frozen_is : (depth : ℕ) (names reads : List Name) (taken : Taken) → frozen_of (spawned depth names reads taken) ≡ taken_by depth reads (frozen_of taken)
 frozen_is depth names reads taken = frozen_read depth reads (taken_by depth names taken) ∙ ap (taken_by depth reads) (frozen_taken depth names taken)
 

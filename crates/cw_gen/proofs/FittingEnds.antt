@@ -15,7 +15,7 @@ use Rattle.cw_gen.proofs.Rows.{array_covers, covers_held, KeepsHeld, NoneHeld, O
 use Rattle.cw_gen.proofs.Shapes.{Opened, depth_in, shape_at, end_shape}
 use Rattle.cw_gen.proofs.Settings.{Setting, size, made}
 
--- what is held outside of an inner sync block at its end
+-- the locals held outside of an inner sync block at its end
 pub held_outside : (level : ℕ) (own : List Name) (after_it : Taken) (d : ℕ) (x : Name) → d ≢ level → holds false d x after_it ≡ true
     → is_among x own ≡ false → holds false d x (freed level (without own after_it)) ≡ true
 held_outside level own after_it d x apart h a = held_past false level d x (without own after_it) apart (held_without false d x own after_it a h)

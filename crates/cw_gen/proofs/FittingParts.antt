@@ -126,14 +126,14 @@ module _ (setting : Setting) where
         refl,
       )
 
-  -- where a return without a value is allowed
+  -- a return without a value is outside of all blocks, and its function returns no integer
   pub return_place : (returns : Returns) (opened : Opened) (locals : Locals) (taken : Taken) → Returning returns opened setting.f.gives_int
       → ReturnFine returns locals taken None → (opened ≡ []) × (setting.f.gives_int ≡ false)
   return_place Nowhere opened locals taken r fine = absurd fine
   return_place WithInt opened locals taken r fine = absurd fine
   return_place Alone opened locals taken r fine = r
 
-  -- where a return with a value is allowed
+  -- a return with a value is outside of all blocks, and its function returns an integer
   pub value_place : (returns : Returns) (opened : Opened) (locals : Locals) (taken : Taken) (e : Expr) → Returning returns opened setting.f.gives_int
       → ReturnFine returns locals taken (Some e) → (opened ≡ []) × (setting.f.gives_int ≡ true) × ExprFine locals taken e
   value_place Nowhere opened locals taken e r fine = absurd fine

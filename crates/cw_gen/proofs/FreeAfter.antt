@@ -1,4 +1,5 @@
--- If a lowered function holds at most what its source holds before a statement, it does so after the statement.
+-- If a lowered function holds at most the names that its source holds before a statement, it does so after the
+-- statement.
 use Rattle.cw_model.specs.declared.syntax.NameKind.TheVariants as name_kind
 use Rattle.std.proofs.Common.{◌≡◌, ℕ, ◌+◌, List, [], ◌∷◌, ◌++◌, true, sym, ap, ◌∙◌, subst, arith}
 use Rattle.std.specs.Prelude.{not, ◌&&◌, ◌||◌, Option}

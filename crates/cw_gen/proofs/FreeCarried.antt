@@ -1,5 +1,5 @@
--- What a lowered function holds, its source holds at the corresponding statement; depths of spawns differ by a
--- constant.
+-- Each name that a lowered function holds, its source holds at the corresponding statement; depths of spawns differ by
+-- a constant.
 use Rattle.std.proofs.Common.{◌≡◌, ℕ, ◌+◌, ◌≤◌, ◌==◌, List, [], ◌∷◌, ◌++◌, Bool, true, false, refl, sym, ap, ◌∙◌, inl, inr, subst, true≢false, arith}
 use Rattle.std.specs.Prelude.{map, not, if◌then◌else◌, Option, Some, None}
 use Rattle.std.specs.List.{list_all}
@@ -135,7 +135,7 @@ pub goes_carried : (shift depth : ℕ) (returns : Bool) (own names : List Name) 
 goes_carried shift depth true own names held taken all t h = absurd h
 goes_carried shift depth false own names held taken all t h = without_carried shift depth own names held taken all t h
 
--- what is held in two parts
+-- names that are held in two parts
 pub both_carried : (shift depth : ℕ) (names : List Name) (held held' taken taken' : Taken) → AllCarried shift depth names held taken
     → AllCarried shift depth names held' taken' → AllCarried shift depth names (held ++ held') (taken ++ taken')
 both_carried shift depth names held held' taken taken' all all' t h =

@@ -160,7 +160,7 @@ module _ (gs : List Function) (name : Name) (line : ℕ) (x : Name) (grain : ℕ
   rights_given : given gs name rights ≡ map right_part over
   rights_given = ap (λ (f : Function). arrays_given f.params rights) found ∙ half_given right_part ints over
 
-  -- what is held inside the cuts: some of these arrays, by cuts
+  -- the names held inside the cuts: some of these arrays, by cuts
   abbrev OnlyOver : Taken → Type 0
   OnlyOver held = (t : Name × Holder) → In t held → is_among t.0 over ≡ true
 

@@ -248,12 +248,12 @@ mutual
       then_from (inl k) more = more k
       then_from (inr e) more = inr e
 
--- what is held after an inner sync block was held before it
+-- names held after an inner sync block were held before it
 pub scope_from : (fs : List Function) (depth : ℕ) (b : Block) (taken : Taken) (t : Name × Holder)
     → In t (freed (depth + 1) (without (own_names b) (held_after_all fs (depth + 1) b taken))) → In t taken
 scope_from fs depth b taken t h = left_inner depth taken (own_names b) (held_after_all fs (depth + 1) b taken) t (block_from fs (depth + 1) b taken t) h
 
--- what is held after a cut was held before it
+-- names held after a cut were held before it
 pub cut_from : (fs : List Function) (depth : ℕ) (a l r : Name) (b : Block) (taken : Taken) (t : Name × Holder) →
     In t (filter (λ u. not (is_cut_of a u)) (freed (depth + 1) (without (l ∷ r ∷ own_names b) (held_after_all fs (depth + 1) b ((a, CutOf) ∷ taken))))) → In t taken
 cut_from fs depth a l r b taken t h =

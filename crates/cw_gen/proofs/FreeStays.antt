@@ -83,7 +83,7 @@ module _ (program : Program) where
         (faults_in_block program Nowhere known c) (right_none (unless (is_fine known e) line) _ types)))
     stmt_goes_on known line _ types = refl
 
-    -- where no return is allowed, no block surely returns
+    -- if no return is allowed, no block surely returns
     goes_on : (known : Known) (b : Block) → faults_in_block program Nowhere known b ≡ [] → block_returns b ≡ false
     goes_on known End types = refl
     goes_on known (Then line s End) types = stmt_goes_on known line s (left_none _ _ types)

@@ -126,7 +126,7 @@ in_frozen d x (u ∷ us) (inl e) =
     ∙ ap (λ b. if b then true else holds false d x (frozen_of us)) (eq-eqb d d refl)
 in_frozen d x (u ∷ us) (inr h) = further d x u us (in_frozen d x us h)
 
--- what an iteration leaves frozen was frozen before it
+-- arrays that an iteration leaves frozen were frozen before it
 pub frozen_by_turns : (turn : Taken → Taken) (before after : Taken) → IsLeastClosed turn before after → (d : ℕ) (x : Name)
     → holds false d x (frozen_of (turn after)) ≡ true → holds false d x (frozen_of after) ≡ true
 frozen_by_turns turn before after least d x h =

@@ -26,7 +26,7 @@ use Rattle.cw_gen.proofs.KnownPlaces.{agree_head}
 use Rattle.cw_gen.proofs.KnownStatements.{returns_same, block_known}
 use Rattle.cw_gen.proofs.KnownLoops.{both_known, made_in_known}
 
--- what the types guarantee for the head of a function
+-- the facts that the types guarantee for the head of a function
 record HeadOf (f : Function) : Type 0 where
   apart : differ (names_of f.params) ≡ true
   returns : (not f.gives_int || block_returns f.body) ≡ true

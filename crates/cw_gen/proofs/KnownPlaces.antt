@@ -1,4 +1,4 @@
--- What the types, the test of lowerable programs, and the lowered text know of the names at a statement of a source.
+-- The names at a statement of a source, as the types, the test of lowerable programs, and the lowered text know them.
 use Rattle.cw_facts.specs.Tests.{not_true}
 use Rattle.cw_model.specs.declared.syntax.NameKind.TheVariants as name_kind
 use Rattle.std.proofs.Common.{◌≡◌, ℕ, Bool, true, false, List, [], ◌∷◌, ◌++◌, refl, sym, ◌∙◌, ap, subst, append_assoc, append-nil}
@@ -67,7 +67,7 @@ module _ {c : Surroundings} {ints arrays : List Name} {known : Known} {locals : 
   own_there : (a : Name) → is_among a arrays ≡ true → is_among a locals.arrays ≡ true
   own_there a h = ap (is_among a) agree.arrays_are ∙ among_right a c.over arrays h
 
-  -- an array of the turn itself
+  -- an array of the iteration itself
   pub local_there : (a : Name) → is_array known a ≡ true → is_local c a ≡ true → is_among a locals.arrays ≡ true
   local_there a h l =
       own_there a (in_second a c.arrays arrays (sym (agree.known_arrays a) ∙ h) (not_true (is_among a c.arrays) (and_parts (not (is_among a c.arrays)) _ l).0))

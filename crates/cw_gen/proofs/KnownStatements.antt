@@ -109,7 +109,7 @@ begins_next given locals _ b = b
 pub begins_array : (given : List Name) (locals : Locals) (x : Name) → Begins given locals.arrays → Begins given (with_array x locals).arrays
 begins_array given locals x b = record { more = b.more ++ x ∷ []; is = ap (λ l. l ++ x ∷ []) b.is ∙ append_assoc given b.more (x ∷ []) }
 
--- what the types guarantee for the head of a loop
+-- the facts that the types guarantee for the head of a loop
 pub record HeadKept (known : Known) (x : Name) (from to : Expr) : Type 0 where
   pub no_array : is_array known x ≡ false
   pub no_int : is_int known x ≡ false
@@ -129,7 +129,7 @@ head_kept program known x y z from to grain over h =
     let new = new_name program known x one in
     record { no_array = new.1; no_int = new.0; from_fine = three.1; to_fine = four.1 }
 
--- what the types guarantee for a cut
+-- the facts that the types guarantee for a cut
 pub record CutKept (known : Known) (a : Name) (e : Expr) (l r : Name) : Type 0 where
   pub array : is_array known a ≡ true
   pub at_fine : is_fine known e ≡ true
@@ -153,7 +153,7 @@ cut_agrees {known = known} agree a e l r cut = agree_array (agree_array agree l 
     still true h = refl
     still false h = h
 
--- what the test of lowerable programs guarantees for a loop
+-- the facts that the test of lowerable programs guarantees for a loop
 pub record LoopKept (c : Surroundings) (ints arrays : List Name) (x : Name) (from to : Expr) (taken over : List Name) (b : Block) : Type 0 where
   pub from_can : can_evaluate c from ≡ true
   pub to_can : can_evaluate c to ≡ true

@@ -145,7 +145,7 @@ one_where b = if b then 1 else 0
 abbrev pub is_at : (key n : ℕ) → ℕ
 is_at key n = one_where (nat_eq key n)
 
--- how often a number is used
+-- the number of uses of a number
 abbrev pub times : {X : Type 0} → (key : ℕ) → List (Entry X) → ℕ
 times key [] = 0
 times key (e ∷ es) = is_at key e.key + times key es

@@ -259,7 +259,7 @@ in_owned marks (s ∷ given) slots h =
     ∙ ap (λ o. and_array o (arrays_in (numbers_at marks given) (owned marks slots))) (get_owned marks s (moved_out given slots) h.0)
     ∙ ap (and_array (slice_get (moved_out given slots) s)) (in_owned marks given slots h.1)
 
--- what a call took, with the numbers of the code
+-- the arrays that a call took, with the numbers of the code
 abbrev pub taken_at : Marks → run.Taken → run.Taken
 taken_at marks (Whole a) = Whole (array_at marks a)
 taken_at marks (Part a from whole) = Part (array_at marks a) from whole
@@ -278,7 +278,7 @@ parts_told marks from [] xss = refl
 parts_told marks from (s ∷ given) [] = refl
 parts_told marks from (s ∷ given) (xs ∷ xss) = ap (λ l. Part (array_at marks s) from xs ∷ l) (parts_told marks from given xss)
 
--- what a call returns, with the numbers of the code
+-- the arrays that a call returns, with the numbers of the code
 abbrev pub told_all : Marks → Option (Results (List ℤ)) → Option (Results (List ℤ))
 told_all marks None = None
 told_all marks (Some results) = Some (told_at marks results)

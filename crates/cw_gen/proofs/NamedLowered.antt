@@ -25,7 +25,7 @@ module _ (lists : Lists) (tables : Tables) where
   listed_both (f ∷ fs) gs h k = (h.0, listed_both fs gs h.1 k)
 
   mutual
-    -- the lowered text of a statement refers to what its source refers to
+    -- the lowered text of a statement refers to the items of its source
     stmt_listed : (over : List Name) (k : ℕ) (s : Stmt) → NamedStmt lists tables s → ListedStmt lists tables (lower_stmt over k s)
     stmt_listed over k (Declare x e) h = tt
     stmt_listed over k (DeclareArray a e) h = tt
@@ -55,7 +55,7 @@ module _ (lists : Lists) (tables : Tables) where
   cuts_listed line [] inside h = h
   cuts_listed line (a ∷ arrays) inside h = (cuts_listed line arrays inside h, tt)
 
-  -- the function of a loop refers to what its body refers to
+  -- the function of a loop refers to the items of its body
   loop_listed : (name : Name) (line : ℕ) (x : Name) (grain : ℕ) (ints over : List Name) (b : Block) → ListedBlock lists tables b
       → ListedBlock lists tables (loop_function name line x grain ints over b).body
   loop_listed name line x grain ints over b h =

@@ -138,7 +138,7 @@ values_split zero es = refl
 values_split (suc n) [] = refl
 values_split (suc n) (e ∷ es) = ap (λ l. e.1 ∷ l) (values_split n es)
 
--- what is held stays held if each name and each holder stays
+-- held names stay held if each name and each holder stays
 pub record Keeps (cuts : Bool) (names names' : List Name) (taken taken' : Taken) (depth : ℕ) : Type 0 where
   pub name : (x : Name) → is_among x names ≡ true → holds cuts depth x taken ≡ true → (is_among x names' ≡ true) × (slot_of x names' ≡ slot_of x names)
   pub hold : (x : Name) → is_among x names ≡ true → holds cuts depth x taken ≡ true → holds cuts depth x taken' ≡ true

@@ -124,7 +124,7 @@ mutual
 pub unread_own : (fs : List Function) (f : Function) → marks_for f.params ≡ [] → OwnBlock fs (marks_for f.params) (locals_of f.params) f.body
 unread_own fs f none = subst (λ ms. OwnBlock fs ms (locals_of f.params) f.body) (sym none) (none_block fs (locals_of f.params) f.body)
 
--- what the types know of the arrays of a source function
+-- the facts that the types know of the arrays of a source function
 pub record Written (marks : Marks) (known : Known) (locals : Locals) : Type 0 where
   pub same : (x : Name) → is_array known x ≡ is_among x locals.arrays
   pub short : length marks ≤ length locals.arrays
@@ -271,7 +271,7 @@ after_written program returns marks known locals line (DeclareArray x e) typed w
     array_written marks known locals x (new_array program known x (and_parts (is_fine known e) (is_new program known x) (kept (is_fine known e && is_new program known x) line typed)).1) w
 after_written program returns marks known locals line _ typed w = w
 
--- what the types guarantee for a cut
+-- the facts that the types guarantee for a cut
 record CutTyped (program : Program) (known : Known) (a l r : Name) : Type 0 where
   writable : is_writable known a ≡ true
   left : is_array known l ≡ false

@@ -37,7 +37,7 @@ use Rattle.cw_gen.proofs.Simple.{Onwards}
 use Rattle.cw_gen.proofs.Calling.{taken_on, Hands, CallsRun, can_take, entering, entered, begins_so, inside_runs}
 
 module _ (code : Code) (fs : List Function) (lists : Lists) (marks : Marks) where
-  -- what the arguments of a call pass to the function
+  -- the values that the arguments of a call pass to the function
   hands_for : (locals : Locals) (taken' : Taken) (frame : Frame) (name : Name) (es : List Expr) (fn : Func) (vs : List ℤ) (given : Frame) →
       Compiled code fs lists (function_named name fs) fn → length vs ≡ fn.params
       → Bound (function_named name fs).params vs (map (λ a. array_of frame a) (arrays_named (function_named name fs).params es)) no_frame given →

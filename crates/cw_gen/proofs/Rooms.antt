@@ -76,7 +76,7 @@ module _ (lists : Lists) (room : Room) where
           block_room (ints_in n here) (arrays_in m here) (locals_after locals s) b h k,
         )
 
--- functions whose rooms are what their texts need
+-- functions whose rooms are sufficient for their texts
 pub all_have_rooms : (lists : Lists) (fs : List model.Function) → AllHaveRooms lists fs
 all_have_rooms lists [] = tt
 all_have_rooms lists (f ∷ fs) =

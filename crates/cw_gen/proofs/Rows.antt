@@ -226,7 +226,7 @@ over_after r s t h k = (
   each_covers_after r.outer s.outer t.outer h.3 k.3,
 )
 
--- what is held up to a depth stays held, and what is frozen stays frozen
+-- names held up to a depth stay held, and frozen arrays stay frozen
 abbrev pub KeepsHeld : (taken taken' : Taken) → ℕ → Type 0
 KeepsHeld taken taken' depth = (d : ℕ) (x : Name) → d ≤ depth → holds false d x taken ≡ true → holds false d x taken' ≡ true
 
@@ -261,7 +261,7 @@ outers_more size opened locals taken taken' h f =
     (same_locals (locals.ints ++ []) locals.ints (locals.arrays ++ []) locals.arrays (append-nil locals.ints) (append-nil locals.arrays))
     (outers_held size opened locals [] [] taken taken' h f (λ d x le a. cc) (λ d x le a. cc) (λ d x le a. cc))
 
--- what is held stays held, and what is frozen stays frozen
+-- held names stay held, and frozen arrays stay frozen
 abbrev pub Keeps : (taken taken' : Taken) → Type 0
 Keeps taken taken' = (d : ℕ) (x : Name) → holds false d x taken ≡ true → holds false d x taken' ≡ true
 

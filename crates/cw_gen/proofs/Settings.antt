@@ -62,7 +62,8 @@ takes_less table place few many h e over =
     let all = over_after h.there many few (h.covers, h.covers_gone, h.covers_frozen, h.covers_outer) over in
     record { there = h.there; found = h.found; as_many = h.as_many ∙ e; covers = all.0; covers_gone = all.1; covers_frozen = all.2; covers_outer = all.3 }
 
--- where a return is allowed: outside of all blocks of the call, with or without a value as the function requires
+-- the position of an allowed return: outside of all blocks of the call, with or without a value as the function
+-- requires
 abbrev pub Returning : Returns → Opened → Bool → Type 0
 Returning Nowhere opened gives = Unit {0}
 Returning WithInt opened gives = (opened ≡ []) × (gives ≡ true)

@@ -141,7 +141,7 @@ slices_put (a ∷ over) from g frame apart =
     slices_put over from g (set_array a v frame) (second_true (not (is_among a over)) (differ over) apart)
     ∙ ap (λ vs. with_arrays frame (put_backs over vs (put a v frame.arrays))) (sliced_other frame g from a v over other)
 
--- what a loop passes to its function: this number of iterations from `low` on
+-- the values that a loop passes to its function: this number of iterations from `low` on
 unfoldable pub hands_of_loop : (code : Code) (fs : List Function) (lists : Lists) (marks : Marks) (locals : Locals) (taken' : Taken) (frame : Frame)
     (f : Function) (fn : Func) (captured over : List Name) (low turns : ℤ) →
     Compiled code fs lists f fn → TakesRange f captured over → AllWritable marks locals.arrays taken' over → differ over ≡ true → Hands marks locals taken' frame f fn

@@ -89,13 +89,13 @@ module _ (code : Code) (fs : List Function) (lists : Lists) (small : length code
       → joined u (record { lines = lines; updates = updates; events = works 1 }) ≡ joined (ticked u) (record { lines = lines; updates = updates; events = [] })
   told_after u lines updates = sym (joined_joined u (shows (works 1)) (record { lines = lines; updates = updates; events = [] }))
 
-  -- what is held after a call statement
+  -- the locals held after a call statement
   call_holds : (kind : CallKind) (site : ℕ) (target : Option Name) (name : Name) (es : List Expr) (level : ℕ) (taken' : Taken)
       → taken_on kind level target (ownership.given fs name es) (ownership.lent fs name es) taken' ≡ held_after fs level (Call kind site target name es) taken'
   call_holds Plain site target name es level taken' = refl
   call_holds Spawned site target name es level taken' = refl
 
-  -- what is held after a call on one half
+  -- the locals held after a call on one half
   start_holds : (kind : CallKind) (name : Name) (es : List Expr) (level : ℕ) (taken' : Taken)
       → taken_on kind level None (ownership.given fs name es) [] taken' ≡ held_after fs level (Start kind name es) taken'
   start_holds Plain name es level taken' = refl

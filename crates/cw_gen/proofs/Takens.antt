@@ -90,7 +90,7 @@ module _ (cuts : Bool) where
       cases true e = absurd (true≢false (sym (held_is_taken depth x taken e) ∙ h))
       cases false e = refl
 
-  -- a join of one sync block keeps what another one holds
+  -- a join of one sync block keeps the names that another one holds
   pub held_past : (depth other : ℕ) (x : Name) (taken : Taken) → other ≢ depth → holds other x taken ≡ true → holds other x (freed depth taken) ≡ true
   held_past depth other x [] apart h = cc
   held_past depth other x (t ∷ taken) apart h = test (held_past depth other x taken apart) (is_spawn_in depth t.1) (has other x t) refl refl h
@@ -165,13 +165,13 @@ module _ (cuts : Bool) where
           ∙ ap (λ b. if b && is_held_in depth k then true else holds depth x taken) ((bytes_eq-Decides x x).1 refl)
           ∙ ap (λ b. if b then true else holds depth x taken) is
 
-  -- what an iteration leaves held was held before it
+  -- names that an iteration leaves held were held before it
   pub held_by_turns : (turn : Taken → Taken) (before after : Taken) → IsLeastClosed turn before after → (d : ℕ) (x : Name) → holds d x (turn after) ≡ true → holds d x after ≡ true
   held_by_turns turn before after least d x h =
       let c = contains_held d x (turn after) h in
       held_contained d x c.0 c.1 after (least.closed (x, c.0) c.2)
 
-  -- the end of a cut keeps what is held of another name
+  -- the end of a cut keeps other held names
   pub held_past_cut : (depth : ℕ) (a x : Name) (taken : Taken) → same_name a x ≡ false → holds depth x taken ≡ true → holds depth x (cut_ended a taken) ≡ true
   held_past_cut depth a x [] apart h = cc
   held_past_cut depth a x (t ∷ taken) apart h = test (held_past_cut depth a x taken apart) (is_cut_of a t) (has depth x t) refl refl h
@@ -190,7 +190,7 @@ module _ (cuts : Bool) where
       test more false true e e' h' = ap (λ c. if c then true else holds depth x (cut_ended a taken)) e'
       test more false false e e' h' = ap (λ c. if c then true else holds depth x (cut_ended a taken)) e' ∙ more h'
 
--- the end of a cut keeps what spawns hold
+-- the end of a cut keeps the names that spawns hold
 pub spawn_past_cut : (depth : ℕ) (a x : Name) (taken : Taken) → holds false depth x taken ≡ true → holds false depth x (cut_ended a taken) ≡ true
 spawn_past_cut depth a x [] h = cc
 spawn_past_cut depth a x (t ∷ taken) h = test (spawn_past_cut depth a x taken) (is_cut_of a t) (has false depth x t) refl refl h

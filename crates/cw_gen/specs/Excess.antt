@@ -6,8 +6,8 @@ use Rattle.cw_model.specs.Syntax.{Program}
 use Rattle.cw_gen.specs.declared.excess.Excess.{Excess}
 use Rattle.cw_gen.specs.declared.excess.Excess.TheVariants as excess
 
--- the number of call statements exceeds the limit and is as reported; or it keeps the limit, and something else does
--- not
+-- for `CallStatements` the number of call statements is the given one and exceeds the limit; for `Instructions` it
+-- keeps the limit
 abbrev pub IsExcess : Program → Excess → Type 0
 IsExcess program (excess.CallStatements count) = (count ≡ call_count program) × (MOST_CALL_STATEMENTS < count)
 IsExcess program excess.Instructions = call_count program ≤ MOST_CALL_STATEMENTS

@@ -32,7 +32,7 @@ marks_in (Const ∷ kinds) = true ∷ marks_in kinds
 abbrev pub marks_of : List NameKind → Marks
 marks_of kinds = unless_none (marks_in kinds)
 
--- the place of the first slot, and the place of a slot after one with mark `m`; readers are numbered separately
+-- the place of the first slot, and the place of a slot after one more slot; readers and arrays are numbered separately
 abbrev pub first_place : Bool → Loan
 first_place true = loan.Reader 0
 first_place false = loan.Array 0

@@ -1,4 +1,4 @@
-//! Why a program has no code: the limit that it exceeds.
+//! The limit that a program without code exceeds.
 
 ghost use Rattle.std.specs.Prelude.{◌≡◌, ◌<◌, ◌≤◌, IfOk};
 ghost use Rattle.cw_gen.specs.Excess.{IsExcess};
