@@ -75,7 +75,8 @@ pub data PassesLimit (bytes : List ℕ) (line : ℕ) : Type 0 where
   code : (program : Program) → IsAccepted bytes program → loop_faults program ≡ []
       → IsLeastLine (program_faults program) line → PassesLimit bytes line
 
--- the condition on the bytes under which compiling returns this fault: the first stage that rejects them, with its line
+-- the condition that the bytes satisfy if compiling them returns this fault: the first stage that rejects them, with
+-- its line
 abbrev pub IsRefused : List ℕ → Fault → Type 0
 IsRefused bytes (fault.Lexical p) = IsLexicallyRefused bytes p.line
 IsRefused bytes (fault.Syntax p) = IsSyntacticallyRefused bytes p.line
