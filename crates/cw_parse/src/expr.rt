@@ -19,6 +19,10 @@ use std::alloc::AllocError;
 const HIGHEST: usize = 4;
 
 /// Returns the name that a token spells.
+///
+/// # Errors
+///
+/// Returns an error if memory runs out.
 pub(crate) fn name_of(reading: Reading<'_>, token: Token) -> Result<Name, AllocError>
     ensures { IfOk result (λ name. name ≡ name_of reading.entry.text.now token) }
 {
@@ -243,6 +247,10 @@ fn level<'a>(
 }
 
 /// Parses an expression; operands nest at most `depth` deep.
+///
+/// # Errors
+///
+/// Stops at the first token that does not fit, or if memory runs out.
 pub(crate) fn expr<'a>(reading: Reading<'_>, depth: usize, tokens: &'a [Token]) -> Read<'a, Expr>
     ensures { Parses expr_of result (expr reading.entry.text.now depth tokens.now) }
 {

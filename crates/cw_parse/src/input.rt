@@ -17,5 +17,6 @@ pub(crate) struct Reading<'t> {
     pub(crate) limit: usize,
 }
 
-/// A parsed part with the tokens after it, or the reason why parsing stopped.
+/// Holds a parsed part with the tokens after it, or the reason why parsing stopped: the first token that does not
+/// fit, or out of memory.
 pub(crate) type Read<'a, T> = Result<(T, &'a [Token]), Stop>;

@@ -223,6 +223,10 @@ fn push(mut ast: Ast, found: Item) -> Result<Ast, Stop>
 }
 
 /// Parses all items of a source.
+///
+/// # Errors
+///
+/// Stops at the first token that does not fit, or if memory runs out.
 pub(crate) fn whole(reading: Reading<'_>, tokens: &[Token]) -> Result<Ast, Stop>
     requires { 1 + length tokens.now < 2 ^ 32 }
     ensures { Gives (λ x. (items_of x, [])) result

@@ -13,7 +13,7 @@ use crate::stop::Stop;
 use cw_model::token::Token;
 use cw_tree::syntax::{Expr, Name};
 
-/// A part of a list.
+/// Represents a part of a list.
 pub(crate) trait Part: Drop + Sized {
     ghost Seen: { Type 0 };
 
@@ -87,6 +87,10 @@ fn others<'a, T: Part>(
 }
 
 /// Parses one or more parts, and the closing parenthesis.
+///
+/// # Errors
+///
+/// Stops at the first token that does not fit, or if memory runs out.
 pub(crate) fn some_of<'a, T: Part>(
     reading: Reading<'_>,
     depth: usize,
@@ -102,6 +106,10 @@ pub(crate) fn some_of<'a, T: Part>(
 }
 
 /// Parses any number of parts, and the closing parenthesis.
+///
+/// # Errors
+///
+/// Stops at the first token that does not fit, or if memory runs out.
 #[tactic(auto, unfolding(crate::specs::Parts::list))]
 pub(crate) fn list<'a, T: Part>(
     reading: Reading<'_>,

@@ -73,7 +73,11 @@ pub(crate) fn past(mark: Mark, tokens: &[Token]) -> Option<(Token, &[Token])>
     }
 }
 
-/// Parses one token that matches the mark; stops at the first token otherwise.
+/// Parses one token that matches the mark.
+///
+/// # Errors
+///
+/// Stops at the first token if it does not match the mark.
 pub(crate) fn expect(mark: Mark, tokens: &[Token]) -> Read<'_, Token>
     ensures { Parses (λ x. x) result (token (is_mark mark) tokens.now) }
 {

@@ -13,8 +13,8 @@ const MOST_PLACES: usize = 1 << 14;
 // The number of places that are searched for a name.
 const LOOKED_AT: usize = 4;
 
-/// A hash table of distinct names: each name is near the place that its hash selects. A name that finds no place
-/// there is not stored, so a lookup takes the same small number of steps for all names.
+/// Holds the distinct names of a source in a hash table: each name is near the place that its hash selects. A name
+/// that finds no place there is not stored, so a lookup takes the same small number of steps for all names.
 #[derive(Drop)]
 pub(crate) struct Names {
     places: Vec<Option<Name>>,

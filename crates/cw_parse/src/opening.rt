@@ -160,6 +160,10 @@ fn region<'a>(reading: Reading<'_>, tokens: &'a [Token]) -> Read<'a, Opening>
 }
 
 /// Parses the opening of a block after its first token, and the opening brace.
+///
+/// # Errors
+///
+/// Stops at the first token that does not fit, or if memory runs out.
 #[tactic(auto, unfolding(crate::specs::Parts::opening))]
 pub(crate) fn opened<'a>(
     reading: Reading<'_>,

@@ -280,6 +280,10 @@ fn printed<'a>(
 }
 
 /// Parses a statement without a block, after its first token; also returns the number of the next call statement.
+///
+/// # Errors
+///
+/// Stops at the first token that does not fit, or if memory runs out.
 #[tactic(auto, unfolding(crate::specs::Parts::simple))]
 pub(crate) fn simple<'a>(
     reading: Reading<'_>,

@@ -143,6 +143,10 @@ fn line<'a>(
 }
 
 /// Parses the statements of a block, whose statements nest at most `depth` deep, and its closing brace.
+///
+/// # Errors
+///
+/// Stops at the first token that does not fit, or if memory runs out.
 #[cycle(stmt)]
 pub(crate) fn lines<'a>(
     reading: Reading<'_>,
