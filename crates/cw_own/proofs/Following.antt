@@ -152,7 +152,7 @@ holds_frozen locals depth outside taken here cuts x there h p = by (p (ReaderIn 
         ((k == slot_of x locals.arrays) || here.frozen k) (p (SpawnIn depth) && here.arrays k) (p CutOf && cuts k) e))
         (h p))
 
--- two branches
+-- the integers held after two branches
 two_ints : (r q a b : Bool) → ((r || (q && a)) || (r || (q && b))) ≡ (r || (q && (a || b)))
 two_ints true q a b = refl
 two_ints false false a b = refl
