@@ -232,7 +232,7 @@ module _ (code : Code) (fs : List Function) (lists : Lists) where
     can_take locals taken' f Spawned None store outer frame fine a = refl
     can_take locals taken' f Spawned (Some x) store outer frame fine a = writes locals taken' x frame store outer fine.0 a
 
-    -- the waiting caller
+    -- the state of the caller while it waits
     abbrev waits : (pc : ℕ) → Store → CallKind → (mark slot : Option ℕ) → (moved : List ℕ) → List run.Taken → Trace → Waiting
     waits pc store kind mark slot moved outs u = record {
       place = pc + 1;

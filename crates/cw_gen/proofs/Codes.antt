@@ -101,7 +101,7 @@ bound_array p ps xs vs xss g after is b = record {
     left_out true e = cc
     left_out false e = refl
 
--- the frame of main
+-- the frame of main binds its parameters
 pub bound_main : (ps : List Param) (vs : List ℤ) (g : Frame) → list_all (λ p. not (wants_array p)) ps ≡ true → length vs ≡ length ps → Bound ps vs [] g (main_frame ps vs g)
 bound_main [] [] g ints n = bound_none g
 bound_main [] (v ∷ vs) g ints n = absurd (omega (arith, n))

@@ -104,7 +104,7 @@ not_dearer a e frame h = ap (λ l. dearer (if is_among a l then 2 else 0) (evalu
     none (Traps trap c) = refl
     none (Gives v c) = let e : c + 0 ≡ c = omega arith in ap (Gives v) e
 
--- a payment of zero
+-- a payment of zero leaves the fuel unchanged
 pub pay_none : (left : ℕ) → pay 0 left ≡ Done tt left (shows [])
 pay_none left = grind (arith, nat_tests)
 

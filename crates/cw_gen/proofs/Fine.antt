@@ -271,7 +271,7 @@ pub record FunctionFine (fs : List Function) (lists : Lists) (tables : Tables) (
   pub body : BlockFine fs lists tables (marks_for f.params) (room_of lists f) (if f.gives_int then WithInt else Alone) 1 (locals_of f.params) [] f.body
   pub returns : f.gives_int ≡ true → block_returns f.body ≡ true
 
--- the conditions on functions
+-- each of these functions satisfies the conditions
 abbrev pub FunctionsFine : List Function → Lists → Tables → List Function → Type 0
 FunctionsFine all lists tables [] = Unit {0}
 FunctionsFine all lists tables (f ∷ fs) = FunctionFine all lists tables f × FunctionsFine all lists tables fs

@@ -260,7 +260,7 @@ module _ (code : Code) (fs : List Function) (lists : Lists) (small : length code
     pub not_empty : start < f.end
     not_empty = (within start starts.there starts.found).1
 
-  -- consecutive functions
+  -- the code of consecutive functions is well formed
   record RowFits (start : ℕ) (gs : List Function) : Type 0 where
     pub lie : LieFrom start (emitted_funcs first start (map (slotted_function lists) gs)) (start + length (emitted_instrs first (map (slotted_function lists) gs)))
     pub each : (k : ℕ) (f : Func) → slice_get (emitted_funcs first start (map (slotted_function lists) gs)) k ≡ Some f → FitsFunc code f

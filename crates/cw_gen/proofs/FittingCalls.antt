@@ -298,7 +298,7 @@ module _ (setting : Setting) where
       both_true (nat_eq 0 (readers_of (slice_get setting.code.funcs (slot_of name setting.lists.functions)))) true
       (equal 0 (readers_of (slice_get setting.code.funcs (slot_of name setting.lists.functions))) (sym none)) refl
 
-  -- the instruction of a call
+  -- the instruction of a call is well formed
   pub call_fits : (opened : Opened) (locals : Locals) (taken : Taken) → HasRoom setting locals → CutsOpen setting.marks opened locals taken
       → (kind : CallKind) (site : ℕ) (target : Option Name) (name : Name) (es : List Expr) (line place : ℕ) →
       StmtFine setting.fs setting.lists (tables setting) setting.marks (size setting) Nowhere (depth_in opened) locals taken (Call kind site target name es) →

@@ -63,7 +63,7 @@ module _ (setting : Setting) where
       cases true e = absurd (true≢false (before (block_from setting.fs level b ((a, CutOf) ∷ taken) (a, ReaderIn d) (frozen_in d a after_it e))))
       cases false e = refl
 
-  -- the end of a cut
+  -- the end of a cut is well formed
   pub cut_closes : (opened : Opened) (locals : Locals) (taken : Taken) (a l r : Name) (b : Block) (next_place : ℕ) → HasRoom setting locals
       → CutsOpen setting.marks opened locals taken → IsWritable setting.marks locals.arrays taken a → PartsFine setting.marks (size setting) locals l r →
       ((x : Name) → is_among x (l ∷ r ∷ own_names b) ≡ true → is_held (freed (suc (depth_in opened)) (held_after_all setting.fs (suc (depth_in opened)) b ((a, CutOf) ∷ taken))) x ≡ false) →
@@ -164,7 +164,7 @@ module _ (setting : Setting) where
           test false true k' = refl
           test false false k' = more x k'
 
-  -- a cut, the block in which its parts are known, and its end
+  -- a cut, the block in which its parts are known, and its end are well formed
   pub cut_fits : (level : ℕ) (opened : Opened) (locals : Locals) (taken : Taken) (a l r : Name) (e : Expr) (b : Block) (line place : ℕ)
       → level ≡ depth_in opened → HasRoom setting locals → CutsOpen setting.marks opened locals taken → IsWritable setting.marks locals.arrays taken a
       → ExprFine locals taken e → PartsFine setting.marks (size setting) locals l r →

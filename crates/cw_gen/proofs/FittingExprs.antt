@@ -51,7 +51,7 @@ module _ (setting : Setting) where
     reader_is_there : (s : ℕ) → is_read setting.marks s ≡ true → nat_lt (array_at setting.marks s) setting.f.readers ≡ true
     reader_is_there s r = below (array_at setting.marks s) setting.f.readers (omega (arith, read_below setting.marks s r, setting.many_read))
 
-    -- an element of an array, in a slot or of a reader
+    -- the instruction that loads an element, from a slot or a reader, is well formed
     element_fits : (x : Name) (line place n : ℕ) → IsUsable locals.arrays taken x → FlowsInto (table setting) (place + 1) (here (n + 1))
         → FitsAt setting place (Some (here (n + 1))) (element_at (place_of setting.marks (slot_of x locals.arrays)) line)
     element_fits x line place n u leads = test (is_read setting.marks s) refl
@@ -72,7 +72,7 @@ module _ (setting : Setting) where
               refl,
             )
 
-    -- the length of an array, in a slot or of a reader
+    -- the instruction that loads a length, from a slot or a reader, is well formed
     length_fits : (x : Name) (place n : ℕ) → IsUsable locals.arrays taken x → FlowsInto (table setting) (place + 1) (here (n + 1))
         → FitsAt setting place (Some (here n)) (length_at (place_of setting.marks (slot_of x locals.arrays)))
     length_fits x place n u leads = test (is_read setting.marks s) refl
@@ -166,7 +166,7 @@ module _ (setting : Setting) where
           tt,
         ))
 
-    -- an expression and the instruction that uses its value
+    -- an expression and the instruction that uses its value are well formed
     pub valued_fits : (e : Expr) (line place : ℕ) (i : Instr) → ExprFine locals taken e
         → StandsAt setting.tab place (expr_shapes here 0 e ++ Some (here 1) ∷ [])
         → FitsAt setting (place + length (expr_code setting.marks locals line e)) (Some (here 1)) i
@@ -243,7 +243,7 @@ module _ (setting : Setting) where
             (subst (λ ss'. StandsAt setting.tab (place + length ce) ss') (sym (append-nil more)) second) leads'))
             (rest (place + length ce) (n + 1) second leads'))
 
-    -- arguments and the instruction that takes them
+    -- arguments and the instruction that takes them are well formed
     pub given_fits : (ps : List Param) (es : List Expr) (line place : ℕ) (i : Instr) (next : Shape) → ArgsFine setting.marks locals taken ps es
         → StandsAt setting.tab place (args_shapes here 0 ps es ++ Some (here (args_after 0 ps es)) ∷ []) →
         (FlowsInto (table setting) (place + length (args_code setting.marks locals line ps es) + 1) next

@@ -37,7 +37,7 @@ pub reducer_there : (ks : List Reducer) (names : List Name) (x : Name) → reduc
 reducer_there ks names x e h = below (slot_of x names) (length ks) (omega (arith, slice_get_within names (slot_of x names) x h, ap length e, length-map ks (λ r. r.name)))
 
 module _ (setting : Setting) where
-  -- the jump over the second branch
+  -- the jump over the second branch is well formed
   pub jump_fits : (returns : Bool) (place n : ℕ) (shape next : Shape) → FlowsInto (table setting) (place + 1) next
       → (returns ≡ false → FlowsInto (table setting) (place + 1 + n) shape) → distance n ≡ n → (r : Bool) → r ≡ returns
       → FitsAt setting place (reached returns shape) (instr.Skip (past r n))
@@ -49,13 +49,13 @@ module _ (setting : Setting) where
       let there = subst (λ p. FlowsInto (table setting) p shape) at (leads refl) in
       (lies setting (place + 1 + past r n) shape there, refl, (there, tt), refl)
 
-  -- the jump back to a test
+  -- the jump back to a test is well formed
   pub back_fits : (returns : Bool) (place n : ℕ) (shape : Shape) → nat_le (setting.f.start + n) place ≡ true
       → (returns ≡ false → FlowsInto (table setting) (place - n) shape) → FitsAt setting place (reached returns shape) (instr.GoBack n)
   back_fits true place n shape named leads = named
   back_fits false place n shape named leads = (named, refl, (leads refl, tt), refl)
 
-  -- a block between the instruction that opens it and the instruction that closes it
+  -- a block is well formed with the instruction that opens it and the instruction that closes it
   pub inside_fits : (level : ℕ) (opened : Opened) (locals : Locals) (taken : Taken) (b : Block) (kind : BlockKind) (place : ℕ)
       → level ≡ depth_in opened → HasRoom setting locals → CutsOpen setting.marks opened locals taken → names_tag setting.code kind ≡ true
       → BlockFine setting.fs setting.lists (tables setting) setting.marks (size setting) Nowhere (level + 1) locals taken b
@@ -145,7 +145,7 @@ module _ (setting : Setting) where
   none_round [] locals taken e = refl
   none_round (c ∷ opened) locals taken e = cc
 
-  -- an expression and the store of its value
+  -- an expression and the store of its value are well formed
   pub store_fits : (opened : Opened) (locals locals' : Locals) (taken : Taken) → HasRoom setting locals → CutsOpen setting.marks opened locals taken
       → (e : Expr) (line place a : ℕ) → nat_lt a (size setting).ints ≡ true → has_slot (made setting opened locals taken 1) a ≡ true
       → ExprFine locals taken e → StandsAt setting.tab place (expr_shapes (made setting opened locals taken) 0 e ++ Some (made setting opened locals taken 1) ∷ []) →
@@ -166,7 +166,7 @@ module _ (setting : Setting) where
         refl,
       )
 
-  -- an expression and the instruction that takes its value
+  -- an expression and the instruction that takes its value are well formed
   pub tell_fits : (opened : Opened) (locals : Locals) (taken : Taken) → HasRoom setting locals → CutsOpen setting.marks opened locals taken
       → (e : Expr) (line place : ℕ) (i : Instr) → ExprFine locals taken e
       → StandsAt setting.tab place (expr_shapes (made setting opened locals taken) 0 e ++ Some (made setting opened locals taken 1) ∷ []) →

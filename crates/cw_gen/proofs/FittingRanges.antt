@@ -49,7 +49,7 @@ module _ (setting : Setting) (opened : Opened) (locals : Locals) (taken : Taken)
   loads_enter [] place n more stands leads = let e : place + 0 ≡ place = omega arith in subst (λ p. FlowsInto (table setting) p (here n)) e leads
   loads_enter (x ∷ xs) place n more stands leads = exact setting.tab place (here n) stands.0
 
-  -- the loads fit
+  -- the loads of captured integers are well formed
   loads_fit : (xs : List Name) (place n : ℕ) → AllUsable locals.ints taken xs → StandsAt setting.tab place (loads_shapes here n xs)
       → FlowsInto (table setting) (place + length (loads_code xs)) (here (loads_after n xs)) → AllFit setting place (loads_shapes here n xs) (loads_code xs)
   loads_fit [] place n us stands leads = tt
@@ -67,7 +67,7 @@ module _ (setting : Setting) (opened : Opened) (locals : Locals) (taken : Taken)
         loads_fit xs (place + 1) (n + 1) us.1 more leads',
       )
 
-  -- the instruction of a first call
+  -- the instruction of a first call is well formed
   begin_fits : (name : Name) (from to : Expr) (captured over : List Name) (line place : ℕ)
       → StmtFine setting.fs setting.lists (tables setting) setting.marks (size setting) Nowhere (depth_in opened) locals taken
       (Begin name from to captured over) → FlowsInto (table setting) (place + 1) (here 0) →
@@ -98,7 +98,7 @@ module _ (setting : Setting) (opened : Opened) (locals : Locals) (taken : Taken)
         ap (none_frozen rows) passed ∙ slots_thawed setting opened locals taken room cuts over us,
       )
 
-  -- a first call with its arguments
+  -- a first call with its arguments is well formed
   pub range_fits : (name : Name) (from to : Expr) (captured over : List Name) (line place : ℕ)
       → StmtFine setting.fs setting.lists (tables setting) setting.marks (size setting) Nowhere (depth_in opened) locals taken
       (Begin name from to captured over) → StandsAt setting.tab place (range_shapes here from to captured) →

@@ -63,7 +63,7 @@ module _ (program : Program) (least : WhilesAreLeast) (gs : List Function) (same
       → owner_faults_in program.functions around owners source closing taken declared b ≡ [] → AllCarried shift depth owners held taken →
       AllCarried shift depth (own_names b ++ owners) (held_after_all gs depth (lower_block over k b) held) (taken_after_all program.functions source b taken)
 
-  -- the block of a branch or of an iteration
+  -- names stay carried after the block of a branch or of an iteration
   branch_carries : (b : Block) → BlockCarries b → (over : List Name) (k : ℕ) (known : Known) (owners : List Name) (around : Around)
       → SameKnown known owners → (returns : Returns) (depth source shift : ℕ) → source ≡ depth + shift → (held taken : Taken) →
       is_source_block b ≡ true → faults_in_block program returns known b ≡ []
@@ -78,7 +78,7 @@ module _ (program : Program) (least : WhilesAreLeast) (gs : List Function) (same
       (taken_after_all program.functions source b taken) (more over k known owners around same returns depth source shift e Leaves held taken
       [] src types owns all))
 
-  -- the block of a scope
+  -- names stay carried after the block of a scope
   scope_carries : (b : Block) → BlockCarries b → (over : List Name) (k : ℕ) (known : Known) (owners : List Name) (around : Around)
       → SameKnown known owners → (depth source shift : ℕ) → source ≡ depth + shift → (held taken : Taken) →
       is_source_block b ≡ true → faults_in_block program Nowhere known b ≡ []
@@ -175,7 +175,7 @@ module _ (program : Program) (least : WhilesAreLeast) (gs : List Function) (same
       (sym (call_same program.functions gs over known target f es (same_params f t.0) c)) reading)
 
   mutual
-    -- after a statement
+    -- names stay carried after a statement
     pub stmt_carries : (s : Stmt) → StmtCarries s
     stmt_carries (Declare x e') over k known owners around same returns line depth source shift e held taken src types owns all =
         more_carried shift depth owners (x ∷ owners) held taken (λ y o. later_among y x owners o) all
@@ -224,7 +224,7 @@ module _ (program : Program) (least : WhilesAreLeast) (gs : List Function) (same
     stmt_carries (Print e') over k known owners around same returns line depth source shift e held taken src types owns all = all
     stmt_carries (Return e') over k known owners around same returns line depth source shift e held taken src types owns all = freed_carried shift depth source owners held taken e all
 
-    -- after a block, whose names join the names of its owners
+    -- names stay carried after a block, whose names join the names of its owners
     pub block_carries : (b : Block) → BlockCarries b
     block_carries End over k known owners around same returns depth source shift e closing held taken declared src types owns all = all
     block_carries (Then line s b) over k known owners around same returns depth source shift e closing held taken declared src types owns all =

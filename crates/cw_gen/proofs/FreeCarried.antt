@@ -104,7 +104,7 @@ reader_moved shift (SpawnIn d) = refl
 reader_moved shift (ReaderIn d) = refl
 reader_moved shift CutOf = refl
 
--- a join in both
+-- a join keeps names carried
 pub freed_carried : (shift depth source : ℕ) (names : List Name) (held taken : Taken) → source ≡ depth + shift
     → AllCarried shift depth names held taken → AllCarried shift depth names (freed depth held) (freed source taken)
 freed_carried shift depth source names held taken e all t h =
@@ -113,7 +113,7 @@ freed_carried shift depth source names held taken e all t h =
     (λ i. in_kept (λ u. not (is_spawn_in source u.1)) (t.0, deeper shift t.1) taken i
     (ap not (spawn_moved shift depth source t.1 e (not_true (is_spawn_in depth t.1) one.1))))
 
--- the end of the scope of a block's names in both
+-- the end of the scope of a block's names keeps names carried
 pub without_carried : (shift depth : ℕ) (own names : List Name) (held taken : Taken) → AllCarried shift depth (own ++ names) held taken
     → AllCarried shift depth names (without own held) (without own taken)
 without_carried shift depth own names held taken all t h =
@@ -121,7 +121,7 @@ without_carried shift depth own names held taken all t h =
     renamed shift depth (own ++ names) names (without own taken) t (among_split t.0 own names (not_true (is_among t.0 own) one.1))
     (carried_in shift depth (own ++ names) taken (without own taken) t (all t one.0) (λ i. in_kept (λ u. not (is_among u.0 own)) (t.0, deeper shift t.1) taken i one.1))
 
--- the end of an inner sync block in both
+-- the end of an inner sync block keeps names carried
 pub left_carried : (shift depth source : ℕ) (own names : List Name) (held taken : Taken) → source ≡ depth + shift → AllCarried shift (depth + 1) (own ++ names) held taken →
     AllCarried shift depth names (freed (depth + 1) (without own held)) (freed (source + 1) (without own taken))
 left_carried shift depth source own names held taken e all t h =
@@ -129,33 +129,33 @@ left_carried shift depth source own names held taken e all t h =
     let one = in_filter (λ u. not (is_spawn_in (depth + 1) u.1)) t (without own held) h in
     record { there = c.there; plain = c.plain; named = c.named; inside = inside_less depth t.1 (not_true (is_spawn_in (depth + 1) t.1) one.1) c.inside }
 
--- the end of a block that does not return, in both
+-- the end of a block that does not return keeps names carried
 pub goes_carried : (shift depth : ℕ) (returns : Bool) (own names : List Name) (held taken : Taken) → AllCarried shift depth (own ++ names) held taken →
     AllCarried shift depth names (where_it_goes_on returns (without own held)) (where_it_goes_on returns (without own taken))
 goes_carried shift depth true own names held taken all t h = absurd h
 goes_carried shift depth false own names held taken all t h = without_carried shift depth own names held taken all t h
 
--- names that are held in two parts
+-- names that are held in two parts are carried if both parts are
 pub both_carried : (shift depth : ℕ) (names : List Name) (held held' taken taken' : Taken) → AllCarried shift depth names held taken
     → AllCarried shift depth names held' taken' → AllCarried shift depth names (held ++ held') (taken ++ taken')
 both_carried shift depth names held held' taken taken' all all' t h =
     either_way (in_append t held held' h) (λ i. carried_in shift depth names taken (taken ++ taken') t (all t i) (in_left (t.0, deeper shift t.1) taken taken'))
     (λ i. carried_in shift depth names taken' (taken ++ taken') t (all' t i) (in_right (t.0, deeper shift t.1) taken taken'))
 
--- one more cut in both
+-- a further cut in both keeps names carried
 pub cut_carried : (shift depth : ℕ) (names : List Name) (a : Name) (held taken : Taken) → is_plain a ≡ true → is_among a names ≡ true
     → AllCarried shift depth names held taken → AllCarried shift depth names ((a, CutOf) ∷ held) ((a, CutOf) ∷ taken)
 cut_carried shift depth names a held taken plain named all t (inl e) = subst (Carried shift depth names ((a, CutOf) ∷ taken)) e (record { there = inl refl; plain = plain; named = named; inside = tt })
 cut_carried shift depth names a held taken plain named all t (inr h) = carried_in shift depth names taken ((a, CutOf) ∷ taken) t (all t h) (λ i. inr i)
 
--- the end of a cut in both
+-- the end of a cut in both keeps names carried
 pub ended_carried : (shift depth : ℕ) (names : List Name) (a : Name) (held taken : Taken) → AllCarried shift depth names held taken
     → AllCarried shift depth names (cut_ended a held) (cut_ended a taken)
 ended_carried shift depth names a held taken all t h =
     let one = in_filter (λ u. not (is_cut_of a u)) t held h in
     carried_in shift depth names taken (cut_ended a taken) t (all t one.0) (λ i. in_kept (λ u. not (is_cut_of a u)) (t.0, deeper shift t.1) taken i (ap not (cut_moved shift a t.0 t.1) ∙ one.1))
 
--- names with the same holder in both
+-- names with the same holder in both are carried
 added_carried : (shift depth : ℕ) (k : Holder) (names xs : List Name) (held taken : Taken) → Inside depth k
     → ((x : Name) → is_among x xs ≡ true → (is_plain x ≡ true) × (is_among x names ≡ true)) → AllCarried shift depth names held taken →
     AllCarried shift depth names (map (λ x. (x, k)) xs ++ held) (map (λ x. (x, deeper shift k)) xs ++ taken)
@@ -176,14 +176,14 @@ added_carried shift depth k names xs held taken inside fine all =
 here_inside : (depth : ℕ) → depth ≤ depth
 here_inside depth = omega arith
 
--- a spawn in both
+-- a spawn in both keeps names carried
 pub spawned_carried : (shift depth source : ℕ) (names xs : List Name) (held taken : Taken) → source ≡ depth + shift
     → ((x : Name) → is_among x xs ≡ true → (is_plain x ≡ true) × (is_among x names ≡ true)) → AllCarried shift depth names held taken →
     AllCarried shift depth names (taken_by depth xs held) (taken_by source xs taken)
 spawned_carried shift depth source names xs held taken e fine all =
     subst (λ d. AllCarried shift depth names (taken_by depth xs held) (taken_by d xs taken)) (sym e) (added_carried shift depth (SpawnIn depth) names xs held taken (here_inside depth) fine all)
 
--- the arrays that a spawn only reads, in both
+-- the arrays that a spawn only reads in both keep names carried
 pub frozen_carried : (shift depth source : ℕ) (names xs : List Name) (held taken : Taken) → source ≡ depth + shift
     → ((x : Name) → is_among x xs ≡ true → (is_plain x ≡ true) × (is_among x names ≡ true)) → AllCarried shift depth names held taken →
     AllCarried shift depth names (frozen_by depth xs held) (frozen_by source xs taken)
@@ -207,7 +207,7 @@ plain_carried shift depth names held taken all x other = not_held x held (λ k h
 pub named_carried : (shift depth : ℕ) (names : List Name) (held taken : Taken) → AllCarried shift depth names held taken → (x : Name) → is_among x names ≡ false → is_held held x ≡ false
 named_carried shift depth names held taken all x other = not_held x held (λ k h. true≢false (sym (all (x, k) h).named ∙ other))
 
--- the end of a block in both
+-- the end of a block in both keeps names carried
 pub end_carried : (shift depth source : ℕ) (names : List Name) (closing : Closing) (held taken : Taken) → source ≡ depth + shift
     → AllCarried shift depth names held taken → AllCarried shift depth names (at_end closing depth held) (at_end closing source taken)
 end_carried shift depth source names Joins held taken e all = freed_carried shift depth source names held taken e all
@@ -276,7 +276,7 @@ target_plain known f (Some y) h s x o = go (placed x y [] o)
     go (at_front same) = (ap is_plain same ∙ s, ap (is_int known) same ∙ (and_parts (is_int known y) f.gives_int h).0)
     go (after_it other p) = absurd cc
 
--- the names of a call
+-- the names that a call takes are plain and known
 pub call_plain : (fs : List Function) (known : Known) (owners : List Name) → SameKnown known owners
     → (target : Option Name) (f : Name) (es : List Expr) → CallKept fs known target f es → is_source_target target ≡ true → list_all is_source_expr es ≡ true →
     (x : Name) → is_among x (target_names target ++ given fs f es) ≡ true → (is_plain x ≡ true) × (is_among x owners ≡ true)
@@ -286,7 +286,7 @@ call_plain fs known owners same target f es k st se x o = go (side x (target_nam
     go (in_first p) = let r = target_plain known (function_named f fs) target k.target_fine st x p in (r.0, same x ∙ either_left (is_int known x) (is_array known x) r.1)
     go (in_second p) = let r = arrays_plain known (function_named f fs).params es k.arguments se x p in (r.0, same x ∙ either_right (is_int known x) (is_array known x) r.1)
 
--- the arrays that a call only reads
+-- the arrays that a call only reads are plain and known
 pub lent_call_plain : (fs : List Function) (known : Known) (owners : List Name) → SameKnown known owners
     → (target : Option Name) (f : Name) (es : List Expr) → CallKept fs known target f es → list_all is_source_expr es ≡ true →
     (x : Name) → is_among x (lent fs f es) ≡ true → (is_plain x ≡ true) × (is_among x owners ≡ true)

@@ -110,7 +110,7 @@ module _ (gs : List Function) (name : Name) (line : ℕ) (x : Name) (grain : ℕ
     (ints_plain : (y : Name) → is_among y ints ≡ true → is_plain y ≡ true) (over_plain : (a : Name) → is_among a over ≡ true → is_plain a ≡ true)
     (no_int : (y : Name) → is_among y ints ≡ true → is_among y over ≡ false) (apart : differ over ≡ true)
     (body_free : (held : Taken) → Nothing held → BlockFree gs 2 held body × EndsFree gs 2 Joins held body) where
-  -- the iterations of a leaf
+  -- nothing is held after an iteration of a leaf
 
   turn_leaves : (held : Taken) → Nothing held → Nothing (held_after gs 1 (Scope body) held)
   turn_leaves held h t i = h t (scope_from gs 1 body held t i)

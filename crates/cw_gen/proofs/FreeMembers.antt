@@ -200,7 +200,7 @@ goes_on : (returns : Bool) (own : List Name) (after_it : Taken) (t : Name × Hol
 goes_on true own after_it t h = absurd h
 goes_on false own after_it t h = (in_filter (λ u. not (is_among u.0 own)) t after_it h).0
 
--- case distinction
+-- a result that follows in both cases
 pub either_way : {A B C : Type 0} → A ⊎ B → (A → C) → (B → C) → C
 either_way (inl a) f g = f a
 either_way (inr b) f g = g b
@@ -210,7 +210,7 @@ cut_of a taken t e (inr k) = k
 cut_of a taken t e (inl same) = absurd (true≢false (sym e ∙ ap (λ u. not (is_cut_of a u)) (sym same) ∙ ap not ((bytes_eq-Decides a a).1 refl)))
 
 mutual
-  -- after a statement
+  -- a name held after a statement was held before it, or a spawn of the sync block holds it
   pub stmt_from : (fs : List Function) (depth : ℕ) (s : Stmt) (taken : Taken) (t : Name × Holder) → In t (held_after fs depth s taken) → From depth taken t
   stmt_from fs depth (Call Spawned site target f es) taken t h =
       either_way (in_append t (map (λ x. (x, ReaderIn depth)) (lent fs f es)) (taken_by depth (target_names target ++ given fs f es) taken) h) (λ k. inr (by_reader depth (lent fs f es) t k))
@@ -239,7 +239,7 @@ mutual
       inl (cut_of a taken t one.1 (left_inner depth inner (l ∷ r ∷ own_names b) (held_after_all fs (depth + 1) b inner) t (block_from fs (depth + 1) b inner t) one.0))
   stmt_from fs depth _ taken t h = inl h
 
-  -- after a block
+  -- a name held after a block was held before it, or a spawn of the sync block holds it
   pub block_from : (fs : List Function) (depth : ℕ) (b : Block) (taken : Taken) (t : Name × Holder) → In t (held_after_all fs depth b taken) → From depth taken t
   block_from fs depth End taken t h = inl h
   block_from fs depth (Then line s b) taken t h = then_from (block_from fs depth b (held_after fs depth s taken) t h) (stmt_from fs depth s taken t)

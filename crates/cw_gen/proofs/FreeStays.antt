@@ -220,7 +220,7 @@ module _ (program : Program) where
       inner : Stays t after (read_in_block b)
       inner = more ((r, name_kind.Array) ∷ (l, name_kind.Array) ∷ known) (r ∷ l ∷ owners) around same' (depth + 1) Joins ((a, CutOf) ∷ taken) [] types' owns' t (inr i) (outer_more depth t.1 o) n'
 
-  -- the block of a scope
+  -- names stay held after the block of a scope
   scope_stays : (b : Block) → BlockStays b → (known : Known) (owners : List Name) (around : Around) → SameKnown known owners
       → (depth : ℕ) (taken : Taken) → faults_in_block program Nowhere known b ≡ [] →
       owner_faults_in program.functions around owners (depth + 1) Joins taken [] b ≡ [] → (t : Name × Holder) → In t taken → Outer depth t.1
@@ -234,7 +234,7 @@ module _ (program : Program) where
       }
 
   mutual
-    -- after a statement
+    -- names stay held after a statement
     pub stmt_stays : (s : Stmt) → StmtStays s
     stmt_stays (Declare x e) known owners around same depth line taken types owns t i o n = record { stays = i; unread = λ loud. unread_expr around taken e t (kept _ line owns) i loud }
     stmt_stays (DeclareArray x e) known owners around same depth line taken types owns t i o n = record { stays = i; unread = λ loud. unread_expr around taken e t (kept _ line owns) i loud }
@@ -293,7 +293,7 @@ module _ (program : Program) where
     stmt_stays (Return None) known owners around same depth line taken types owns t i o n = absurd cc
     stmt_stays (Return (Some e)) known owners around same depth line taken types owns t i o n = absurd cc
 
-    -- after a block
+    -- names stay held after a block
     pub block_stays : (b : Block) → BlockStays b
     block_stays End known owners around same depth closing taken declared types owns t i o n = record { stays = i; unread = λ loud. refl }
     block_stays (Then line s b) known owners around same depth closing taken declared types owns t i o n =

@@ -117,7 +117,7 @@ pub free_all : (taken : Taken) (xs : List Name) → ((x : Name) → is_among x x
 free_all taken [] h = refl
 free_all taken (x ∷ xs) h = ap (λ b. not (b || list_any (λ z. is_taken taken z) xs)) (h x (front_among x xs)) ∙ free_all taken xs (λ y o. h y (later_among y x xs o))
 
--- one name
+-- a list of one free name is free
 pub free_one : (taken : Taken) (x : Name) → is_taken taken x ≡ false → are_free taken (x ∷ []) ≡ true
 free_one taken x h = ap (λ b. not (b || false)) h
 
@@ -141,11 +141,11 @@ free_both taken xs ys h g = free_all taken (xs ++ ys) (λ x o. go x (side x xs y
     go x (in_first o) = free_each taken xs h x o
     go x (in_second o) = free_each taken ys g x o
 
--- the first of two lists of free names
+-- the first of two lists is free if their concatenation is
 pub free_first : (taken : Taken) (xs ys : List Name) → are_free taken (xs ++ ys) ≡ true → are_free taken xs ≡ true
 free_first taken xs ys h = free_all taken xs (λ x o. free_each taken (xs ++ ys) h x (among_left x xs ys o))
 
--- the second
+-- the second of two lists is free if their concatenation is
 pub free_second : (taken : Taken) (xs ys : List Name) → are_free taken (xs ++ ys) ≡ true → are_free taken ys ≡ true
 free_second taken xs ys h = free_all taken ys (λ x o. free_each taken (xs ++ ys) h x (among_right x xs ys o))
 

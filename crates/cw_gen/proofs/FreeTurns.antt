@@ -11,7 +11,7 @@ use Rattle.cw_gen.proofs.Held.{held_after, held_after_all, held_turn, has_no_hal
 use Rattle.cw_gen.proofs.Texts.{TurnsClose}
 
 mutual
-  -- after a statement
+  -- the names held after a statement are the names taken after it in a source
   pub held_same : (fs : List Function) (s : Stmt) (depth : ℕ) (taken : Taken) → has_no_half s ≡ true → held_after fs depth s taken ≡ taken_after fs depth s taken
   held_same fs (Call Plain site target f es) depth taken h = refl
   held_same fs (Call Spawned site target f es) depth taken h = refl
@@ -30,7 +30,7 @@ mutual
   held_same fs (Cut a e l r b) depth taken h = ap (λ t. cut_ended a (freed (depth + 1) (without (l ∷ r ∷ own_names b) t))) (all_same fs b (depth + 1) ((a, CutOf) ∷ taken) h)
   held_same fs _ depth taken h = refl
 
-  -- after a block
+  -- the names held after a block are the names taken after it in a source
   pub all_same : (fs : List Function) (b : Block) (depth : ℕ) (taken : Taken) → has_no_half_in b ≡ true → held_after_all fs depth b taken ≡ taken_after_all fs depth b taken
   all_same fs End depth taken h = refl
   all_same fs (Then line s b) depth taken h =

@@ -39,7 +39,7 @@ pub loans_joined : (fs gs : List Function) (lists : List (List Loan)) → put_lo
 loans_joined [] gs lists = refl
 loans_joined (f ∷ fs) gs lists = loans_joined fs gs (put_loans_in (marks_of f.params) f.body lists)
 
--- the number of functions
+-- if each function has a body, the number of functions does not change
 pub length_with_bodies : (fs : List source.Function) (bodies : List Block) → length bodies ≡ length fs → length (with_bodies fs bodies) ≡ length fs
 length_with_bodies [] bodies same = refl
 length_with_bodies (f ∷ fs) (b ∷ bodies) same = ap suc (length_with_bodies fs bodies (omega (arith, same)))

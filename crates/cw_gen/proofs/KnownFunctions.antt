@@ -105,7 +105,7 @@ numbered_of k (f ∷ fs) =
 abbrev Below : ℕ → List Function → Type 0
 Below k fs = (n : ℕ) → k ≤ n → is_function (loop_name n) fs ≡ false
 
--- one more function
+-- appending the function of loop `k` keeps `Below` for the next number
 below_next : (k : ℕ) (fs : List Function) (g : Function) → g.name ≡ loop_name k → Below k fs → Below (suc k) (fs ++ g ∷ [])
 below_next k fs g named below n more =
     past_is_function (loop_name n) fs (g ∷ []) (below n (omega (arith, more)))

@@ -67,12 +67,12 @@ module _ {c : Surroundings} {ints arrays : List Name} {known : Known} {locals : 
   own_there : (a : Name) → is_among a arrays ≡ true → is_among a locals.arrays ≡ true
   own_there a h = ap (is_among a) agree.arrays_are ∙ among_right a c.over arrays h
 
-  -- an array of the iteration itself
+  -- an array of the iteration itself is known
   pub local_there : (a : Name) → is_array known a ≡ true → is_local c a ≡ true → is_among a locals.arrays ≡ true
   local_there a h l =
       own_there a (in_second a c.arrays arrays (sym (agree.known_arrays a) ∙ h) (not_true (is_among a c.arrays) (and_parts (not (is_among a c.arrays)) _ l).0))
 
-  -- a name that is not an array of the iteration, and that may be used as an argument
+  -- a name that is not an array of the iteration, and that may be used as an argument, is not an array
   pub not_there_alone : (a : Name) → is_among a arrays ≡ false → is_local c a ≡ true → is_among a locals.arrays ≡ false
   not_there_alone a h l =
       let two = and_parts (not (is_among a c.arrays)) (not (is_among a c.over) && not (is_among a c.sliced)) l in
@@ -83,7 +83,7 @@ module _ {c : Surroundings} {ints arrays : List Name} {known : Known} {locals : 
   pub no_array : (x : Name) → is_int known x ≡ true → is_local c x ≡ true → is_among x locals.arrays ≡ false
   no_array x h l = not_there_alone x (neither_among x c.arrays arrays (sym (agree.known_arrays x) ∙ not_both known x h)).1 l
 
-  -- the variable of the enclosing loop
+  -- the variable of the enclosing loop is known
   variable_known : (a : Name) → is_among a c.over ≡ true → (i : Expr) → is_variable c i ≡ true → ExprKnown locals (lower_expr c.over i)
   variable_known a o (Variable y) h = given_there y (ap (λ z. is_among z c.given) (same_are y c.variable h) ∙ agree.variable_given a o)
   variable_known a o (Number n) h = absurd cc
@@ -93,7 +93,7 @@ module _ {c : Surroundings} {ints arrays : List Name} {known : Known} {locals : 
   variable_known a o (Not e) h = absurd cc
   variable_known a o (Binary operator d e) h = absurd cc
 
-  -- an element of an array
+  -- an element of an array uses known names
   pub spot_known : (a : Name) (i : Expr) → is_array known a ≡ true → (if is_among a c.over then is_variable c i else (is_local c a && can_evaluate c i)) ≡ true →
       (can_evaluate c i ≡ true → ExprKnown locals (lower_expr c.over i)) → (is_among a locals.arrays ≡ true) × ExprKnown locals (lower_index (is_among a c.over) (lower_expr c.over i))
   spot_known a i array can more = go (is_among a c.over) refl can
@@ -103,7 +103,7 @@ module _ {c : Surroundings} {ints arrays : List Name} {known : Known} {locals : 
       go true o h = (over_there a o, (variable_known a o i h, given_there low (agree.low_given a o)))
       go false o h = let two = and_parts (is_local c a) (can_evaluate c i) h in (local_there a array two.0, more two.1)
 
-  -- an expression, and an argument
+  -- a lowered expression and a lowered argument use known names
   pub expr_known : (e : Expr) → is_fine known e ≡ true → can_evaluate c e ≡ true → ExprKnown locals (lower_expr c.over e)
   expr_known (Number n) fine can = tt
   expr_known (Variable x) fine can = int_there x fine can
@@ -143,12 +143,12 @@ module _ {c : Surroundings} {ints arrays : List Name} {known : Known} {locals : 
       let g = and_parts (can_pass c e) (can_pass_all c es) can in
       (arg_known (wants_array p) e f.0 g.0, args_known ps es f.1 g.1)
 
-  -- the target of a result
+  -- the target of a result is known
   pub target_known : (f : Function) (target : Option Name) → is_target known f target ≡ true → can_target c target ≡ true → TargetKnown locals f target
   target_known f None fine can = tt
   target_known f (Some x) fine can = let two = and_parts (is_int known x) f.gives_int fine in (write_there x two.0 can, two.1)
 
-  -- the expression of a return
+  -- the lowered expression of a return uses known names
   pub return_known : (returns : Returns) (e : Option Expr) → may_return returns known e ≡ true → ((d : Expr) → e ≡ Some d → can_evaluate c d ≡ true)
       → ReturnKnown returns locals (lower_option c.over e)
   return_known Nowhere None fine can = absurd cc
@@ -158,7 +158,7 @@ module _ {c : Surroundings} {ints arrays : List Name} {known : Known} {locals : 
   return_known Alone None fine can = tt
   return_known Alone (Some e) fine can = absurd cc
 
-  -- the captured integers of a loop
+  -- the captured integers of a loop are known
   pub captured_known : (xs : List Name) → can_capture c ints xs ≡ true → AllKnown locals.ints xs
   captured_known [] can = tt
   captured_known (x ∷ xs) can =
@@ -175,7 +175,7 @@ module _ {c : Surroundings} {ints arrays : List Name} {known : Known} {locals : 
       let three = and_parts (is_among a arrays) (can_slice c arrays xs) two.1 in
       (own_there a three.0, sliced_known xs three.1)
 
-  -- one more name
+  -- all three agree after one more declaration
 
   pub agree_int : (y : Name) → is_array known y ≡ false → Agree c (ints ++ y ∷ []) arrays ((y, name_kind.Integer) ∷ known) (with_int y locals)
   agree_int y fresh = record {
@@ -199,7 +199,7 @@ module _ {c : Surroundings} {ints arrays : List Name} {known : Known} {locals : 
     variable_given = agree.variable_given;
   }
 
-  -- no more names
+  -- all three agree if nothing is declared
   agree_none : Agree c (ints ++ []) (arrays ++ []) known locals
   agree_none = record {
     ints_are = agree.ints_are ∙ ap (λ l. c.given ++ l) (sym (append-nil ints));
@@ -217,7 +217,7 @@ module _ {c : Surroundings} {ints arrays : List Name} {known : Known} {locals : 
   only_arrays : Agree c (ints ++ []) arrays known locals
   only_arrays = subst (λ l. Agree c (ints ++ []) l known locals) (append-nil arrays) agree_none
 
-  -- in an iteration of a loop: the frame of its function
+  -- all three agree in the body of a loop, in the frame of its function
   pub agree_inside : (x : Name) (taken over : List Name) → is_array known x ≡ false →
       Agree (inside c ints arrays x taken over) [] [] ((x, name_kind.Integer) ∷ known) (record { ints = (low ∷ high ∷ taken) ++ x ∷ []; arrays = over })
   agree_inside x taken over fresh = record {
@@ -230,7 +230,7 @@ module _ {c : Surroundings} {ints arrays : List Name} {known : Known} {locals : 
     variable_given = λ a o. among_right x (low ∷ high ∷ taken) (x ∷ []) (front_among x []);
   }
 
--- at the head of a function
+-- all three agree at the head of a function
 pub agree_head : (fs : List Function) (ps : List Param) → differ (names_of ps) ≡ true → Agree (nothing_around fs) (integers_of ps) (arrays_of ps) (known_of ps) (locals_of ps)
 agree_head fs ps h = record {
   ints_are = local_ints ps;
@@ -242,7 +242,7 @@ agree_head fs ps h = record {
   variable_given = λ a o. absurd cc;
 }
 
--- after a statement
+-- all three agree after a statement
 pub agree_after : (program : Program) (returns : Returns) (line : ℕ) (c : Surroundings) (ints arrays : List Name) (known : Known) (locals : Locals)
     (s : Stmt) → faults_in program returns known line s ≡ [] → Agree c ints arrays known locals →
     Agree c (ints ++ new_integers s) (arrays ++ new_arrays s) (declares s known) (locals_after locals s)

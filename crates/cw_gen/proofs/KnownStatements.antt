@@ -105,7 +105,7 @@ pub begins_next : (given : List Name) (locals : Locals) (s : Stmt) → Begins gi
 begins_next given locals (DeclareArray x e) b = record { more = b.more ++ x ∷ []; is = ap (λ l. l ++ x ∷ []) b.is ∙ append_assoc given b.more (x ∷ []) }
 begins_next given locals _ b = b
 
--- one more array
+-- the arrays of the parameters stay the first arrays after a declaration of an array
 pub begins_array : (given : List Name) (locals : Locals) (x : Name) → Begins given locals.arrays → Begins given (with_array x locals).arrays
 begins_array given locals x b = record { more = b.more ++ x ∷ []; is = ap (λ l. l ++ x ∷ []) b.is ∙ append_assoc given b.more (x ∷ []) }
 
@@ -144,7 +144,7 @@ cut_kept program known a e l r h =
     let one = and_parts (is_writable known a) (is_fine known e) two.0 in
     record { array = writable_array known a one.0; at_fine = one.1; left = (new_name program known l two.1).0; right = (new_name program known r three.1).0 }
 
--- the names in a cut, including its two parts
+-- all three agree in a cut, including its two parts
 pub cut_agrees : {c : Surroundings} {ints arrays : List Name} {known : Known} {locals : Locals} → Agree c ints arrays known locals → (a : Name) (e : Expr) (l r : Name) → CutKept known a e l r →
     Agree c ints ((arrays ++ l ∷ []) ++ r ∷ []) ((r, name_kind.Array) ∷ (l, name_kind.Array) ∷ known) (with_array r (with_array l locals))
 cut_agrees {known = known} agree a e l r cut = agree_array (agree_array agree l cut.left) r (still (same_name r l) cut.right)

@@ -227,7 +227,7 @@ sites_within first names key n (s ∷ sites) h =
     later : (i : ℕ) → suc (suc n) + i ≡ suc n + suc i
     later i = omega arith
 
--- the number of loans
+-- call sites have the same weight for loans and for lists
 sites_same : (from : ℕ) (names : List Name) (key : ℕ) (sites : List CallSite) → sites_weigh (lending_at key) sites ≡ sites_weigh (weights_at from names key) sites
 sites_same from names key [] = refl
 sites_same from names key (s ∷ sites) = ap (λ n. is_at key s.number + n) (sites_same from names key sites)

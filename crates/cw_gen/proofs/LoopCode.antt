@@ -48,7 +48,7 @@ args_of_half : (line : ℕ) (ints arrays : List ℕ) → emitted_args [] line (m
 args_of_half line [] arrays = args_of_arrays line arrays
 args_of_half line (s ∷ ints) arrays = ap (λ is. instr.Load s ∷ is) (args_of_half line ints arrays)
 
--- a call on one half
+-- the code of a call on one half
 pub half_emitted : (first line : ℕ) (kind : CallKind) (index from to k : ℕ) (arrays : List ℕ) →
     emitted_alone first [] line (Start kind index (half from to (numbers 2 k) arrays)) ≡ written_half kind (half_of first kind index) from to k
 half_emitted first line kind index from to k arrays =
@@ -59,7 +59,7 @@ ends_turned : (arrays : List ℕ) → written_ends arrays ++ instr.EndCut ∷ []
 ends_turned [] = refl
 ends_turned (n ∷ arrays) = ap (λ is. instr.EndCut ∷ is) (ends_turned arrays)
 
--- the code inside cuts
+-- the code of a block inside cuts: the cuts, the block, and the ends of the cuts
 pub cuts_emitted : (first : ℕ) (l : Loop) (arrays : List ℕ) (inside : Block) →
     emitted_block first [] (in_cuts l arrays inside) ≡ written_cuts l arrays ++ (emitted_block first [] inside ++ written_ends arrays)
 cuts_emitted first l [] inside = sym (append-nil (emitted_block first [] inside))
@@ -75,7 +75,7 @@ cuts_emitted first l (n ∷ arrays) inside =
     let body = ap (λ is. (is ++ instr.EndCut ∷ []) ++ []) (cuts_emitted first l arrays inside) ∙ regrouped in
     ap (λ is. written_cuts l (n ∷ []) ++ is) body
 
--- a node
+-- the code of a node
 pub node_emitted : (first index : ℕ) (l : Loop) →
     let m = turn_slot l.captured in
     let arrays = numbers 0 l.over in
@@ -95,7 +95,7 @@ node_emitted first index l =
     ∙ ap (λ is. written_half Spawned (half_of first Spawned index) low m l.captured ++ is) (append-nil right_code ∙ other) in
     ap (λ is. written_middle l ++ is) (cuts_emitted first l arrays (both_halves index l) ∙ ap (λ is. written_cuts l arrays ++ (is ++ written_ends arrays)) both)
 
--- a leaf
+-- the code of a leaf
 pub leaf_emitted : (first : ℕ) (l : Loop) →
     emitted_block first [] (leaf l)
     ≡ instr.Load low ∷ instr.Store (turn_slot l.captured) ∷ instr.Load (turn_slot l.captured) ∷ instr.Load high ∷ instr.Binary Less l.line ∷ emitted_turn 3 (emitted_block first [] (turn_text l))

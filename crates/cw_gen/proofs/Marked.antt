@@ -171,7 +171,7 @@ pub told_both : {X : Type 0} (marks : Marks) (a b : Results X) → told_at marks
 told_both marks [] b = refl
 told_both marks (r ∷ a) b = ap (λ l. (array_at marks r.0, r.1) ∷ l) (told_both marks a b)
 
--- a join
+-- a join settles the slots that are not only read
 pub settle_owned : {X : Type 0} (marks : Marks) (results : Results X) (slots : Slots X) → AllOwn marks results
     → owned marks (settled results slots) ≡ settled (told_at marks results) (owned marks slots)
 settle_owned marks [] slots h = refl
@@ -190,7 +190,7 @@ OwnSlots marks (s ∷ slots) = IsOwn marks s × OwnSlots marks slots
 abbrev pub numbers_at : Marks → List ℕ → List ℕ
 numbers_at marks slots = map (array_at marks) slots
 
--- moving arrays out of their slots
+-- arrays are moved out of the slots that are not only read
 pub move_owned : {X : Type 0} (marks : Marks) (given : List ℕ) (slots : Slots X) → OwnSlots marks given → owned marks (moved_out given slots) ≡ moved_out (numbers_at marks given) (owned marks slots)
 move_owned marks [] slots h = refl
 move_owned marks (s ∷ given) slots h = set_owned marks s None (moved_out given slots) h.0 ∙ ap (λ l. slice_set l (array_at marks s) None) (move_owned marks given slots h.1)

@@ -115,7 +115,7 @@ owned_more (false ∷ marks) (x ∷ xs) more h = ap (λ l. x ∷ l) (owned_more 
 pub names_owned : (ps : List Param) (more : List Name) → owned (marks_for ps) ((locals_of ps).arrays ++ more) ≡ taken_params ps ++ more
 names_owned ps more = owned_more (marks_for ps) (locals_of ps).arrays more (marks_short ps) ∙ ap (λ l. l ++ more) (params_owned ps)
 
--- the names of values
+-- the names of the entries whose slots are not only read
 pub entries_names : {A : Type 0} (marks : Marks) (es : Entries A) → holding.names_in (owned marks es) ≡ owned marks (holding.names_in es)
 entries_names [] es = refl
 entries_names (m ∷ marks) [] = refl

@@ -143,7 +143,7 @@ pub record Keeps (cuts : Bool) (names names' : List Name) (taken taken' : Taken)
   pub name : (x : Name) → is_among x names ≡ true → holds cuts depth x taken ≡ true → (is_among x names' ≡ true) × (slot_of x names' ≡ slot_of x names)
   pub hold : (x : Name) → is_among x names ≡ true → holds cuts depth x taken ≡ true → holds cuts depth x taken' ≡ true
 
--- more is held
+-- held names stay held if more names are held
 pub more_taken : (cuts : Bool) (names : List Name) (taken taken' : Taken)
     → ((depth : ℕ) (x : Name) → holds cuts depth x taken ≡ true → holds cuts depth x taken' ≡ true) → (depth : ℕ) → Keeps cuts names names taken taken' depth
 more_taken cuts names taken taken' more depth = record { name = λ x h k. (h, refl); hold = λ x h k. more depth x k }
@@ -237,7 +237,7 @@ module _ (cuts : Bool) {A : Type 0} where
       ap is_full (sym (get-settled a (all_of waits) slots free) ∙ ap (λ l. slice_get l a) agrees.held)
       ∙ full_is_full all a (omega (arith, n))
 
-  -- the number of slots
+  -- the number of slots is the number of names and of the slots after them
   pub count_slots : (names : List Name) (taken : Taken) (entries : Entries A) (slots : Slots A) (waits : List (Results A))
       (a : AgreesOf names taken entries slots waits) → length slots ≡ length names + length a.rest
   count_slots names taken entries slots waits a =
@@ -303,7 +303,7 @@ module _ (cuts : Bool) {A : Type 0} where
         levels = levels_kept names (names ++ x ∷ []) taken taken waits (λ depth le. kept depth) a.levels;
       }
 
-  -- other names are taken
+  -- the slots still agree if more names are held
   pub takes : (names : List Name) (taken taken' : Taken) (entries : Entries A) (slots : Slots A) (waits : List (Results A))
       → ((depth : ℕ) (x : Name) → holds cuts depth x taken ≡ true → holds cuts depth x taken' ≡ true) → AgreesOf names taken entries slots waits →
       AgreesOf names taken' entries slots waits

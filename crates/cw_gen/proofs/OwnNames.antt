@@ -230,12 +230,12 @@ written_taken (p ∷ ps) x h = by p.kind refl (pushed_known is_written_kind x (k
         ap (λ b. is_among x (map (λ (z : Param). z.name) (cond b (p ∷ filter (λ z. takes_array z) ps) (filter (λ z. takes_array z) ps)))) h'.1
         ∙ ap (λ b. if b then true else is_among x (taken_params ps)) h'.0
 
--- at the head of a function
+-- the facts on arrays hold at the head of a function
 pub head_written : (ps : List Param) → differ (map (λ p. p.name) ps) ≡ true
     → ((x : Name) → is_array (known_of ps) x ≡ is_among x (locals_of ps).arrays) → Written (marks_for ps) (known_of ps) (locals_of ps)
 head_written ps apart same = record { same = same; short = marks_short ps; own = λ x h. taken_own ps x apart (written_taken ps x h) }
 
--- arguments
+-- lowered arguments satisfy the condition on arguments
 args_own : (marks : Marks) (known : Known) (locals : Locals) → Written marks known locals → (over : List Name) (ps : List Param) (es : List Expr)
     → are_arguments known ps es ≡ true → OwnArgs marks locals ps (lower_exprs over es)
 args_own marks known locals w over [] [] h = tt
@@ -262,7 +262,7 @@ over_own marks known locals w (a ∷ over) h =
     let two = and_parts (is_writable known a) (list_all (λ b. is_writable known b) over) h in
     (w.own a two.0, over_own marks known locals w over two.1)
 
--- after a statement
+-- the facts on arrays hold after a statement
 after_written : (program : Program) (returns : Returns) (marks : Marks) (known : Known) (locals : Locals) (line : ℕ) (s : Stmt)
     → faults_in program returns known line s ≡ [] → Written marks known locals → Written marks (declares s known) (locals_after locals s)
 after_written program returns marks known locals line (Declare x e) typed w =
@@ -337,7 +337,7 @@ module _ (program : Program) (all : List Function) (calls : (f : Name) (g : Func
     stmt_own returns over known locals w line k (Print e) typed = tt
     stmt_own returns over known locals w line k (Return e) typed = tt
 
-    -- a block of the source, lowered
+    -- a lowered block of the source satisfies the condition on blocks
     pub block_own : (returns : Returns) (over : List Name) (known : Known) (locals : Locals) → Written marks known locals → (k : ℕ) (b : Block)
         → faults_in_block program returns known b ≡ [] → OwnBlock all marks locals (lower_block over k b)
     block_own returns over known locals w k End typed = tt

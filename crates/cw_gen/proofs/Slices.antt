@@ -84,7 +84,7 @@ bound_loop (p ∷ ps) vs xss g order n m = test (λ vs' xss' g' order' n' m'. bo
 abbrev pub sliced_back : Frame → (from : ℕ) → Frame → List Name → List (List ℤ)
 sliced_back frame from g over = map (λ a. with_slice (array_of frame a) from (array_of g a)) over
 
--- the slots of slices
+-- the slots of slices are the slots of their arrays
 pub part_slots : (from : ℕ) (frame : Frame) (slot : Name → ℕ) (over : List Name) → map slot_taken (parts_of from (map slot over) (map (λ a. array_of frame a) over)) ≡ map slot over
 part_slots from frame slot [] = refl
 part_slots from frame slot (a ∷ over) = ap (λ l. slot a ∷ l) (part_slots from frame slot over)

@@ -102,7 +102,7 @@ module _ (code : Code) (fs : List Function) (lists : Lists) (small : length code
   start_holds Spawned name es level taken' = refl
 
   mutual
-    -- a statement
+    -- the code of a statement executes the statement
     pub stmt_runs : (around : List Around) (returns : Returns) (level : ℕ) (locals : Locals) (taken' : Taken) (s : Stmt) (line pc : ℕ) (size : Room)
         (store : Store) (outer : Outside) (frame : Frame) (t : Trace) (left : ℕ) (next : Completion → ℕ → Trace → RunOutcome) →
         level ≡ suc (length outer) → Outermost returns outer → left ≤ bound
@@ -361,7 +361,7 @@ module _ (code : Code) (fs : List Function) (lists : Lists) (small : length code
         ∙ sym (resume_then t (pay_for (evaluate e frame) line left) (λ v l. after (shows (Join ∷ [])) (then_do (pay 1 l) (λ _. gives (ByReturn (Some v) frame)))) next)
     stmt_runs around returns level locals taken' _ line pc size store outer frame t left next at_level out within has fine a n on backs = absurd fine
 
-    -- the statements of a block
+    -- the code of a block executes its statements
     pub block_runs : (around : List Around) (returns : Returns) (level : ℕ) (locals : Locals) (taken' : Taken) (b : Block) (pc : ℕ) (size : Room)
         (store : Store) (outer : Outside) (frame : Frame) (t : Trace) (left : ℕ) (next : Completion → ℕ → Trace → RunOutcome) →
         level ≡ suc (length outer) → Outermost returns outer → left ≤ bound

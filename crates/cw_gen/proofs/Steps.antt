@@ -15,18 +15,18 @@ use Rattle.cw_code.specs.lemmas.Runs.{joined_quiet}
 use Rattle.cw_gen.proofs.Traces.{resume, resume_then, paid_one}
 
 module _ (code : Code) where
-  -- one instruction
+  -- one step executes the instruction at the current place
   pub one : (s : State) (i : Instr) → slice_get code.instrs s.place ≡ Some i → (l : ℕ) → steps code (suc l) s ≡ go_on (act code s (Some i)) l (λ s'. steps code l s')
   one s i h l = ap (λ o. go_on (act code s o) l (λ s'. steps code l s')) h
 
-  -- an instruction that pays
+  -- an instruction that pays needs one unit of fuel
   pub pays : {A : Type 0} (a : A) (s : State) (u : Trace) (left : ℕ) (next : A → ℕ → Trace → RunOutcome) →
       ((l : ℕ) → l < left → steps code (suc l) s ≡ next a l (ticked u)) →
       steps code left s ≡ resume u (if nat_lt left 1 then Over else Done a (left - 1) (shows (works 1))) next
   pays a s u zero next h = refl
   pays a s u (suc l) next h = h l (omega arith) ∙ sym (ap (λ o. resume u o next) (paid_one a l (shows (works 1))))
 
-  -- an instruction that pays and has no continuation
+  -- an instruction that pays and has no continuation needs one unit of fuel
   pub pays_last : {A : Type 0} (a : A) (s : State) (u : Trace) (left : ℕ) (next : A → ℕ → Trace → RunOutcome) →
       ((l : ℕ) → l < left → steps code (suc l) s ≡ next a l (ticked u)) →
       steps code left s ≡ resume u (then_do (pay 1 left) (λ _. gives a)) next

@@ -127,7 +127,7 @@ pub declares_array : (locals : Locals) (taken : Taken) (x : Name) (v : List ℤ)
 declares_array locals taken x v frame store outer room a =
     record { ints = a.ints; arrays = names.declares true locals.arrays taken x v frame.arrays store.arrays (store.arrived ∷ array_waits outer) room a.arrays; whole = a.whole }
 
--- more is held
+-- the slots still represent the frame if more names are held
 pub takes : (locals : Locals) (taken taken' : Taken) (frame : Frame) (store : Store) (outer : Outside)
     → ((cuts : Bool) (d : ℕ) (x : Name) → holds cuts d x taken ≡ true → holds cuts d x taken' ≡ true) → Agrees locals taken frame store outer →
     Agrees locals taken' frame store outer
@@ -137,7 +137,7 @@ takes locals taken taken' frame store outer more a = record {
   whole = a.whole;
 }
 
--- a join
+-- the slots still represent the frame after a join
 pub joins : (locals : Locals) (taken : Taken) (frame : Frame) (store : Store) (outer : Outside) → Agrees locals taken frame store outer →
     Agrees locals (freed (suc (length outer)) taken) frame (joined_with store (record { ints = []; arrays = [] })) outer
 joins locals taken frame store outer a = record {
@@ -148,7 +148,7 @@ joins locals taken frame store outer a = record {
   whole = a.whole;
 }
 
--- an inner sync block begins
+-- the slots represent the frame at the start of an inner sync block
 pub enters : (locals : Locals) (taken : Taken) (frame : Frame) (store : Store) (outer : Outside) → Agrees locals taken frame store outer
     → Agrees locals taken frame (inner_of store) (waits_of store ∷ outer)
 enters locals taken frame store outer a = record {
@@ -157,7 +157,7 @@ enters locals taken frame store outer a = record {
   whole = a.whole;
 }
 
--- an inner sync block joins and ends
+-- the slots represent the frame after an inner sync block
 pub exits : (locals : Locals) (taken : Taken) (frame : Frame) (store : Store) (w : Waits) (outer : Outside)
     → Agrees locals taken frame store (w ∷ outer) → Agrees locals (freed (suc (suc (length outer))) taken) frame (joined_with store w) outer
 exits locals taken frame store w outer a =
@@ -169,7 +169,7 @@ exits locals taken frame store w outer a =
       whole = a.whole;
     }
 
--- the scope of the names of a block ends with it
+-- the slots represent the frame after the scope of a block's names
 pub leaves_block : (locals : Locals) (more more_arrays own : List Name) (taken : Taken) (before frame : Frame) (store : Store) (outer : Outside)
     → names_in before.ints ≡ locals.ints → names_in before.arrays ≡ locals.arrays → before.sliced ≡ [] →
     ((x : Name) → is_among x more ≡ true → is_among x own ≡ true) → ((x : Name) → is_among x more_arrays ≡ true → is_among x own ≡ true)
