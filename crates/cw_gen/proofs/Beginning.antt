@@ -41,7 +41,7 @@ use Rattle.cw_gen.proofs.Calling.{CallsRun, entering, entered, begins_so, inside
 use Rattle.cw_gen.proofs.Slices.{slices_are, hands_of_loop}
 
 module _ (code : Code) (marks : Marks) (depth : ℕ) where
-  -- integers that are taken along, one instruction for each
+  -- captured integers, one instruction for each
   pub loads_run : (around : List Around) (locals : Locals) (taken' : Taken) (captured : List Name) (pc : ℕ) (ops : List ℤ) (store : Store)
       (outer : Outside) (frame : Frame) (t : Trace) (left : ℕ) (next : Unit {0} → ℕ → Trace → RunOutcome) →
       HasAt code.instrs pc (emitted_loads (map (λ x. slot_of x locals.ints) captured)) → AllUsable locals.ints taken' captured → Agrees locals taken' frame store outer →
@@ -67,11 +67,11 @@ module _ (code : Code) (fs : List Function) (lists : Lists) (marks : Marks) (dep
   abbrev at : List Around → ℕ → List ℤ → Store → Trace → State
   at around pc ops store t = here marks depth around pc ops store t
 
-  -- the frame of a loop's function, on so many turns from a number on
+  -- the frame of a loop's function for this number of iterations from `low` on
   abbrev loop_given : Function → (captured over : List Name) → Frame → (low turns : ℤ) → Frame
   loop_given f captured over frame low n = loop_frame f.params (low ∷ (low +ℤ n) ∷ map (int_of frame) captured) (map (λ a. take (natural n) (drop (natural low) (array_of frame a))) over) no_frame
 
-  -- what follows when the number of turns is known
+  -- the continuation after the number of iterations is known
   abbrev turns_known : Function → (captured over : List Name) → (line : ℕ) → Frame → (low turns : ℤ) → ℕ → Outcome Completion
   turns_known f captured over line frame low n l = then_do (joined_up (λ q. Series q)
       (calls SameDepth f (loop_given f captured over frame low n) line l)) (λ r. going (slices_back over (natural low) r.1 frame))

@@ -1,4 +1,4 @@
--- What the statements of a generated function do, an equation for each.
+-- The statements of a generated function, with an equation for the execution of each.
 use Rattle.std.proofs.Common.{◌≡◌, ℕ, suc, ◌+◌, true, false, ℤ, List, refl, ◌∙◌}
 use Rattle.std.specs.Prelude.{nat_lt, if◌then◌else◌}
 use Rattle.cw_model.specs.declared.limits.TheConstants.{MOST_DEPTH}
@@ -12,7 +12,7 @@ use Rattle.cw_loops.specs.Lowered.{on_line}
 use Rattle.cw_loops.proofs.Alike.{then_then, then_gives, value_pays, pay_pay, after_quiet}
 use Rattle.cw_loops.specs.lemmas.Outcomes.{then_same}
 
--- a value, one instruction, and what goes on from there
+-- a value, one instruction, and the continuation
 value_and_pay : {A : Type 0} (e : Evaluated) (v : ℤ) (k line left : ℕ) (go : ℤ → ℕ → Outcome A) → e ≡ Gives v k →
     then_do (pay_for e line left) (λ v l. then_do (pay 1 l) (λ _ l. go v l)) ≡ then_do (pay (k + 1) left) (λ _ l. go v l)
 value_and_pay e v k line left go h = rw h (value_pays v k line left (λ v l. then_do (pay 1 l) (λ _ l. go v l)) ∙ pay_pay k 1 left (λ _ l. go v l))
