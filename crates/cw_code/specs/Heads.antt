@@ -1,4 +1,4 @@
--- The heads of functions, as the definitions have them.
+-- The abstraction of the heads of functions.
 use Rattle.cw_model.specs.Sites as model
 use Rattle.cw_code.specs.declared.head.Head.{Head}
 

@@ -1,7 +1,6 @@
 -- The grammar: one constructor for each production. A relation `Reads..` relates a list of tokens, the tree that its
 -- first tokens spell, and the tokens after them. For statements it also relates the number of the first call
--- statement
--- in them and the number after the last.
+-- statement in them and the number after the last.
 use Rattle.std.specs.Prelude.{◌≡◌, ◌≢◌, ◌≤◌, ℕ, suc, pos, Bool, true, false, List, [], ◌∷◌, ◌++◌, Option, Some, None}
 use Rattle.cw_model.specs.declared.token.Token.{Token}
 use Rattle.cw_model.specs.declared.token.Kind.{Kind}

@@ -62,8 +62,7 @@ abbrev pub trees_of : List Turn → List Tree
 trees_of turns = map (λ turn. tree_of turn.trace.events) turns
 
 -- a loop of `n` iterations that is done did what `n` iterations of the plain loop do in order, at the cost and with
--- the
--- tree of the divide-and-conquer loop
+-- the tree of the divide-and-conquer loop
 pub record RunsAsPlain (inner : ℤ → Frame → Piece Frame) (grain k q n : ℕ) (from : ℤ) (frame : Frame) (left : ℕ)
     (frame' : Frame) (left' : ℕ) (t : Trace) : Type 0 where
   pub turns : List Turn

@@ -25,8 +25,7 @@ joined t u =
     record { lines = t.lines ++ u.lines; updates = t.updates ++ u.updates; events = t.events ++ u.events }
 
 -- a piece is done, with the rest of the budget; or it trapped, in a line and after printing values; or it exceeded
--- the
--- budget
+-- the budget
 pub data Outcome (A : Type 0) : Type 0 where
   Done : A → (left : ℕ) → Trace → Outcome A
   Trapped : (trap : Trap) (line : ℕ) (lines : List ℤ) → Outcome A

@@ -10,8 +10,7 @@ pub data Mark : Type 0 where
   Execution : (tag : Name) → Mark
 
 -- a strand of some instructions, a series of two parts, a fork into a child and the continuation of its sync block,
--- or
--- a marked part
+-- or a marked part
 pub data Tree : Type 0 where
   Leaf : ℕ → Tree
   Seq : Tree → Tree → Tree

@@ -26,8 +26,7 @@ pub fn normal_form_reads_the_same()
 {}
 
 /// States that the normal form of a tree differs from it only in grouping, that trees that differ only in grouping
-/// have
-/// the same normal form, and that a normal form is its own normal form.
+/// have the same normal form, and that a normal form is its own normal form.
 pub fn normal_form_is_one()
     ensures grouped { (t : Tree) → Regrouped (normal t) t }
     ensures one { (t u : Tree) → Regrouped t u → normal t ≡ normal u }
@@ -35,15 +34,13 @@ pub fn normal_form_is_one()
 {}
 
 /// States that if each invocation is of a site below a count, the own work of the sites below the count adds up to
-/// the
-/// tree's work, and their own span to its span.
+/// the tree's work, and their own span to its span.
 pub fn sites_add_up()
     ensures { (count : ℕ) (t : Tree) → 0 < count → sites_below count t ≡ true → SitesAddUp count t }
 {}
 
 /// States that no burdened span becomes larger if sites cost nothing, for each burden (the span is one of them), and
-/// that
-/// the span falls by at most the own span of a function's sites if these sites cost nothing.
+/// that the span falls by at most the own span of a function's sites if these sites cost nothing.
 pub fn freed_spans_are_bounded()
     ensures above { FreedIsNeverAbove }
     ensures below { FallsByOwnSpanAtMost }
@@ -56,8 +53,7 @@ pub fn nothing_and_all_freed()
 {}
 
 /// States that trees that differ only in grouping still differ only in grouping if sites cost nothing, so the
-/// measures of a
-/// tree and of its normal form agree; and that sites outside the tree have no effect.
+/// measures of a tree and of its normal form agree; and that sites outside the tree have no effect.
 pub fn freed_trees_are_alike()
     ensures grouped { FreedIsRegrouped }
     ensures sites { FreedByItsSites }
@@ -82,16 +78,14 @@ pub fn for_is_by_halves()
 {}
 
 /// States that a divide-and-conquer loop that is done did what the iterations of the plain loop do in order: to the
-/// frame,
-/// the output and the reducers. Its cost is the cost of its leaves and inner nodes plus the cost of its iterations,
-/// and its tree is made of theirs in this way.
+/// frame, the output and the reducers. Its cost is the cost of its leaves and inner nodes plus the cost of its
+/// iterations, and its tree is made of theirs in this way.
 pub fn loop_runs_as_plain()
     ensures { LoopsRunAsPlain }
 {}
 
 /// States that a divide-and-conquer loop that traps did what fewer iterations of the plain loop do in order, and that
-/// the next
-/// iteration traps in the same way.
+/// the next iteration traps in the same way.
 pub fn loop_traps_as_plain()
     ensures { LoopsTrapAsPlain }
 {}

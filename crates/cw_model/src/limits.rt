@@ -1,6 +1,5 @@
 //! The limits of a source, a program and a run, and the default values of options. Some proofs, tests and texts spell
-//! these
-//! numbers; docs/DEVELOPING.md lists where.
+//! these numbers; docs/DEVELOPING.md lists where.
 
 /// The maximum length of a source, in bytes.
 pub const MOST_SOURCE_BYTES: usize = 1_048_576;

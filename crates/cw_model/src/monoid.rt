@@ -19,7 +19,7 @@ pub trait Monoid {
     ///
     /// # Errors
     ///
-    /// Out of memory.
+    /// Returns an `AllocError` if memory runs out.
     fn join(self, right: Self) -> Result<Self, AllocError>
         ensures { IfOk result (λ whole. whole ≡ joined self right) };
 

@@ -27,7 +27,7 @@ impl Name {
     ///
     /// # Errors
     ///
-    /// Out of memory.
+    /// Returns an `AllocError` if memory runs out.
     pub fn new(alloc: Global, text: &[u8]) -> Result<Name, AllocError>
         ensures { IfOk result (λ name. name ≡ text.now) }
     {
@@ -36,12 +36,11 @@ impl Name {
     }
 
     /// Returns the same name, with shared bytes. It allocates memory only if 2^63 names share the bytes already; then
-    /// it
-    /// copies them.
+    /// it copies them.
     ///
     /// # Errors
     ///
-    /// Out of memory.
+    /// Returns an `AllocError` if memory runs out.
     pub fn share(&self, alloc: Global) -> Result<Name, AllocError>
         ensures { IfOk result (λ name. name ≡ self.now) }
     {

@@ -55,8 +55,7 @@ pub enum Kind {
 }
 
 /// A token: its kind, the range of bytes of the text that spells it (`start` up to, not including, `end`), and the
-/// line
-/// in which it begins, counted from 1.
+/// line in which it begins, counted from 1.
 #[derive(Clone, Copy, Debug, PartialEq, Eq)]
 pub struct Token {
     pub kind: Kind,
