@@ -1,4 +1,4 @@
--- Measures make a monoid.
+-- Measures form a monoid.
 use Rattle.std.specs.Prelude.{◌≡◌, ℕ}
 use Rattle.cw_measure.specs.Counters.{Counters, up_to}
 use Rattle.cw_measure.specs.Measured.{Measured, most, most_burdened, nothing, joined}

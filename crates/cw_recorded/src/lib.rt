@@ -20,7 +20,6 @@
 //!
 //! If there are too many strands, the recorder counts them and keeps no entry. After an error, which means that
 //! memory ran out, the record is meaningless.
-//! out, a recorder tells of nothing.
 #![tactic(auto)]
 
 pub mod laws;
