@@ -1,4 +1,4 @@
--- Lists make a monoid.
+-- Lists form a monoid.
 use Rattle.std.specs.Prelude.{◌≡◌, ℤ, List, [], ◌∷◌, ◌++◌, refl}
 use Rattle.std.proofs.Common.{ap}
 
