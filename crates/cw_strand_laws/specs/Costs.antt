@@ -1,10 +1,10 @@
--- The cost of an effect is the work of what it shows.
+-- The cost of an effect is the work of its trace.
 use Rattle.std.specs.Prelude.{◌≡◌}
 use Rattle.cw_model.specs.Trees.{work, tree_of}
 use Rattle.cw_code.specs.Code.{Code}
 use Rattle.cw_strand_laws.specs.Jobs.{Job, Effect, Ended, Joined, TrapIn, OverLimit, Memory, JobMeaning}
 
--- the cost of an effect that came to the end of its job is the work of its tree
+-- the cost of an effect at the end of its job is the work of its tree
 abbrev pub CostIsWork : Effect → Type 0
 CostIsWork (Ended v arrays t cost) = work (tree_of t.events) ≡ cost
 CostIsWork (Joined frame t cost) = work (tree_of t.events) ≡ cost

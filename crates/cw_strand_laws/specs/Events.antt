@@ -1,4 +1,4 @@
--- Lists of events, carried out one after another; what cannot happen leaves nothing.
+-- Lists of events, applied one at a time; an impossible event has no result.
 use Rattle.std.specs.Prelude.{◌≡◌, ℕ, List, [], ◌∷◌, length, Option, Some, None, slice_get}
 use Rattle.cw_model.specs.Answers.{Answer}
 use Rattle.cw_code.specs.Code.{Code}
@@ -9,7 +9,7 @@ use Rattle.cw_strand_laws.specs.Steps.{take_back, out_of_memory}
 use Rattle.cw_strand_laws.specs.Worlds.{Place, Undecided, Kept, Offered, Runs, Made, Settled, Spent, World, effect_in}
 use Rattle.cw_strand_laws.specs.Worlds.{placed, joined_by, After}
 
--- an event, at the job of this number
+-- an event, at the job with this number
 pub data Event : Type 0 where
   Advance : ℕ → Event
   Offer : ℕ → Event
@@ -30,7 +30,7 @@ advanced world i worker outs AtSync = None
 advanced world i worker outs (Finished e) = Some (placed world i (Made worker e))
 advanced world i worker outs Unfit = None
 
--- the newest job out is skipped, if it has not begun
+-- skips the newest job out, if it has not begun
 abbrev pub skips : World → (i n worker : ℕ) → Strand → List ℕ → Place → Option World
 skips world i n worker (Halted e jobs) outs (Kept w) =
     Some (placed (placed world n Spent) i (Runs worker (skip (Halted e jobs)) outs))
@@ -38,7 +38,7 @@ skips world i n worker (Halted e jobs) outs (Offered w) =
     Some (placed (placed world n Spent) i (Runs worker (skip (Halted e jobs)) outs))
 skips world i n worker strand outs place = None
 
--- the newest job out is given, if its effect was made
+-- gives the newest job out, if its effect was made
 abbrev pub gives : World → (i n worker : ℕ) → Job → Strand → List ℕ → Option Effect → Option World
 gives world i n worker job (Waits s count jobs) outs (Some e) =
     Some (placed (placed world n Spent) i (Runs worker (give job (Waits s count jobs) e) outs))
@@ -46,7 +46,7 @@ gives world i n worker job (Halted e' jobs) outs (Some e) =
     Some (placed (placed world n Spent) i (Runs worker (give job (Halted e' jobs) e) outs))
 gives world i n worker job strand outs found = None
 
--- the newest job out is taken back, if it has not begun
+-- takes the newest job out back, if it has not begun
 abbrev pub takes_back : World → (i n worker : ℕ) → Strand → List ℕ → Place → Option World
 takes_back world i n worker (Waits s count jobs) outs (Kept w) =
     Some (placed (placed world n Spent) i (Runs worker (take_back (Waits s count jobs)) outs))
@@ -54,7 +54,7 @@ takes_back world i n worker (Waits s count jobs) outs (Offered w) =
     Some (placed (placed world n Spent) i (Runs worker (take_back (Waits s count jobs)) outs))
 takes_back world i n worker strand outs place = None
 
--- with a job and its place
+-- with a job and its place, if both exist
 abbrev pub with_job : Option Job → Option Place → (Job → Place → Option World) → Option World
 with_job (Some job) (Some place) go = go job place
 with_job _ _ go = None
@@ -81,7 +81,7 @@ happens code world (TakeBack i) job (Runs worker strand (n ∷ outs)) =
     at world n (λ out place. takes_back world i n worker strand outs place)
 happens code world event job place = None
 
--- the number that an event is at
+-- the number of the job of an event
 abbrev pub number_of : Event → ℕ
 number_of (Advance i) = i
 number_of (Offer i) = i
@@ -101,18 +101,18 @@ abbrev pub and_apply : Code → Event → Option World → Option World
 and_apply code event None = None
 and_apply code event (Some world) = apply code world event
 
--- so many events, the last one first in the list
+-- the world after some events; the last event comes first in the list
 abbrev pub play : Code → List Event → World → Option World
 play code [] world = Some world
 play code (event ∷ events) world = and_apply code event (play code events world)
 
--- what is played can come
+-- a list of events leads only to possible worlds
 abbrev pub PlaysCome : Type 0
 PlaysCome =
     (code : Code) (events : List Event) (first world : World) → play code events first ≡ Some world
     → After code first world
 
--- what the root's effect answers
+-- the answer of the root's effect, if it was made
 abbrev pub and_answered : Code → Option Effect → Option Answer
 and_answered code None = None
 and_answered code (Some e) = answered code e
