@@ -59,7 +59,7 @@ module _ (count : ℕ) where
   sited_both [] more h k = k
   sited_both (e ∷ events) more h k = (h.0, sited_both events more h.1 k)
 
-  -- both trees of a list of such events have only such invocations
+  -- all invocations in both trees of a list of events are of sites below the number, if they are in each event
   parts_sited : (events : List Event) → AreSited events
       → (sites_below count (parts_of events).0 ≡ true) × (sites_below count (parts_of events).1 ≡ true)
   parts_sited [] h = (refl, refl)
@@ -92,13 +92,13 @@ module _ (count : ℕ) where
   block_sited None t h = h
   block_sited (Some tag) t h = h
 
-  -- all enclosing blocks and callers have only such events and calls
+  -- in all enclosing blocks and callers, invocations and calls are of sites below the number
   abbrev RoundSited : List Around → Type 0
   RoundSited [] = Unit {0}
   RoundSited (Caller w ∷ around) = (IsSite w.site × AreSited w.events) × RoundSited around
   RoundSited (Block o ∷ around) = AreSited o.events × RoundSited around
 
-  -- a step leads to a state with only such events, or to an end with only such events
+  -- after a step, all invocations in the events of the state, or of the end, are of sites below the number
   abbrev Keeps : Transition → Type 0
   Keeps (On s) = AreSited s.trace.events × RoundSited s.around
   Keeps (Ends v arrays t) = AreSited t.events
@@ -158,14 +158,14 @@ module _ (count : ℕ) where
       returns = λ n. goes_back None;
     }) o
 
--- a run that ends has only such events
+-- all invocations in the events of a run that ends are of sites below the number
 abbrev EndsSited : ℕ → RunOutcome → Type 0
 EndsSited count None = Unit {0}
 EndsSited count (Some (Done returned left t)) = AreSited count t.events
 EndsSited count (Some (Trapped trap line lines)) = Unit {0}
 EndsSited count (Some Over) = Unit {0}
 
--- the tree of the answer of such a run has only such invocations
+-- all invocations in the tree of the answer are of sites below the number
 answer_sited : (count : ℕ) → 0 < count → (reducers : List Reducer) (r : RunOutcome) → EndsSited count r → (value : ℤ) (lines : List ℤ) (totals : List Total) (tree : Tree)
     → option_map (λ o. answer_of reducers o) r ≡ Some (Ended value lines totals tree) → sites_below count tree ≡ true
 answer_sited count some reducers None h value lines totals tree e = cc

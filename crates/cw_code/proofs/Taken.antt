@@ -55,7 +55,7 @@ abbrev pub AllLoaned : List Loan → Slots (List ℤ) → Readers → Type 0
 AllLoaned [] arrays readers = Unit {0}
 AllLoaned (loan ∷ loans) arrays readers = (is_full (loaned loan arrays readers) ≡ true) × AllLoaned loans arrays readers
 
--- such loans can be made
+-- loans of full slots can be made
 pub there_lent : (loans : List Loan) (arrays : Slots (List ℤ)) (readers : Readers) → AllLoaned loans arrays readers
     → (lent : Readers) × (lent_in loans arrays readers ≡ Some lent) × (length lent ≡ length loans)
 there_lent [] arrays readers h = ([], refl, refl)

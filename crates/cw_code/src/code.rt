@@ -19,8 +19,7 @@ pub struct Callee {
     pub lent: u32,
 }
 
-/// The callee of a call of a loop's function. Such a call has no site, is as deep as its caller, and is lent no
-/// array.
+/// The callee of a call of a loop's function. This call has no site, is as deep as its caller, and is lent no array.
 #[derive(Clone, Copy, Debug, PartialEq, Eq)]
 pub struct Inner {
     /// The index of its function in the code.

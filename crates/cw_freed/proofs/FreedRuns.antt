@@ -28,7 +28,7 @@ module _ (frees : ℕ → Bool) where
   freed-append site [] fs = refl
   freed-append site (d ∷ es) fs = ap (λ (x : List Event). freed_event frees site d ∷ x) (freed-append site es fs)
 
-  -- the tree of such events
+  -- the tree of events in which the instructions of free sites weigh nothing
   nothing : (site : ℕ) → Leaf 0 ≡ freed frees site (Leaf 0)
   nothing site = ap Leaf (sym (unless-none (frees site)))
 

@@ -22,7 +22,7 @@ abbrev pub freed_events : (frees : ℕ → Bool) → (site : ℕ) → List Event
 freed_events frees site [] = []
 freed_events frees site (e ∷ es) = freed_event frees site e ∷ freed_events frees site es
 
--- the open parts, with such events in the enclosing blocks
+-- the open parts, with zero-cost events in the enclosing blocks
 abbrev pub freed_open : (frees : ℕ → Bool) → List Open → List Open
 freed_open frees [] = []
 freed_open frees (o ∷ os) =

@@ -9,7 +9,7 @@ use Rattle.cw_measure.specs.BlockWeights.{burdened_work_in}
 use Rattle.cw_measure.specs.StrandWeights.{FitsRun, HasRoomForBlock, TellsLate}
 use Rattle.cw_freed.specs.declared.paths.Paths.{Paths}
 
--- begins a spawned part: a late path of a run with this work represents the run after this
+-- begins a spawned part: a late path of a run with this work represents the run with the part
 abbrev pub SpawnsLate : (old new : BurdenedPath) → (counted : ℕ) → (first : Bool) → Type 0
 SpawnsLate old new counted first =
     (burden : Burden) (mark : Option Mark) (os : List Open) (es : List Event) → work_in os es ≡ counted

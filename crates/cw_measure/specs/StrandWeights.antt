@@ -147,7 +147,7 @@ pub record TellsLate (burden : Burden) (os : List Open) (es : List Event) (path 
   pub late : path.noted ≤ work_in os es
   pub tells : TellsWeight burden os es (noted_at (work_in os es) path)
 
--- a late path stays late as further events of this form follow
+-- a late path stays late as instructions, and joins of blocks that have spawned nothing, follow
 abbrev pub LatePathsWait : Type 0
 LatePathsWait =
     (burden : Burden) (os : List Open) (es fs : List Event) (path : BurdenedPath) (count : ℕ)

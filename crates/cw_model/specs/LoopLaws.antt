@@ -74,7 +74,7 @@ pub record RunsAsPlain (inner : ℤ → Frame → Piece Frame) (grain k q n : �
   pub tree : normal (tree_of t.events) ≡ normal (loop_tree (suc n) grain k q (trees_of turns))
 
 -- a loop of `n` iterations that traps did what fewer iterations of the plain loop do in order, and the next one traps
--- in this way
+-- with `trap`, `line` and the lines
 pub record TrapsAsPlain (inner : ℤ → Frame → Piece Frame) (n : ℕ) (from : ℤ) (frame : Frame) (trap : Trap) (line : ℕ)
     (lines : List ℤ) : Type 0 where
   pub turns : List Turn

@@ -109,7 +109,7 @@ frozen_by depth xs taken = map (λ x. (x, ReaderIn depth)) xs ++ taken
 abbrev pub where_it_goes_on : Bool → Taken → Taken
 where_it_goes_on returns taken = if returns then [] else taken
 
--- the names that the statements of a block declare, without those of its inner blocks
+-- the names that the statements of a block declare, without the names of its inner blocks
 abbrev pub own_names : Block → List Name
 own_names End = []
 own_names (Then line (Declare x e) b) = x ∷ own_names b
@@ -169,7 +169,7 @@ may_index NoLoop a e = true
 may_index (InLoop outer i over) a (Variable j) = not (is_among a outer) || (is_among a over && same_name i j)
 may_index (InLoop outer i over) a _ = not (is_among a outer)
 
--- an expression uses outer arrays only in this form
+-- an expression uses outer arrays only as elements that `may_index` allows
 abbrev pub keeps_loop : Around → Expr → Bool
 keeps_loop around (Number n) = true
 keeps_loop around (Variable x) = true
@@ -251,7 +251,7 @@ abbrev mutual
       unless (list_all (λ e. may_read around taken e) es
       && may_write around taken (target_names target ++ given fs f es) && differ (given fs f es)
       && may_lend around (given fs f es) (lent fs f es)) line
-  -- a source has no statement of these two forms
+  -- a source has no `Start` and no `Begin`
   owner_faults fs around known depth taken line (Start kind callee es) = line ∷ []
   owner_faults fs around known depth taken line (Begin callee from to captured over) = line ∷ []
   owner_faults fs around known depth taken line Sync = []
@@ -301,7 +301,7 @@ ownership_faults program = flat_map (owner_faults_of program.functions) program.
 abbrev pub KeepsOwnership : Program → Type 0
 KeepsOwnership program = ownership_faults program ≡ []
 
--- the least set that contains `before`, and everything that one iteration (`turn`) leaves of the set itself
+-- the least set that contains `before`, and all that one iteration (`turn`) leaves held, starting from the set itself
 pub record IsLeastClosed (turn : Taken → Taken) (before after : Taken) : Type 0 where
   pub holds_before : (t : Name × Holder) → Contains before t → Contains after t
   pub closed : (t : Name × Holder) → Contains (turn after) t → Contains after t

@@ -40,7 +40,7 @@ abbrev pub is_tag : Name → Mark → Bool
 is_tag tag (Invocation site) = false
 is_tag tag (Execution inner) = same_name tag inner
 
--- the outermost marked parts: those that are inside no other part with such a mark
+-- the outermost parts whose mark is `marked`: no other part with a `marked` mark is around them
 abbrev pub outermost : (Mark → Bool) → Tree → List Tree
 outermost marked (Leaf k) = []
 outermost marked (Seq a b) = outermost marked a ++ outermost marked b

@@ -19,7 +19,7 @@ use Rattle.cw_model.specs.Answers.{main_name}
 abbrev pub Known : Type 0
 Known = List (Name × NameKind)
 
--- the newest declaration of a name has such a kind
+-- the newest declaration of a name has a kind that satisfies `such`
 abbrev pub is_known : Name → (NameKind → Bool) → Known → Bool
 is_known x such [] = false
 is_known x such (k ∷ ks) = if same_name x k.0 then such k.1 else is_known x such ks
@@ -163,7 +163,7 @@ abbrev mutual
   faults_in program returns known line (Reduce how s e) = unless (is_reducer program how s && is_fine known e) line
   faults_in program returns known line (Call kind site target f es) =
       unless (is_call known target (called f program.functions) es) line
-  -- a source has no statement of these two forms
+  -- a source has no `Start` and no `Begin`
   faults_in program returns known line (Start kind callee es) = line ∷ []
   faults_in program returns known line (Begin callee from to captured over) = line ∷ []
   faults_in program returns known line Sync = []

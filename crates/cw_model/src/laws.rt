@@ -70,8 +70,8 @@ pub fn call_takes_its_work()
     ensures { CallsTakeTheirWork }
 {}
 
-/// States that a `cilk_for` is a divide-and-conquer loop, and that its body satisfies the premise of the laws of such
-/// loops: it is one part in series, and leaves at most the budget that it was given.
+/// States that a `cilk_for` is a divide-and-conquer loop, and that its body satisfies the premise of the laws of
+/// these loops: it is one part in series, and leaves at most the budget that it was given.
 pub fn for_is_by_halves()
     ensures meaning { ForsAreByHalves }
     ensures body { ForsHaveBodies }
@@ -79,7 +79,7 @@ pub fn for_is_by_halves()
 
 /// States that a divide-and-conquer loop that is done did what the iterations of the plain loop do in order: to the
 /// frame, the output and the reducers. Its cost is the cost of its leaves and inner nodes plus the cost of its
-/// iterations, and its tree is made of theirs in this way.
+/// iterations, and its tree is made of their trees accordingly.
 pub fn loop_runs_as_plain()
     ensures { LoopsRunAsPlain }
 {}

@@ -188,7 +188,7 @@ begun_apart from o os es open_ e h =
     at Main h = h
     at (Rest site) h = h
 
--- the end of a part keeps this property for the enclosing events, or the part is the whole run
+-- after the end of a part, the enclosing events have their codes in normal form, or the part is the whole run
 whole_apart : (o : Open) (es : List Event) (after : List Event) → o.outer ≡ [] → o.spawned ≡ false → o.mark ≡ Some (Invocation 0) → StandApart es → AreApart Main [] (closed o es ++ after)
 whole_apart o es after e0 e1 e2 g =
     subst (λ (x : List Event). AreApart Main [] ((x ++ part_of o.spawned (marked o.mark (tree_of es)) ∷ []) ++ after)) (sym e0)

@@ -20,7 +20,8 @@ IsMore (Seq t u) = Unit {0}
 IsMore (Par child rest) = Unit {0}
 IsMore (Marked mark t) = ⊥
 
--- what may follow a part: in series any tree, in a continuation a tree of this form
+-- what may follow a part: in series any tree, in a continuation a tree that does not merge with the part and is no
+-- call
 abbrev pub Enough : (rest : Bool) → Tree → Type 0
 Enough true later = IsMore later
 Enough false later = Unit {0}
@@ -30,7 +31,7 @@ abbrev pub Holds : (rest : Bool) → Tree → Tree → Type 0
 Holds rest t later =
     Same (codes_of (stands rest) (before t later)) (codes_of InSeries t ++ codes_of (stands rest) later)
 
--- the codes of a part precede those of any tree that follows it, or of any tree that may follow it
+-- the codes of a part precede the codes of every tree after it, or of every tree that may follow it
 abbrev pub IsApart : Tree → Type 0
 IsApart t = (rest : Bool) (later : Tree) → Holds rest t later
 
@@ -63,8 +64,8 @@ abbrev pub AreOpenApart : List Open → List Event → Type 0
 AreOpenApart [] es = StandApart es
 AreOpenApart (o ∷ os) es = StandApart es × AreOpenApart os o.outer
 
--- the events of a continuation, or of a run so far, have this property; a whole run is one part, with the codes of
--- its normal form
+-- the events of a continuation, or of a run so far, have their codes in normal form; a whole run is one part, with
+-- the codes of its normal form
 abbrev pub AreApart : Origin → List Open → List Event → Type 0
 AreApart Main [] [] = Unit {0}
 AreApart Main [] (Series t ∷ es) = IsChild t

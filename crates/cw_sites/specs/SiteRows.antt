@@ -178,7 +178,7 @@ JoinsOn piece from to old new =
     (ours : Rows) → JoinsBelow piece (max (length piece.by_site.items) from) ours old
     → JoinsBelow piece (max (length piece.by_site.items) to) ours new
 
--- adds the rows of the piece's vector, those of the pages of a shelf, and those of a page
+-- adds the rows of the piece's vector, of the pages of a shelf, and of one page
 abbrev pub JoinsFirsts : (piece : Rows) → Rows → Rows → Type 0
 JoinsFirsts piece old new = JoinsBelow piece (length piece.by_site.items) old new
 

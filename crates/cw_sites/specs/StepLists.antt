@@ -32,7 +32,7 @@ strand_path site r =
       blocks = seen_blocks site r.steps.items r.blocks.items [];
     }
 
--- the parts of a block are in order, and the parts of each block follow those of the enclosing block
+-- the parts of a block are in order, and the parts of each block follow the parts of the enclosing block
 abbrev pub InOrder : Block → Type 0
 InOrder f = (f.from ≤ f.mid) × (f.mid ≤ f.end) × (f.end ≤ f.child)
 
@@ -178,7 +178,7 @@ Appends old piece new first =
     Laid old → Laid piece → (q : ℕ) → Fits (plus (all_of (strand_path q old)) (all_of (strand_path q piece)))
     → strand_path q new ≡ appends first (strand_path q piece) (strand_path q old)
 
--- such a piece was appended, with the block in which it has spawned outside of its list
+-- a piece that was executed separately was appended, with the block in which it has spawned outside of its list
 abbrev pub AppendsBlock : Paths → (piece : Paths) → Paths → Block → (first : Bool) → Type 0
 AppendsBlock old piece new f first =
     Laid old → LaidWith piece f → (q : ℕ)

@@ -82,7 +82,7 @@ IsQuiet None = Unit {0}
 IsQuiet (Some (Invocation site)) = ⊥
 IsQuiet (Some (Execution tag)) = Unit {0}
 
--- such a part begins and ends in series without a call of the table
+-- a part that is not an invocation begins and ends in series without a call of the table
 pub record QuietParts (base : ℕ) (busy : ℕ → ℕ) (os : List Open) (table : SiteTable) : Type 0 where
   pub begins : (mark : Option Mark) (es : List Event) → IsQuiet mark → Tells base busy os es table
       → Tells base busy (in_series mark es os) [] table
@@ -183,7 +183,7 @@ pub record IsTightTable (most : ℕ) (table : SiteTable) : Type 0 where
 abbrev pub FlushesBounded : SiteTable → SiteTable → Type 0
 FlushesBounded old new = (most : ℕ) → IsBoundedTable most old → IsTightTable most new
 
--- a join after that
+-- a join, once the instructions so far are included
 abbrev pub JoinsBounded : SiteTable → SiteTable → Type 0
 JoinsBounded old new = (most : ℕ) → IsTightTable most old → IsBoundedTable most new
 

@@ -117,7 +117,7 @@ impl Paths {
     pub fn is_within_limit(&self) -> bool
         ensures { result ≡ true → IsWithinLimit self.now }
     {
-        // The same comparison is in `shorten`.
+        // `shorten` has the same comparison.
         self.steps.len() <= self.start.wrapping_add(self.limit)
     }
 
@@ -280,7 +280,7 @@ impl Paths {
                 Ok(())
             }
             Some(f) => {
-                // There are no such steps if the child before has ended.
+                // Removes nothing if the child before has ended.
                 take_out(&mut self.steps, f.end, f.child);
                 let len = self.steps.len();
                 self.blocks.push_reserved(Block {

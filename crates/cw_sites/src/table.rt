@@ -232,7 +232,7 @@ impl SiteTable {
     }
 
     /// `enter`, if it needs no memory and both sites have a row in the vector. Returns whether this is so; if not,
-    /// nothing is changed. All methods whose names end in `_ready` return in this way.
+    /// nothing is changed. All methods whose names end in `_ready` have this result.
     #[inline(always)]
     pub fn enter_ready(&mut self, count: u64, site: u32) -> bool
         ensures told { result ≡ true → Enters self.old self.new count site }

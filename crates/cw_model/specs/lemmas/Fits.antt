@@ -16,7 +16,7 @@ fits_kind known false e = is_fine known e
 fits_kind known true (Variable a) = is_array known a
 fits_kind known true _ = false
 
--- there is one such argument for each parameter
+-- there is one fitting argument for each parameter, apart from whether arrays are writable
 abbrev pub fit_kinds : Known → List Param → List Expr → Bool
 fit_kinds known [] [] = true
 fit_kinds known (p ∷ ps) (e ∷ es) = fits_kind known (wants_array p) e && fit_kinds known ps es

@@ -129,7 +129,7 @@ fn trap_after(alloc: Global, lines: &[i64]) -> Result<Fault, AllocError> {
     })
 }
 
-// Returns a run that ended in this way.
+// Returns a run with this end.
 fn ended_of(alloc: Global, end: &End) -> Result<Result<Ended, Fault>, AllocError> {
     match end {
         End::Readings(measure, rows) => Ok(Ok(ended_with(alloc, *measure, rows)?)),
