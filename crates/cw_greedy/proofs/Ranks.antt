@@ -38,7 +38,7 @@ in_order [] [] h k = tt
 in_order [] (x ∷ qs) h k = (from_both (IsEarlier (Second x)) [] qs (λ p i. absurd i) k.0, in_order [] qs h k.1)
 in_order (x ∷ ps) qs h k = (from_both (IsEarlier (First x)) ps qs h.0 (λ q i. tt), in_order ps qs h.1 k)
 
--- the places of the whole with a property are those of both parts
+-- the places with a property in both parts are the places with the property in the whole
 exactly_both : (P Q R : Place → Type 0) (n m : ℕ) → AreExactly P n → AreExactly Q m → (R Here → ⊥) → ((p : Place) → P p → R (First p)) → ((p : Place) → R (First p) → P p) →
     ((q : Place) → Q q → R (Second q)) → ((q : Place) → R (Second q) → Q q) → AreExactly R (n + m)
 exactly_both P Q R n m h k not of_p in_p of_q in_q =

@@ -36,7 +36,7 @@ pub fn regrouped_trees_take_as_long()
     ensures { (p : ℕ) (t u : Tree) → Regrouped t u → greedy_length p t ≡ greedy_length p u }
 {}
 
-/// States that the algorithm's moves, in any order, take as many steps as the greedy schedule.
+/// States that the number of steps of the algorithm's moves, in any order, is the length of the greedy schedule.
 pub fn jumps_are_greedy()
     ensures { JumpsAreGreedy }
 {}
@@ -48,7 +48,8 @@ pub fn steps_go_by_edges()
     ensures { (processors : ℕ) (t : Tree) (p : Place) → IsLeaf t p → StepsByEdges processors t p }
 {}
 
-/// States that the algorithm's moves on the block of a strand tree take as many steps as the tree's greedy schedule.
+/// States that the number of steps of the algorithm's moves on the block of a strand tree is the length of the tree's
+/// greedy schedule.
 pub fn trees_go_by_jumps()
     ensures { TreesByJumps }
 {}
@@ -59,7 +60,7 @@ pub fn records_join()
     ensures { RecordsJoin }
 {}
 
-/// States that the record of a run that has joined has as many strands as the run's tree.
+/// States that after all joins, the record of a run and the run's tree have the same number of strands.
 pub fn records_count_strands()
     ensures { RecordsCount }
 {}

@@ -22,8 +22,7 @@ pub struct Piece {
     chunks: VecDeque<Vec<Entry>>,
     // The chunk that is being filled.
     last: Vec<Entry>,
-    // The number of strands that begin in the piece, 2^64 - 1 if there are as many or more. Entries are kept only
-    // below the maximum.
+    // The number of strands that begin in the piece, at most 2^64 - 1. Entries are kept only below the maximum.
     cuts: u64,
     ghost counted: { cuts < MOST_STRANDS → cuts
         ≡ Rattle.cw_greedy.specs.Recorded.cuts (codes_kept chunks.items last.items) },

@@ -408,8 +408,8 @@ static NESTS: [Run; 2] = [
 ];
 
 /// Site 1 spawns a call of 4 instructions; the continuation of its block, of 8, calls site 1 again, and in that call
-/// executes a region of the tag that is open around all of it. Work and span of both are those of the outer ones,
-/// whether or not the continuation was executed separately.
+/// executes a region of the tag that is open around all of it. Work and span of both are the work and span of the
+/// outer ones, whether or not the continuation was executed separately.
 static INSIDE_ITSELF: [Run; 2] = [
     Run {
         name: "a rest inside its own site and tag",

@@ -77,7 +77,7 @@ static RUNS: [Run; 2] = [
     },
     Run {
         // A separately executed piece inside an open execution: its executions of the same tag are not counted again,
-        // those of another tag are.
+        // its executions of another tag are.
         name: "a piece inside an execution",
         before: &[Begin(1, 1, 1, 1), End(1, 3, 3, 3), Begin(0, 4, 4, 4)],
         piece: &[

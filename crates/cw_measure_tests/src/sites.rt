@@ -155,7 +155,7 @@ static WHOLE_RUNS: [Run; 6] = [
         rows: &[(0, [1, 6, 2, 10, 6]), (1, [1, 4, 4, 4, 4])],
     },
     Run {
-        // Of two children whose paths from the first spawn on are equally heavy, the earlier one is chosen.
+        // If the paths of two children from the first spawn on are equally heavy, the earlier one is chosen.
         name: "a tie of children",
         before: &[
             Enter(0, 0),

@@ -127,8 +127,8 @@ pub data Metered (code : Code) (detail : Detail) : (from : Origin) (job : Job) �
       → has_come out.extent code t ≡ true → job.before + (count + cost) ≤ job.limit → Rests m r m' count cost
       → Metered code detail from job (Going (resumed s (standing t) t.trace) (count + cost) outs) m'
 
--- whatever is handed out, taken back, or executed elsewhere and given, in any order and at any depth: the strand is a
--- strand of the serial run, and its meter represents that run
+-- for all continuations that are handed out, taken back, or executed elsewhere and given, in any order and at any
+-- depth: the strand is a strand of the serial run, and its meter represents that run
 pub record StrandsTell (code : Code) (detail : Detail) : Type 0 where
   pub serial : (from : Origin) (job : Job) (strand : Strand) (m : Meter) → Metered code detail from job strand m
       → IsStrandOf code job strand

@@ -53,7 +53,7 @@ all_freed frees t h = freed_all frees h 0 t
 
 -- The span falls by at most the own span of the function's sites.
 
--- the weight of those of some leaves whose sites cost nothing
+-- the weight of the leaves in a list whose sites cost nothing
 abbrev freed_weight : (ℕ → Bool) → List (ℕ × ℕ) → ℕ
 freed_weight frees xs = sum_by (λ (leaf : ℕ × ℕ). leaf.1) (filter (λ leaf. frees leaf.0) xs)
 
@@ -94,7 +94,7 @@ falls frees outer (Marked mark t) = falls frees (site_inside mark outer) t
 abbrev named : List CallSite → Name → List CallSite
 named sites name = filter (λ s. same_name name s.callee) sites
 
--- the weight of those of some leaves that belong to these sites
+-- the weight of the leaves in a list that belong to these sites
 abbrev over : List CallSite → List (ℕ × ℕ) → ℕ
 over sites xs = sum_by (λ s. weight_of_site s.number xs) sites
 

@@ -5,7 +5,7 @@ use Rattle.cw_model.specs.Syntax.{DeclareArray, Assign, AssignElement, Reduce, C
 use Rattle.cw_model.specs.Syntax.{While, For, Scope, Cut, Region, Print, Return, Block, End, Then}
 use Rattle.cw_model.specs.Names.{new_names}
 
--- the variables in an expression
+-- the names that occur as `Variable` in an expression
 abbrev pub read_by : Expr → List Name
 read_by (Number n) = []
 read_by (Variable x) = x ∷ []
@@ -15,13 +15,13 @@ read_by (Negative e) = read_by e
 read_by (Not e) = read_by e
 read_by (Binary operator d e) = read_by d ++ read_by e
 
--- the variables in a list of expressions
+-- the names that occur as `Variable` in a list of expressions
 abbrev pub read_by_all : List Expr → List Name
 read_by_all [] = []
 read_by_all (e ∷ es) = read_by e ++ read_by_all es
 
 abbrev mutual
-  -- the variables in the expressions of a statement
+  -- the names that occur as `Variable` in the expressions of a statement
   pub read_in : Stmt → List Name
   read_in (Declare x e) = read_by e
   read_in (DeclareArray a e) = read_by e
@@ -43,7 +43,7 @@ abbrev mutual
   read_in (Return None) = []
   read_in (Return (Some e)) = read_by e
 
-  -- the variables in the expressions of a block
+  -- the names that occur as `Variable` in the expressions of a block
   pub read_in_block : Block → List Name
   read_in_block End = []
   read_in_block (Then line s b) = read_in s ++ read_in_block b

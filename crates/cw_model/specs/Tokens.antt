@@ -70,7 +70,7 @@ AreTokens text from (t ∷ ts) to = IsGap text from t.start × IsToken text t ×
 abbrev pub IsTokenCut : List ℕ → List Token → Type 0
 IsTokenCut text ts = AreTokens text 0 ts (length text)
 
--- no token, comment or separator starts with these bytes
+-- there are bytes, and they start with no token, comment or separator
 pub record StartsNothing (bytes : List ℕ) : Type 0 where
   pub some : 0 < length bytes
   pub separates : is_separator (slice_index bytes 0) ≡ false

@@ -15,8 +15,8 @@
 //! | any other | none (`laws::instructions_need_no_call`) | none |
 //!
 //! The continuation of a block that its own strand executes has its own recorder (`apart`), in which a child of the
-//! block is not joined at the start. When the continuation reaches the block's join, `rest` appends its codes to
-//! those of the block.
+//! block is not joined at the start. When the continuation reaches the block's join, `rest` appends its codes to the
+//! codes of the block.
 //!
 //! If there are too many strands, the recorder counts them and keeps no entry. After an error, which means that
 //! memory ran out, the record is meaningless.

@@ -1,4 +1,4 @@
--- The results of a piece of a run besides its value.
+-- The results of a piece of a run, without its value.
 use Rattle.std.specs.Prelude.{◌≡◌, ℕ, ℤ, ◌==◌, List, [], ◌∷◌, ◌++◌, None, map, slice_index_or, if◌then◌else◌}
 use Rattle.cw_model.specs.declared.total.Total.{Total}
 use Rattle.cw_model.specs.declared.total.Total.TheVariants as total

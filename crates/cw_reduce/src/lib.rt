@@ -1,4 +1,4 @@
-//! The results of a run besides its value: totals of reducers and printed lines.
+//! The results of a run other than its value: totals of reducers and printed lines.
 //!
 //! Each type is a `Monoid`: the views of pieces that were executed separately join in serial order, in any grouping.
 #![tactic(auto)]

@@ -1,4 +1,4 @@
-//! The results of a run besides its value.
+//! The results of a run other than its value.
 
 ghost use Rattle.std.specs.Prelude.{◌≡◌, ◌≤◌, ◌++◌, ◌∷◌, ◌<◌, [], length, map, IfOk, OnOk};
 ghost use Rattle.cw_reduce.specs.Held.{as_total, held};

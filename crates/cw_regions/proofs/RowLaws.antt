@@ -83,7 +83,7 @@ summed_none r = let z = unless_nothing (r.active == 0) in let a : r.work + unles
     let b : r.span + unless_at (r.active == 0) 0 ≡ r.span = omega arith in let c : r.burdened + unless_at (r.active == 0) 0 ≡ r.burdened =
     omega arith in simp (a, b, c)
 
--- if our rows are at least as many, and if they are fewer
+-- if we have at least the piece's number of rows, and if we have fewer
 pub joined_into_ours : (old piece new : Rows) → AddsEach summed old piece new → JoinsRows old piece new
 joined_into_ours old piece new a = λ q fits alike.
     elim (cases_lt q (length piece.by_tag.items)) [

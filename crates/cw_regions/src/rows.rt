@@ -145,7 +145,7 @@ impl Rows {
         }
     }
 
-    // Adds the sums of a piece that has at most as many rows as these.
+    // Adds the sums of a piece whose number of rows is at most ours.
     fn add(&mut self, piece: &Rows)
         requires { length piece.now.by_tag.items ≤ length self.old.by_tag.items }
         ensures { AddsEach rows.summed self.old piece.now self.new }
@@ -156,7 +156,7 @@ impl Rows {
         }
     }
 
-    // Adds our rows to these rows of a piece, which are at least as many; open executions stay open.
+    // Adds our rows to these rows of a piece, of which there are at least as many; open executions stay open.
     fn add_under(&mut self, ours: &Rows)
         requires { length ours.now.by_tag.items ≤ length self.old.by_tag.items }
         ensures { AddsEach rows.under self.old ours.now self.new }

@@ -106,7 +106,7 @@ total_local site base (o ∷ os) es =
     let a = ap (λ (p : Path). p.weight) (enters_total o.spawned (block_path site base os o.outer)) in
     let b = ap (λ (p : Path). p.own) (enters_total o.spawned (block_path site base os o.outer)) in (omega arith, omega arith)
 
--- the blocks hold the paths of a block except the current path, and those of the blocks below
+-- the blocks hold the paths of a block, except the current path, and the paths of the blocks below
 stands_sum : (below : List SeenBlock → Type 0) (L : BlockPath) (ps : List SeenBlock) (start : Path) (k : ℕ)
     → ((qs : List SeenBlock) → below qs → Within (plus (sum_of qs) start) nowhere k) → (j : ℕ) → Within (total L) start j → StandsOn below L ps
     → Within (plus (sum_of ps) (now_of L)) nowhere (j + k)

@@ -33,10 +33,10 @@
 //!
 //! A piece that another worker executes inside open parts has its own table: `SiteTable::apart(alloc, here)`, with
 //! the site of the innermost open invocation. It does not know the other open invocations: the work and span of
-//! invocations inside open ones of the same site are left out when the piece is joined. Such a table takes memory
-//! only for the sites that the piece meets, whatever their numbers, and counts its own instructions from 0. When the
-//! piece has ended and no part of it is open, call `note` for both tables; then `join_piece(piece, first)` appends
-//! the piece as the next events of the current block. The piece must have no join, or the block must not have spawned
+//! invocations inside open ones of the same site are left out when the piece is joined. This table takes memory only
+//! for the sites that the piece meets, for all site numbers, and counts its own instructions from 0. When the piece
+//! has ended and no part of it is open, call `note` for both tables; then `join_piece(piece, first)` appends the
+//! piece as the next events of the current block. The piece must have no join, or the block must not have spawned
 //! since its last join.
 //!
 //! `first` says that the block has not spawned since its last join. Later counts continue from the sum of both. The

@@ -6,7 +6,7 @@
 //! for each site. If a path is longer than its limit (a constant plus twice the number of sites of the paths that
 //! were merged so far), its steps are merged by site, and it then has at most half of the limit. This is checked for
 //! the current path before a step is added to it, and for the base of a block when it takes a continuation in. So
-//! each step pays once for its moves and its merge, whatever the length of the paths that are joined.
+//! each step pays once for its moves and its merge, for paths of any length that are joined.
 
 ghost use Rattle.std.specs.Prelude.{◌≡◌, ℕ, ◌+◌, ◌-◌, ◌^◌, ◌<◌, ◌≤◌, ◌==◌, true, length, min, if◌then◌else◌, IfOk, OnOk};
 ghost use Rattle.std.specs.Vec.{vec_len, vec_capacity};

@@ -73,8 +73,8 @@ fn keeps(
 }
 
 // fib(4): 2 of `main`, its call, and 2 more; a call spawns after 8, calls after 4 in parallel with the child, and has
-// 5 after the join; a call with n below 2 is one strand of 6. Of the 23 strands one is the first, and 22 begin at a
-// cut.
+// 5 after the join; a call with n below 2 is one strand of 6. The first of the 23 strands begins the run, and 22
+// begin at a cut.
 const FIB_OF_4: &[Instr] = &[
     Instr::Push(4),
     INTO_FIRST,
