@@ -99,7 +99,7 @@ impl FreedMeter {
         Ok(())
     }
 
-    // `stack`, if there is room.
+    // Begins a part in the current block, like `stack`, if there is room.
     #[inline(always)]
     fn stack_within(&mut self, child: bool, spawned: bool, free: bool)
         requires { vec_len self.old.parts < vec_capacity self.old.parts }
@@ -138,7 +138,7 @@ impl FreedMeter {
         self.spawn_apart(count, free)
     }
 
-    // `spawn`, if `is_ready`.
+    // Begins a spawned call, like `spawn`, if `is_ready`.
     #[inline(always)]
     fn spawn_ready(&mut self, count: u64, free: bool)
         requires { IsReady self.old }
@@ -150,7 +150,8 @@ impl FreedMeter {
         self.stack_within(true, true, free);
     }
 
-    // `spawn` for every case, out of line, so that the caller need not save anything across a call.
+    // Begins a spawned call in every case, like `spawn`, out of line, so that the caller need not save anything
+    // across a call.
     #[inline(never)]
     fn spawn_apart(&mut self, count: u64, free: bool) -> Result<(), AllocError>
         ensures { OnOk result (BeginsChild self.old self.new count free) }

@@ -301,7 +301,8 @@ ownership_faults program = flat_map (owner_faults_of program.functions) program.
 abbrev pub KeepsOwnership : Program → Type 0
 KeepsOwnership program = ownership_faults program ≡ []
 
--- the least set that contains `before`, and all that one iteration (`turn`) leaves held, starting from the set itself
+-- the names that any number of iterations may leave held: the least set that contains `before` and is closed under
+-- one iteration, `turn`
 pub record IsLeastClosed (turn : Taken → Taken) (before after : Taken) : Type 0 where
   pub holds_before : (t : Name × Holder) → Contains before t → Contains after t
   pub closed : (t : Name × Holder) → Contains (turn after) t → Contains after t

@@ -74,7 +74,11 @@ fn gather_one(
     Ok(end + 1)
 }
 
-/// Computes the sum of each site over the steps from one place up to another.
+/// Replaces `sums` by the sum of each site over the steps from one place up to another.
+///
+/// # Errors
+///
+/// Returns an `AllocError` if memory runs out. The sums are then incomplete.
 pub fn sum_up(
     steps: &Vec<Steps>,
     from: usize,

@@ -97,7 +97,7 @@ impl Paths {
         Ok(at)
     }
 
-    // `extend`, for a path of any length.
+    // Adds `count` instructions of a site, like `extend`, to a path of any length.
     #[inline(always)]
     fn add(&mut self, place: usize, site: u32, count: u64) -> Result<Option<usize>, AllocError>
         ensures laid { OnOk result (Laid self.old → Laid self.new) }
@@ -239,7 +239,7 @@ impl Paths {
         self.blocks.len() < self.blocks.capacity()
     }
 
-    /// `begin`, if there is room for a block.
+    /// Begins the first spawned part of a block since its last join, like `begin`, if there is room for a block.
     #[inline(always)]
     pub fn begin_within(&mut self)
         requires { HasRoomForBlock self.old }
@@ -355,7 +355,7 @@ impl Paths {
         }
     }
 
-    /// `end`, if `is_first_child`.
+    /// Ends the current spawned child, like `end`, if no step is between the block's base and the child.
     #[inline(always)]
     pub fn end_first(&mut self)
         requires { HasFirstChild self.old }
@@ -372,7 +372,8 @@ impl Paths {
         }
     }
 
-    // `take`, if the block's base ends where the child begins.
+    // Makes the current child the longest of this block, like `take`, if the block's base ends where the child
+    // begins.
     #[inline(always)]
     fn take_first(&mut self, f: Block)
         requires room { vec_len self.old.blocks < vec_capacity self.old.blocks }
@@ -445,7 +446,7 @@ impl Paths {
         Ok(mid)
     }
 
-    // `gather`, if there are steps between the base and the current child.
+    // Extends the base of this block, like `gather`, if there are steps between the base and the current child.
     #[inline(never)]
     fn gather_steps(&mut self, f: Block) -> Result<usize, AllocError>
         ensures all { IfOk result (λ mid. GathersBase self.old self.new f mid) }
@@ -569,7 +570,7 @@ impl Paths {
         Ok(())
     }
 
-    // `append`, if the current path is within its limit.
+    // Appends the path of a piece, like `append`, if the current path is within its limit.
     fn append_piece(&mut self, piece: Paths, first: bool) -> Result<(), AllocError>
         ensures laid { OnOk result (Laid self.old → Laid self.new) }
         ensures bounded { OnOk result (StaysTightBeside piece.steps.items self.old self.new) }
@@ -655,7 +656,7 @@ impl Paths {
         Ok(())
     }
 
-    // `step`, for a path of any length.
+    // Adds these steps, like `step`, to a path of any length.
     fn add_step(&mut self, one: Steps) -> Result<(), AllocError>
         ensures laid { OnOk result (Laid self.old → Laid self.new) }
         ensures bounded { OnOk result (GrowsAt one.site self.old self.new) }

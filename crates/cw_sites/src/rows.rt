@@ -167,7 +167,7 @@ impl Rows {
         self.keep_apart(place, kept)
     }
 
-    // `keep` for a site without a row in the vector.
+    // Sets the entry of a site that has no row in the vector.
     #[inline(always)]
     fn keep_apart(&mut self, place: usize, kept: Kept) -> Result<(), AllocError>
         requires { length self.old.by_site.items ≤ place }
@@ -250,7 +250,7 @@ impl Rows {
         Ok(())
     }
 
-    // `begin` for every case, out of line.
+    // Begins an invocation of any site, like `begin`, out of line.
     #[inline(never)]
     fn begin_apart(&mut self, site: u32, count: u64, path: u64) -> Result<(), AllocError>
         ensures own { OnOk result (Becomes (tallies.entered count path) self.old self.new site) }
@@ -263,7 +263,7 @@ impl Rows {
         Ok(())
     }
 
-    /// `begin` for a site that has a row in the vector.
+    /// Begins an invocation of a site that has a row in the vector, like `begin`, without allocating memory.
     #[inline(always)]
     pub fn begin_here(&mut self, site: u32, count: u64, path: u64)
         requires { site < length self.old.by_site.items }
@@ -291,7 +291,7 @@ impl Rows {
         Ok(())
     }
 
-    // `end` for every case, out of line.
+    // Ends an invocation of any site, like `end`, out of line.
     #[inline(never)]
     fn end_apart(&mut self, site: u32, count: u64, path: u64) -> Result<(), AllocError>
         ensures own { OnOk result (Becomes (tallies.left count path) self.old self.new site) }
@@ -304,7 +304,7 @@ impl Rows {
         Ok(())
     }
 
-    /// `end` for a site that has a row in the vector.
+    /// Ends an invocation of a site that has a row in the vector, like `end`, without allocating memory.
     #[inline(always)]
     pub fn end_here(&mut self, site: u32, count: u64, path: u64)
         requires { site < length self.old.by_site.items }

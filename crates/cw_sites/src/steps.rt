@@ -16,6 +16,10 @@ pub struct Steps {
 /// Adds `count` instructions of a site to the path that begins at `start`, and changes nothing before it. If the path
 /// has steps of the site at `place`, they grow; otherwise new steps are added at the end, and their place is
 /// returned.
+///
+/// # Errors
+///
+/// Returns an `AllocError` if memory runs out.
 #[inline(always)]
 pub fn add_steps(
     steps: &mut Vec<Steps>,

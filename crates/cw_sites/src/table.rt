@@ -69,7 +69,7 @@ impl SiteTable {
         Ok(())
     }
 
-    // `flush` for every case, out of line.
+    // Attributes the instructions since the last call in every case, like `flush`, out of line.
     #[inline(never)]
     fn flush_apart(&mut self, count: u64) -> Result<(), AllocError>
         ensures flushed { OnOk result (Flushed self.old self.new count) }
@@ -85,8 +85,9 @@ impl SiteTable {
         Ok(())
     }
 
-    // `flush`, if that site has a row in the vector and its steps need no memory. The current path need not be within
-    // its limit if no step is added. Returns whether this is so; if not, nothing is changed.
+    // Attributes the instructions since the last call, like `flush`, if the site of the innermost invocation has a
+    // row in the vector and its steps need no memory. The current path need not be within its limit if no step is
+    // added. Returns whether this is so; if not, nothing is changed.
     #[inline(always)]
     fn flush_ready(&mut self, count: u64) -> bool
         ensures flushed { result ≡ true → Flushed self.old self.new count }
@@ -103,7 +104,7 @@ impl SiteTable {
         false
     }
 
-    // `flush_ready` for a site that has a row in the vector.
+    // Does the work of `flush_ready` for a site that has a row in the vector.
     #[inline(always)]
     fn flush_there(&mut self, count: u64) -> bool
         requires there { self.old.here < length self.old.rows.by_site.items }
@@ -127,7 +128,8 @@ impl SiteTable {
         false
     }
 
-    // `flush_ready`, if the current path is also within its limit, so that it may become a block's path.
+    // Does the work of `flush_ready`, if the current path is also within its limit, so that it may become a block's
+    // path.
     #[inline(always)]
     fn flush_within(&mut self, count: u64) -> bool
         ensures flushed { result ≡ true → Flushed self.old self.new count }
@@ -144,7 +146,8 @@ impl SiteTable {
         false
     }
 
-    // `flush`, if that site has a row in the vector and its steps are at this place in the current path.
+    // Attributes the instructions since the last call, like `flush`, if the site has a row in the vector and its
+    // steps are at this place in the current path.
     #[inline(always)]
     fn flush_to(&mut self, place: usize, count: u64)
         requires there { self.old.here < length self.old.rows.by_site.items }
@@ -162,7 +165,8 @@ impl SiteTable {
         self.noted = count;
     }
 
-    // `flush`, if that site has a row in the vector and there is room for its steps.
+    // Attributes the instructions since the last call, like `flush`, if the site has a row in the vector and there is
+    // room for its steps.
     #[inline(always)]
     fn flush_behind(&mut self, count: u64)
         requires there { self.old.here < length self.old.rows.by_site.items }
@@ -231,8 +235,9 @@ impl SiteTable {
         Ok(())
     }
 
-    /// `enter`, if it needs no memory and both sites have a row in the vector. Returns whether this is so; if not,
-    /// nothing is changed. All methods whose names end in `_ready` have this result.
+    /// Begins a plain call of this site, like `enter`, if this needs no memory and both sites have a row in the
+    /// vector. Returns whether this is so; if not, nothing is changed. The methods whose names end in `_ready` all
+    /// have this result.
     #[inline(always)]
     pub fn enter_ready(&mut self, count: u64, site: u32) -> bool
         ensures told { result ≡ true → Enters self.old self.new count site }
@@ -250,7 +255,7 @@ impl SiteTable {
         false
     }
 
-    // `begin_row` for a site that has a row in the vector.
+    // Begins an invocation, like `begin_row`, of a site that has a row in the vector.
     #[inline(always)]
     fn begin_row_ready(&mut self, site: u32, path: u64)
         requires { site < length self.old.rows.by_site.items }
@@ -260,7 +265,8 @@ impl SiteTable {
         self.here = site;
     }
 
-    // `end_row` for a site that has a row in the vector; the caller passes the site, so that it is read once.
+    // Ends the innermost invocation, like `end_row`, of a site that has a row in the vector; the caller passes the
+    // site, so that it is read once.
     #[inline(always)]
     fn end_row_ready(&mut self, here: u32, outer: u32)
         requires there { here < length self.old.rows.by_site.items }
@@ -288,7 +294,8 @@ impl SiteTable {
         Ok(())
     }
 
-    /// `spawn` for the first spawned call of a block since its last join.
+    /// Begins the first spawned call of a block since its last join, like `spawn`, if this needs no memory and both
+    /// sites have a row in the vector. Returns whether this is so; if not, nothing is changed.
     #[inline(always)]
     pub fn spawn_ready(&mut self, count: u64, site: u32) -> bool
         ensures told { result ≡ true → Spawns self.old self.new count site true }
@@ -349,8 +356,8 @@ impl SiteTable {
         Ok(())
     }
 
-    /// `leave`, if it needs no memory and the site has a row in the vector. Returns whether this is so; if not,
-    /// nothing is changed.
+    /// Ends the innermost invocation, like `leave`, if this needs no memory and its site has a row in the vector.
+    /// Returns whether this is so; if not, nothing is changed.
     #[inline(always)]
     pub fn leave_ready(&mut self, count: u64, outer: u32) -> bool
         ensures told { result ≡ true → Leaves self.old self.new count outer }
@@ -365,8 +372,9 @@ impl SiteTable {
         false
     }
 
-    /// `end_child`, under the same conditions, if no step is between the block's base and the child. Returns whether
-    /// this is so; if not, nothing is changed.
+    /// Ends the innermost invocation, like `end_child`, if this needs no memory and its site has a row in the vector,
+    /// and if no step is between the block's base and the child. Returns whether this is so; if not, nothing is
+    /// changed.
     #[inline(always)]
     pub fn end_child_ready(&mut self, count: u64, outer: u32) -> bool
         requires { HasFirstChild self.old.paths }
@@ -383,7 +391,8 @@ impl SiteTable {
         false
     }
 
-    /// `note` before a join, under the same conditions. Returns whether this is so; if not, nothing is changed.
+    /// Attributes the instructions so far to their sites before a join, like `note`, if this needs no memory and the
+    /// site has a row in the vector. Returns whether this is so; if not, nothing is changed.
     #[inline(always)]
     pub fn note_ready(&mut self, count: u64) -> bool
         ensures told { result ≡ true → Notes self.old self.new count }
@@ -397,7 +406,7 @@ impl SiteTable {
         self.flush_within(count)
     }
 
-    /// `join`, if all instructions are included.
+    /// Joins a block that has spawned since its last join, like `join`, if all instructions are included.
     #[inline(always)]
     pub fn join_noted(&mut self)
         ensures told { JoinsNoted self.old self.new }
