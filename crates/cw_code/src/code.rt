@@ -66,7 +66,7 @@ pub enum BlockKind {
     Region(u32),
 }
 
-/// An instruction. Each instruction costs one unit of work. The slots of a call are numbered from 0.
+/// An instruction. Each instruction costs one unit of work. The slots (locals) of a call are numbered from 0.
 #[derive(Clone, Copy, Debug, PartialEq, Eq)]
 pub enum Instr {
     /// Pushes a number.
