@@ -18,18 +18,23 @@ use Rattle.cw_code.specs.Run.{code_serial}
 abbrev pub a_name : Name
 a_name = 97 ∷ []
 
+-- the name `f`
 abbrev pub f_name : Name
 f_name = 102 ∷ []
 
+-- the name `i`
 abbrev pub i_name : Name
 i_name = 105 ∷ []
 
+-- the name `l`
 abbrev pub l_name : Name
 l_name = 108 ∷ []
 
+-- the name `n`
 abbrev pub n_name : Name
 n_name = 110 ∷ []
 
+-- the name `r`
 abbrev pub r_name : Name
 r_name = 114 ∷ []
 

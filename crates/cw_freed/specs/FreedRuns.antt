@@ -18,6 +18,7 @@ freed_event frees site (Series t) = Series (freed frees site t)
 freed_event frees site (e.Fork t) = e.Fork (freed frees site t)
 freed_event frees site Join = Join
 
+-- the events of a block in an invocation of this site
 abbrev pub freed_events : (frees : ℕ → Bool) → (site : ℕ) → List Event → List Event
 freed_events frees site [] = []
 freed_events frees site (e ∷ es) = freed_event frees site e ∷ freed_events frees site es

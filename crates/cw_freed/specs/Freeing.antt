@@ -33,10 +33,11 @@ AreKept frees [] (p ∷ ps) = ⊥
 AreKept frees (o ∷ os) [] = o ∷ os ≡ main_open
 AreKept frees (o ∷ os) (p ∷ ps) = IsKept frees o os p × AreKept frees os ps
 
--- the number of instructions that are not free: since the noted ones, and in total
+-- the number of instructions since the noted ones that are not free
 abbrev pub since : FreedMeter → (count : ℕ) → ℕ
 since m count = unless m.free (count - m.noted)
 
+-- the number of instructions up to `count` that are not free
 abbrev pub counted_at : (count : ℕ) → FreedMeter → ℕ
 counted_at count m = m.counted + since m count
 

@@ -45,21 +45,25 @@ pub record FitBoth (burden : Burden) (os : List Open) (es : List Event) : Type 0
   pub plain : FitsRun no_burden os es
   pub burdened : FitsRun burden os es
 
+-- the paths of a run at its start
 abbrev pub StartsBoth : Burden → Paths → Type 0
 StartsBoth burden p = TellBoth burden [] [] p
 
+-- begins a spawned part on both paths
 abbrev pub SpawnsBoth : (old new : Paths) → (counted : ℕ) → (first : Bool) → Type 0
 SpawnsBoth old new counted first =
     (burden : Burden) (mark : Option Mark) (os : List Open) (es : List Event) → work_in os es ≡ counted
     → FitBoth burden os es → has_spawned es ≡ not first → TellBoth burden os es old
     → TellBoth burden (in_fork mark es os) [] new
 
+-- ends a spawned part, whose block has joined, on both paths
 abbrev pub EndsBoth : (old new : Paths) → (counted : ℕ) → Type 0
 EndsBoth old new counted =
     (burden : Burden) (o : Open) (os : List Open) (es : List Event) → work_in (o ∷ os) es ≡ counted
     → FitBoth burden (o ∷ os) es → o.spawned ≡ true → has_spawned es ≡ false → TellBoth burden (o ∷ os) es old
     → TellBoth burden os (closed o es) new
 
+-- joins a block that has spawned, on both paths
 abbrev pub JoinsBoth : (old new : Paths) → (counted : ℕ) → Type 0
 JoinsBoth old new counted =
     (burden : Burden) (os : List Open) (es : List Event) → work_in os es ≡ counted → FitBoth burden os es

@@ -17,12 +17,15 @@ code_of_cut cut.Ended = Ended ∷ []
 code_of_cut cut.Joined = Joined ∷ []
 code_of_cut cut.Called = Called ∷ []
 
+-- an entry, by its parts
 abbrev pub entry : (before : ℕ) → Cut → Entry
 entry before cut = record { before = before; cut = cut }
 
+-- the codes of an entry
 abbrev pub codes_of_entry : Entry → List Code
 codes_of_entry e = Instructions e.before ∷ code_of_cut e.cut
 
+-- the codes of a list of entries
 abbrev pub codes_of_entries : List Entry → List Code
 codes_of_entries [] = []
 codes_of_entries (e ∷ entries) = codes_of_entry e ++ codes_of_entries entries

@@ -13,10 +13,12 @@ pub data BlockWeight : Type 0 where
   Straight : (now : ℕ) → BlockWeight
   Split : (longest now : ℕ) → BlockWeight
 
+-- the weight of the current path
 abbrev pub now_of : BlockWeight → ℕ
 now_of (Straight n) = n
 now_of (Split l n) = n
 
+-- adds instructions to the current path
 abbrev pub gone_on : ℕ → BlockWeight → BlockWeight
 gone_on k (Straight n) = Straight (n + k)
 gone_on k (Split l n) = Split l (n + k)
@@ -31,12 +33,14 @@ abbrev pub top_of : BlockWeight → ℕ
 top_of (Straight n) = n
 top_of (Split l n) = max l n
 
+-- the paths after an event
 abbrev pub after : Burden → BlockWeight → Event → BlockWeight
 after burden L (Work k) = gone_on k L
 after burden L (Series t) = gone_on (burdened_span burden t) L
 after burden L (Fork t) = child_ended burden (burdened_span burden t) L
 after burden L Join = Straight (top_of L)
 
+-- the paths after a list of events
 abbrev pub after_all : Burden → BlockWeight → List Event → BlockWeight
 after_all burden L [] = L
 after_all burden L (e ∷ es) = after_all burden (after burden L e) es
@@ -68,6 +72,7 @@ burdened_work burden (Seq a b) = burdened_work burden a + burdened_work burden b
 burdened_work burden (Par child rest) = burdened_work burden child + burdened_work burden rest + burden.charge
 burdened_work burden (Marked mark t) = burdened_work burden t
 
+-- the charge of a spawned part, 0 for another part
 abbrev pub charge_if : (spawned : Bool) → Burden → ℕ
 charge_if true burden = burden.charge
 charge_if false burden = 0

@@ -19,9 +19,11 @@ counters_of (Some p) l k = Synced p l k
 abbrev pub Sum : Type 0
 Sum = ℕ → ℕ → ℕ
 
+-- exact addition
 abbrev pub exactly : Sum
 exactly a b = a + b
 
+-- addition that saturates at a maximum
 abbrev pub up_to : (greatest : ℕ) → Sum
 up_to greatest a b = max (max a b) (min greatest (a + b))
 
@@ -70,13 +72,14 @@ abbrev pub held : (greatest : ℕ) → Counters → Counters
 held g (Unsynced l k) = Unsynced (min g l) (min g k)
 held g (Synced p l k) = Synced (min g p) (min g l) (min g k)
 
--- the exact counters of one event, and of a list of events
+-- the exact counters of one event
 abbrev pub of_event : Burden → Event → Counters
 of_event burden (Work k) = Unsynced 0 k
 of_event burden (Series t) = Unsynced 0 (burdened_span burden t)
 of_event burden (Fork t) = Unsynced (at_child burden + burdened_span burden t) (at_rest burden)
 of_event burden Join = Synced 0 0 0
 
+-- the exact counters of a list of events
 abbrev pub of_events : Burden → List Event → Counters
 of_events burden [] = fresh
 of_events burden (e ∷ events) = onward exactly (of_event burden e) (of_events burden events)

@@ -5,6 +5,7 @@ use Rattle.cw_measure.specs.Measured.{Measured, most, most_burdened, nothing, jo
 use Rattle.cw_measure.specs.SumLaws.{up_to_is}
 use Rattle.cw_measure.specs.CounterLaws.{onward-assoc, onward-fresh_first, onward-fresh_last}
 
+-- a measure, by its parts
 abbrev pub record_of : ℕ → Counters → Counters → Measured
 record_of w p b = record { work = w; plain = p; burdened = b }
 

@@ -5,10 +5,11 @@ use Rattle.cw_model.specs.Burdens.{no_burden}
 use Rattle.cw_model.specs.Trees.{Tree, Event, Series, Fork, tree_of, work, span, burdened_span}
 use Rattle.cw_measure.specs.Counters.{Counters, up_to, onward, fresh, ticked, forked, synced, heaviest, held, of_events}
 
--- the maximum numbers of a measure
+-- the maximum of work and span
 abbrev pub most : ℕ
 most = 2 ^ 64 - 1
 
+-- the maximum of a burdened span
 abbrev pub most_burdened : ℕ
 most_burdened = 2 ^ 128 - 1
 
@@ -27,9 +28,11 @@ measure_of burden events =
       burdened = held most_burdened (of_events burden events);
     }
 
+-- the measure of an empty piece
 abbrev pub nothing : Measured
 nothing = record { work = 0; plain = fresh; burdened = fresh }
 
+-- the measure of two consecutive pieces
 abbrev pub joined : Measured → Measured → Measured
 joined a b =
     record {
@@ -38,10 +41,11 @@ joined a b =
       burdened = onward (up_to most_burdened) a.burdened b.burdened;
     }
 
--- the readings of a measure
+-- the span of a measure
 abbrev pub span_read : Measured → ℕ
 span_read m = heaviest (up_to most) m.plain
 
+-- the burdened span of a measure
 abbrev pub burdened_read : Measured → ℕ
 burdened_read m = heaviest (up_to most_burdened) m.burdened
 
@@ -72,6 +76,7 @@ after_child burden child m =
       burdened = forked (up_to most_burdened) burden (burdened_read child) m.burdened;
     }
 
+-- adds a join
 abbrev pub after_join : Measured → Measured
 after_join m = record { work = m.work; plain = synced m.plain; burdened = synced m.burdened }
 
@@ -85,20 +90,23 @@ pub record ReadsTree (burden : Burden) (m : Measured) (t : Tree) : Type 0 where
 abbrev pub Measures : Burden → Measured → List Event → Type 0
 Measures burden m events = m ≡ measure_of burden events
 
--- the effect of each method: the measure of some events becomes the measure of these events and one more
+-- adds an event: the measure of some events becomes the measure of these events and one more
 abbrev pub AddsEvent : Measured → Measured → Event → Type 0
 AddsEvent old new e = (burden : Burden) (es : List Event) → Measures burden old es → Measures burden new (es ++ e ∷ [])
 
+-- adds a part in series: the measure of some events becomes the measure of these events and the part
 abbrev pub AddsPart : Measured → Measured → (part : Measured) → Type 0
 AddsPart old new part =
     (burden : Burden) (es : List Event) (t : Tree) → Measures burden old es → ReadsTree burden part t
     → Measures burden new (es ++ Series t ∷ [])
 
+-- adds a spawned child: the measure of some events becomes the measure of these events and the child
 abbrev pub AddsChild : Burden → Measured → Measured → (child : Measured) → Type 0
 AddsChild burden old new child =
     (es : List Event) (t : Tree) → Measures burden old es → ReadsTree burden child t
     → Measures burden new (es ++ Fork t ∷ [])
 
+-- the measures of two lists of events are joined to the measure of their concatenation
 abbrev pub JoinsEvents : Measured → Measured → (whole : Measured) → Type 0
 JoinsEvents left right whole =
     (burden : Burden) (es fs : List Event) → Measures burden left es → Measures burden right fs

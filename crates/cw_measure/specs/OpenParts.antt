@@ -8,17 +8,20 @@ pub record Open : Type 0 where
   pub mark : Option Mark
   pub outer : List Event
 
--- begins a part in series, or a spawned part, after these events
+-- a part in series begins after these events
 abbrev pub in_series : Option Mark → List Event → List Open → List Open
 in_series mark es os = record { spawned = false; mark = mark; outer = es } ∷ os
 
+-- a spawned part begins after these events
 abbrev pub in_fork : Option Mark → List Event → List Open → List Open
 in_fork mark es os = record { spawned = true; mark = mark; outer = es } ∷ os
 
+-- a tree with a mark, if there is one
 abbrev pub marked : Option Mark → Tree → Tree
 marked None t = t
 marked (Some m) t = Marked m t
 
+-- the event of a part that has ended: a fork if it was spawned, otherwise in series
 abbrev pub part_of : (spawned : Bool) → Tree → Event
 part_of true t = Fork t
 part_of false t = Series t
@@ -38,10 +41,12 @@ spawned_after b (Series t) = b
 spawned_after b (Fork t) = true
 spawned_after b Join = false
 
+-- whether a block has spawned since its last join, given whether it had before these events
 abbrev pub has_spawned_from : Bool → List Event → Bool
 has_spawned_from b [] = b
 has_spawned_from b (e ∷ es) = has_spawned_from (spawned_after b e) es
 
+-- whether a block with these events has spawned since its last join
 abbrev pub has_spawned : List Event → Bool
 has_spawned es = has_spawned_from false es
 

@@ -10,6 +10,7 @@ abbrev pub is_counted : (Mark → Bool) → Option Mark → Bool
 is_counted picks None = false
 is_counted picks (Some m) = picks m
 
+-- 1 for true, 0 for false
 abbrev pub one_if : Bool → ℕ
 one_if true = 1
 one_if false = 0
@@ -41,12 +42,13 @@ pub record Meters (f : Tree → ℕ) (read : Reading) : Type 0 where
   pub at_end : (o : Open) (os : List Open) (es : List Event) → has_spawned es ≡ false
       → read (o ∷ os) es ≡ read (o ∷ os) [] + f (tree_of es)
 
--- the reading at the start of the outermost open counted part, if there is one
+-- `here` if this part is the outermost open counted part, `before` if an enclosing part is
 abbrev pub BeganAt : (counted : Bool) → (active : ℕ) → (here before : Type 0) → Type 0
 BeganAt true zero here before = here
 BeganAt true (suc n) here before = before
 BeganAt false n here before = before
 
+-- the reading at the start of the outermost open counted part, over all open parts
 abbrev pub Began : Reading → (Mark → Bool) → (busy : ℕ) → List Open → (began : ℕ) → Type 0
 Began read picks busy [] began = Unit {0}
 Began read picks busy (o ∷ os) began =
@@ -64,6 +66,7 @@ abbrev pub begun_at : (first : Bool) → (reading : ℕ) → Tally → Tally
 begun_at true reading t = record { sum = t.sum; active = t.active + 1; began = reading }
 begun_at false reading t = record { sum = t.sum; active = t.active + 1; began = t.began }
 
+-- a counted part begins at this reading; the first open one sets the start
 abbrev pub begun : (reading : ℕ) → Tally → Tally
 begun reading t = begun_at (t.active == 0) reading t
 
@@ -72,6 +75,7 @@ abbrev pub ended_at : (last : Bool) → (reading : ℕ) → Tally → Tally
 ended_at true reading t = record { sum = t.sum + (reading - t.began); active = t.active - 1; began = t.began }
 ended_at false reading t = record { sum = t.sum; active = t.active - 1; began = t.began }
 
+-- a counted part ends at this reading; the last open one is added to the sum
 abbrev pub ended : (reading : ℕ) → Tally → Tally
 ended reading t = ended_at (t.active == 1) reading t
 
@@ -105,6 +109,7 @@ abbrev pub unless_at : (none : Bool) → ℕ → ℕ
 unless_at true more = more
 unless_at false more = 0
 
+-- this number if no counted part is open, otherwise 0
 abbrev pub unless_open : (active more : ℕ) → ℕ
 unless_open active more = unless_at (active == 0) more
 

@@ -14,10 +14,12 @@ pub record StrandWeight : Type 0 where
   pub now : ℕ
   pub blocks : List BurdenedBlock
 
+-- the blocks of the first list in reverse order, before the second list
 abbrev pub reversed : List BurdenedBlock → List BurdenedBlock → List BurdenedBlock
 reversed [] bs = bs
 reversed (b ∷ more) bs = reversed more (b ∷ bs)
 
+-- the weights of a burdened path, with the innermost block first
 abbrev pub strand_weight : BurdenedPath → StrandWeight
 strand_weight path = record { now = path.weight; blocks = reversed path.blocks.items [] }
 
@@ -35,10 +37,11 @@ HasGoneOn old new count =
     old.noted ≤ count → old.weight + (count - old.noted) < 2 ^ 128
     → strand_weight new ≡ goes_on (count - old.noted) (strand_weight old)
 
--- the first spawn of a block since its last join, and a further spawn
+-- the first spawn of a block since its last join
 abbrev pub begins : StrandWeight → StrandWeight
 begins v = record { now = 0; blocks = record { longest = 0; saved = v.now } ∷ v.blocks }
 
+-- a further spawn of the innermost block that has spawned
 abbrev pub begins_again : StrandWeight → StrandWeight
 begins_again v = at v.now v.blocks
   where
@@ -46,6 +49,7 @@ begins_again v = at v.now v.blocks
     at n [] = record { now = 0; blocks = [] }
     at n (b ∷ bs) = record { now = 0; blocks = record { longest = b.longest; saved = n } ∷ bs }
 
+-- a spawn: the first of its block since the last join, or a further one
 abbrev pub spawns : (first : Bool) → StrandWeight → StrandWeight
 spawns true v = begins v
 spawns false v = begins_again v
@@ -75,14 +79,17 @@ lengthened true l n bs = record { longest = l; saved = n } ∷ bs
 lengthened false l n [] = []
 lengthened false l n (b ∷ bs) = record { longest = max b.longest l; saved = b.saved } ∷ bs
 
+-- appends a piece with this current path and these blocks
 abbrev pub appends_at : (first : Bool) → (now : ℕ) → List BurdenedBlock → StrandWeight → StrandWeight
 appends_at first now [] v = goes_on now v
 appends_at first now (p ∷ ps) v =
     record { now = v.now + now; blocks = lengthened first (v.now + p.longest) v.now v.blocks }
 
+-- appends a piece
 abbrev pub appends : (first : Bool) → (piece v : StrandWeight) → StrandWeight
 appends first piece v = appends_at first piece.now piece.blocks v
 
+-- the weight of the path through the longest child of the innermost block
 abbrev pub longest_of : List BurdenedBlock → ℕ
 longest_of [] = 0
 longest_of (b ∷ bs) = b.longest
@@ -91,12 +98,12 @@ longest_of (b ∷ bs) = b.longest
 abbrev pub FitsPiece : (piece v : StrandWeight) → Type 0
 FitsPiece piece v = (v.now + piece.now < 2 ^ 128) × (v.now + longest_of piece.blocks < 2 ^ 128)
 
--- the path up to the spawn of the current strand plus its own weight, or plus the charge of the continuation, fits
--- 128 bits
+-- the weight of the path up to the spawn of the current strand
 abbrev pub saved_of : List BurdenedBlock → ℕ
 saved_of [] = 0
 saved_of (b ∷ bs) = b.saved
 
+-- the path of a spawned part and the path of its continuation, with their charges, fit 128 bits
 abbrev pub Fits : Burden → StrandWeight → Type 0
 Fits burden v =
     (saved_of v.blocks + (at_child burden + v.now) < 2 ^ 128) × (saved_of v.blocks + at_rest burden < 2 ^ 128)
@@ -113,11 +120,13 @@ RestsOn below L [] = ⊥
 RestsOn below (Straight n) (b ∷ bs) = (b.longest ≡ 0) × (b.saved ≡ n) × below bs
 RestsOn below (Split l n) (b ∷ bs) = (b.longest ≡ l) × (b.saved ≡ n) × below bs
 
+-- the blocks below a part: its block's child is running if the part was spawned
 abbrev pub LiesUnder : (spawned : Bool) → (below : List BurdenedBlock → Type 0) → BlockWeight → List BurdenedBlock
     → Type 0
 LiesUnder true below L bs = RestsOn below L bs
 LiesUnder false below L bs = StandsOn below L bs
 
+-- the blocks below all open parts
 abbrev pub Under : Burden → List Open → List BurdenedBlock → Type 0
 Under burden [] bs = bs ≡ []
 Under burden (o ∷ os) bs = LiesUnder o.spawned (Under burden os) (block_weight burden os o.outer) bs
@@ -160,24 +169,27 @@ NotesLate old new count =
     (burden : Burden) (os : List Open) (es fs : List Event) → Since (work_in os es) count es fs
     → FitsRun burden os (es ++ fs) → TellsLate burden os es old → TellsWeight burden os (es ++ fs) new
 
--- the effect of each method: a path that represents a run represents the run after the events
+-- includes the instructions up to a count: a path that represents a run represents the run after the events
 abbrev pub NotesWeight : BurdenedPath → BurdenedPath → (count : ℕ) → Type 0
 NotesWeight old new count =
     (burden : Burden) (os : List Open) (es fs : List Event) → Since old.noted count es fs → FitsRun burden os (es ++ fs)
     → TellsWeight burden os es old → TellsWeight burden os (es ++ fs) new
 
+-- begins a spawned part
 abbrev pub SpawnsWeight : BurdenedPath → BurdenedPath → (count : ℕ) → (first : Bool) → Type 0
 SpawnsWeight old new count first =
     (burden : Burden) (mark : Option Mark) (os : List Open) (es fs : List Event) → Since old.noted count es fs
     → FitsRun burden os (es ++ fs)
     → has_spawned es ≡ not first → TellsWeight burden os es old → TellsWeight burden (in_fork mark (es ++ fs) os) [] new
 
+-- ends a spawned part whose block has joined
 abbrev pub EndsChildWeight : BurdenedPath → BurdenedPath → (count : ℕ) → Burden → Type 0
 EndsChildWeight old new count burden =
     (o : Open) (os : List Open) (es fs : List Event) → Since old.noted count es fs → FitsRun burden (o ∷ os) (es ++ fs)
     → o.spawned ≡ true → has_spawned es ≡ false → TellsWeight burden (o ∷ os) es old
     → TellsWeight burden os (closed o (es ++ fs)) new
 
+-- joins a block that has spawned since its last join
 abbrev pub JoinsWeight : BurdenedPath → BurdenedPath → (count : ℕ) → Type 0
 JoinsWeight old new count =
     (burden : Burden) (os : List Open) (es fs : List Event) → Since old.noted count es fs → FitsRun burden os (es ++ fs)

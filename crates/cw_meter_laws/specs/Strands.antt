@@ -105,6 +105,7 @@ pub record MetersKeep (code : Code) (detail : Detail) : Type 0 where
       → IsToldOf m m' count (slice_get code.instrs s.place)
       → TellsAll code detail Main (Going s count outs) m → Meters g.detail g.tags Main (count + 1) [] (whole t) m'
 
+-- for all code and every level of detail, `MetersKeep` holds
 abbrev pub CallsKeepMeters : Type 0
 CallsKeepMeters = (code : Code) (detail : Detail) → MetersKeep code detail
 
@@ -135,18 +136,21 @@ pub record StrandsTell (code : Code) (detail : Detail) : Type 0 where
   pub told : (from : Origin) (job : Job) (strand : Strand) (m : Meter) → Metered code detail from job strand m
       → TellsAll code detail from strand m
 
+-- for all code and every level of detail, `StrandsTell` holds
 abbrev pub MetersTellStrands : Type 0
 MetersTellStrands = (code : Code) (detail : Detail) → StrandsTell code detail
 
--- the sites of the continuations that are out at open parts, the newest first; each is the site of its spawner
+-- the sites, with one more in front if the part was spawned
 abbrev pub site_if : (spawned : Bool) → ℕ → List ℕ → List ℕ
 site_if true site sites = site ∷ sites
 site_if false site sites = sites
 
+-- the sites of the continuations that are out at all open parts, the newest first
 abbrev pub rest_sites : (base : ℕ) → List Open → List ℕ
 rest_sites base [] = []
 rest_sites base (o ∷ os) = site_if o.spawned (here_in base os) (rest_sites base os)
 
+-- the sites of the continuations that are out at a state, the newest first
 abbrev pub sites_at : Origin → List Around → List ℕ
 sites_at from around = rest_sites (base_of from) (opens_round from around)
 
@@ -158,6 +162,7 @@ SitesAfter from (HandsOut target taken) around around' =
     sites_at from around' ≡ site_at from around ∷ sites_at from around
 SitesAfter from ComesBack around around' = site_at from around' ∷ sites_at from around' ≡ sites_at from around
 
+-- each step changes the sites of the continuations that are out as `SitesAfter` states
 abbrev pub RestsAreOut : Type 0
 RestsAreOut =
     (code : Code) (from : Origin) (s s' : State) → step code s ≡ On s'
@@ -170,6 +175,7 @@ pub record IsMeasured (code : Code) (burden : Burden) (args : List ℤ) (limit s
   pub answer : code_serial code args limit ≡ Some (answer_of (reducers_of code) (Done (v, no_frame) 0 t))
   pub measures : AreMeasures burden sites code.tags (normal (Marked (Invocation 0) (tree_of t.events))) all
 
+-- at the end of every whole run that records all measures, `IsMeasured` holds
 abbrev pub RootsAreMeasured : Type 0
 RootsAreMeasured =
     (code : Code) (g : Gauge code) (burden : Burden) (f : Func) (args : List ℤ) (limit count sites : ℕ) (s : State)

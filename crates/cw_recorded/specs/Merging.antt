@@ -13,6 +13,7 @@ onto (Ended ∷ codes) later = Ended ∷ onto codes later
 onto (Joined ∷ codes) later = Joined ∷ onto codes later
 onto (Called ∷ codes) later = Called ∷ onto codes later
 
+-- two lists of codes are equal up to merging
 abbrev pub Same : List Code → List Code → Type 0
 Same xs ys = (later : List Code) → onto xs later ≡ onto ys later
 

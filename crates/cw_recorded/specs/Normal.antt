@@ -31,10 +31,11 @@ abbrev pub Holds : (rest : Bool) → Tree → Tree → Type 0
 Holds rest t later =
     Same (codes_of (stands rest) (before t later)) (codes_of InSeries t ++ codes_of (stands rest) later)
 
--- the codes of a part precede the codes of every tree after it, or of every tree that may follow it
+-- the codes of a part precede the codes of every tree after it
 abbrev pub IsApart : Tree → Type 0
 IsApart t = (rest : Bool) (later : Tree) → Holds rest t later
 
+-- the codes of a part precede the codes of every tree that may follow it
 abbrev pub IsFollowed : Tree → Type 0
 IsFollowed t = (rest : Bool) (later : Tree) → Enough rest later → Holds rest t later
 

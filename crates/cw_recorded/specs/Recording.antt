@@ -148,17 +148,19 @@ IsQuiet None = Unit {0}
 IsQuiet (Some (Execution tag)) = Unit {0}
 IsQuiet (Some (Invocation site)) = ⊥
 
--- begins a spawned part, a plain call, or any other part
+-- begins a spawned part
 abbrev pub BeginsChild : (old new : Recorder) → (count : ℕ) → Type 0
 BeginsChild old new count =
     (from : Origin) (mark : Option Mark) (os : List Open) (es : List Event)
     → Tells old new count from os (begun true mark es os) es []
 
+-- begins a plain call
 abbrev pub BeginsCall : (old new : Recorder) → (count : ℕ) → Type 0
 BeginsCall old new count =
     (from : Origin) (site : ℕ) (os : List Open) (es : List Event)
     → Tells old new count from os (begun false (Some (Invocation site)) es os) es []
 
+-- begins any other part
 abbrev pub BeginsQuiet : (old new : Recorder) → (count : ℕ) → Type 0
 BeginsQuiet old new count =
     (from : Origin) (mark : Option Mark) (os : List Open) (es : List Event) → IsQuiet mark

@@ -11,6 +11,7 @@ pub record Shown : Type 0 where
   pub totals : List Held
   pub lines : List ℤ
 
+-- the state of a reducer among states
 abbrev pub held_of : List Held → ℕ → Held
 held_of totals reducer = slice_index_or totals reducer none_held
 
@@ -24,9 +25,11 @@ totals_joined [] b = b
 totals_joined (x ∷ a) [] = x ∷ a
 totals_joined (x ∷ a) (y ∷ b) = held_joined x y ∷ totals_joined a b
 
+-- no updates and no lines
 abbrev pub nothing_shown : Shown
 nothing_shown = record { totals = []; lines = [] }
 
+-- the results of two consecutive pieces
 abbrev pub shown_joined : Shown → Shown → Shown
 shown_joined a b = record { totals = totals_joined a.totals b.totals; lines = a.lines ++ b.lines }
 

@@ -5,6 +5,7 @@ use Rattle.cw_regions.specs.declared.rows.Row.{Row}
 use Rattle.cw_regions.specs.declared.rows.Rows.{Rows}
 use Rattle.cw_measure.specs.Outermost.{unless_open, Tally}
 
+-- the row of a tag that is never executed
 abbrev pub zero_row : Row
 zero_row = record { work = 0; span = 0; burdened = 0; active = 0; at_work = 0; at_path = 0; at_burdened = 0 }
 
@@ -35,6 +36,7 @@ entered_at false count span burdened r =
       at_burdened = r.at_burdened;
     }
 
+-- an execution begins; the first open one sets the start
 abbrev pub entered : (count span burdened : ℕ) → Row → Row
 entered count span burdened r = entered_at (r.active == 0) count span burdened r
 
@@ -61,16 +63,19 @@ left_at false count span burdened r =
       at_burdened = r.at_burdened;
     }
 
+-- an execution ends; the last open one is added to the sums
 abbrev pub left : (count span burdened : ℕ) → Row → Row
 left count span burdened r = left_at (r.active == 1) count span burdened r
 
--- the tallies of a row: the work, the span and the burdened span of its outermost executions
+-- the tally of the work in a row
 abbrev pub work_tally : Row → Tally
 work_tally r = record { sum = r.work; active = r.active; began = r.at_work }
 
+-- the tally of the span in a row
 abbrev pub span_tally : Row → Tally
 span_tally r = record { sum = r.span; active = r.active; began = r.at_path }
 
+-- the tally of the burdened span in a row
 abbrev pub burdened_tally : Row → Tally
 burdened_tally r = record { sum = r.burdened; active = r.active; began = r.at_burdened }
 
@@ -125,20 +130,23 @@ JoinsRows old piece new =
     (q : ℕ) → FitsRow (summed (row_of old q) (row_of piece q)) → (row_of piece q).active ≡ 0
     → IsReadAs (row_of new q) (summed (row_of old q) (row_of piece q))
 
--- the row of one tag becomes this row, if its sums fit, and the rows of other tags are unchanged
+-- the row of one tag becomes this row, if its sums fit
 abbrev pub Becomes : (Row → Row) → Rows → Rows → (tag : ℕ) → Type 0
 Becomes f old new tag = FitsRow (f (row_of old tag)) → row_of new tag ≡ f (row_of old tag)
 
+-- the rows of other tags are unchanged
 abbrev pub OthersStay : Rows → Rows → (tag : ℕ) → Type 0
 OthersStay old new tag = (q : ℕ) → (tag == q) ≡ false → row_of new q ≡ row_of old q
 
--- an execution of a tag begins, and ends, at this work and on a path of this weight
+-- an execution of a tag begins, at this work and on a path of this weight
 abbrev pub TagBegins : Rows → Rows → (tag count span burdened : ℕ) → Type 0
 TagBegins old new tag count span burdened = Becomes (entered count span burdened) old new tag
 
+-- an execution of a tag ends, at this work and on a path of this weight
 abbrev pub TagEnds : Rows → Rows → (tag count span burdened : ℕ) → Type 0
 TagEnds old new tag count span burdened = Becomes (left count span burdened) old new tag
 
+-- the row of one tag is set, and the rows of other tags are unchanged
 abbrev pub IsGiven : Rows → Rows → (tag : ℕ) → Row → Type 0
 IsGiven old new tag row = (q : ℕ) → row_of new q ≡ (if tag == q then row else row_of old q)
 

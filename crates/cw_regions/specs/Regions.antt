@@ -52,11 +52,12 @@ pub record SmallRegions (burden : Burden) (tags : Tags) (busy : ℕ → ℕ) (os
 abbrev pub executed : Tags → (tag : ℕ) → List Event → List Open → List Open
 executed tags tag es os = in_series (Some (Execution (tags.name tag))) es os
 
+-- the table of a run at its start
 abbrev pub StartsRegions : RegionTable → Type 0
 StartsRegions table =
     (burden : Burden) (along : Readings burden) (tags : Tags) → TellsRegions burden along tags (λ k. 0) [] [] table
 
--- the effect of each method: a table that represents a run represents the run after the events
+-- begins an execution of a tag: a table that represents a run represents the run with the execution
 abbrev pub BeginsRegion : RegionTable → RegionTable → (tag count path heavy : ℕ) → Type 0
 BeginsRegion old new tag count path heavy =
     (burden : Burden) (along : Readings burden) (tags : Tags) (busy : ℕ → ℕ) (os : List Open) (es : List Event)
@@ -65,6 +66,7 @@ BeginsRegion old new tag count path heavy =
     → SmallRegions burden tags busy (executed tags tag es os) [] → TellsRegions burden along tags busy os es old
     → TellsRegions burden along tags busy (executed tags tag es os) [] new
 
+-- ends an execution of a tag whose block has joined
 abbrev pub EndsRegion : RegionTable → RegionTable → (tag count path heavy : ℕ) → Type 0
 EndsRegion old new tag count path heavy =
     (burden : Burden) (along : Readings burden) (tags : Tags) (busy : ℕ → ℕ) (os : List Open) (before es : List Event)

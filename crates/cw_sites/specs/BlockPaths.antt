@@ -14,6 +14,7 @@ abbrev pub now_of : BlockPath → Path
 now_of (Straight n) = n
 now_of (Split b l n) = n
 
+-- extends the current path
 abbrev pub extended : Path → BlockPath → BlockPath
 extended p (Straight n) = Straight (plus n p)
 extended p (Split b l n) = Split b l (plus n p)
@@ -23,6 +24,7 @@ abbrev pub longest_of : Bool → (base longest now child : Path) → BlockPath
 longest_of true b l n c = Split (plus b n) (Some c) nowhere
 longest_of false b l n c = Split b (Some l) n
 
+-- a spawned child with this path ended
 abbrev pub child_ended : Path → BlockPath → BlockPath
 child_ended c (Straight n) = Split n (Some c) nowhere
 child_ended c (Split b None n) = Split (plus b n) (Some c) nowhere
@@ -33,16 +35,18 @@ abbrev pub finished : BlockPath → Path
 finished (Straight n) = n
 finished (Split b l n) = plus b (best l n)
 
+-- the block joins
 abbrev pub joins : BlockPath → BlockPath
 joins L = Straight (finished L)
 
--- the paths after one event, and after a list of events
+-- the paths after one event
 abbrev pub after : (site here : ℕ) → BlockPath → Event → BlockPath
 after site here L (Work k) = extended (steps_of site here k) L
 after site here L (Series t) = extended (chosen site here t) L
 after site here L (Fork t) = child_ended (chosen site here t) L
 after site here L Join = joins L
 
+-- the paths after a list of events
 abbrev pub after_all : (site here : ℕ) → BlockPath → List Event → BlockPath
 after_all site here L [] = L
 after_all site here L (e ∷ events) = after_all site here (after site here L e) events

@@ -9,12 +9,15 @@ pub record Path : Type 0 where
   pub weight : ℕ
   pub own : ℕ
 
+-- the empty path
 abbrev pub nowhere : Path
 nowhere = record { weight = 0; own = 0 }
 
+-- a path followed by another
 abbrev pub plus : Path → Path → Path
 plus a b = record { weight = a.weight + b.weight; own = a.own + b.own }
 
+-- the second path if the test is true, otherwise the first
 abbrev pub choose : Bool → Path → Path → Path
 choose true a b = b
 choose false a b = a
@@ -44,15 +47,18 @@ pub data PathCounters : Type 0 where
   Unsynced : (longest : Option Path) (continuation : Path) → PathCounters
   Synced : (prefix : Path) (longest : Option Path) (continuation : Path) → PathCounters
 
+-- the longest child of a later piece, after a path
 abbrev pub later : Path → Option Path → Option Path
 later by None = None
 later by (Some l) = Some (plus by l)
 
+-- the heavier of two optional paths; the first if their weights are equal
 abbrev pub either : Option Path → Option Path → Option Path
 either None m = m
 either (Some l) None = Some l
 either (Some l) (Some m) = Some (heavier l m)
 
+-- the heavier of an optional path and a path; the first if their weights are equal
 abbrev pub best : Option Path → Path → Path
 best None p = p
 best (Some l) p = heavier l p
@@ -64,19 +70,23 @@ onward (Unsynced l k) (Synced p l' k') = Synced (best l (plus k p)) l' k'
 onward (Synced p l k) (Unsynced l' k') = Synced p (either l (later k l')) (plus k k')
 onward (Synced p l k) (Synced p' l' k') = Synced p (later (best l (plus k p')) l') (plus (best l (plus k p')) k')
 
+-- the counters of an empty piece
 abbrev pub fresh : PathCounters
 fresh = Unsynced None nowhere
 
+-- the chosen path of a piece
 abbrev pub reading : PathCounters → Path
 reading (Unsynced l k) = best l k
 reading (Synced p l k) = plus p (best l k)
 
+-- the counters of one event
 abbrev pub of_event : (site here : ℕ) → Event → PathCounters
 of_event site here (Work k) = Unsynced None (steps_of site here k)
 of_event site here (Series t) = Unsynced None (chosen site here t)
 of_event site here (Fork t) = Unsynced (Some (chosen site here t)) nowhere
 of_event site here Join = Synced nowhere None nowhere
 
+-- the counters of a list of events
 abbrev pub of_events : (site here : ℕ) → List Event → PathCounters
 of_events site here [] = fresh
 of_events site here (e ∷ events) = onward (of_event site here e) (of_events site here events)

@@ -15,6 +15,7 @@ pub record IsAddedUp (from to : ℕ) (old new : List Steps) (end : ℕ) : Type 0
   pub same : (q : ℕ) → upto q old to - upto q old from < 2 ^ 64 → upto q new end ≡ upto q old to
   pub last : (q : ℕ) → whole q new + upto q old to ≡ upto q new end + whole q old
 
+-- the steps from one place up to another, if these are places of the list, were merged
 abbrev pub AddsUpWithin : (from to : ℕ) → List Steps → List Steps → (end : ℕ) → Type 0
 AddsUpWithin from to old new end = from ≤ to → to ≤ length old → IsAddedUp from to old new end
 
@@ -22,6 +23,7 @@ AddsUpWithin from to old new end = from ≤ to → to ≤ length old → IsAdded
 abbrev pub CountsOn : (to : ℕ) → List Steps → List Steps → (end : ℕ) → Type 0
 CountsOn to old new end = to ≤ length old → length new + to ≡ length old + end
 
+-- the sums of all sites over the steps from one place up to another, if these are places of the list
 abbrev pub SumsUpWithin : (from to : ℕ) → List Steps → (sums : List ℕ) → Type 0
 SumsUpWithin from to steps sums = from ≤ to → to ≤ length steps → SumsUp from to steps sums
 

@@ -61,6 +61,7 @@ PathsAreMetered = (site base : ℕ) → Meters span (path_in site base)
 abbrev pub QuietPartsNeedNoCall : Type 0
 QuietPartsNeedNoCall = (base : ℕ) (busy : ℕ → ℕ) (os : List Open) (table : SiteTable) → QuietParts base busy os table
 
+-- for every site, `RunsAreShown` holds
 abbrev pub AllRunsAreShown : Type 0
 AllRunsAreShown = (site base : ℕ) → RunsAreShown site base
 

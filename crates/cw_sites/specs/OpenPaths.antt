@@ -12,6 +12,7 @@ abbrev pub inside : Option Mark → ℕ → ℕ
 inside None here = here
 inside (Some m) here = site_inside m here
 
+-- the site of the innermost invocation of a run so far
 abbrev pub here_in : (base : ℕ) → List Open → ℕ
 here_in base [] = base
 here_in base (o ∷ os) = inside o.mark (here_in base os)
@@ -39,10 +40,12 @@ RestsOn below L [] = ⊥
 RestsOn below (Straight n) (p ∷ ps) = (p.base ≡ n) × (p.longest ≡ None) × (p.rest ≡ nowhere) × below ps
 RestsOn below (Split b l n) (p ∷ ps) = (p.base ≡ b) × (p.longest ≡ l) × (p.rest ≡ n) × below ps
 
+-- the blocks below a part: its block's child is running if the part was spawned
 abbrev pub LiesUnder : (spawned : Bool) → (below : List SeenBlock → Type 0) → BlockPath → List SeenBlock → Type 0
 LiesUnder true below L ps = RestsOn below L ps
 LiesUnder false below L ps = StandsOn below L ps
 
+-- the blocks below all open parts
 abbrev pub Under : (site base : ℕ) → List Open → List SeenBlock → Type 0
 Under site base [] ps = ps ≡ []
 Under site base (o ∷ os) ps = LiesUnder o.spawned (Under site base os) (block_path site base os o.outer) ps

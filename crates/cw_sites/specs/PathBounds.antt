@@ -14,6 +14,7 @@ most_steps most = 2 * most + 64
 abbrev pub IsShortBlock : (count : ℕ) → Block → Type 0
 IsShortBlock count f = (f.mid ≤ f.from + count) × (f.end ≤ f.mid + count) × (f.child ≤ f.end + count)
 
+-- no path of these blocks has more than `count` steps
 abbrev pub AreShort : (count : ℕ) → List Block → Type 0
 AreShort count [] = Unit {0}
 AreShort count (f ∷ fs) = IsShortBlock count f × AreShort count fs
@@ -44,10 +45,11 @@ pub record IsTightWith (most : ℕ) (paths : Paths) (f : Block) : Type 0 where
   pub block : IsShortBlock (most_steps most + 1) f
   pub now : length paths.steps.items ≤ paths.start + (most_steps most + 1)
 
--- the current path is brought within its limit; it grows by one step; both
+-- the current path is brought within its limit
 abbrev pub ComesToFit : Paths → Paths → Type 0
 ComesToFit old new = (room most : ℕ) → IsBoundedBy room most old → IsBoundedBy (most_steps most) most new
 
+-- the current path grows by at most one step
 abbrev pub GrowsAt : (site : ℕ) → Paths → Paths → Type 0
 GrowsAt site old new = (room most : ℕ) → site < most → IsBoundedBy room most old → IsBoundedBy (room + 1) most new
 
@@ -56,26 +58,31 @@ abbrev pub GrowsWithin : (site : ℕ) → Paths → Paths → Type 0
 GrowsWithin site old new =
     (room most : ℕ) → site < most → most_steps most + 1 ≤ room → IsBoundedBy room most old → IsBoundedBy room most new
 
+-- the current path is brought within its limit, and then grows by at most one step
 abbrev pub FitsAt : (site : ℕ) → Paths → Paths → Type 0
 FitsAt site old new = (room most : ℕ) → site < most → IsBoundedBy room most old → IsTight most new
 
--- a spawn and the end of a child keep the bound; a join concatenates two paths
+-- a spawn and the end of a child keep the tight bound
 abbrev pub StaysTight : Paths → Paths → Type 0
 StaysTight old new = (most : ℕ) → IsTight most old → IsTight most new
 
+-- a join concatenates two paths
 abbrev pub JoinsTight : Paths → Paths → Type 0
 JoinsTight old new = (most : ℕ) → IsTight most old → IsBounded most new
 
+-- the tight bound is kept, with the innermost block outside of the list before
 abbrev pub StaysTightWith : Paths → Block → Paths → Type 0
 StaysTightWith old f new = (most : ℕ) → IsTightWith most old f → IsTight most new
 
+-- a join concatenates two paths, with the innermost block outside of the list before
 abbrev pub JoinsTightWith : Paths → Block → Paths → Type 0
 JoinsTightWith old f new = (most : ℕ) → IsTightWith most old f → IsBounded most new
 
--- the bound is kept if the added steps are of sites below the same number
+-- the tight bound is kept if the added steps are of sites below the same number
 abbrev pub StaysTightBeside : List Steps → Paths → Paths → Type 0
 StaysTightBeside steps old new = (most : ℕ) → AllBelow most steps → IsTight most old → IsTight most new
 
+-- the tight bound holds afterwards if the added steps are of sites below the same number
 abbrev pub FitsBeside : List Steps → Paths → Paths → Type 0
 FitsBeside steps old new = (room most : ℕ) → AllBelow most steps → IsBoundedBy room most old → IsTight most new
 
@@ -90,6 +97,7 @@ pub record IsShortBase (most : ℕ) (paths : Paths) (from mid : ℕ) : Type 0 wh
   pub limit : paths.limit ≤ most_steps most
   pub base : mid ≤ from + (most_steps most + 1)
 
+-- the base of a block stays within its bound when it takes a continuation in
 abbrev pub StaysShort : Paths → Paths → Block → (mid : ℕ) → Type 0
 StaysShort old new f mid =
     LaidWith old f → (most : ℕ) → AllBelow most old.steps.items → old.limit ≤ most_steps most

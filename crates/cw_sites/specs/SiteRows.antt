@@ -12,9 +12,11 @@ use Rattle.cw_sites.specs.declared.rows.Kept.{Kept}
 use Rattle.cw_sites.specs.declared.rows.Rows.{Rows}
 use Rattle.cw_sites.specs.OpenPaths.{here_in, path_in}
 
+-- the row of a site that was not met
 abbrev pub zero_row : Row
 zero_row = record { calls = 0; own = 0; work = 0; span = 0; active = 0; at_work = 0; at_path = 0 }
 
+-- the entry of a site that was not met
 abbrev pub none_kept : Kept
 none_kept = record { row = zero_row; place = 0 }
 
@@ -22,10 +24,11 @@ none_kept = record { row = zero_row; place = 0 }
 unfoldable pub further_of : Pages Kept → ℕ → Kept
 further_of further site = item none_kept further site
 
--- the entry of a site, and its row; zeros if the site was not met
+-- the entry of a site; zeros if the site was not met
 abbrev pub kept_of : Rows → ℕ → Kept
 kept_of rows site = slice_index_or rows.by_site.items site (further_of rows.further site)
 
+-- the row of a site
 abbrev pub row_of : Rows → ℕ → Row
 row_of rows site = (kept_of rows site).row
 
@@ -65,6 +68,7 @@ entered_at false count path r =
       at_path = r.at_path;
     }
 
+-- an invocation begins; the first open one sets the start
 abbrev pub entered : (count path : ℕ) → Row → Row
 entered count path r = entered_at (r.active == 0) count path r
 
@@ -91,26 +95,30 @@ left_at false count path r =
       at_path = r.at_path;
     }
 
+-- an invocation ends; the last open one is added to the sums
 abbrev pub left : (count path : ℕ) → Row → Row
 left count path r = left_at (r.active == 1) count path r
 
--- the number of invocations of a site, and the instructions of these invocations themselves
+-- the number of invocations of a site in a run so far
 abbrev pub calls_in : (site : ℕ) → List Open → List Event → ℕ
 calls_in site [] es = calls_of site (tree_of es)
 calls_in site (o ∷ os) es =
     calls_of site (tree_of es) + (one_if (is_counted (is_site site) o.mark) + calls_in site os o.outer)
 
+-- the instructions of a site itself in a tree
 abbrev pub own_tree : (site here : ℕ) → Tree → ℕ
 own_tree site here t = weight_of_site site (leaves here t)
 
+-- the instructions of a site itself in a run so far
 abbrev pub own_in : (site base : ℕ) → List Open → List Event → ℕ
 own_in site base [] es = own_tree site base (tree_of es)
 own_in site base (o ∷ os) es = own_tree site (here_in base (o ∷ os)) (tree_of es) + own_in site base os o.outer
 
--- the tallies of a row: the work and the span of its outermost invocations
+-- the tally of the work in a row
 abbrev pub work_tally : Row → Tally
 work_tally r = record { sum = r.work; active = r.active; began = r.at_work }
 
+-- the tally of the span in a row
 abbrev pub span_tally : Row → Tally
 span_tally r = record { sum = r.span; active = r.active; began = r.at_path }
 
@@ -133,10 +141,11 @@ pub record FitsRow (r : Row) : Type 0 where
 abbrev pub IsWhereItFits : (wanted row : Row) → Type 0
 IsWhereItFits wanted row = FitsRow wanted → row ≡ wanted
 
--- the row of one site becomes this row, if its sums fit, and the rows of other sites are unchanged
+-- the row of one site becomes this row, if its sums fit
 abbrev pub Becomes : (Row → Row) → Rows → Rows → (site : ℕ) → Type 0
 Becomes f old new site = FitsRow (f (row_of old site)) → row_of new site ≡ f (row_of old site)
 
+-- the rows of other sites are unchanged
 abbrev pub OthersStay : Rows → Rows → (site : ℕ) → Type 0
 OthersStay old new site = (q : ℕ) → (site == q) ≡ false → row_of new q ≡ row_of old q
 
@@ -178,13 +187,15 @@ JoinsOn piece from to old new =
     (ours : Rows) → JoinsBelow piece (max (length piece.by_site.items) from) ours old
     → JoinsBelow piece (max (length piece.by_site.items) to) ours new
 
--- adds the rows of the piece's vector, of the pages of a shelf, and of one page
+-- adds the rows of the piece's vector
 abbrev pub JoinsFirsts : (piece : Rows) → Rows → Rows → Type 0
 JoinsFirsts piece old new = JoinsBelow piece (length piece.by_site.items) old new
 
+-- adds the rows of the pages of a shelf
 abbrev pub JoinsShelf : (piece : Rows) → (shelf : ℕ) → Rows → Rows → Type 0
 JoinsShelf piece shelf old new = JoinsOn piece (shelf * 2048) (shelf * 2048 + 2048) old new
 
+-- adds the rows of a page
 abbrev pub JoinsPage : (piece : Rows) → (shelf page : ℕ) → Rows → Rows → Type 0
 JoinsPage piece shelf page old new = JoinsOn piece (shelf * 2048 + page * 64) (shelf * 2048 + page * 64 + 64) old new
 

@@ -13,6 +13,7 @@ use Rattle.cw_sites.specs.StrandPaths.{appends, appends_block, whole as all_of}
 abbrev pub part : (site : ℕ) → List Steps → (from to weight : ℕ) → Path
 part site steps from to weight = record { weight = weight; own = upto site steps to - upto site steps from }
 
+-- an open block, with the instructions of one site
 abbrev pub seen : (site : ℕ) → List Steps → Block → SeenBlock
 seen site steps f =
     record {
@@ -21,10 +22,12 @@ seen site steps f =
       rest = part site steps f.end f.child f.rest;
     }
 
+-- open blocks, the innermost first, with the instructions of one site
 abbrev pub seen_blocks : (site : ℕ) → List Steps → List Block → List SeenBlock → List SeenBlock
 seen_blocks site steps [] ps = ps
 seen_blocks site steps (f ∷ fs) ps = seen_blocks site steps fs (seen site steps f ∷ ps)
 
+-- the paths of a strand, with the instructions of one site
 abbrev pub strand_path : (site : ℕ) → Paths → StrandPath
 strand_path site r =
     record {
@@ -36,10 +39,12 @@ strand_path site r =
 abbrev pub InOrder : Block → Type 0
 InOrder f = (f.from ≤ f.mid) × (f.mid ≤ f.end) × (f.end ≤ f.child)
 
+-- the parts of blocks are consecutive, from a place up to another
 abbrev pub LaidFrom : ℕ → List Block → ℕ → Type 0
 LaidFrom lo [] hi = lo ≡ hi
 LaidFrom lo (f ∷ fs) hi = (lo ≡ f.from) × InOrder f × LaidFrom f.child fs hi
 
+-- the parts of all blocks are consecutive, and the current path follows them
 pub record Laid (r : Paths) : Type 0 where
   pub blocks : LaidFrom 0 r.blocks.items r.start
   pub start : r.start ≤ length r.steps.items
@@ -95,6 +100,7 @@ pub record Gathers (old new : List Steps) (f : Block) (mid : ℕ) : Type 0 where
       → upto q new mid + upto q old f.end ≡ upto q old f.mid + upto q old f.child
   pub child : (q : ℕ) → whole q new + upto q old f.child ≡ upto q new mid + whole q old
 
+-- the base of a block was extended to `mid`, if the parts of the blocks were in order
 abbrev pub GathersBase : Paths → Paths → Block → (mid : ℕ) → Type 0
 GathersBase old new f mid = LaidWith old f → Gathers old.steps.items new.steps.items f mid
 
@@ -118,6 +124,7 @@ ExtendsAt place old new count =
 abbrev pub Comes : (StrandPath → StrandPath) → Paths → Paths → Type 0
 Comes f old new = Laid old → (q : ℕ) → strand_path q new ≡ f (strand_path q old)
 
+-- the effect of a call on the paths, for each site whose paths fit 64 bits
 abbrev pub ComesWithin : (StrandPath → StrandPath) → Paths → Paths → Type 0
 ComesWithin f old new =
     Laid old → (q : ℕ) → Fits (all_of (strand_path q old)) → strand_path q new ≡ f (strand_path q old)
@@ -130,10 +137,12 @@ TakesChild old new f =
     ≡ takes (seen q old.steps.items f).base (seen q old.steps.items f).rest (strand_path q old).now
     (strand_path q old).blocks
 
+-- the current child was dropped, with the innermost block outside of the list
 abbrev pub LetsChildGo : Paths → Paths → Block → Type 0
 LetsChildGo old new f =
     LaidWith old f → (q : ℕ) → strand_path q new ≡ goes_on (seen q old.steps.items f) (strand_path q old).blocks
 
+-- the innermost block joined, which is outside of the list
 abbrev pub JoinsBlock : Paths → Paths → Block → Type 0
 JoinsBlock old new f =
     LaidWith old f → (q : ℕ) → f.base + old.weight < 2 ^ 64
@@ -145,6 +154,7 @@ JoinsBlock old new f =
       blocks = (strand_path q old).blocks;
     }
 
+-- the innermost block joined on the continuation, without its longest child
 abbrev pub ClosesBlock : Paths → Paths → Block → Type 0
 ClosesBlock old new f =
     LaidWith old f → (q : ℕ) → f.base + old.weight < 2 ^ 64

@@ -65,6 +65,7 @@ GrowsSteps place count old new =
 abbrev pub StaysBelow : List Steps → List Steps → Type 0
 StaysBelow old new = (most : ℕ) → AllBelow most old → AllBelow most new
 
+-- if all steps and this site are below a number, all steps still are
 abbrev pub StaysBelowWith : (site : ℕ) → List Steps → List Steps → Type 0
 StaysBelowWith site old new = (most : ℕ) → site < most → AllBelow most old → AllBelow most new
 
@@ -81,6 +82,7 @@ pub record IsCutOut (from to : ℕ) (old new : List Steps) : Type 0 where
   pub below : (q n : ℕ) → n ≤ from → upto q new n ≡ upto q old n
   pub all : (q : ℕ) → whole q new + upto q old to ≡ upto q old from + whole q old
 
+-- a part was removed, if it is a part of the list
 abbrev pub CutsOut : (from to : ℕ) → List Steps → List Steps → Type 0
 CutsOut from to old new = from ≤ to → to ≤ length old → IsCutOut from to old new
 
@@ -93,13 +95,15 @@ pub record IsClosedUp (from to end : ℕ) (old new : List Steps) (mid : ℕ) : T
   pub first : (q : ℕ) → upto q new mid + upto q old to ≡ upto q old from + upto q old end
   pub last : (q : ℕ) → whole q new + upto q old end ≡ upto q new mid + whole q old
 
+-- a part before a path was removed, if it is a part of the list
 abbrev pub ClosesUp : (from to end : ℕ) → List Steps → List Steps → (mid : ℕ) → Type 0
 ClosesUp from to end old new mid = from ≤ to → to ≤ end → end ≤ length old → IsClosedUp from to end old new mid
 
--- steps outside of a part stay at their places, as far as the list goes; so at most the length of the part is written
+-- the place is outside of a part
 abbrev pub IsOutside : (from to place : ℕ) → Type 0
 IsOutside from to place = (place < from) ⊎ (to ≤ place)
 
+-- steps outside of one part stay at their places, as far as the list goes; at most the length of the part is written
 abbrev pub WritesWithin : (from to : ℕ) → List Steps → List Steps → Type 0
 WritesWithin from to old new =
     (place : ℕ) (d : Steps) → IsOutside from to place → place < length new
@@ -111,6 +115,7 @@ WritesWithinTwo from to mid end old new =
     (place : ℕ) (d : Steps) → IsOutside from to place → IsOutside mid end place → place < length new
     → slice_index_or new place d ≡ slice_index_or old place d
 
+-- at most twice the length of the removed part is written
 abbrev pub WritesTwice : (from to end : ℕ) → List Steps → List Steps → (mid : ℕ) → Type 0
 WritesTwice from to end old new mid =
     from ≤ to → to ≤ end → end ≤ length old → (end - mid ≡ to - from) × WritesWithinTwo from to mid end old new

@@ -18,15 +18,17 @@ pub record StrandPath : Type 0 where
 abbrev pub nothing_run : StrandPath
 nothing_run = record { now = nowhere; blocks = [] }
 
--- the sum of all paths, which must fit
+-- the longest child, or the empty path if there is none
 abbrev pub longest_path : Option Path → Path
 longest_path None = nowhere
 longest_path (Some l) = l
 
+-- the sum of all paths of these blocks
 abbrev pub sum_of : List SeenBlock → Path
 sum_of [] = nowhere
 sum_of (p ∷ ps) = plus (plus p.base (plus (longest_path p.longest) p.rest)) (sum_of ps)
 
+-- the sum of all paths of a strand
 abbrev pub whole : StrandPath → Path
 whole t = plus t.now (sum_of t.blocks)
 
@@ -39,6 +41,7 @@ abbrev pub resting : Path → List SeenBlock → List SeenBlock
 resting n [] = []
 resting n (p ∷ ps) = record { base = p.base; longest = p.longest; rest = n } ∷ ps
 
+-- a further spawn of the innermost block that has spawned
 abbrev pub again : StrandPath → StrandPath
 again t = record { now = nowhere; blocks = resting t.now t.blocks }
 
@@ -52,14 +55,17 @@ abbrev pub takes : (base rest child : Path) → List SeenBlock → StrandPath
 takes base rest child ps =
     record { now = nowhere; blocks = record { base = plus base rest; longest = Some child; rest = nowhere } ∷ ps }
 
+-- the current child does not become the longest: its path is dropped
 abbrev pub keeps : (base longest rest : Path) → List SeenBlock → StrandPath
 keeps base longest rest ps =
     record { now = rest; blocks = record { base = base; longest = Some longest; rest = nowhere } ∷ ps }
 
+-- the current child becomes the longest if the test is true
 abbrev pub chooses : Bool → (base longest rest child : Path) → List SeenBlock → StrandPath
 chooses true base l rest child ps = takes base rest child ps
 chooses false base l rest child ps = keeps base l rest ps
 
+-- the current spawned child ended, in a block with these paths
 abbrev pub ends_at : (base : Path) → Option Path → (rest child : Path) → List SeenBlock → StrandPath
 ends_at base None rest child ps = takes base rest child ps
 ends_at base (Some l) rest child ps = chooses (nat_lt l.weight (rest.weight + child.weight)) base l rest child ps
@@ -102,9 +108,11 @@ abbrev pub appends_block : (first : Bool) → (base : Path) → Option Path → 
 appends_block first base None now t = extends_by now (extends_by base t)
 appends_block first base (Some l) now t = extends_by now (forks first l (extends_by base t))
 
+-- appends a piece with this current path and these blocks
 abbrev pub appends_at : (first : Bool) → (now : Path) → List SeenBlock → StrandPath → StrandPath
 appends_at first now [] t = extends_by now t
 appends_at first now (p ∷ ps) t = appends_block first p.base p.longest now t
 
+-- appends a piece
 abbrev pub appends : (first : Bool) → (piece t : StrandPath) → StrandPath
 appends first piece t = appends_at first piece.now piece.blocks t

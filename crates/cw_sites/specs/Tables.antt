@@ -29,10 +29,11 @@ pub record Tells (base : ℕ) (busy : ℕ → ℕ) (os : List Open) (es : List E
   pub noted_is : table.noted ≡ work_in os es
   pub here_is : table.here ≡ here_in base os
 
--- a plain call, and a spawned call, after these events
+-- a plain call begins after these events
 abbrev pub called : (site : ℕ) → List Event → List Open → List Open
 called site es os = in_series (Some (Invocation site)) es os
 
+-- a spawned call begins after these events
 abbrev pub spawned : (site : ℕ) → List Event → List Open → List Open
 spawned site es os = in_fork (Some (Invocation site)) es os
 
@@ -52,6 +53,7 @@ pub record Flushed (old new : SiteTable) (count : ℕ) : Type 0 where
   pub noted_is : new.noted ≡ count
   pub here_is : new.here ≡ old.here
 
+-- the row of a site after an invocation began; nothing else changes but the current site
 pub record RowBegun (old new : SiteTable) (site path : ℕ) : Type 0 where
   pub own : FitsRow (entered old.noted path (row_of old.rows site))
       → row_of new.rows site ≡ entered old.noted path (row_of old.rows site)
@@ -60,6 +62,7 @@ pub record RowBegun (old new : SiteTable) (site path : ℕ) : Type 0 where
   pub noted_is : new.noted ≡ old.noted
   pub here_is : new.here ≡ site
 
+-- the row of the current site after its invocation ended; nothing else changes but the current site
 pub record RowLeft (old new : SiteTable) (outer : ℕ) : Type 0 where
   pub own : FitsRow (left old.noted (strand_path 0 old.paths).now.weight (row_of old.rows old.here))
       → row_of new.rows old.here ≡ left old.noted (strand_path 0 old.paths).now.weight (row_of old.rows old.here)
@@ -90,19 +93,21 @@ pub record QuietParts (base : ℕ) (busy : ℕ → ℕ) (os : List Open) (table 
       → Tells base busy (in_series mark outer os) es table
       → Tells base busy os (closed (record { spawned = false; mark = mark; outer = outer }) es) table
 
--- the effect of each method: a table that represents a run represents the run after the events
+-- includes the instructions up to a count: a table that represents a run represents the run after the events
 abbrev pub Notes : SiteTable → SiteTable → (count : ℕ) → Type 0
 Notes old new count =
     (base : ℕ) (busy : ℕ → ℕ) (os : List Open) (es fs : List Event) → Since old.noted count es fs
     → Small busy os (es ++ fs)
     → Tells base busy os es old → Tells base busy os (es ++ fs) new
 
+-- begins a plain call
 abbrev pub Enters : SiteTable → SiteTable → (count site : ℕ) → Type 0
 Enters old new count site =
     (base : ℕ) (busy : ℕ → ℕ) (os : List Open) (es fs : List Event) → Since old.noted count es fs
     → Small busy (called site (es ++ fs) os) []
     → Tells base busy os es old → Tells base busy (called site (es ++ fs) os) [] new
 
+-- begins a spawned call
 abbrev pub Spawns : SiteTable → SiteTable → (count site : ℕ) → (first : Bool) → Type 0
 Spawns old new count site first =
     (base : ℕ) (busy : ℕ → ℕ) (os : List Open) (es fs : List Event) → Since old.noted count es fs
@@ -110,6 +115,7 @@ Spawns old new count site first =
     → Small busy (spawned site (es ++ fs) os) [] → Tells base busy os es old
     → Tells base busy (spawned site (es ++ fs) os) [] new
 
+-- ends a plain call, whose block has joined
 abbrev pub Leaves : SiteTable → SiteTable → (count outer : ℕ) → Type 0
 Leaves old new count outer =
     (base : ℕ) (busy : ℕ → ℕ) (os : List Open) (before es fs : List Event) (site : ℕ) → Since old.noted count es fs
@@ -119,6 +125,7 @@ Leaves old new count outer =
     → Tells base busy os (closed (record { spawned = false; mark = Some (Invocation site); outer = before }) (es ++ fs))
     new
 
+-- ends a spawned call, whose block has joined
 abbrev pub EndsChild : SiteTable → SiteTable → (count outer : ℕ) → Type 0
 EndsChild old new count outer =
     (base : ℕ) (busy : ℕ → ℕ) (os : List Open) (before es fs : List Event) (site : ℕ) → Since old.noted count es fs
@@ -128,6 +135,7 @@ EndsChild old new count outer =
     → Tells base busy os (closed (record { spawned = true; mark = Some (Invocation site); outer = before }) (es ++ fs))
     new
 
+-- joins a block that has spawned
 abbrev pub Joins : SiteTable → SiteTable → (count : ℕ) → Type 0
 Joins old new count =
     (base : ℕ) (busy : ℕ → ℕ) (os : List Open) (es fs : List Event) → Since old.noted count es fs
@@ -147,7 +155,7 @@ ReadsSite table site row =
     → Tells 0 busy [] es table
     → IsRow row (site_row site (tree_of es))
 
--- a spawned part that is not a call, the half of a loop, begins and ends
+-- begins a spawned part that is not a call, the half of a loop
 abbrev pub SpawnsHalf : SiteTable → SiteTable → (count : ℕ) → (first : Bool) → Type 0
 SpawnsHalf old new count first =
     (base : ℕ) (busy : ℕ → ℕ) (mark : Option Mark) (os : List Open) (es fs : List Event) → IsQuiet mark
@@ -155,6 +163,7 @@ SpawnsHalf old new count first =
     → has_spawned es ≡ not first → Small busy os (es ++ fs) → Tells base busy os es old
     → Tells base busy (in_fork mark (es ++ fs) os) [] new
 
+-- ends a spawned part that is not a call, the half of a loop
 abbrev pub EndsHalf : SiteTable → SiteTable → (count : ℕ) → Type 0
 EndsHalf old new count =
     (base : ℕ) (busy : ℕ → ℕ) (mark : Option Mark) (os : List Open) (before es fs : List Event) → IsQuiet mark
@@ -180,6 +189,7 @@ pub record IsTightTable (most : ℕ) (table : SiteTable) : Type 0 where
   pub paths : IsTight most table.paths
   pub here : table.here < most
 
+-- the bound is tight after the instructions so far were included
 abbrev pub FlushesBounded : SiteTable → SiteTable → Type 0
 FlushesBounded old new = (most : ℕ) → IsBoundedTable most old → IsTightTable most new
 

@@ -12,5 +12,6 @@ CostIsWork (TrapIn trap line lines cost) = Unit {0}
 CostIsWork OverLimit = Unit {0}
 CostIsWork Memory = Unit {0}
 
+-- each effect that means a job satisfies `CostIsWork`
 abbrev pub CostsAreWork : Type 0
 CostsAreWork = (code : Code) (job : Job) (e : Effect) → JobMeaning code job e → CostIsWork e

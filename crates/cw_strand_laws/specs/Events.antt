@@ -22,6 +22,7 @@ pub data Event : Type 0 where
   GiveUp : (worker : ℕ) → ℕ → Event
   TakeBack : ℕ → Event
 
+-- the world after an advance of a strand; no world if the strand cannot advance
 abbrev pub advanced : World → (i worker : ℕ) → List ℕ → Advanced → Option World
 advanced world i worker outs (Ran new) = Some (placed world i (Runs worker new outs))
 advanced world i worker outs (Handed out new) =
@@ -59,9 +60,11 @@ abbrev pub with_job : Option Job → Option Place → (Job → Place → Option 
 with_job (Some job) (Some place) go = go job place
 with_job _ _ go = None
 
+-- with the job of a number and its place, if the number exists
 abbrev pub at : World → ℕ → (Job → Place → Option World) → Option World
 at world i go = with_job (slice_get world.jobs i) (slice_get world.places i) go
 
+-- the world after an event at a job with this place; no world if the event is impossible there
 abbrev pub happens : Code → World → Event → Job → Place → Option World
 happens code world (Advance i) job (Runs worker strand outs) = advanced world i worker outs (advance code job strand)
 happens code world (Offer i) job (Undecided worker) = Some (placed world i (Offered worker))
@@ -94,9 +97,11 @@ number_of (Want i) = i
 number_of (GiveUp worker i) = i
 number_of (TakeBack i) = i
 
+-- the world after an event; no world if the event is impossible
 abbrev pub apply : Code → World → Event → Option World
 apply code world event = at world (number_of event) (λ job place. happens code world event job place)
 
+-- the world after an event, if there is a world before it
 abbrev pub and_apply : Code → Event → Option World → Option World
 and_apply code event None = None
 and_apply code event (Some world) = apply code world event
@@ -117,10 +122,12 @@ abbrev pub and_answered : Code → Option Effect → Option Answer
 and_answered code None = None
 and_answered code (Some e) = answered code e
 
+-- the effect at a place, if it was made and not yet given
 abbrev pub effect_at : Option Place → Option Effect
 effect_at None = None
 effect_at (Some place) = effect_in place
 
+-- the answer of the root's effect in a world, if it was made
 abbrev pub outcome : Code → Option World → Option Answer
 outcome code None = None
 outcome code (Some world) = and_answered code (effect_at (slice_get world.places 0))

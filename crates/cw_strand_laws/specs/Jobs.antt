@@ -42,6 +42,7 @@ pub record Standing : Type 0 where
   pub arrays : Slots (List ℤ)
   pub readers : Readers
 
+-- the call of a state at a join, after its pending results went back into their slots
 abbrev pub standing : State → Standing
 standing s =
     record {
@@ -61,6 +62,7 @@ pub data Came : Type 0 where
   Beyond : Came
   Lost : Came
 
+-- the result of a run after a step: from the next state, or at once if the step ended the run, trapped or is stuck
 abbrev pub moved : Transition → ℕ → (State → Came) → Came
 moved (On s) left next = next s
 moved (Ends v arrays t) left next = Returns v arrays t left

@@ -28,6 +28,7 @@ pub record IsOutAt (limit bound : ℕ) (w : Waiting) (out : Job) : Type 0 where
   pub low : out.before ≤ bound
   pub none : w.operands ≡ []
 
+-- the jobs out at a waiting caller: one more than below it if the call was spawned
 abbrev pub OutAt : (limit bound : ℕ) → Waiting → CallKind → (List Job → Type 0) → List Job → Type 0
 OutAt limit bound w Plain below outs = below outs
 OutAt limit bound w Spawned below [] = ⊥
@@ -46,6 +47,7 @@ pub record IsOutHere (limit bound : ℕ) (s : State) (out : Job) : Type 0 where
   pub low : out.before ≤ bound
   pub none : s.operands ≡ []
 
+-- the jobs out of a strand whose spawned call has ended
 abbrev pub OutsHere : (limit bound : ℕ) → State → List Job → Type 0
 OutsHere limit bound s [] = ⊥
 OutsHere limit bound s (out ∷ outs) = IsOutHere limit bound s out × Outs limit bound s.around outs

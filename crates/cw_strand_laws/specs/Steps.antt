@@ -27,12 +27,14 @@ abbrev pub finished : List Job → Effect → Advanced
 finished [] e = Finished e
 finished (out ∷ outs) e = Unfit
 
+-- the result of an advance to a next state, by the effect of the instruction on the strand
 abbrev pub turned : Turn → (from to : State) → (limit before count : ℕ) → List Job → Advanced
 turned Goes from to limit before count outs = Ran (Going to count outs)
 turned (HandsOut target taken) from to limit before count outs =
     let out = spawn_job from target taken limit (before + count) in Handed out (Going to count (out ∷ outs))
 turned ComesBack from to limit before count outs = Ran (Waits to count outs)
 
+-- the result of an advance, by the result of the instruction
 abbrev pub went_on : Turn → State → Transition → (limit before count : ℕ) → List Job → Advanced
 went_on turn from (On s) limit before count outs = turned turn from s limit before count outs
 went_on turn from (Ends v arrays t) limit before count outs = finished outs (Ended v arrays t count)

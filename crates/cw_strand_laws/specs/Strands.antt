@@ -62,10 +62,12 @@ pub data Turn : Type 0 where
   HandsOut : (target : Option ℕ) → List Taken → Turn
   ComesBack : Turn
 
+-- the end of a spawned call brings the strand back to its spawner
 abbrev pub turn_back : CallKind → Turn
 turn_back Plain = Goes
 turn_back Spawned = ComesBack
 
+-- the effect on the strand of a return, by the enclosing call
 abbrev pub turn_in : List Around → Turn
 turn_in (Caller w ∷ around) = turn_back w.kind
 turn_in _ = Goes
@@ -75,6 +77,7 @@ abbrev pub turn_call : CallKind → Option ℕ → List Taken → Turn
 turn_call Plain target taken = Goes
 turn_call Spawned target taken = HandsOut target taken
 
+-- the effect of an instruction on the strand
 abbrev pub turn_of : Code → Option Instr → List Around → Turn
 turn_of code (Some (instr.Call kind c)) around = turn_call kind c.target (map (λ a. Whole a) (passed_by code c.passed))
 turn_of code (Some (instr.Recur kind c)) around = turn_call kind None (map (λ a. Whole a) (passed_by code c.passed))
@@ -82,6 +85,7 @@ turn_of code (Some instr.ReturnValue) around = turn_in around
 turn_of code (Some instr.Return) around = turn_in around
 turn_of code _ around = Goes
 
+-- the effect on the strand of the instruction at a state
 abbrev pub turn : Code → State → Turn
 turn code s = turn_of code (slice_get code.instrs s.place) s.around
 

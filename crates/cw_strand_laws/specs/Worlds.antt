@@ -38,6 +38,7 @@ effect_in (Made worker e) = Some e
 effect_in (Settled e) = Some e
 effect_in _ = None
 
+-- the strand has stopped
 abbrev pub HasStopped : Strand → Type 0
 HasStopped (Halted e outs) = Unit {0}
 HasStopped _ = ⊥
@@ -48,6 +49,7 @@ IsWaiting (Going s count outs) = ⊥
 IsWaiting (Waits s count outs) = Unit {0}
 IsWaiting (Halted e outs) = Unit {0}
 
+-- a spawned call of the strand has ended, and the strand waits for its continuation
 abbrev pub HasEnded : Strand → Type 0
 HasEnded (Waits s count outs) = Unit {0}
 HasEnded _ = ⊥
@@ -165,5 +167,6 @@ pub record OneOwner (world : World) : Type 0 where
   pub still : (i n worker : ℕ) (job : Job) (strand : Strand) (outs : List ℕ) →
       Has world i job (Runs worker strand outs) → IsAmong n outs → slice_get world.places n ≢ Some Spent
 
+-- after all events, the world satisfies `OneOwner`
 abbrev pub OwnersAreSingle : Type 0
 OwnersAreSingle = (code : Code) (root : Job) (world : World) → After code (world_of root) world → OneOwner world
