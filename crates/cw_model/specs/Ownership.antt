@@ -1,4 +1,4 @@
--- Ownership: the names that spawns and cuts take, the names that spawns only read, and the lines that may not use
+-- Ownership: the names taken by spawns and cuts, the names that spawns only read, and the lines that may not use
 -- them.
 use Rattle.std.specs.Prelude.{◌≡◌, ℕ, ◌+◌, ◌==◌, Bool, true, false, not, ◌&&◌, ◌||◌, if◌then◌else◌, List, [], ◌∷◌}
 use Rattle.std.specs.Prelude.{◌++◌, Option, Some, None, map, filter, flat_map, Contains}
