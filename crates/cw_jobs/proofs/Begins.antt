@@ -92,7 +92,7 @@ module _ (v : Verified) (f : Func) (args : List ℤ) (r : Rest) (ok : Ok v) (fou
   owned : OwnsSlots v ok f.start r.slices.items (arrays_of f [])
   owned a lt = inl (first.empty a (omega (arith, lt, many_arrays))).1
 
-  -- the only slices are those of the slots
+  -- the only slices are the slices of slots
   nowhere_own : (slices : List Placed) (a : ℕ) → length slices ≤ a → IsOwn (placed slices a)
   nowhere_own [] a le = refl
   nowhere_own (p ∷ slices) zero le = absurd (omega (arith, le))

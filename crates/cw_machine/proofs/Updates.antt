@@ -57,7 +57,7 @@ adds_one code s o = acts_both code s s.results s.arrived s.around s.trace (λ o 
     back_within v = returning (Within (suc (length s.trace.updates))) tt s.around v (settled s.arrived s.arrays) (synced s.trace) (λ e. same)
         (λ w others e slots homes results arrived. same)
 
--- a run that ends has added at most as many values as it was given instructions
+-- a run that ends has added at most one value for each instruction that it was given
 pub counted : (code : Code) (n : ℕ) (s : State) (r : Returned) (left : ℕ) (t : Trace) → steps code n s ≡ Some (Done r left t) → length t.updates ≤ length s.trace.updates + n
 counted code zero s r left t e = cc
 counted code (suc n) s r left t e = cases (step code s) (adds_one code s (slice_get code.instrs s.place)) (λ s'. counted code n s' r left t) e
@@ -77,7 +77,7 @@ ReturnsWithin k (Falls trap line lines left) = Unit {0}
 ReturnsWithin k Beyond = Unit {0}
 ReturnsWithin k Lost = Unit {0}
 
--- a whole call reaches no join, and at its end it has added at most as many values as it was given instructions
+-- a whole call reaches no join, and at its end it has added at most one value for each instruction that it was given
 pub travelled : (code : Code) (n : ℕ) (s : State) → ReturnsWithin (length s.trace.updates + n) (travel WholeCall code n s)
 travelled code zero s = tt
 travelled code (suc n) s = cases (step code s) (adds_one code s (slice_get code.instrs s.place)) (λ s'. travelled code n s')

@@ -298,7 +298,7 @@ module _ (v : Verified) (ok : Ok v) (m : Machine) (s : State) (w : Waiting) (aro
   pub round_cells : Round v ok m.cells.items waiting_frame.first (length w.slots) in_cells.1 around
   round_cells = subst (λ (f : Frame). Round v ok m.cells.items f.first (length w.slots) in_cells.1 around) same_frame in_cells.4
 
-  -- the arrays that are cut now, the newest first, are those of the waiting calls
+  -- the arrays that are cut now, the newest first, belong to the waiting calls
   pub cuts_are : reverse m.cuts.items ≡ cut_cells ok.outer waiting_frame.first_array frames_beyond around
   cuts_are = ap reverse shows.cuts ∙ reverse-reverse (cut_cells ok.outer m.first_array (reverse m.frames.items) s.around) ∙ ap (cut_cells ok.outer m.first_array (reverse m.frames.items)) is_waiting
       ∙ ap (λ fs. cut_cells ok.outer m.first_array fs (Caller w ∷ around)) frames_are

@@ -26,7 +26,7 @@ use Rattle.cw_machine.specs.Rests.{lending, AreBare}
 use Rattle.cw_machine.specs.declared.hands.Lender.{Lender}
 
 -- a cell is one of the cells of arrays that are cut, the newest first, before the first one below `first`: the newest
--- belong to the nearest waiting call, and those of older calls are below its first cell
+-- belong to the nearest waiting call, and the cells of older calls are below its first cell
 abbrev pub is_cut_among : (cell first : ℕ) → List ℕ → Bool
 is_cut_among cell first [] = false
 is_cut_among cell first (c ∷ cells) =

@@ -310,7 +310,7 @@ pub record SlotsEnd (m : Machine) (count : ℕ) (back : List Placed) (replaced :
 pub record HasCome (v : Verified) (is : IsFit v) (j : Job) (r : Rest) (m : Machine) (s : State) : Type 0 where
   pub holds : HoldsOf v is j r m s
   pub none : s.around ≡ []
-  -- the call has as many array slots as the job's call, and reads as many arrays
+  -- the call and the job's call have equally many array slots, and read equally many arrays
   pub arrays : length s.arrays ≡ length j.arrays
   pub readers : length s.readers ≡ length j.readers
 

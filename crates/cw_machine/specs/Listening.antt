@@ -101,7 +101,7 @@ pub record IsUnderWay {W : Type 0} (keeps : Keeping W) (v : Verified) (count : �
   pub state : State
   pub shows : ShowsKept keeps v (alone v verified) count m w state
 
--- a run of `main` is under way, whatever is requested of it
+-- a run of `main` is under way, for some request
 pub record IsGoing {A W : Type 0} (keeps : A → Keeping W) (v : Verified) (count : ℕ) (m : Machine) (w : W) : Type 0 where
   pub asked : A
   pub under_way : IsUnderWay (keeps asked) v count m w

@@ -18,7 +18,7 @@ use Rattle.cw_meter_laws.specs.Opens.{is_spawned}
 abbrev pub opens_round : List Around → List Open
 opens_round around = opens.opens_round Main around
 
--- `P` holds for the open parts and the events after a move, or for those of the whole run if it ends
+-- `P` holds for the open parts and the events after a move, or for the events of the whole run if it ends
 abbrev pub After : (List Open → List Event → Type 0) → Transition → Type 0
 After P (On s) = P (opens_round s.around) s.trace.events
 After P (Ends v arrays t) = P [] (opens.whole t)

@@ -60,7 +60,7 @@ pub record MayComeHome (m : Machine) (cell slots : ℕ) (lent : List ℕ) (back 
   pub out : Out
   pub comes : ComesTo code ok out m cell slots lent back replaced
 
--- whatever the slices were returned to is no longer handed out
+-- the call to which the slices were returned is no longer handed out
 abbrev pub ComesHome : Machine → (cell slots : ℕ) → (lent : List ℕ) → List Placed → List (Option Placed) → Machine
     → Type 0
 ComesHome m cell slots lent back replaced m' =

@@ -274,8 +274,8 @@ impl Block {
         })
     }
 
-    /// Takes a share back at the place that it was made of, with the numbers that it had. Of several shares of these
-    /// places, the newest one must come first. Takes constant time and no memory, and copies nothing.
+    /// Takes a share back at the place that it was made of, with the numbers that it had. If there are several shares
+    /// of these places, the newest one must come first. Takes constant time and no memory, and copies nothing.
     #[inline(always)]
     pub fn merge(&mut self, from: usize, share: Slice)
         requires within { from + length share.items ≤ length self.old.cells }

@@ -1,5 +1,5 @@
-//! Small programs have the outcome that was worked out by hand, whatever happens to their continuations; and they
-//! have the outcome of a run with one worker within each limit.
+//! Small programs have the outcome that was worked out by hand, independently of what happens to their continuations;
+//! and they have the outcome of a run with one worker within each limit.
 
 use crate::answers::{Told, is_same, is_told};
 use crate::arrays::{CUT, MADE, SQUARES};

@@ -181,7 +181,7 @@ const FUNCS: [Func; 2] = [
     },
 ];
 
-// The lists of array slots: the empty ones that no call names, the one of `main`, and those of the loop's function.
+// The lists of array slots: the empty ones that no call names, one for `main`, and two for the loop's function.
 const LISTS: [&[u32]; 7] = [&[], &[], &[], &[], &[0], &[1], &[2]];
 
 // Returns the instructions with `instr` at `place`.

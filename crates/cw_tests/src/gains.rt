@@ -1,5 +1,5 @@
-//! The gain table, from the words to the exit status. The rows were worked out by hand (`ExampleGains`); those of fib
-//! come from the independent implementation.
+//! The gain table, from the words to the exit status. The rows were worked out by hand (`ExampleGains`); the rows of
+//! fib come from the independent implementation.
 
 use crate::program::{Row, all_hold, all_hold_by_all};
 use crate::tables::{DIVIDED, FIB};

@@ -257,7 +257,7 @@ const LOOP_FUNCS: &[Func] = &[
     },
 ];
 
-// The lists of array slots: the empty ones that no call names, the one of `main`, and those of the loop's function.
+// The lists of array slots: the empty ones that no call names, one for `main`, and two for the loop's function.
 const LOOP_LISTS: &[&[u32]] = &[&[], &[], &[], &[], &[0], &[1], &[2]];
 
 // Returns whether these are the lists.

@@ -1,5 +1,6 @@
-//! Parallel loops: values, exact costs, traps and the limit on loops. The costs are those of docs/LANGUAGE.md: a leaf
-//! of `t` iterations costs 14, and 11 for each iteration in addition to its body; an inner node costs 21 + 5 q + 2 k.
+//! Parallel loops: values, exact costs, traps and the limit on loops. The costs are stated in docs/LANGUAGE.md: a
+//! leaf of `t` iterations costs 14, and 11 for each iteration in addition to its body; an inner node costs 21 + 5 q +
+//! 2 k.
 
 use crate::program::{Row, all_hold, all_hold_by_all, all_hold_with, answers};
 use crate::tables::{GREATEST, SCALE};

@@ -50,7 +50,7 @@ abbrev pub AreNumbered : Names → Shapes → (numbers : List ℕ) → (last : �
 AreNumbered names shapes numbers last =
     (k : ℕ) (s : Shape) → slice_get shapes k ≡ Some (Some s) → HasNumber names last (number_of numbers k) s.outer
 
--- under these names, the numbers of a search are those of its blocks
+-- under these names, the numbers of a search belong to its blocks
 abbrev pub Knows : Names → Search → Type 0
 Knows names s =
     AreNumbered names (so_far s) s.numbers.places.items s.numbers.last × IsPair names s.numbers.last s.numbers.pair
@@ -112,7 +112,7 @@ pub record IsKept (there found : ℕ) (m : Meeting) (old new : Numbers) : Type 0
   pub pair : (new.pair ≡ old.pair) ⊎
       ((0 < there) × (0 < found) × (new.pair ≡ Some (record { there = there; found = found; meeting = m })))
 
--- `m` is how blocks met those of a pc, and the pc has the number of the merged blocks
+-- `m` is how blocks met the blocks of a pc, and the pc has the number of the merged blocks
 pub record HasMet (k number : ℕ) (m : Meeting) (rounds more : Rounds) (old new : Numbers) : Type 0 where
   pub is : m ≡ meeting_of (rounds_of rounds) (rounds_of more)
   pub places : new.places.items ≡ slice_set old.places.items k (number_after m (number_of old.places.items k) number)

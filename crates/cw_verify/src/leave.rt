@@ -150,7 +150,7 @@ fn synced(alloc: Global, found: Found) -> Result<Found, Fault>
     })
 }
 
-// Returns the state after a sync block began, by this cut if there is one. The current rows become those of the
+// Returns the state after a sync block began, by this cut if there is one. The current rows become the rows of the
 // enclosing block.
 fn opened(alloc: Global, found: Found, cut: Option<Halves>) -> Result<Found, Fault>
     ensures { table.FindsShape result (table.opened_by cut (table.shape_view found)) }

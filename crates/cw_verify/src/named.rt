@@ -191,7 +191,8 @@ fn names_loans(f: &Func, passed: &[u32], loans: &[Loan]) -> bool
     true
 }
 
-// Returns whether a function is lent as many arrays as it reads, and the call takes none of them.
+// Returns whether the number of loans is the number of arrays that the function reads, and the call takes none of
+// them.
 fn names_lent(code: &Code, f: &Func, function: u32, passed: &[u32], loans: &[Loan]) -> bool
     ensures { result ≡ fits.names_lent (code_view code.now) f.now function passed.now loans.now }
 {

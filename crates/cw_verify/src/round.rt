@@ -15,7 +15,7 @@ use cw_text::Fault;
 use std::alloc::Global;
 use std::rc::Rc;
 
-/// A sync block that encloses another one. Its rows are those of the pc at which the inner block began.
+/// A sync block that encloses another one. Its rows are the rows of the pc at which the inner block began.
 #[derive(Drop)]
 pub struct Round {
     /// For each integer slot, whether it may be empty until the next join of the block.

@@ -44,8 +44,9 @@ impl Search {
         Ok(())
     }
 
-    // Merges a state into that of a pc, if the pc exists; the enclosing blocks of the state have number `number`.
-    // Returns whether this reached the pc for the first time. If more flowed to the pc, it is added to the work list.
+    // Merges a state into the state of a pc, if the pc exists; the enclosing blocks of the state have number
+    // `number`. Returns whether this reached the pc for the first time. If more flowed to the pc, it is added to the
+    // work list.
     fn come(
         &mut self,
         alloc: Global,

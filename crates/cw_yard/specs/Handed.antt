@@ -45,7 +45,7 @@ IsTakenBack z t old new r =
 abbrev pub LeavesOffers : Ticket → (old new : OwnDeque) → Type 0
 LeavesOffers t old new = LeavesAll t (offered (worker_view old)) (offered (worker_view new))
 
--- a job is stolen, with its duty, and its number is greater than all earlier ones
+-- a job is stolen, with its duty, and its number is above all earlier ones
 abbrev pub IsStolen : TableId → (old new : ThiefPass) → Job × Duty → Type 0
 IsStolen z old new r =
     (r.1.token.table_id ≡ z) × (duty_job r.1 ≡ Some r.0) × Rises (stolen (view old)) r.0 (stolen (view new))

@@ -118,7 +118,8 @@ RefusesOffer job old new back =
     (back ≡ job) × (offered_by new ≡ offered_by old) × (free_cells new ≡ free_cells old)
     × (HasNoCell old ⊎ HasFullDeque old)
 
--- a job of the victim with its duty; its number is greater than those that the seat stole from the victim before
+-- a job of the victim with its duty; its number is above the numbers of the jobs that the seat stole from the victim
+-- before
 abbrev pub StealsFor : Yard → (victim : ℕ) → (old new : Seat) → Job × Duty → Type 0
 StealsFor y victim old new r =
     IsDutyOf y r.1 × (duty_job r.1 ≡ Some r.0) × Rises (stolen_from old victim) r.0 (stolen_from new victim)

@@ -53,7 +53,7 @@ Takes os number l os' =
     (pre : List Offer) × (post : List Offer) × (os ≡ pre ++ offer l false ∷ post)
     × (number ≡ Some (length pre)) × Each (λ o. o.retaken ≡ true) post × (os' ≡ pre ++ offer l true ∷ post)
 
--- a job is stolen, with a number greater than all earlier ones
+-- a job is stolen, with a number above all earlier ones
 abbrev pub Rises : List Theft → Job → List Theft → Type 0
 Rises ss job ss' =
     (n : ℕ) × (cell : ℕ) × Each (λ (x : Theft). x.0 < n) ss × (ss' ≡ ss ++ (n, (job, cell)) ∷ [])

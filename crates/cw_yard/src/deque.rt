@@ -116,7 +116,7 @@ pub fn len(own: &mut OwnDeque) -> usize
 ///
 /// # Errors
 ///
-/// The same job, with the deque unchanged, if the deque could not grow.
+/// Returns the job with the deque unchanged, if the deque could not grow.
 pub fn offer(own: &mut OwnDeque, task: Task) -> Result<(), Task>
     requires { MayPush (worker_view own.old) task }
     ensures same { SameWorker own.old own.new }

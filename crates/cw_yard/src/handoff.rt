@@ -50,7 +50,7 @@ fn offer_held<B: Holding>(
 ///
 /// # Errors
 ///
-/// The same job and a free cell, if the deque could not grow; the offers are unchanged.
+/// Returns the job and a free cell, if the deque could not grow; the offers are unchanged.
 pub fn offer(
     table: &Cells,
     own: &mut OwnDeque,
@@ -84,7 +84,7 @@ fn give_up(table: &Cells, cell: usize, duty: Token, job: Job, spare: &mut Spare)
 ///
 /// # Errors
 ///
-/// The same ticket, if the deque is empty or another job came out of it.
+/// Returns the ticket, if the deque is empty or another job came out of it.
 pub fn retake(
     table: &Cells,
     own: &mut OwnDeque,
@@ -158,7 +158,7 @@ pub fn settle(table: &Cells, duty: Duty, effect: Effect)
 ///
 /// # Errors
 ///
-/// A ticket of the same job, if no effect has come yet.
+/// Returns a ticket of the same job, if no effect has come yet.
 pub fn collect(table: &Cells, ticket: Ticket) -> Result<(Effect, FreeCell), Ticket>
     requires table { IsOfTable table.now.table_id ticket.token.table_id }
     ensures done { IfOk result (IsCollected table.now.table_id ticket) }

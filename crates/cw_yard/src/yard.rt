@@ -36,8 +36,8 @@ impl Yard {
     ///
     /// # Errors
     ///
-    /// The same job, whole, with nothing offered, if the seat has no free cell, or if its deque is full and could not
-    /// grow.
+    /// Returns the job, whole, with nothing offered, if the seat has no free cell, or if its deque is full and could
+    /// not grow.
     pub fn offer(&self, seat: &mut Seat, job: Job) -> Result<Ticket, Job>
         requires seat { IsSeatOf self.now seat.old }
         ensures seat { IsSeatOf self.now seat.new × KeepsRoom seat.old seat.new }
@@ -166,7 +166,7 @@ impl Yard {
     }
 
     /// Returns the bell, which rings after a job was offered, an effect was left, or the end mark was set. A worker
-    /// that wants to sleep until then asks the bell for a key, checks the end mark and each victim once more, and
+    /// that is about to sleep until then asks the bell for a key, checks the end mark and each victim once more, and
     /// waits on the key: the check finds what came before the key, and what comes after the key wakes the worker. No
     /// contract describes the bell.
     pub fn bell(&self) -> &EventCount {

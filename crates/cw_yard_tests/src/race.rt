@@ -135,7 +135,7 @@ fn one_cell_takes_one_job(rt: HostRuntime) -> Result<(), Fail> {
     Ok(())
 }
 
-// Worker 1 steals the older of two jobs, its effect comes to worker 0, and both see the end mark.
+// Worker 1 steals the older of two jobs, worker 0 gets its effect, and both see the end mark.
 #[test]
 fn the_oldest_is_stolen(rt: HostRuntime) -> Result<(), Fail> {
     let (yard, mut one, mut other) = two(rt.alloc(), 2)?;

@@ -118,7 +118,7 @@ has_each : (xs : List ℤ) (cells : Cells) → Have cells 0 xs
 has_each xs cells at k None is = absurd (never_out xs k is)
 has_each xs cells at k (Some x) is = same_place cells k (0 + k) (omega arith) ∙ at k x (get_ins xs k x is)
 
--- cells that hold as many numbers as they have places are all in
+-- if cells hold a number at each place, they are all in
 pub ins_have : (xs : List ℤ) (cells : Cells) → Have cells 0 xs → length xs ≡ length cells → cells ≡ ins xs
 ins_have xs cells at e = sym (same_each (ins xs) cells (length_ins xs ∙ e) (has_each xs cells at))
 
