@@ -6,7 +6,8 @@ ghost use Rattle.cw_verify.specs.Meetings as meetings;
 /// How the blocks of a pc meet the blocks that flow to it.
 #[derive(Clone, Copy, Debug, PartialEq, Eq)]
 pub enum Meeting {
-    /// They cannot be merged: their numbers, the cuts that began them or the lengths of their rows differ.
+    /// The blocks cannot be merged: the number of blocks, the cuts that began them or the lengths of their rows
+    /// differ.
     Apart,
     /// The new blocks mark nothing more.
     Stays,

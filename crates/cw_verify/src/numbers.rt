@@ -23,7 +23,7 @@ pub struct Pair {
 }
 
 /// Two pcs with the same number have the same enclosing blocks, so most blocks that meet need not be compared. A
-/// state that flows through a basic block meets the recorded states in the same way at each instruction.
+/// state that flows through straight-line code meets the recorded states in the same way at each instruction.
 #[derive(Drop)]
 pub struct Numbers {
     /// For each pc the number of its enclosing blocks, 0 for none.

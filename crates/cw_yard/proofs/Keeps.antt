@@ -94,7 +94,7 @@ placed s h c n x ws hs vs y len wc we hc he lies fits funds =
       funds,
     )
 
--- changing the spot of cell `c` to `x` does not affect what other tokens know
+-- changing a spot from `old` to `x` does not affect what other tokens know
 abbrev Quiet : Spot → Spot → ℕ → Type 0
 Quiet old x id = (j : ℕ) (u : CellView) → j ≢ id → Fits old j u → Fits x j u
 

@@ -66,7 +66,7 @@ HasPasses y es =
 abbrev pub ArePasses : Yard → List ThiefPass → Type 0
 ArePasses y es = (length es ≡ workers_of y) × HasPasses y es × Each (λ e. stolen (view e) ≡ []) es
 
--- the parts of worker `k`'s seat except its deque
+-- the parts of a worker's seat except its deque
 abbrev pub IsPart : Yard → ℕ → Part → Type 0
 IsPart y cells p =
     (length p.free.items ≡ cells) × Each (λ f. f.token.table_id ≡ table_of y) p.free.items
