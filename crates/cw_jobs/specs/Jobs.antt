@@ -1,4 +1,4 @@
--- Which job of the definitions a job represents.
+-- The job of the definitions that a job represents.
 use Rattle.std.specs.Prelude.{◌≡◌, ◌≢◌, ◌⊎◌, ℕ, ◌-◌, ◌<◌, ◌≤◌, ℤ, pos, Bool, true, false, ◌&&◌, nat_eq, nat_le, List}
 use Rattle.std.specs.Prelude.{[], ◌∷◌, ◌++◌, length, replicate, Option, Some, None, slice_get}
 use Rattle.std.specs.Arc.{arc_value}
@@ -41,7 +41,7 @@ abbrev pub extent_of : declared.Extent → Extent
 extent_of extent.WholeCall = WholeCall
 extent_of extent.ToJoin = ToJoin
 
--- where the meter of a job's run begins
+-- the origin of the meter of a job's run
 abbrev pub begins_at : declared.Extent → (site : ℕ) → Origin
 begins_at extent.WholeCall site = Main
 begins_at extent.ToJoin site = Rest site

@@ -19,7 +19,7 @@ use Rattle.cw_jobs.specs.Calls.{HoldsFrame}
 use Rattle.cw_jobs.specs.Jobs.{Ok, code_of, IsJob, KeepsHomes, KeepsEmpty, KeepsFixed}
 use Rattle.cw_jobs.specs.Totals.{HoldsTotals}
 
--- what a run has printed and counted, in `count` instructions
+-- a run has printed these lines and counted these totals, in `count` instructions
 pub record HasShown (code : Code) (shown : Shown) (t : Trace) (count : ℕ) : Type 0 where
   pub cost : shown.cost ≡ count
   pub lines : shown.lines.items ≡ t.lines

@@ -7,7 +7,7 @@ use cw_model::trap::Trap;
 use cw_slices::Slice;
 use std::collections::VecDeque;
 
-/// What a run has printed and counted.
+/// The lines that a run has printed, and its totals, meter and cost.
 #[derive(Drop)]
 pub struct Shown {
     /// The values printed, in order.

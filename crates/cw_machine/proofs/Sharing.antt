@@ -18,7 +18,7 @@ use Rattle.cw_machine.proofs.Shares.{share_of, share_or, lies_at, all_shares_non
 abbrev pub AllLie : Memory → List Out → Type 0
 AllLie m outs = (j : ℕ) (o : Out) → slice_get outs j ≡ Some o → SlicesLie m outs (drop (suc j) outs) o
 
--- what a call reads is a share
+-- the arrays that a call reads are shares
 pub reader_shared : (o : Out) (k : ℕ) → o.slots ≤ k → is_shared o k ≡ true
 reader_shared o k le = ap (λ t. not t || is_among k o.lent) (not_below k o.slots le)
 

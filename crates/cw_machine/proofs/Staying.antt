@@ -51,7 +51,7 @@ module _ (given : List Placed) (slots : ℕ) (views : List View) where
     readers_lie = λ a le lt. seen a lt (λ l. absurd (omega (arith, l, le))) ∙ h.readers_lie a le lt;
   }
 
--- what waits for a join goes into empty slots
+-- each array that waits for a join goes into an empty slot
 pub keeps_settled : (given : List Placed) (slots : ℕ) (arrived : Results (List ℤ)) (arrays : Slots (List ℤ))
     → ((a : ℕ) → is_full (slice_get arrays a) ≡ true → IsNotAmong a (slots_in arrived)) → KeepsShared given slots arrays (settled arrived arrays)
 keeps_settled given slots arrived arrays apart a lt some e = settled_beside arrived arrays a (apart a (ap is_full e)) ∙ e

@@ -1,4 +1,4 @@
--- What is handed out, and what a run was given, after a change of the memory.
+-- The arrays that are handed out, and the slices that a run was given, after a change of the memory.
 use Rattle.std.proofs.Common.{◌≡◌, ◌≢◌, ◌⊎◌, inl, inr, ⊎_elim, ℕ, zero, suc, ◌+◌, ◌<◌, ◌≤◌, ℤ, Bool, Option, Some, None, List, [], ◌∷◌, ◌++◌, length, refl, ap, ◌∙◌, subst, sym, arith}
 use Rattle.std.specs.Prelude.{map, take, drop, is_some, slice_get, slice_set}
 use Rattle.std.proofs.lemmas.List.{get_or-set_other}
@@ -23,7 +23,7 @@ floored m first round outs above away = λ j o e. (away j o e).floor (above j o 
 pub none_up : (m : Memory) (first round first' : ℕ) (outs : List Out) → AreAway m first round outs → AllFrom outs (suc round) first'
 none_up m first round first' outs away j o e is = absurd (let le = (away j o e).level in omega (arith, le, is))
 
--- what is handed out of the running call has its cells
+-- the arrays that are handed out of the running call have its cells
 pub outs_here : (outs : List Out) (first : ℕ) (frames : List Frame) (around : List Around) → OutsAt outs first frames around → AllFrom outs (length around) first
 outs_here outs first frames [] h = h
 outs_here outs first frames (Block o ∷ around) h = h.0
@@ -137,7 +137,7 @@ module _ (m m' : Memory) (first round : ℕ) (outs : List Out) (floors : Floored
       reads = λ le. reads_steady m m' outs o.first (o.first + k) p.items (λ d lt. steady d (omega (arith, lt, within))) same (outs_back m.views m'.views outs seen) (y.reads le);
     }
 
--- what is handed out still is
+-- the arrays that are handed out are still handed out
 pub away_on : (m m' : Memory) (first first' round round' : ℕ) (outs : List Out) → Floored outs first
     → ((j : ℕ) (o : Out) → slice_get outs j ≡ Some o → o.level ≤ round → (o.level ≤ round') × (o.level < round' → o.floor ≤ first'))
     → ((c : ℕ) → c < first → Steady m m' c) → ((c : ℕ) → c < first → kept_of m'.blocks c ≡ kept_of m.blocks c) → AreAway m first round outs → AreAway m' first' round' outs
@@ -150,12 +150,12 @@ away_on m m' first first' round round' outs floors up steady kept h = λ j o e.
       each = λ k p e' some. lies_on m m' first round outs floors steady kept h j o e k p e' (x.each k p e' some);
     }
 
--- what is handed out still is, and the call has the same cells
+-- the arrays that are handed out are still handed out, and the call has the same cells
 pub away_here : (m m' : Memory) (first round : ℕ) (outs : List Out) → Floored outs first → ((c : ℕ) → c < first → Steady m m' c)
     → ((c : ℕ) → c < first → kept_of m'.blocks c ≡ kept_of m.blocks c) → AreAway m first round outs → AreAway m' first round outs
 away_here m m' first round outs floors = away_on m m' first first round round outs floors (λ j o e le. (le, λ lt. floors j o e))
 
--- what is handed out still is, with one more enclosing block
+-- the arrays that are handed out are still handed out, with one more enclosing block
 pub away_up : (m m' : Memory) (first first' round : ℕ) (outs : List Out) → Floored outs first → first ≤ first'
     → ((c : ℕ) → c < first → Steady m m' c) → ((c : ℕ) → c < first → kept_of m'.blocks c ≡ kept_of m.blocks c) → AreAway m first round outs
     → AreAway m' first' (suc round) outs
@@ -170,7 +170,7 @@ GivenStill blocks blocks' given =
 pub still_same : (blocks : List Lodged) (given : List Placed) → GivenStill blocks blocks given
 still_same blocks given = ((λ k p e some. refl), λ b le. inr refl)
 
--- what was given still is
+-- the given slices are still given
 pub given_on : (blocks blocks' : List Lodged) (first first' : ℕ) (given : List Placed) → length given ≤ first' → ((c : ℕ) → c < first → kept_of blocks' c ≡ kept_of blocks c)
     → GivenStill blocks blocks' given → AreGiven blocks first given → AreGiven blocks' first' given
 given_on blocks blocks' first first' given le kept still h = record {
@@ -236,7 +236,7 @@ block_past (w ∷ bs) zero c le = refl
 block_past (w ∷ bs) (suc n) zero le = absurd (omega (arith, le))
 block_past (w ∷ bs) (suc n) (suc c) le = block_past bs n c (omega (arith, le))
 
--- what was given is unchanged in fewer blocks and in more
+-- the given slices are unchanged in fewer blocks and in more
 pub still_take : (blocks : List Lodged) (n : ℕ) (given : List Placed) → length given ≤ n → GivenStill blocks (take n blocks) given
 still_take blocks n given le = (
   (λ k p e some. let lt = slice_get_within given k p e in ap (λ (w : Lodged). w.cells) (block_take blocks n k (omega (arith, lt, le)))),
@@ -259,7 +259,7 @@ still_more blocks more given bare le = (
   (λ b le'. ⊎_elim (λ lt. inr (ap (λ (w : Lodged). w.spot) (block_more blocks more b lt))) (λ past. inl (block_beyond blocks more b bare past)) (less_or b (length blocks))),
 )
 
--- what was given is unchanged if another block is a new one, with one owner
+-- the given slices are unchanged if another block is a new one, with one owner
 pub still_set : (blocks : List Lodged) (given : List Placed) (c : ℕ) (w : Lodged) → w.spot.halved ≡ 0 → length given ≤ c → GivenStill blocks (slice_set blocks c w) given
 still_set blocks given c w own le = (
   (λ k p e some. ap (λ (x : Lodged). x.cells) (get_or-set_other blocks c k w no_block (λ is. (let lt = slice_get_within given k p e in omega (arith, lt, is, le))))),

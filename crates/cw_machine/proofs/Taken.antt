@@ -1,4 +1,4 @@
--- What is taken out of the effect of a whole run.
+-- The values that are taken out of the effect of a whole run.
 use Rattle.std.proofs.Common.{◌≡◌, ℕ, ℤ, Option, List, Some, sym, ap, ◌∙◌, subst}
 use Rattle.std.specs.Prelude.{Result, Ok, Err}
 use Rattle.cw_model.specs.declared.burden.Burden.{Burden}

@@ -22,7 +22,7 @@ never x e = cc
 never_in : (x : ℤ) → Some (Some x) ≡ Some None → ⊥
 never_in x e = cc
 
--- what is handed out has its view below a cell
+-- an array that is handed out has its view below a cell
 pub out_low : (m : Memory) (first round : ℕ) (outs : List Out) (b k : ℕ) → Floored outs first → AreAway m first round outs → IsOut m.views outs b k → b < first
 out_low m first round outs b k floors away o =
     let f = floors o.index o.out o.is_out in

@@ -1,4 +1,4 @@
--- Where the arrays of the caller are, and which of them stay when it is handed out.
+-- The place of the caller's arrays, and the arrays that stay when the caller is handed out.
 use Rattle.std.proofs.Common.{◌≡◌, ◌≢◌, ◌⊎◌, inl, inr, ⊎_elim, ℕ, zero, suc, ◌+◌, ◌-◌, ◌<◌, ◌≤◌, ℤ, pos, Bool, true, false, Option, Some, None}
 use Rattle.std.proofs.Common.{List, [], ◌∷◌, ◌++◌, length, map, refl, sym, ap, ◌∙◌, subst, arith, if◌then◌else◌, nat_lt}
 use Rattle.std.specs.Prelude.{reverse, drop, nat_eq, nat_le, slice_get, slice_index_or}
@@ -278,7 +278,7 @@ module _ (v : Verified) (ok : Ok v) (m : Machine) (s : State) (w : Waiting) (aro
   unfolding on_arrays waiting_frame frames_beyond
   beyond = on_arrays.6
 
-  -- what the caller reads follows its arrays
+  -- the arrays that the caller reads follow its own arrays
   pub reads_waiting : ReadsAll memory ok.outs waiting_frame.first_array (length w.arrays) m.first_array w.readers
   reads_waiting = (subst (λ fs. RoundReads (code_view v.code) memory ok.outs m.first_array fs (Caller w ∷ around)) frames_are
       (subst (λ a. RoundReads (code_view v.code) memory ok.outs m.first_array (reverse m.frames.items) a) is_waiting shows.arrays.4.round)).0
@@ -388,7 +388,7 @@ module _ (v : Verified) (ok : Ok v) (m : Machine) (s : State) (w : Waiting) (aro
           (λ bare. ap (lent_count (stays_here m.cuts.items waiting_frame.first_array passed a)) bare ∙ none (stays_here m.cuts.items waiting_frame.first_array passed a))
           (cut_stays v ok memory w.place waiting_frame.first_array (length w.arrays) frames_beyond around beyond k a e)
 
-  -- what waits for the joins of the call is in its cells
+  -- the values that wait for the joins of the call are in its cells
   comes_round : (frames : List Frame) (first n : ℕ) (around : List Around) → Round v ok m.cells.items first n frames around → ComesRound m.cells.items first n around
   comes_round frames first n [] r = tt
   comes_round frames first n (Caller w ∷ around) r = tt

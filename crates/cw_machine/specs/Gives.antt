@@ -21,7 +21,8 @@ use Rattle.cw_machine.specs.Arrays.{Out, Ok, AllAbove, taken_round}
 use Rattle.cw_machine.specs.Shows.{cell, Shows, StaysBut}
 use Rattle.cw_machine.specs.Rests.{lending}
 
--- what the list of new arrays has for a slot after the slot's own array is returned: the new array, if one was made
+-- the entry of the list of new arrays for a slot after the slot's own array is returned: the new array, if one was
+-- made
 abbrev pub new_in : Option (Option Placed) → Placed → Option (Option Placed)
 new_in (Some (Some own)) p = Some (Some p)
 new_in (Some None) p = Some None
@@ -178,8 +179,8 @@ pub record HasFilled (first : ℕ) (back : List ℤ) (target : Option ℕ) (old 
 abbrev pub LaysCells : Machine → (back : List ℤ) → (target : Option ℕ) → Machine → Type 0
 LaysCells m back target m' = HasFilled m.first back target m.cells.items m'.cells.items
 
--- what waits for the join of a block: the newest results come from its own spawns, the others waited before its run
--- began
+-- the values and arrays that wait for the join of a block: the newest results come from its own spawns, the others
+-- waited before its run began
 pub record Waits (s : State) : Type 0 where
   pub newest : Results ℤ
   pub others : Results ℤ
@@ -235,7 +236,7 @@ pub record IsGiving (v : Verified) (ok : Ok v) (o : Out) (m : Machine) (s : Stat
   pub shows : Shows v (lending ok o) m s
   pub above : AllAbove ok.outs (length s.around)
   pub level : o.level ≡ length s.around
-  -- what was handed out were the arrays that the call has
+  -- the handed-out slices were the arrays that the call has
   pub had : HasArrays o.slices s.arrays
   pub together : AreTogether v ok s.place frame.place
   pub good : GoodState (code_view v.code) ok.verified.fits (went_on s frame waits)
@@ -243,7 +244,7 @@ pub record IsGiving (v : Verified) (ok : Ok v) (o : Out) (m : Machine) (s : Stat
   pub homes : KeepsHomes o.slices back.slices.items replaced
   pub fixed : KeepsFixed v ok.verified s.place replaced
   pub slots : KeepsSlots s o back replaced
-  -- what waited when the continuation was handed out is still in its cells
+  -- the values that waited when the continuation was handed out are still in its cells
   pub comes : ComesBut target back.cells.items s.results
   pub round : RoundComesBut target back.cells.items s.around
   -- the result of the spawned call waits for its slot

@@ -131,7 +131,7 @@ abbrev pub out_of : (level first floor slots : ℕ) → (lent : List ℕ) → Li
 out_of level first floor slots lent slices =
     record { level = level; first = first; floor = floor; slots = slots; lent = lent; slices = slices }
 
--- what waits for the joins of the open blocks of a call is in the cells of its slots
+-- the values that wait for the joins of the open blocks of a call are in the cells of its slots
 abbrev pub ComesRound : List ℤ → (first slots : ℕ) → List Around → Type 0
 ComesRound cells first slots [] = Unit {0}
 ComesRound cells first slots (Caller w ∷ around) = Unit {0}

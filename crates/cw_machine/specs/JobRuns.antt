@@ -264,7 +264,7 @@ pub record MayMove (m : Machine) (count a : ℕ) (copy : Option Placed) : Type 0
   pub blocks : count + count ≤ length m.blocks.items
   pub own : IsAllHere (block m.blocks.items a)
   pub made : IsAllHere (block m.blocks.items (count + a))
-  -- what was made in the slot has one owner, and so has the slot's own slice, unless it is the array
+  -- the array that was made in the slot has one owner, and so has the slot's own slice, unless it is the array
   pub made_own : (block m.blocks.items (count + a)).spot.halved ≡ 0
   pub written_own : IsStill m count a copy ⊎ ((block m.blocks.items a).spot.halved ≡ 0)
   pub which : copy ≡ None → IsSlots count a (slot_view m count a)
@@ -324,7 +324,7 @@ pub record CanEnd (m : Machine) (count : ℕ) : Type 0 where
   pub come : HasCome code is job rest m state
   pub as_many : length rest.slices.items ≡ count
 
--- what the machine of a job returns at the join: the frame of the call, each slice at its place, the content of the
+-- the result of the machine of a job at the join: the frame of the call, each slice at its place, the content of the
 -- empty slots, and no new array where the old one must come back
 pub record Ends (v : Verified) (is : IsFit v) (j : Job) (r : Rest) (s : State) (back : Rest)
     (replaced : List (Option Placed)) : Type 0 where

@@ -1,4 +1,4 @@
--- What a run with a listener does, for any request.
+-- The steps and the result of a run with a listener, for any request.
 use Rattle.std.specs.Prelude.{◌≡◌, ℕ, ℤ, true, List, [], Result, MatchResult}
 use Rattle.cw_model.specs.declared.burden.Burden.{Burden}
 use Rattle.cw_text.specs.declared.fault.Fault.{Fault}

@@ -1,4 +1,4 @@
--- What a listener records of a run: each instruction that begins, ends or joins a part of the run is reported to it.
+-- The record of a listener: each instruction that begins, ends or joins a part of the run is reported to it.
 use Rattle.std.specs.Prelude.{◌≡◌, ◌<◌, ℕ, ◌+◌, ℤ, Bool, List, [], Option, Some}
 use Rattle.cw_model.specs.declared.limits.TheConstants.{MOST_LIMIT}
 use Rattle.cw_model.specs.Frames.{no_frame}
@@ -23,8 +23,7 @@ use Rattle.cw_machine.specs.Arrays.{IsFit, Ok, alone}
 use Rattle.cw_machine.specs.Shows.{Shows, MayGo, Follows}
 use Rattle.cw_machine.specs.Telling.{opens_round, After, Tells}
 
--- what is recorded of a run so far, after this number of instructions: the open parts, and the events of the
--- innermost one
+-- the record of a run so far, after this number of instructions: the open parts, and the events of the innermost one
 abbrev pub Keeping : Type 0 → Type 1
 Keeping W = ℕ → List Open → List Event → W → Type 0
 

@@ -1,4 +1,4 @@
--- What a run records of its strands.
+-- The strands that a run records.
 use Rattle.std.specs.Prelude.{◌≡◌, ℕ, ℤ, true, List, Some, Result, MatchResult}
 use Rattle.cw_model.specs.declared.total.Total.{Total}
 use Rattle.cw_model.specs.Burdens.{no_burden}

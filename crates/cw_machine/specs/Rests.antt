@@ -12,7 +12,7 @@ use Rattle.cw_machine.specs.declared.machine.View.{View}
 use Rattle.cw_machine.specs.Arrays.{Out, Ok, AllAbove, view, block}
 use Rattle.cw_machine.specs.Shows.{Shows, StaysBut}
 
--- the same run, with these arrays handed out
+-- `ok` with these arrays handed out
 abbrev pub with_outs : {v : Verified} → Ok v → List Out → Ok v
 with_outs ok outs =
     record {
@@ -25,7 +25,7 @@ with_outs ok outs =
       outs = outs;
     }
 
--- the same run, with arrays of one more call handed out
+-- `ok` with the arrays of one more call handed out
 abbrev pub lending : {v : Verified} → Ok v → Out → Ok v
 lending ok o = with_outs ok (o ∷ ok.outs)
 

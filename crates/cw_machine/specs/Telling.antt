@@ -1,4 +1,4 @@
--- Which parts of a run each instruction begins, ends and joins.
+-- The parts of a run that each instruction begins, ends and joins.
 use Rattle.std.specs.Prelude.{◌≡◌, false, List, [], ◌∷◌, Some, None, slice_get}
 use Rattle.cw_model.specs.Syntax.{Name}
 use Rattle.cw_model.specs.Trees.{Invocation, Execution, Event}

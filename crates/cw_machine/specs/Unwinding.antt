@@ -13,7 +13,7 @@ use Rattle.cw_machine.specs.Rests.{lending}
 use Rattle.cw_machine.specs.JobRuns.{KeepsGiven, MayGiveUp}
 use Rattle.cw_machine.specs.declared.hands.Lender.{Lender}
 
--- what is handed out has cells below this one
+-- the arrays that are handed out have cells below this one
 abbrev pub LieBelow : List Out → (first : ℕ) → Type 0
 LieBelow outs first = (j : ℕ) (q : Out) → slice_get outs j ≡ Some q → q.first + length q.slices ≤ first
 
@@ -23,8 +23,8 @@ IsLevel level [] = ⊥
 IsLevel level (Caller w ∷ around) = (level ≡ length around) ⊎ IsLevel level around
 IsLevel level (Block o ∷ around) = IsLevel level around
 
--- what is handed out of calls that fewer blocks and calls enclose is below what is handed out of a waiting call or of
--- the running call
+-- the arrays that are handed out of calls that fewer blocks and calls enclose are below the arrays that are handed
+-- out of a waiting call or of the running call
 abbrev pub OutsLieApart : Type 0
 OutsLieApart =
     (v : Verified) (ok : Ok v) (m : Machine) (s : State) (i j : ℕ) (o q : Out) → Shows v ok m s

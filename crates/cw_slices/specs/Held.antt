@@ -1,4 +1,5 @@
--- What a right to cells owns: the whole right owns all of each cell, and a halved right owns a part of each.
+-- The memory that a right to cells owns: the whole right owns all of each cell, and a halved right owns a part of
+-- each.
 use Rattle.std.specs.Prelude.{ℕ, zero, suc, ◌*◌, ◌^◌, ℤ, Bool, true, false, List, [], ◌∷◌}
 use base.Fraction.{full_share}
 use base.Share.{left}

@@ -3,8 +3,9 @@ use Rattle.std.specs.Prelude.{◌≡◌, ℕ, ◌*◌, ℤ, List, drop, length, 
 use Rattle.std.specs.Coded.{Coded, code_by, coded×, coded_list, coded_ℕ, coded_ℤ}
 use denote.RawPtr.{Ptr, coded_ptr, ◌+ₚ◌}
 
--- where a slice begins, and the length of the block that it frees (0 if it does not begin the block); `halved` is 0
--- if the right to its places is whole, and otherwise how often the right was halved, so that it only permits reading
+-- the place of a slice: its pointer, and the length of the block that it frees (0 if it does not begin the block);
+-- `halved` is 0 if the right to its places is whole, and otherwise how often the right was halved, so that it only
+-- permits reading
 pub record Spot : Type 0 where
   pub ptr : Ptr
   pub frees : ℕ
@@ -18,7 +19,7 @@ after n s = record { ptr = s.ptr +ₚ (n * 8); frees = 0; halved = s.halved }
 abbrev pub shared_after : (from halved : ℕ) → Spot → Spot
 shared_after n d s = record { ptr = s.ptr +ₚ (n * 8); frees = 0; halved = d }
 
--- where a slice lies, from its words
+-- the place of a slice, from its words
 abbrev pub spot_of : Ptr → (frees halved : ℕ) → Spot
 spot_of p frees d = record { ptr = p; frees = frees; halved = d }
 

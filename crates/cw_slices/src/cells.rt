@@ -28,7 +28,7 @@ impl Model for Cells {
     ghost also_shares = { λ h _ κ. lent i64 h.ptr h.len h.items h.filled κ };
 }
 
-// What it owns may go to another thread.
+// The memory that it owns may go to another thread.
 unsafe impl Send for Cells {}
 
 impl Cells {

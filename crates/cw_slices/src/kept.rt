@@ -33,7 +33,7 @@ impl Model for Kept {
     ghost also_shares = { λ k _ κ. lent i64 k.ptr k.len (numbers k.cells) (marks k.cells) κ };
 }
 
-// What it owns may go to another thread.
+// The memory that it owns may go to another thread.
 unsafe impl Send for Kept {}
 
 impl Kept {

@@ -13,7 +13,7 @@ use cw_strand::strand::{Advance, Event, Spawns, Step, Strand};
 use std::alloc::Global;
 use std::snapshot::Snapshot;
 
-/// What happens to a continuation.
+/// The treatment of a continuation.
 #[derive(Clone, Copy)]
 pub enum Fate {
     /// It is not executed before its join, and is taken back.
@@ -50,7 +50,7 @@ pub struct Way<'a> {
     pub pace: Pace,
 }
 
-/// Where a run is interrupted.
+/// The moment at which a run is interrupted.
 #[derive(Clone, Copy)]
 pub struct Break {
     /// The strand that hands out the continuation of this number stops then. The numbers begin at 1; 0 stops no
@@ -75,7 +75,7 @@ struct Guide<'a> {
     way: Way<'a>,
     // The index of the next continuation's fate.
     turn: usize,
-    // Where it is interrupted, counted from the next continuation.
+    // The moment at which it is interrupted, counted from the next continuation.
     broken: Break,
 }
 

@@ -45,8 +45,8 @@ impl Row<'_> {
     }
 }
 
-// What happens to continuations: always the same, or alternating. Two ways continue by one instruction at a time, and
-// ask each strand for its end before each instruction.
+// The treatment of continuations: always the same, or alternating. Two ways continue by one instruction at a time,
+// and ask each strand for its end before each instruction.
 const WAYS: [Way<'static>; 7] = [
     Way {
         fates: &[Fate::TakenBack],

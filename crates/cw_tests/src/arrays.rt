@@ -193,7 +193,7 @@ reducer sum down;
 reducer sum unused;
 ";
 
-// what was added before a trap is not reported
+// values that were added before a trap are not reported
 const ADDED_BEFORE_A_TRAP: &str =
     "reducer sum s; int main(int z) { s += 3; print(4); s += 1 / z; return 0; }";
 

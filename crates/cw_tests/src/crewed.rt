@@ -103,8 +103,8 @@ fn by_two<R: AllocGlobal + Threads + Wait + Copy + Drop + Send + 'static>(
     Ok((out.into_inner(), told.settled()))
 }
 
-// While worker 0 is held at its only offer, the other worker executes the continuation. What the continuation prints
-// still follows what the spawned call prints.
+// While worker 0 is held at its only offer, the other worker executes the continuation. The output of the
+// continuation still follows the output of the spawned call.
 #[test]
 fn a_rest_is_run_by_the_other_worker(rt: HostRuntime) -> Result<(), Fail> {
     let (out, settled) = by_two(rt, Mode::Run)?;

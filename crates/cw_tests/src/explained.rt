@@ -1,4 +1,4 @@
-//! What follows the line of a fault on standard error, if the words ask for it.
+//! The text that follows the line of a fault on standard error, if the words ask for it.
 
 use crate::program::{Row, all_hold};
 use std::test::Fail;

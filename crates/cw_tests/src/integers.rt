@@ -243,7 +243,7 @@ fn runs_operators(rt: HostRuntime) -> Result<(), Fail> {
     all_hold(rt, OPERATIONS)
 }
 
-// What spawned calls print, and where their values may be used.
+// The lines that spawned calls print, and the places where their values may be used.
 const BLOCKS: &[Row] = &[
     ("run f --limit 15", PRINTED, 0, "1\n2\n3\nreturn 0\n", ""),
     ("run f --limit 14", PRINTED, 4, "", "over limit\n"),

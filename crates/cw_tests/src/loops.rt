@@ -99,7 +99,7 @@ const DIVIDED: &str = "int main(int z) {
 }
 ";
 
-// What loops cost, and one instruction less.
+// Loops with a limit equal to their cost, and with a limit that is one instruction less.
 const LIMITS: &[Row] = &[
     ("run f --limit 134", SQUARES, 0, "return 9\n", ""),
     ("run f --limit 133", SQUARES, 4, "", "over limit\n"),
@@ -185,7 +185,7 @@ int main() { cilk_for (int i = 0; i < 4; i++) grain 2 { s += i; } return 0; }";
 const PRINTED: &str = "int main() { int a[4]; \
 cilk_for (int i = 0; i < 4; i++) grain 2 over (a) { a[i] = i * i; } print(a[3]); return 0; }";
 
-// What these two programs print, and their tables.
+// The lines that these two programs print, and their tables.
 const PRINTS: &[Row] = &[
     ("run f", ADDED, 0, "sum s = 6\nreturn 0\n", ""),
     ("run f", PRINTED, 0, "9\nreturn 0\n", ""),

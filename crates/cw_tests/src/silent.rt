@@ -134,8 +134,8 @@ fn fails_so(alloc: Global, row: &Row) -> bool {
     }
 }
 
-// A run that exceeds its limit writes nothing, and neither does one that traps in a mode that prints no values. What
-// a run prints before its trap is written, and so is a schedule.
+// A run that exceeds its limit writes nothing, and neither does one that traps in a mode that prints no values. The
+// output of a run before its trap is written, and so is a schedule.
 #[test]
 fn a_shut_sink_is_told_only_where_something_is_written(rt: HostRuntime) -> Result<(), Fail> {
     for row in &ROWS {

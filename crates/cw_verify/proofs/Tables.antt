@@ -549,7 +549,7 @@ abbrev AllFrom : ℕ → List ℕ → Type 0
 AllFrom start [] = Unit {0}
 AllFrom start (p ∷ ps) = (start ≤ p) × AllFrom start ps
 
--- what a table takes it still takes after it has grown
+-- a state that flows into a table still flows into it after the table has grown
 pub leads_grown : (start : ℕ) (old new : Shapes) (place : ℕ) (s : Shape) → start ≤ place → Grows start old new → FlowsInto (table_of start old) place s → FlowsInto (table_of start new) place s
 leads_grown start old new place s le g l =
     let same : start + (place - start) ≡ place = omega (arith, le) in
@@ -644,7 +644,7 @@ module _ (code : Code) (f : Func) (shapes : Shapes) (k : ℕ) (i : Instr) (is : 
   abbrev come_after : Bool → Shape → Option Shapes
   come_after b s = if b then come_all shapes (next_distances f.start k i) (leaves code s i) else None
 
-  -- what a table states about a shape that it takes
+  -- the facts that a table states about a state that flows into it
   taken_as : (t : Table) (s : Shape) → IsTable code f t → FlowsInto t (f.start + k) s → (may_act code s i ≡ true) × FlowsIntoEach t (leaves code s i) (nexts (f.start + k) i)
   taken_as t s table l =
       let ready = table.ready (f.start + k) l.there i l.found is in

@@ -20,7 +20,7 @@ use cw_text::Fault;
 use std::alloc::Global;
 use std::mem;
 
-/// What is known of the pcs of a function so far.
+/// The facts that are known of the pcs of a function so far.
 #[derive(Drop)]
 struct Search {
     /// The abstract state of each pc, by its distance from the first one; `None` if it was not reached yet.

@@ -1,4 +1,4 @@
--- What a theft ensures, and what a settling requires.
+-- The facts that a theft ensures, and those that a settling requires.
 use Rattle.std.proofs.Common.{◌≡◌, ◌≢◌, ◌∙◌, ◌<◌, ◌++◌, ℕ, true, false, true≢false, inr, List, [], ◌∷◌, refl, sym, ap, subst, Option, Some, None, IfNone, IfSome, length, set, length-set}
 use Rattle.std.specs.Prelude.{slice_get}
 use Rattle.std.proofs.Math.ListN.{get_or}

@@ -1,4 +1,4 @@
--- What a call on one deque and one cell requires and ensures.
+-- The requirements and the results of a call on one deque and one cell.
 use Rattle.std.specs.Prelude.{◌≡◌, ◌≤◌, ◌+◌, ◌++◌, false, [], ◌∷◌, length, Some}
 use Rattle.crossbeam_deque.specs.Handles.{view, worker_view, worker_capacity, worker_index}
 use Rattle.atomic_table.specs.Seated.{TableId}
@@ -28,7 +28,7 @@ IsOffered z job old new t =
     × (ticket_number t ≡ Some (length (offered (worker_view old))))
     × (offered (worker_view new) ≡ offered (worker_view old) ++ offer (job, t.cell) false ∷ [])
 
--- the same job comes back with a cell, because the deque was not sure of a slot
+-- the job comes back unchanged, with a cell, because the deque was not sure of a slot
 abbrev pub IsGivenBack : TableId → Job → (old new : OwnDeque) → Job × FreeCell → Type 0
 IsGivenBack z job old new e =
     (e.0 ≡ job) × (e.1.token.table_id ≡ z) × (worker_view new ≡ worker_view old)

@@ -122,7 +122,7 @@ Dealt items views = Starting items views ⊎ Running items views
 abbrev pub number : Task → ℕ
 number k = number_of k.duty.me.0
 
--- what an owner may push, and what it knows afterwards
+-- the item that an owner may push, and its view of the deque afterwards
 abbrev pub MayPush : DequeView → Task → Type 0
 MayPush Fresh k = ⊥
 MayPush (Marked t) k = ⊥

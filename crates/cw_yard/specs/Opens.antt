@@ -1,4 +1,4 @@
--- What the opening of a yard makes.
+-- The yard that its opening makes.
 use Rattle.std.specs.Prelude.{◌≡◌, ◌≤◌, ◌+◌, ℕ, List, [], length, slice_get, Option, Some, vec_capacity}
 use Rattle.crossbeam_deque.specs.Handles.{Pass, view, IsPassOf, stealer_deque, worker_deque, worker_view, worker_flavor}
 use Rattle.crossbeam_utils.specs.Padded.{padded_value}

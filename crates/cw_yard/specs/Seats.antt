@@ -46,7 +46,7 @@ IsTicketOf y t = t.token.table_id ≡ table_of y
 abbrev pub IsDutyOf : Yard → Duty → Type 0
 IsDutyOf y d = d.token.table_id ≡ table_of y
 
--- what a seat offered, in order
+-- the offers that a seat made, in order
 abbrev pub offered_by : Seat → List Offer
 offered_by s = offered (worker_view s.own)
 
@@ -54,7 +54,7 @@ abbrev pub thefts_by : {A : Type 0} → (A → DequeView) → Option A → List 
 thefts_by f None = []
 thefts_by f (Some e) = stolen (f e)
 
--- what a seat stole from a victim
+-- the thefts of a seat from a victim
 abbrev pub stolen_from : Seat → ℕ → List Theft
 stolen_from s k = thefts_by view (slice_get s.passes.items k)
 
@@ -84,7 +84,8 @@ HasSeenEnd s = HasSeen s.watch
 abbrev pub HasMarkedEnd : Seat → Type 0
 HasMarkedEnd s = HasMarked s.watch
 
--- WHAT OF A SEAT IS UNCHANGED: its deque with the offers, its free cells, its thefts, its knowledge of the end
+-- THE PARTS OF A SEAT THAT ARE UNCHANGED: its deque with the offers, its free cells, its thefts, its knowledge of the
+-- end
 abbrev pub KeepsOffers : (old new : Seat) → Type 0
 KeepsOffers old new = new.own ≡ old.own
 
@@ -101,7 +102,7 @@ KeepsSight old new = new.watch ≡ old.watch
 abbrev pub KeepsRoom : (old new : Seat) → Type 0
 KeepsRoom old new = SameWorker old.own new.own × (cell_room old ≤ cell_room new)
 
--- what it stole from any other victim is unchanged
+-- the thefts from any other victim are unchanged
 abbrev pub KeepsOtherThefts : (victim : ℕ) → (old new : Seat) → Type 0
 KeepsOtherThefts victim old new = (k : ℕ) → k ≢ victim → stolen_from new k ≡ stolen_from old k
 
@@ -111,8 +112,8 @@ OffersFor y job old new t =
     IsTicketOf y t × (ticket_job t ≡ Some job) × (ticket_number t ≡ Some (length (offered_by old)))
     × (offered_by new ≡ offered_by old ++ offer (job, t.cell) false ∷ []) × (free_cells old ≡ free_cells new + 1)
 
--- the same job, whole, with nothing offered and no cell used: there was no free cell, or the deque was not sure of a
--- slot
+-- the job comes back unchanged and whole, with nothing offered and no cell used: there was no free cell, or the deque
+-- was not sure of a slot
 abbrev pub RefusesOffer : Job → (old new : Seat) → Job → Type 0
 RefusesOffer job old new back =
     (back ≡ job) × (offered_by new ≡ offered_by old) × (free_cells new ≡ free_cells old)

@@ -1,4 +1,4 @@
--- What the steps at a cell require and ensure.
+-- The requirements and the results of the steps at a cell.
 use Rattle.std.specs.Prelude.{◌≡◌, ◌<◌, ◌+◌, ℕ, true, false, [], ◌∷◌, Option, Some, None}
 use Rattle.atomic_table.specs.Table.{Me}
 use Rattle.atomic_table.specs.Seated.{TableId}
@@ -15,7 +15,7 @@ use Rattle.cw_yard.specs.Cells.{Means}
 abbrev pub Fitting : TableId → TableId → ℕ → Type 0
 Fitting z z' cell = (z' ≡ z) × (cell < z.slots) × (z.words ≡ z.slots + 1)
 
--- what is known after a duty was taken back
+-- the facts that are known after a duty was taken back
 abbrev pub GainsStage : Stage → Type 0
 GainsStage Free = Unit {0}
 GainsStage (Held n j) = Unit {0}

@@ -12,7 +12,7 @@ use Rattle.cw_yard.specs.declared.task.Offer.{Offer}
 use Rattle.cw_yard.specs.declared.task.DequeView.{DequeView}
 use Rattle.cw_yard.specs.declared.task.DequeView.TheVariants.{Fresh, Marked, Owner as OwnerHand, Thief}
 
--- what the owner of a deque has offered
+-- the offers that the owner of a deque has made
 abbrev pub offered : DequeView → List Offer
 offered Fresh = []
 offered (Marked t) = []
@@ -27,7 +27,7 @@ Deal = ℕ × Job
 abbrev pub Theft : Type 0
 Theft = ℕ × Lot
 
--- what a pass has stolen
+-- the thefts of a pass
 abbrev pub stolen : DequeView → List Theft
 stolen Fresh = []
 stolen (Marked t) = []

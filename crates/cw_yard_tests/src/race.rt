@@ -1,4 +1,4 @@
-//! What two threads do with a thousand jobs, and what two seats do on one thread.
+//! Tests of two threads with a thousand jobs, and of two seats on one thread.
 ghost use Rattle.std.specs.Prelude.{◌≡◌, ◌<◌, IfOk};
 ghost use Rattle.cw_yard.specs.Seats.{IsSeatOf, workers_of};
 

@@ -36,7 +36,7 @@ waits_at b s (a ∷ around) =
       are_arrays = sym (append-nil s.arrived);
     }
 
--- what waits in a run on top of what waited before it
+-- the results that wait in a run on top of the results that waited before it
 abbrev pub waits_under : (b s : State) → Waits (under b s)
 waits_under b s = waits_at b s s.around
 
@@ -62,8 +62,8 @@ empty_there (None ∷ slots) zero lt n = refl
 empty_there (Some x ∷ slots) zero lt n = absurd (n refl)
 empty_there (x ∷ slots) (suc a) lt n = empty_there slots a (omega (arith, lt)) n
 
--- what waited when a continuation was handed out is in its cells when it comes back, if it kept the cells of its
--- empty slots
+-- the results that waited when a continuation was handed out are in its cells when it comes back, if it kept the
+-- cells of its empty slots
 pub comes_back : (target : Option ℕ) (slots : Slots ℤ) (out back : List ℤ)
     → ((a : ℕ) → slice_get slots a ≡ Some None → cell back a ≡ cell out a)
     → (results : Results ℤ) → ((a : ℕ) → is_full (slice_get slots a) ≡ true → IsNotAmong a (slots_in results))
@@ -77,7 +77,7 @@ comes_back target slots out back kept (r ∷ results) apart h =
           (λ a full. (apart a full).1) h.2,
     )
 
--- what the enclosing open blocks wait for is in the cells when the continuation comes back
+-- the results for which the enclosing open blocks wait are in the cells when the continuation comes back
 pub comes_back_round : (target : Option ℕ) (slots : Slots ℤ) (out back : List ℤ)
     → ((a : ℕ) → slice_get slots a ≡ Some None → cell back a ≡ cell out a)
     → (around : List Around)

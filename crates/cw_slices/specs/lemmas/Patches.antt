@@ -1,4 +1,4 @@
--- Which cells of a block are in and which are out, place by place, after some cells are replaced.
+-- The cells of a block that are in and those that are out, place by place, after some cells are replaced.
 use Rattle.std.proofs.Common.{◌≡◌, ℕ, ◌+◌, ◌-◌, ◌<◌, ◌≤◌, ◌⊎◌, ℤ, Bool, true, List, [], ◌∷◌, ◌++◌, length, take}
 use Rattle.std.proofs.Common.{drop, replicate, Option, Some, None, slice_get, slice_set, refl, sym, ap, ap₂, inl, inr}
 use Rattle.std.proofs.Common.{◌∙◌, arith}
