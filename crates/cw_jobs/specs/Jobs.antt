@@ -160,7 +160,7 @@ pub record IsSound (p : Parts) : Type 0 where
   pub range : p.limit ≤ MOST_LIMIT
   pub light : IsLight p.detail
 
--- there are as many arguments as parameters, and the limit and the burden are in their ranges
+-- the number of arguments is the number of parameters, and the limit and the burden are in their ranges
 abbrev pub is_asked : (params count n : ℕ) → Burden → Bool
 is_asked params count n burden =
     nat_eq count params && (nat_le 1 n && (nat_le n MOST_LIMIT && nat_le burden.charge MOST_BURDEN))

@@ -37,7 +37,7 @@ pub record Frees (code : Code) (args : List ℤ) (n : ℕ) (burden : Burden) (fr
   pub answer : code_serial code args n ≡ Some (Ended value lines totals tree)
   pub are_freed : AreFreed (is_freed frees) burden tree f
 
--- a run of code returns these spans, or why there are none
+-- a run of code returns these spans, or the reason for its failure
 abbrev pub FreesAsCode : Code → List ℤ → (n : ℕ) → Burden → (frees : List Bool) → Result Freed Fault → Type 0
 FreesAsCode code args n burden frees result =
     MatchResult result (Frees code args n burden frees) (IsFailure code args n burden)

@@ -229,7 +229,7 @@ pub record IsGiving (v : Verified) (ok : Ok v) (o : Out) (m : Machine) (s : Stat
     (back : Rest) (replaced : List (Option Placed)) (count : ℕ) (lent : List ℕ) (target : Option ℕ) : Type 0 where
   pub slots_are : o.slots ≡ count
   pub lent_are : o.lent ≡ lent
-  -- as many as the call has
+  -- `o.slots` is the number of array slots that the call has
   pub wide : o.slots ≡ length s.arrays
   -- the continuation reads what the call reads
   pub readers : frame.readers ≡ s.readers

@@ -42,8 +42,8 @@ abbrev pub NeedsNoCall : {W : Type 0} → Keeping W → Type 0
 NeedsNoCall {W = W} keeps =
     (w : W) (count : ℕ) (os : List Open) (es : List Event) → Goes keeps w w count os os es (ticked es)
 
--- this instruction was reported to a listener after `count` others: whatever parts are open, the listener records the
--- run up to where the instruction leads
+-- this instruction was reported to a listener after `count` others: for all open parts, the listener records the run
+-- up to where the instruction leads
 abbrev pub IsToldOf : {W : Type 0} → Keeping W → (old new : W) → (count : ℕ) → Op → Type 0
 IsToldOf keeps old new count o =
     (code : Code) (os : List Open) (es : List Event)

@@ -21,6 +21,6 @@ pub record Records (code : Code) (args : List ℤ) (n : ℕ) (kept : Recorded) :
   pub answer : code_serial code args n ≡ Some (Ended value lines totals tree)
   pub is_kept : IsKept tree kept
 
--- a run of code returns the record of its strands, or why there is none
+-- a run of code returns the record of its strands, or the reason for its failure
 abbrev pub RecordsAsCode : Code → List ℤ → (n : ℕ) → Result Recorded Fault → Type 0
 RecordsAsCode code args n result = MatchResult result (Records code args n) (IsFailure code args n no_burden)

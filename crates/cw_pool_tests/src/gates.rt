@@ -9,8 +9,8 @@ use std::sync::atomic::{AtomicU64, Ordering};
 /// The maximum number of iterations of a hold.
 const MOST_TURNS: u64 = 100_000_000;
 
-/// Holds worker 0 at each offer, or at its first offer, until worker 1 has settled as many jobs as worker 0 has
-/// offered.
+/// Holds worker 0 at each offer, or at its first offer, until the number of jobs that worker 1 has settled is at
+/// least the number that worker 0 has offered.
 #[derive(Drop)]
 pub struct Holder {
     only_first: bool,

@@ -118,7 +118,7 @@ impl Numbers {
     }
 
     /// Returns a number for the blocks after the instruction at a pc: the number of the pc if the instruction keeps
-    /// the blocks, otherwise a new one; 0 if there is none left.
+    /// the blocks, otherwise a new one; 0 if no number is left.
     pub fn next(&mut self, k: usize, i: &Instr) -> u32
         ensures { numbers.IsNext k i.now result self.old self.new }
     {

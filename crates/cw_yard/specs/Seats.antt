@@ -58,7 +58,8 @@ thefts_by f (Some e) = stolen (f e)
 abbrev pub stolen_from : Seat → ℕ → List Theft
 stolen_from s k = thefts_by view (slice_get s.passes.items k)
 
--- the number of free cells of a seat, and the number for which it has room: at least as many as it was opened with
+-- the number of free cells of a seat, and the number for which it has room: at least the number with which it was
+-- opened
 abbrev pub free_cells : Seat → ℕ
 free_cells s = length s.free.items
 
@@ -98,7 +99,7 @@ KeepsThefts old new = new.passes ≡ old.passes
 abbrev pub KeepsSight : (old new : Seat) → Type 0
 KeepsSight old new = new.watch ≡ old.watch
 
--- its deque is the same one, with room for at least as many jobs, and it has room for at least as many cells
+-- its deque is the same one, and neither the room of the deque for jobs nor the seat's room for cells has shrunk
 abbrev pub KeepsRoom : (old new : Seat) → Type 0
 KeepsRoom old new = SameWorker old.own new.own × (cell_room old ≤ cell_room new)
 

@@ -262,8 +262,8 @@ fn is_asked(workers: usize, cells: usize) -> bool
 
 impl Yard {
     /// Opens a yard for `workers` workers, 1 to 64, with `cells` cells each, 1 to 4,096. Returns the yard and the
-    /// seats of the workers; the seat of worker 0 is the last. Each worker can have as many jobs offered and neither
-    /// taken back nor collected as it has cells.
+    /// seats of the workers; the seat of worker 0 is the last. A worker can have up to `cells` jobs that it offered
+    /// and neither took back nor collected.
     ///
     /// # Errors
     ///
