@@ -20,7 +20,7 @@ pub enum Extent {
 pub struct Rest {
     /// The pc of its next instruction.
     pub place: usize,
-    /// Its depth.
+    /// The depth of the call, 1 for `main`.
     pub depth: usize,
     /// The values of its slots, and at a join its operands above them. A slot that a spawned call has taken holds an
     /// arbitrary value.
@@ -34,7 +34,7 @@ pub struct Rest {
 pub struct Parts {
     /// A share of the code.
     pub code: Arc<Verified>,
-    /// Its extent.
+    /// The extent of the job.
     pub extent: Extent,
     /// The frame in which it begins.
     pub rest: Rest,

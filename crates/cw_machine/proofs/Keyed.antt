@@ -30,7 +30,7 @@ next_number a n (x ∷ rows) row e =
     let is : n ≡ (a + 1) + length rows = omega (arith, e) in
     rw (other_number n a (length rows) is) (ap (λ l. (a, x) ∷ l) (next_number (a + 1) n rows row is))
 
--- one more row
+-- a map from numbers to rows got one more row
 pub one_row_more : {X : Type 0} (old new : List (ℕ × X)) (n key : ℕ) (rows : List X) (d : X)
     → old ≡ enumerate_from 0 (take n rows) → n < length rows → key ≡ n
     → new ≡ insert_entry nat_eq old key (get_or rows n d) → new ≡ enumerate_from 0 (take (n + 1) rows)
@@ -85,7 +85,7 @@ pub record TagsTowards {X : Type 0} (entries : List (Vec ℕ × X)) (left : List
 one_behind : {A B : Type 0} (f : A → B) (xs : List A) (x : A) (left : List B) → map f (xs ++ x ∷ []) ++ left ≡ map f xs ++ f x ∷ left
 one_behind f xs x left = ap (λ l. l ++ left) (map-append f xs (x ∷ [])) ∙ append_assoc (map f xs) (f x ∷ []) left
 
--- one more tag
+-- a map from tags to rows got one more tag
 pub one_tag_more : {X : Type 0} (old new : List (Vec ℕ × X)) (tag : Name) (left : List Name) (row : X) (rows : List X) (tags : List Name) (whole : List X) (key : Vec ℕ)
     → TagsTowards old (tag ∷ left) (row ∷ rows) tags whole → are_apart tags ≡ true → key.items ≡ tag
     → new ≡ insert_entry same_tag old key row → TagsTowards new left rows tags whole

@@ -14,7 +14,7 @@ abbrev pub share_of : List View → Out → (number : ℕ) → Placed → (block
 share_of views o n p b k = if is_shared o n && lies_in (view views (o.first + n)) (length p.items) b k then 1 else 0
 
 module _ (views : List View) (o : Out) (b k : ℕ) where
-  -- one more slice
+  -- one more slice adds its own shares of the place to the shares of the others
   pub shares_more : (n : ℕ) (ps : List Placed) (p : Placed) → shares_in views o n (ps ++ p ∷ []) b k ≡ shares_in views o n ps b k + share_of views o (n + length ps) p b k
   shares_more n [] p =
       let same : n + 0 ≡ n = omega arith in

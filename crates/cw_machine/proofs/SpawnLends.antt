@@ -110,7 +110,7 @@ module _ (s s' : State) (kind : CallKind) (c : Callee) (passed : List ℕ) (loan
   began None e = cc
   began (Some f) e = by_depth f (nat_lt MOST_DEPTH (s.depth + 1)) trap.TooDeep c.line e
 
--- a spawn of such a call was executed
+-- a spawn was executed, and its waiting call keeps what it lent
 call_keeps : (v : Verified) (is : IsFit v) (s s' : State) (good : GoodState (code_view v.code) is.fits s) (c : Callee)
     → slice_get (code_view v.code).instrs s.place ≡ Some (Call Spawned c) → step (code_view v.code) s ≡ On s' →
     (w : Waiting) (around : List Around) → s'.around ≡ Caller w ∷ around → KeepsLent v is w (slots_lent (lent_by (code_view v.code) c.lent))

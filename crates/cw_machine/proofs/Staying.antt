@@ -51,12 +51,12 @@ module _ (given : List Placed) (slots : ℕ) (views : List View) where
     readers_lie = λ a le lt. seen a lt (λ l. absurd (omega (arith, l, le))) ∙ h.readers_lie a le lt;
   }
 
--- each array that waits for a join goes into an empty slot
+-- the shares that were given stay in their slots at a join, because no array waits for a full slot
 pub keeps_settled : (given : List Placed) (slots : ℕ) (arrived : Results (List ℤ)) (arrays : Slots (List ℤ))
     → ((a : ℕ) → is_full (slice_get arrays a) ≡ true → IsNotAmong a (slots_in arrived)) → KeepsShared given slots arrays (settled arrived arrays)
 keeps_settled given slots arrived arrays apart a lt some e = settled_beside arrived arrays a (apart a (ap is_full e)) ∙ e
 
--- another slot was written
+-- the shares that were given stay in their slots if another slot is written
 pub keeps_set : (given : List Placed) (slots : ℕ) (arrays : Slots (List ℤ)) (b : ℕ) (xs : List ℤ)
     → ((a : ℕ) → a < slots → 0 < (placed given a).spot.halved → a ≢ b) → KeepsShared given slots arrays (slice_set arrays b (Some xs))
 keeps_set given slots arrays b xs apart a lt some e = set_other arrays b a (Some xs) (apart a lt some) ∙ e

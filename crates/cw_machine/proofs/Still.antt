@@ -204,7 +204,7 @@ kept_put blocks b k x y e c = at blocks b c (found_is blocks b k y e).1
     at (w ∷ blocks) (suc b) zero e = refl
     at (w ∷ blocks) (suc b) (suc c) e = at blocks b c e
 
--- another block
+-- a write of one block does not change the place of another block, nor which of its cells are in
 pub kept_set : (blocks : List Lodged) (b c : ℕ) (w : Lodged) → c ≢ b → kept_of (slice_set blocks b w) c ≡ kept_of blocks c
 kept_set blocks b c w n = ap (λ (v : Lodged). (v.spot, map is_some v.cells)) (get_or-set_other blocks b c w no_block n)
 

@@ -242,7 +242,7 @@ pub record IsWhole (m : Machine) (count a : ℕ) : Type 0 where
   pub len : (slot_view m count a).len ≡ length (cells_at m (slot_view m count a))
   pub which : IsSlots count a (slot_view m count a)
 
--- the array in a slot is such a block, or else was copied
+-- the array in a slot is a whole block, or else was copied
 abbrev pub IsCopied : Machine → (count a : ℕ) → Option Placed → Type 0
 IsCopied m count a None = IsWhole m count a
 IsCopied m count a (Some p) =

@@ -26,7 +26,7 @@ fn is_cut_at_its_ends(mut whole: Slice) -> bool
     is_none && is_end && whole.len() == 0 && last == 9
 }
 
-// Returns whether a slice without numbers can be cut into two such slices.
+// Returns whether a slice without numbers can be cut into two slices without numbers.
 fn is_cut_into_none(whole: Slice) -> bool
     requires own { IsOwn whole }
     requires items { whole.items ≡ [] }

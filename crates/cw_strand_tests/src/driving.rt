@@ -16,11 +16,11 @@ use std::snapshot::Snapshot;
 /// The treatment of a continuation.
 #[derive(Clone, Copy)]
 pub enum Fate {
-    /// It is not executed before its join, and is taken back.
+    /// The continuation is not executed before its join, and is taken back.
     TakenBack,
-    /// Another strand executes it before the spawned call continues.
+    /// Another strand executes the continuation before the spawned call continues.
     ApartAtOnce,
-    /// Another strand executes it after the spawned call has ended.
+    /// Another strand executes the continuation after the spawned call has ended.
     ApartAtJoin,
 }
 

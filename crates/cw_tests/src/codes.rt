@@ -237,9 +237,9 @@ const NO_BURDEN: Burden = Burden {
 enum Came {
     // The verifier rejects it.
     Refused,
-    // It ran to its end and returned this value.
+    // The code ran to its end and returned this value.
     Ended(i64),
-    // It ran and trapped, or exceeded its limit.
+    // The code ran and trapped, or exceeded its limit.
     Stopped,
     // There was not enough memory, or the run failed in a way that no run may.
     Failed,

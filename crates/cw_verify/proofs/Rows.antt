@@ -97,7 +97,7 @@ same_either : (b : Bool) (xs : Row) → xs ≡ (if b then xs else xs)
 same_either true xs = refl
 same_either false xs = refl
 
--- merging one more slot
+-- one more slot is merged into a row
 pub either_more : (xs ys : Row) (a : ℕ) (d : Bool) → a < length ys → either_empty xs (take (suc a) ys)
     ≡ (if get_or ys a d then slice_set (either_empty xs (take a ys)) a true else either_empty xs (take a ys))
 either_more xs [] a d lt = absurd (omega (arith, lt))

@@ -13,9 +13,9 @@ use std::sync::Wait;
 /// The result of spending a ticket.
 #[derive(Drop)]
 pub enum Spent {
-    /// Its job came back.
+    /// The job of the ticket came back.
     Back(Job),
-    /// Its job was stolen, and this is its effect.
+    /// The job of the ticket was stolen, and this is its effect.
     Came(Effect),
 }
 
