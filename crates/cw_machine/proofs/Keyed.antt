@@ -102,7 +102,7 @@ none_left (tag ∷ left) [] h = refl
 none_left (tag ∷ left) (row ∷ rows) (inl h) = cc
 none_left (tag ∷ left) (row ∷ rows) (inr h) = cc
 
--- nothing remains
+-- if no tag or no row remains, the map is complete
 pub all_tags : {X : Type 0} (entries : List (Vec ℕ × X)) (left : List Name) (rows : List X) (tags : List Name) (whole : List X)
     → TagsTowards entries left rows tags whole → (length left ≡ 0) ⊎ (length rows ≡ 0) → named entries ≡ zip tags whole
 all_tags entries left rows tags whole so_far none =

@@ -137,7 +137,7 @@ call_keeps v is s s' good c instr steps w around e a among =
 none_among : (a : ℕ) → is_among a [] ≡ true → ⊥
 none_among a e = cc
 
--- any instruction that spawns
+-- an instruction that spawns was executed, and its waiting call keeps what it lent
 pub spawn_keeps : (v : Verified) (is : IsFit v) (s s' : State) (good : GoodState (code_view v.code) is.fits s) (i : Instr)
     → slice_get (code_view v.code).instrs s.place ≡ Some i → (before : List Around) (target : Option ℕ) (taken : List Taken)
     → turn_of (code_view v.code) (Some i) before ≡ HandsOut target taken → step (code_view v.code) s ≡ On s' →

@@ -40,7 +40,7 @@ module _ (given : List Placed) (slots : ℕ) (views : List View) where
   stay_round arrays arrays' readers (Caller w ∷ around) keeps h = h
   stay_round arrays arrays' readers (Block o ∷ around) keeps h = stay_round arrays arrays' readers around keeps h
 
-  -- other views
+  -- the given shares stay in their slots if the views change, but not the views of these shares
   pub stay_seen : (views' : List View) (arrays : Slots (List ℤ)) (readers : Readers) → SeesShared given slots views views'
       → SharesStay given slots views arrays readers → SharesStay given slots views' arrays readers
   stay_seen views' arrays readers seen h = record {

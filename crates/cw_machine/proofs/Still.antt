@@ -208,7 +208,7 @@ kept_put blocks b k x y e c = at blocks b c (found_is blocks b k y e).1
 pub kept_set : (blocks : List Lodged) (b c : ℕ) (w : Lodged) → c ≢ b → kept_of (slice_set blocks b w) c ≡ kept_of blocks c
 kept_set blocks b c w n = ap (λ (v : Lodged). (v.spot, map is_some v.cells)) (get_or-set_other blocks b c w no_block n)
 
--- more blocks
+-- appending blocks does not change the place of an old block, nor which of its cells are in
 pub kept_more : (blocks more : List Lodged) (c : ℕ) → c < length blocks → kept_of (blocks ++ more) c ≡ kept_of blocks c
 kept_more [] more c lt = absurd (omega (arith, lt))
 kept_more (w ∷ blocks) more zero lt = refl
@@ -221,7 +221,7 @@ kept_take (w ∷ blocks) zero c lt = absurd (omega (arith, lt))
 kept_take (w ∷ blocks) (suc n) zero lt = refl
 kept_take (w ∷ blocks) (suc n) (suc c) lt = kept_take blocks n c (omega (arith, lt))
 
--- fewer blocks
+-- a block below `n` is unchanged if only the first `n` blocks are kept
 pub block_take : (bs : List Lodged) (n c : ℕ) → c < n → block (take n bs) c ≡ block bs c
 block_take [] zero c lt = refl
 block_take [] (suc n) c lt = refl

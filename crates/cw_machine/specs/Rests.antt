@@ -57,7 +57,7 @@ TakesBack m slots lent slices m' =
 abbrev pub TakesHome : Machine → (slots : ℕ) → List Loan → List Placed → Machine → Type 0
 TakesHome m slots lent slices m' = TakesBack m slots (slots_lent lent) slices m'
 
--- slices without numbers
+-- all slices are without numbers
 abbrev pub AreBare : List Placed → Type 0
 AreBare slices = (a : ℕ) (p : Placed) → slice_get slices a ≡ Some p → p.items ≡ []
 

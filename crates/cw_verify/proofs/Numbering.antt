@@ -41,7 +41,7 @@ are_alike_self : (xs : List Outer) → are_alike xs xs ≡ true
 are_alike_self [] = refl
 are_alike_self (x ∷ xs) = both_true (is_alike x x) (are_alike xs xs) (is_alike_self x) (are_alike_self xs)
 
--- how alike blocks meet
+-- the meeting of alike blocks depends only on which of them marks more
 meets_alike : (xs ys : List Outer) → are_alike xs ys ≡ true → meeting_of xs ys ≡ (if each_brings xs ys then (if each_brings ys xs then meeting.Both else meeting.Comes) else meeting.Stays)
 meets_alike xs ys a = ap (λ b. if b then (if each_brings xs ys then (if each_brings ys xs then meeting.Both else meeting.Comes) else meeting.Stays) else meeting.Apart) a
 

@@ -1,4 +1,4 @@
--- Merged blocks.
+-- Facts about merged blocks.
 use Rattle.std.proofs.Common.{◌≡◌, ◌<◌, ◌≤◌, Bool, true, false, ◌||◌, nat_eq, List, [], ◌∷◌, refl, sym, ap, ◌∙◌, arith}
 use Rattle.std.proofs.lemmas.Bool.{or_parts}
 use Rattle.cw_facts.specs.Tests.{first_true, second_true}

@@ -128,7 +128,7 @@ gone_first : (slots : List ℕ) (a : ℕ) (row : Row) → slice_set (with_gone s
 gone_first [] a row = refl
 gone_first (b ∷ slots) a row = set_swap (with_gone slots row) b a true ∙ ap (λ l. slice_set l b true) (gone_first slots a row)
 
--- marking one more slot
+-- one more slot is marked in a row
 pub gone_on : (slots : List ℕ) (k a : ℕ) (row : Row) → slice_get slots k ≡ Some a → with_gone (drop k slots) row ≡ with_gone (drop (k + 1) slots) (slice_set row a true)
 gone_on slots k a row e =
     let n : suc k ≡ k + 1 = omega arith in

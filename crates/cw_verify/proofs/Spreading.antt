@@ -33,7 +33,7 @@ shapes_set items k y z = ap shapes_of (set-set items k y z) ∙ map-set (option_
 nowhere : {k : ℕ} → IsIn k [] → ⊥
 nowhere (j, e) = cc
 
--- the work that remains
+-- a pc that is reached for the first time reduces the number of unreached pcs by one
 unreached_new : (shapes : Shapes) (k : ℕ) (s : Shape) → slice_get shapes k ≡ Some None → suc (unreached (slice_set shapes k (Some s))) ≡ unreached shapes
 unreached_new [] k s e = cc
 unreached_new (None ∷ shapes) zero s e = refl

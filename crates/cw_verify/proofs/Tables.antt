@@ -69,7 +69,7 @@ covers_uncut : (cut : Option Halves) (xs ys : Row) → Covers xs ys → Covers (
 covers_uncut None xs ys c = c
 covers_uncut (Some h) xs ys c = covers_unset xs ys h.array c
 
--- equal cuts
+-- cuts with the same array and the same parts are equal
 halves_equal : (g h : Halves) → g.array ≡ h.array → g.left ≡ h.left → g.right ≡ h.right → g ≡ h
 halves_equal g h a l r = λ i. record { array = a i; left = l i; right = r i }
 
