@@ -264,6 +264,10 @@ pub fn is_thawed(code: &Code, found: &Found, i: &Instr) -> bool
 }
 
 /// Returns an abstract state with the same shape.
+///
+/// # Errors
+///
+/// `Fault::Memory` if there is not enough memory.
 pub fn copy(found: &Found) -> Result<Found, Fault>
     ensures { table.FindsShape result (table.shape_view found.now) }
 {
@@ -281,6 +285,10 @@ pub fn copy(found: &Found) -> Result<Found, Fault>
 }
 
 /// Returns the abstract state at the first instruction of a function.
+///
+/// # Errors
+///
+/// `Fault::Memory` if there is not enough memory.
 pub fn first(alloc: Global, f: &Func) -> Result<Found, Fault>
     ensures { table.FindsShape result (fits.first_shape f.now) }
 {

@@ -131,6 +131,7 @@ pub fn offer(own: &mut OwnDeque, task: Task) -> Result<(), Task>
     }
 }
 
+/// Takes back the newest job of the deque. Returns `None` if no job is left.
 pub fn retake(own: &mut OwnDeque) -> Option<Task>
     requires { IsOwner (worker_view own.old) × (worker_flavor own.old ≡ 1) }
     ensures same { SameWorker own.old own.new }
@@ -144,6 +145,8 @@ pub fn retake(own: &mut OwnDeque) -> Option<Task>
     }
 }
 
+/// Steals the oldest job of another worker's deque. Returns `None`, with the pass unchanged, if the deque
+/// is empty or the theft must be tried again.
 pub fn steal(other: &Victim, pass: &mut ThiefPass) -> Option<Task>
     requires { IsPassOf (stealer_deque other.now) pass.old × IsThief (view pass.old) }
     ensures same { SamePass pass.old pass.new }
