@@ -37,6 +37,7 @@ sys.path[:0] = [os.path.join(TOP, "bench"), os.path.join(TOP, "building")]
 import commit  # noqa: E402
 import costs  # noqa: E402
 import kits  # noqa: E402
+import proving  # noqa: E402
 import recording  # noqa: E402
 import records  # noqa: E402
 from costs import LANES  # noqa: E402
@@ -123,16 +124,22 @@ def sample():
 def is_proved_program():
     """Returns whether ./build made the program that `rt ci` built, and building/PROVED has its sum; reports what differs."""
     kit = kits.found()
-    recorded, proved = records.proved_by(kit.line), records.sum_of_file(PROGRAM)
+    proved = records.sum_of_file(PROGRAM)
     if not filecmp.cmp(PROGRAM, BUILT, shallow=False):
         print("./build does not make the program that was proved:\n    proved   %s\n    ./build  %s" % (proved, records.sum_of_file(BUILT)))
         print("\n".join(recording.differences(kit, print)), flush=True)
         return False
-    if recorded.program != proved or recorded.sources != records.sum_of_sources(kit.crates(records.TOP)):
-        print("building/PROVED does not have the program that was proved, or its sources: run ./build --record and commit what it writes")
-        print("    proved    %s\n    recorded  %s" % (proved, recorded.program), flush=True)
-        return False
     print("./build made the proved program, byte for byte: SHA-256 " + proved, flush=True)
+    sources = records.sum_of_sources(kit.crates(records.TOP))
+    recorded = [it for it in records.proved() if it.kit == kit.line or it.sources == sources]
+    wrong = [it for it in recorded if it.sources != sources or it.kit == kit.line and it.program != proved]
+    if wrong or not recorded:
+        print("building/PROVED does not have this program and its sources: run ./build --record and commit what it writes")
+        print("    proved    %s %s" % (sources, proved))
+        print("\n".join("    recorded  %s %s" % (it.sources, it.program) for it in wrong), flush=True)
+        return False
+    if kit.line not in [it.kit for it in recorded]:
+        print("building/PROVED records these sources for another kit: run ./build --record with this one, too", flush=True)
     return True
 
 
@@ -170,6 +177,7 @@ def main():
         return 1
     last, status = run_ci()
     if status == 0:
+        proving.keep(kits.found(), records.TOP)
         failed = ["the program that rt ci built"] * (not program_passes()) + [WRONG[0]] * (not passes(WRONG))
     if failed:
         print("FAILED: " + " ".join(failed))

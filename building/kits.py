@@ -8,8 +8,6 @@ import shutil
 import subprocess
 import sys
 
-import records
-
 # Python must not write into the kit's folder
 sys.dont_write_bytecode = True
 
@@ -56,20 +54,25 @@ class Kit:
         return [*crate.below(), crate]
 
 
+# the kits that these sources were tried with, as `rt version` prints them
+LOGIC = "logic dac8208d650f15bf"
+SUPPORTED = tuple(f"rattle-kit-{it} {LOGIC}" for it in ("13b", "13f"))
+
+
 def supported():
     """Returns what a user must do if the kit is missing or another one."""
-    lines = "".join(f"\n    {it.kit}" for it in records.proved())
+    lines = "".join(f"\n    {it}" for it in SUPPORTED)
     return f"""This repository is built by one of these kits. Unpack it and put its folder bin first on the path, for example
     export PATH=/PATH/OF/THE/KIT/bin:$PATH
 Then run ./build again. 'rt version' must print one of these lines:{lines}"""
 
 
 def found(is_new=False):
-    """Returns the kit whose `rt` is on the path. Exits if there is none, or, unless it may be new, one that did not prove this repository."""
+    """Returns the kit whose `rt` is on the path. Exits if there is none, or, unless it may be new, one that is not supported."""
     if not shutil.which("rt"):
         sys.exit(f"The command rt is not on the path.\n{supported()}")
     version, page = [subprocess.run(["rt", word], capture_output=True, text=True) for word in ("version", "doc")]
     line = version.stdout.strip()
-    if version.returncode or not is_new and line not in [it.kit for it in records.proved()]:
+    if version.returncode or not is_new and line not in SUPPORTED:
         sys.exit(f"The rt on the path belongs to another kit: {line or version.stderr.strip()}.\n{supported()}")
     return Kit(pathlib.Path(page.stdout.strip()).parent, line)

@@ -1,4 +1,6 @@
-"""Proves the program and the crates below it with `rt ci`, in parallel, and takes from the kit what earlier runs have proved."""
+"""Proves the program and the crates below it with `rt ci`, in parallel, and takes what earlier runs have proved: from the kit, if it keeps
+proofs, and from the last full check below the same folder, if the crates and the program are as it left them."""
+import hashlib
 import os
 import pathlib
 import re
@@ -8,11 +10,15 @@ import sys
 import time
 
 import costs
+import records
 
 # what a proof reads of a crate, and what a run of a program needs
 READ = ("src", "specs", "proofs", "data", "stdin", "stdout", "args", "status")
 # until so many seconds of proofs are done, the estimate counts them as if they had gone at the expected pace
 TRUST = 300
+# the program that `rt ci` builds, and the sums of what the full check proved and built
+PROGRAM = "crates/cilkwork/out/cilkwork"
+KEPT = "crates/cilkwork/out/proved"
 
 
 def minutes(seconds):
@@ -58,10 +64,34 @@ def copy_crates(top, crates, to):
     shutil.copy(top / "HANDLES", to)
 
 
-def prove(kit, top, to, say):
-    """Proves the program of the sources below `top` and the crates below it, in a copy at `to`, and returns the program.
+def state(kit, top):
+    """Returns the sums of all that the proofs of the program below `top` read, and of the program that is built there."""
+    crates, found = kit.crates(top), hashlib.sha256(f"{kit.line}\n".encode())
+    for it in crates:
+        found.update(f"{it.name}: {' '.join([dep.name for dep in it.deps] + list(it.of_kit))}\n".encode())
+        parts = [pathlib.Path(it.folder, part) for part in READ]
+        files = [file for part in parts for file in ([part] if part.is_file() else sorted(part.rglob("*"))) if file.is_file()]
+        records.add_files(found, files, top)
+    return f"{found.hexdigest()} {records.sum_of_file(top / PROGRAM)}\n"
 
-    The libraries that the program uses stay built in the copy. Exits if a crate is not proved."""
+
+def keep(kit, top):
+    """Records that `rt ci` has just proved everything below `top` and built the program there."""
+    (top / KEPT).write_text(state(kit, top))
+
+
+def is_kept(kit, top):
+    """Returns whether the last full check below `top` proved the crates as they are now, and its program is still there."""
+    return (top / KEPT).exists() and (top / PROGRAM).exists() and (top / KEPT).read_text() == state(kit, top)
+
+
+def prove(kit, top, to, say):
+    """Proves the program of the sources below `top` and the crates below it, unless the last full check there has.
+
+    Returns the folder in which the program and its libraries are built: `top`, or a copy at `to`. Exits if a crate is not proved."""
+    if is_kept(kit, top):
+        say("these sources, specifications and proofs were proved by the last full check here")
+        return top
     crates = kit.crates(top)
     copy_crates(top, crates, to)
     progress = Progress(crates, say)
@@ -72,7 +102,6 @@ def prove(kit, top, to, say):
         for line in ran.stdout:
             lines.append(line)
             progress.read(line)
-    made = to / "crates/cilkwork/out/cilkwork"
-    if ran.returncode or not made.exists():
+    if ran.returncode or not (to / PROGRAM).exists():
         sys.exit(f"Not proved (status {ran.returncode}):\n{''.join(lines[-40:])}")
-    return made
+    return to

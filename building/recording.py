@@ -55,11 +55,11 @@ def compare(kit, folder, top, proved_top, exceptions):
 
 
 def differences(kit, say):
-    """Proves the program, which takes little where the kit has kept the proofs, and returns a report of what ./build makes otherwise."""
+    """Proves the program, which takes little after a full check, and returns a report of what ./build makes otherwise."""
     with tempfile.TemporaryDirectory(prefix="cilkwork-compare-") as name:
         folder = pathlib.Path(name)
-        proving.prove(kit, records.TOP, folder / "top", say)
-        _, mine, proved = compare(kit, folder, records.TOP, folder / "top", records.exceptions())
+        proved_top = proving.prove(kit, records.TOP, folder / "top", say)
+        _, mine, proved = compare(kit, folder, records.TOP, proved_top, records.exceptions())
         return comparing.report(list(comparing.differences(mine, proved)))
 
 
@@ -67,9 +67,10 @@ def record(kit, sources, say):
     """Proves the program and writes building/PROVED and building/EXCEPTIONS. Returns the exit status: 1 if ./build still makes another program."""
     with tempfile.TemporaryDirectory(prefix="cilkwork-record-") as name:
         folder = pathlib.Path(name)
-        made = records.sum_of_file(proving.prove(kit, records.TOP, folder / "top", say))
+        proved_top = proving.prove(kit, records.TOP, folder / "top", say)
+        made = records.sum_of_file(proved_top / proving.PROGRAM)
         say("comparing the proved module with the one of ./build: two minutes")
-        trial, mine, proved = compare(kit, folder, records.TOP, folder / "top", records.Exceptions())
+        trial, mine, proved = compare(kit, folder, records.TOP, proved_top, records.Exceptions())
         found = records.Exceptions(unpredicted_hints(mine[0], proved[0]), unpredicted_offsets(mine[0], proved[0]))
         left = list(comparing.differences(rewritten(kit, trial, records.TOP, found), proved))
     records.write_exceptions(found)

@@ -46,9 +46,9 @@ def proved():
     return [Proved(kit, sources, program) for kit, sources, program in (line.rsplit(" ", 2) for line in lines_of(PROVED))]
 
 
-def proved_by(kit):
-    """Returns the program that a kit proved, by its identity, or None."""
-    return next((it for it in proved() if it.kit == kit), None)
+def proved_from(sources, kit):
+    """Returns the program that a kit, given by its identity, proved from the sources with this sum, or None."""
+    return next((it for it in proved() if (it.kit, it.sources) == (kit, sources)), None)
 
 
 def write_proved(new):

@@ -348,19 +348,19 @@ type Help = (&'static str, &'static str, &'static [&'static str]);
 // The help of the program.
 const PROGRAM: &[Help] = &[(
     "--help",
-    "Tells how much parallelism a Cilk program",
+    "Measures how much parallelism a Cilk program",
     &[
         "standard input",
         "'region NAME { .. }'",
-        "under its tag NAME",
+        "with the tag NAME",
         "PREFIX/share/doc/cilkwork",
         "  4  over limit ",
         "  sites  ",
         "  gain   ",
-        "may take some seconds",
+        "some seconds",
         "  --explain  ",
-        "  --edges   spawn, or both",
-        "  -h, --help  tells of the command",
+        "  --edges   spawn charges",
+        "  -h, --help  describes the command",
         "-V or --version",
         "4611686018427387904",
         "  4  too many strands ",
@@ -372,7 +372,7 @@ const COMMANDS: &[Help] = &[
     (
         "check --help",
         "Compiles a program",
-        &["'cilkwork --help'", "--explain tells why"],
+        &["'cilkwork --help'", "--explain explains why"],
     ),
     (
         "run --help",
@@ -383,7 +383,7 @@ const COMMANDS: &[Help] = &[
             "'max NAME = none'",
         ],
     ),
-    ("help run", "Runs a program", &["--explain tells why"]),
+    ("help run", "Runs a program", &["--explain explains why"]),
     (
         "scale --help",
         "Runs a program",
@@ -409,7 +409,7 @@ const COMMANDS: &[Help] = &[
             "Usage: cilkwork greedy",
             "<P> <FILE> [ARGS]...",
             "  greedy      ",
-            "--workers <N>  How many threads share the run [default: 2]\n",
+            "--workers <N>  The number of threads that execute the run [default: 2]\n",
         ],
     ),
 ];

@@ -31,26 +31,26 @@ pub fn command<'a>(alloc: Global) -> Result<Command<'a>, AllocError>
     let run = running_command(
         alloc,
         "run",
-        "Runs a program and writes what it gives",
+        "Runs a program and prints its output and results",
         OF_RUN,
     )?;
     let scale = running_command(
         alloc,
         "scale",
-        "Runs a program and writes its work and span by region",
+        "Runs a program and prints its work and span by region",
         OF_SCALE,
     )?;
     let sites = running_command(
         alloc,
         "sites",
-        "Runs a program and writes its work and span by call",
+        "Runs a program and prints its work and span by call site",
         OF_SITES,
     )?;
     let gain = gain_command(alloc)?;
     let greedy = greedy_command(alloc)?;
     let command = Command::new(alloc, "cilkwork")
         .bin_name("cilkwork")?
-        .about("Tells how much parallelism a Cilk program has, and where it is lost")
+        .about("Measures how much parallelism a Cilk program has, and what limits it")
         .after_help(OF_PROGRAM)
         .no_binary_name(true)
         .subcommand_required(true)
@@ -67,7 +67,7 @@ fn check_command<'a>(alloc: Global) -> Result<Command<'a>, AllocError>
     ensures { IfOk result (IsCommandOf (line_of verb.Check)) }
 {
     let command = Command::new(alloc, "check")
-        .about("Compiles a program and writes 'ok'")
+        .about("Compiles a program and prints 'ok'")
         .after_help(OF_CHECK)
         .arg(file(alloc))?;
     Ok(command)
@@ -79,7 +79,7 @@ fn gain_command<'a>(alloc: Global) -> Result<Command<'a>, AllocError>
     let running = running_command(
         alloc,
         "gain",
-        "Runs a program and writes what making a function faster can bring",
+        "Runs a program and prints what a faster function would gain at most",
         OF_GAIN,
     )?;
     let command = running.arg(number(alloc, TOP))?;
@@ -90,7 +90,7 @@ fn greedy_command<'a>(alloc: Global) -> Result<Command<'a>, AllocError>
     ensures { IfOk result (IsCommandOf (line_of verb.Greedy)) }
 {
     let command = Command::new(alloc, "greedy")
-        .about("Runs a program and writes how long a greedy schedule of it takes")
+        .about("Runs a program and prints the length of its greedy schedule")
         .after_help(OF_GREEDY)
         .arg(needed(alloc, PROCESSORS.name, PROCESSORS.help))?
         .arg(file(alloc))?
@@ -169,7 +169,7 @@ fn edges<'a>(alloc: Global) -> Arg<'a>
         EDGES,
         "E",
         USUAL_EDGES,
-        "The edges that are charged: spawn or both",
+        "The edges that cost the burden: spawn or both",
     )
 }
 

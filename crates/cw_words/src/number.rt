@@ -29,7 +29,7 @@ pub const LIMIT: NumberOption = NumberOption {
     least: 1,
     most: MOST_LIMIT,
     usual: "1000000000",
-    help: "The most that the run may cost",
+    help: "The maximum cost of the run in instructions",
 };
 
 /// The burden of a charged edge.
@@ -38,7 +38,7 @@ pub const BURDEN: NumberOption = NumberOption {
     least: 0,
     most: MOST_BURDEN,
     usual: "15000",
-    help: "The instructions that a charged edge costs",
+    help: "The cost of each charged edge in instructions",
 };
 
 /// The workers of a run.
@@ -47,7 +47,7 @@ pub const WORKERS: NumberOption = NumberOption {
     least: 1,
     most: MOST_WORKERS as u64,
     usual: "2",
-    help: "How many threads share the run",
+    help: "The number of threads that execute the run",
 };
 
 /// The processors of a schedule, a word of its own and no option.
@@ -56,7 +56,7 @@ pub const PROCESSORS: NumberOption = NumberOption {
     least: 1,
     most: MOST_PROCESSORS,
     usual: "1",
-    help: "How many processors share the strands",
+    help: "The number of processors of the schedule",
 };
 
 /// The functions that a report of gains tells at most.
@@ -65,7 +65,7 @@ pub const TOP: NumberOption = NumberOption {
     least: 1,
     most: MOST_TOP,
     usual: "10",
-    help: "How many functions are told at most",
+    help: "The maximum number of functions to report",
 };
 
 /// The number that the text writes, where it is digits alone, at least one, and the number is in
