@@ -1,22 +1,26 @@
 #!/usr/bin/env python3
-"""The gate: a sample of what guards the definitions and ./build, then `rt ci`, then what it built beside what ./build made.
+"""Runs the full check: samples of what supports the definitions, then `rt ci`, then checks of the program that it built.
 
     gate.py
 
-The sample before `rt ci` takes some two minutes: the reports of examples/ against the other implementation, that one
-against answers worked out by hand, the random programs of the walks of worlds, whether each wrong body can be made, and
-some turned clauses; and beside them ./build with its install into a temporary folder. It wants python3 and the kit alone.
-If one of them differs from what is expected, nothing else is run. After `rt ci` the program that it built must be byte for
-byte the one that ./build made and have its SHA-256 in building/PROVED; if not, the functions that differ are listed. It is
-run on examples/ and on random programs, and the wrong bodies of one crate are tried over the libraries that `rt ci`
-left. The last line is that of `rt ci`, `N passed, M failed`; where one of these differs, it says how many failed.
+1. The samples take a few minutes: the reports of examples/ against the independent implementation, that implementation
+   against answers worked out by hand, the random programs of the tests of worlds, the list of definitions in docs/PROOFS.md,
+   the texts of all mutants, and some mutated clauses. In parallel, ./build makes and installs the program into a temporary
+   folder. If one of them fails, nothing else is run.
+2. `rt ci` proves and tests all crates.
+3. The program that `rt ci` built must be, byte for byte, the one of ./build, and have its SHA-256 in building/PROVED;
+   otherwise the functions that differ are listed. It runs examples/ and random programs. Then some mutants are tried, with
+   the libraries that `rt ci` left.
 
-Its first line says how long it expects to take, by bench/budget.csv; each line of `rt ci` on a crate begins
-with the minutes since.
+The mutated clauses and the mutants of 1 and 3 are a sample that depends on the number of the commit (commit.py).
 
-`rt ci` gets a lane for each processor, four at most, unless RT_JOBS says how many: of itself it begins a crate only where
-the memory that it reckons with is free, and reckons so much for the crate at the head of the longest chain that this one
-would wait for nearly all others. The four greatest checks of this repository take some 14 GB together.
+The first line is the expected time, by bench/budget.csv. Each line of `rt ci` about a crate begins with the minutes since the
+start. The last line is that of `rt ci`, `N passed, M failed`; it counts what failed here, too. The script needs python3 and the
+kit.
+
+`rt ci` gets a lane for each processor, at most four, unless RT_JOBS sets the number. By itself it starts a crate only if as
+much memory is free as it estimates for the crate, and its estimate for the first crate of the longest chain is so high that
+this crate would wait for nearly all others. The four largest checks of this repository take some 14 GB together.
 """
 import filecmp
 import os
@@ -29,7 +33,8 @@ import time
 
 sys.dont_write_bytecode = True
 TOP = os.path.normpath(os.path.join(os.path.dirname(os.path.abspath(__file__)), ".."))
-sys.path.insert(0, os.path.join(TOP, "building"))
+sys.path[:0] = [os.path.join(TOP, "bench"), os.path.join(TOP, "building")]
+import commit  # noqa: E402
 import costs  # noqa: E402
 import kits  # noqa: E402
 import proving  # noqa: E402
@@ -40,23 +45,25 @@ from costs import LANES  # noqa: E402
 BEGUN = time.monotonic()
 PROGRAM = os.path.join(TOP, "crates", "cilkwork", "out", "cilkwork")
 BUILT = os.path.join(TOP, "bin", "cilkwork")
+NUMBER = str(commit.number())
 BEFORE = [
     ["bench/reference/examples.py", "--check"],
     ["bench/reference/check.py"],
     ["bench/reference/walks.py", "--check"],
+    ["bench/unfolded.py", "--check"],
     ["bench/wrong/wrong.py"],
-    ["bench/turned/turn.py", "--every", "100", "--jobs", "4"],
+    ["bench/turned/turn.py", "--turn", NUMBER, "--jobs", "4"],
 ]
 SEEDS = ["1", "40", "consts"]
-WRONG = ["bench/wrong/wrong.py", "--turn", "--jobs", str(min(LANES, 2))]
-# what the samples take beside `rt ci`, in seconds of a processor
-SAMPLES = 700
+WRONG = ["bench/wrong/wrong.py", "--turn", NUMBER, "--jobs", str(min(LANES, 2))]
+# seconds of processor time of everything except `rt ci`
+SAMPLES = 1100
 INSTALLED = ["bin/cilkwork"] + ["share/doc/cilkwork/" + it for it in ("GUIDE.md", "LANGUAGE.md", "examples/fib.cilk")]
 WORDED = ["man/man1/cilkwork.1", "bash-completion/completions/cilkwork", "zsh/site-functions/_cilkwork", "fish/vendor_completions.d/cilkwork.fish"]
 
 
 def expectation():
-    """Returns how long the gate takes from nothing: until its lanes have done all, or the longest chain of crates is done."""
+    """Returns a line with the expected time from nothing: that of all lanes, or of the longest chain of crates."""
     with open(os.path.join(TOP, "crates.txt"), encoding="utf-8") as file:
         lines = [line.partition("#")[0].partition(":") for line in file]
     clock, total, chain = costs.expected({head.split()[0]: uses.split() for head, _, uses in lines if head.strip()})
@@ -65,24 +72,24 @@ def expectation():
 
 
 def stamped(line):
-    """A line of `rt ci`, with the minutes since the gate began where it says what came of a crate."""
+    """Returns a line of `rt ci`, with the minutes since the start if it has the result of a crate."""
     return "%3d min %s" % ((time.monotonic() - BEGUN) / 60, line) if line.startswith("rt: ") else line
 
 
 def passes(words):
-    """Runs one of these scripts and says whether it found all as it should be."""
+    """Runs a script and returns whether it succeeds."""
     print("== " + " ".join(words), flush=True)
     ran = subprocess.run([sys.executable, "-B"] + words, cwd=TOP)
     return ran.returncode == 0
 
 
 def said(*words):
-    """What a command writes to standard output."""
+    """Returns what a command writes to standard output."""
     return subprocess.run(words, capture_output=True, text=True, check=True).stdout
 
 
 def unnamed(prefix):
-    """What is installed lacks: files, and commands and options of the program that a page or a completion does not name."""
+    """Returns what is missing after an installation: files, and commands and options that a page or a completion does not name."""
     program = os.path.join(prefix, "bin", "cilkwork")
     commands = re.findall(r"^  (\w+)  ", said(program, "--help").split("Commands:")[1].split("\n\n")[0], re.M)
     options = {it for verb in commands if verb != "help" for it in re.findall(r"--(\w+) <", said(program, verb, "--help"))}
@@ -95,7 +102,7 @@ def unnamed(prefix):
 
 
 def build_passes(ran, log, prefix):
-    """Waits for ./build, shows what it told, and says whether it made and installed what it should."""
+    """Waits for ./build, prints its output, and returns whether it made and installed everything."""
     status = ran.wait()
     print("== ./build --install FOLDER", flush=True)
     log.seek(0)
@@ -107,7 +114,7 @@ def build_passes(ran, log, prefix):
 
 
 def sample():
-    """The names of what does not pass of the sample and ./build, which runs beside it."""
+    """Runs the samples, with ./build in parallel, and returns the names of those that fail."""
     with tempfile.TemporaryDirectory() as prefix, tempfile.TemporaryFile("w+") as log:
         ran = subprocess.Popen([sys.executable, "-B", "build", "--install", prefix], cwd=TOP, stdout=log, stderr=subprocess.STDOUT)
         failed = [words[0] for words in BEFORE if not passes(words)]
@@ -150,7 +157,7 @@ def program_passes():
 
 
 def run_ci():
-    """Runs `rt ci` and shows what it writes but for its last line, which is given with its status."""
+    """Runs `rt ci`, prints its output except for the last line, and returns that line and the status."""
     held = ""
     env = {"RT_JOBS": str(LANES), **os.environ, "PYTHONUNBUFFERED": "1"}
     how = {"cwd": TOP, "env": env, "text": True, "errors": "replace"}

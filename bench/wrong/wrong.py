@@ -1,32 +1,35 @@
 #!/usr/bin/env python3
-"""Tries wrong bodies: the contract of the function that an edit turns must refuse it.
+"""Tries mutants: the contract of the function that an edit changes must refuse the edit.
 
-    wrong.py                      says whether each edit has its row and can be applied; nothing is proved
-    wrong.py CRATE..              tries the edits of these crates, each by itself
-    wrong.py CRATE/NAME..         tries these edits
-    wrong.py --turn               tries one crate's share, in turn: first of crates whose text was not yet tried
+    wrong.py                      says whether each edit has a row and can be applied, and checks the table; proves nothing
+    wrong.py CRATE..              tries the mutants of these crates
+    wrong.py CRATE/NAME..         tries these mutants
+    wrong.py --turn [NUMBER]      tries the sample of a commit, by default of the current one
+    wrong.py --turns              prints all samples, with an estimate of their time
+    wrong.py --write              fills the column `public`
 
-Further words: --write puts what was found into the table; --jobs N tries N side by side; --libraries FOLDER takes the
-libraries of another checkout of the same text.
+Options: --write with mutants puts the results into the table; --jobs N tries N mutants in parallel; --libraries FOLDER uses the libraries
+of another checkout of the same text.
 
-An edit is as those of must-fail/: CRATE/NAME.edit here. It is made in a copy of the crate outside the repository, and the
-kit's checker proves the functions of the row's column `only` there, over the libraries below as an earlier `rt ci` or
-`rt lib CRATE` built them. The functions are first proved as they stand, in the same way. An answer is one of
+A mutant is a file CRATE/NAME.edit of this folder, written as those of must-fail/. The edit is made in a copy of the crate
+outside the repository. There the kit's checker proves the functions of the column `only`, with the libraries that an earlier
+`rt ci`, `rt check` or `rt lib` built. These functions are first proved without the edit, in the same way. The answers are
 
     refused        a goal of these functions does not hold
-    let through    they are proved with the edit in place
-    bad edit       it cannot be applied, compiled or read, the borrow checker does not cover it, or only a proof's words no
-                   longer fit the code
-    not tried      a library is lacking, the functions are not proved as they stand, or the check was killed or took more
-                   than LATEST seconds of a processor
+    let through    they are proved with the edit
+    bad edit       the edit cannot be applied, compiled or read, the borrow checker does not cover it, or only words of a proof
+                   no longer match the code
+    not tried      a library is missing, the functions are not proved without the edit, or the check was killed or took more
+                   than LATEST seconds of processor time
 
-The table, bodies.csv, has for each edit the answer, for one that is no `refused` the reason, the seconds of a processor,
-how many functions are proved for it, and a sum of the crate's text for which this was seen. Status 1: a body that the
-table calls refused, of the crate's text as it stands, is let through or can't be made. Any other difference is told, and is no
-failure: --write then.
+The table, bodies.csv, has for each mutant the answer, the reason if it is not `refused`, the seconds of processor time, the
+number of functions that are proved for it, a sum of the crate's text at that time, and whether a public contract refuses the
+mutant (public.py). The status is 1 if a mutant that the table calls refused is let through, whatever the text, or has become a
+bad edit although the crate's text is the recorded one. Other differences are printed, and `--write` records them.
 """
 import argparse
 import csv
+import functools
 import hashlib
 import os
 import re
@@ -36,19 +39,31 @@ import signal
 import subprocess
 import sys
 import tempfile
-import time
-from concurrent.futures import ThreadPoolExecutor
+from concurrent.futures import ThreadPoolExecutor, as_completed
 
 HERE = os.path.dirname(os.path.abspath(__file__))
 TOP = os.path.normpath(os.path.join(HERE, "..", ".."))
+sys.path[:0] = [HERE, os.path.join(TOP, "bench")]
+sys.dont_write_bytecode = True
+import commit  # noqa: E402
+import public  # noqa: E402
+
 TABLE = os.path.join(HERE, "bodies.csv")
-COLUMNS = ["crate", "edit", "only", "answer", "why", "seconds", "proofs", "text"]
+BUDGET = os.path.join(TOP, "bench", "budget.csv")
+COLUMNS = ["crate", "edit", "only", "answer", "why", "seconds", "proofs", "text", "public"]
 PARTS = ["src", "specs", "proofs"]
 REFUSED, LET_THROUGH, BAD, NOT_TRIED = "refused", "let through", "bad edit", "not tried"
-LATEST = 400
-# what one turn of the gate may take, and the proof of a function from nothing by and large, in seconds of a processor
-TURN = 300
+LATEST = 600
+# Every crate is in the sample of at least one of so many commits.
+PERIOD = 10
+# Seconds of processor time: of a sample, of the mutants of one crate in it, and of a proof of a function from nothing.
+SAMPLE = 700
+SHARE = 300
 EACH = 2
+# a crate that budget.csv does not list
+SMALL = 60
+# crates that are tried at a time
+AT_A_TIME = 6
 
 
 def kit():
@@ -91,14 +106,26 @@ def text_of(crate):
     return found.hexdigest()[:16]
 
 
-def edited(row):
-    """The texts of the files that an edit changes, by their path in the crate, or a word that says why there are none."""
-    path, old, texts = "", None, {}
+def lines_of(row):
+    """Returns the lines of an edit, each as the word before its colon and the text after it."""
     with open(os.path.join(HERE, row["crate"], row["edit"] + ".edit"), encoding="utf-8") as file:
-        lines = file.read().split("\n")
-    for line in lines:
-        key, _, said = line.partition(":")
-        said = said.removeprefix(" ")
+        split = [line.partition(":") for line in file.read().split("\n")]
+    return [(key, said.removeprefix(" ")) for key, _, said in split]
+
+
+def public_column(row):
+    """Returns `yes` if a public contract refuses the mutant of a row, else `no`."""
+    file, pairs = "", []
+    for key, said in lines_of(row):
+        file = said.strip() if key == "file" else file
+        pairs += [(file, said)] if key == "old" else []
+    return "yes" if public.is_refused_publicly(row, pairs) else "no"
+
+
+def edited(row):
+    """Returns the texts of the files that an edit changes, by their path in the crate, or the reason why there are none."""
+    path, old, texts = "", None, {}
+    for key, said in lines_of(row):
         if key == "file":
             path = said.strip()
             if not re.fullmatch(r"(src|specs|proofs)/[\w/.+-]+", path) or ".." in path:
@@ -116,7 +143,8 @@ def edited(row):
 
 
 def misfits(rows):
-    """What is wrong with the edits as texts: one with no row, a row with none, or one that cannot be applied."""
+    """Returns what is wrong with edits and rows as texts: one without the other, an edit that cannot be applied, a row that names
+    no function, or that says something else of public contracts than public.py."""
     said = []
     named = {(row["crate"], row["edit"]) for row in rows}
     stand = {
@@ -128,8 +156,13 @@ def misfits(rows):
     said += ["%s/%s has a row, and no edit" % it for it in sorted(named - stand)]
     for row in rows:
         label = "%s/%s" % (row["crate"], row["edit"])
-        if (row["crate"], row["edit"]) in stand and isinstance(why := edited(row), str):
+        if (row["crate"], row["edit"]) not in stand:
+            continue
+        if isinstance(why := edited(row), str):
             said.append("%s: bad edit: %s" % (label, why))
+        said += ["%s: the crate has no function %s" % (label, it) for it in row["only"].split() if not public.named(row["crate"], it)]
+        if row["public"] != public_column(row):
+            said.append("%s: the column `public` must be %s" % (label, public_column(row)))
     return said
 
 
@@ -275,16 +308,29 @@ class Trials:
 
 
 def try_rows(rows, libraries, jobs, each):
-    """Tries these rows, crate by crate, and hands each with what was found to `each`."""
-    for crate in dict.fromkeys(row["crate"] for row in rows):
-        own = [row for row in rows if row["crate"] == crate]
+    """Tries these rows, `jobs` at a time, and hands each with its result to `each`."""
+    crates = list(dict.fromkeys(row["crate"] for row in rows))
+    # only a few crates at a time: each keeps its proofs on the disk until its mutants are tried
+    for at in range(0, len(crates), AT_A_TIME):
         with tempfile.TemporaryDirectory(prefix="wrong-") as room, ThreadPoolExecutor(jobs) as pool:
-            trials = Trials(crate, own, libraries, room)
-            why, seconds = trials.control()
-            print("%s: %d functions as they stand: %s, %d s" % (crate, len({it["only"] for it in own}), why or "proved", seconds), flush=True)
-            found = ((NOT_TRIED, why, 0, "") for _ in own) if why else pool.map(trials.trial, own)
-            for row, came in zip(own, found):
-                each(row, *came)
+            try_crates(crates[at : at + AT_A_TIME], rows, libraries, room, pool, each)
+
+
+def try_crates(crates, rows, libraries, room, pool, each):
+    """Tries the rows of these crates. A crate's mutants follow as soon as its functions are proved without an edit."""
+    mine = {crate: [row for row in rows if row["crate"] == crate] for crate in crates}
+    trials = [Trials(crate, mine[crate], libraries, room) for crate in sorted(crates, key=lambda it: -much(mine[it]))]
+    controls, tried = {pool.submit(it.control): it for it in trials}, {}
+    for done in as_completed(controls):
+        (why, seconds), it = done.result(), controls[done]
+        print("%s: %d functions without an edit: %s, %d s" % (it.crate, len({row["only"] for row in it.rows}), why or "proved", seconds), flush=True)
+        for row in it.rows:
+            if why:
+                each(row, NOT_TRIED, why, 0, "")
+            else:
+                tried[pool.submit(it.trial, row)] = row
+    for done in as_completed(tried):
+        each(tried[done], *done.result())
 
 
 # --- the table and its turns
@@ -313,34 +359,77 @@ def put(row, came, said, seconds, proofs):
 
 
 def much(share):
-    """What a turn of these rows takes where nothing is kept of their crate: their functions, with those that they call, and the trials."""
+    """Returns the seconds of processor time that these rows of one crate take if no proof of the crate is kept: the proofs of their
+    functions without an edit, at most those of the whole crate, and the trials."""
     proofs = {row["only"]: int(row["proofs"] or 0) for row in share}
-    return sum(int(row["seconds"] or 0) for row in share) + EACH * sum(proofs.values())
+    whole = budget().get(share[0]["crate"], SMALL)
+    return sum(int(row["seconds"] or 0) for row in share) + min(EACH * sum(proofs.values()), whole)
+
+
+@functools.lru_cache(None)
+def budget():
+    """Returns the seconds of processor time of each crate's proof."""
+    with open(BUDGET, encoding="utf-8", newline="") as file:
+        return {row["crate"]: int(row["proof"]) for row in csv.DictReader(file)}
 
 
 def shares(rows):
-    """The rows in shares that one turn tries: of one crate each, of at most TURN seconds, in the table's order. In none is
-    a row that was not yet tried, or that alone takes longer: its functions call most of their crate."""
-    found = []
-    for row in rows:
-        if row["answer"] == NOT_TRIED or much([row]) > TURN:
-            continue
-        if found and found[-1][0]["crate"] == row["crate"] and much(found[-1] + [row]) <= TURN:
-            found[-1].append(row)
+    """Returns the rows of each crate in shares. A share takes at most SHARE seconds, unless it is a single row. Rows that prove the
+    same functions are neighbours."""
+    found = {}
+    for row in sorted(rows, key=lambda row: (-int(row["proofs"] or 0), row["only"])):
+        mine = found.setdefault(row["crate"], [])
+        if mine and much(mine[-1] + [row]) <= SHARE:
+            mine[-1].append(row)
         else:
-            found.append([row])
+            mine.append([row])
+    return list(found.values())
+
+
+def samples(every, rounds):
+    """Returns PERIOD samples of these shares. A sample is a list of places, and a place is a list of shares of one crate that take
+    turns from one period to the next. Each share has its turn within so many periods."""
+    places = []
+    for mine in every:
+        count = -(-len(mine) // rounds)
+        places += [mine[at::count] for at in range(count)]
+    found = [[] for _ in range(PERIOD)]
+    for place in sorted(places, key=longest, reverse=True):
+        min(found, key=time_of).append(place)
     return found
 
 
-def turn_of(rows):
-    """The share whose turn it is: by the count of commits, or by the day where there is no history; first of crates whose
-    text is another than the table's."""
+def longest(place):
+    """Returns the seconds of the longest share of a place."""
+    return max(much(share) for share in place)
+
+
+def time_of(sample):
+    """Returns the seconds that a sample takes at most."""
+    return sum(longest(place) for place in sample)
+
+
+def rotation(rows):
+    """Returns the samples with the fewest periods until each row had its turn, of those that take at most SAMPLE seconds."""
     every = shares(rows)
-    sums = {row["crate"]: text_of(row["crate"]) for row in rows}
-    first = [share for share in every if any(row["text"] != sums[row["crate"]] for row in share)]
-    count = subprocess.run(["git", "-C", TOP, "rev-list", "--count", "HEAD"], capture_output=True, text=True).stdout.strip()
-    number = int(count) if count.isdigit() and int(count) > 1 else int(time.time()) // 86400
-    return (first or every)[number % len(first or every)]
+    most = max(map(len, every))
+    tried = (samples(every, rounds) for rounds in range(1, most))
+    return next((found for found in tried if max(map(time_of, found)) <= SAMPLE), samples(every, most))
+
+
+def turn_of(rows, number):
+    """Returns the rows of the sample of a commit."""
+    period, at = divmod(number, PERIOD)
+    return [row for place in rotation(rows)[at] for row in place[period % len(place)]]
+
+
+def print_turns(rows):
+    """Prints the samples of a period, with all shares that take turns."""
+    for at, sample in enumerate(rotation(rows)):
+        print("sample %d, at most %d s" % (at, time_of(sample)))
+        for place in sample:
+            for share in place:
+                print("    %s, %d s: %s" % (share[0]["crate"], much(share), " ".join(row["edit"] for row in share)))
 
 
 def chosen(rows, names):
@@ -354,12 +443,17 @@ def chosen(rows, names):
 def main():
     parser = argparse.ArgumentParser(usage=__doc__)
     parser.add_argument("names", nargs="*")
-    parser.add_argument("--turn", action="store_true")
+    parser.add_argument("--turn", type=int, nargs="?", const=-1)
+    parser.add_argument("--turns", action="store_true")
     parser.add_argument("--write", action="store_true")
     parser.add_argument("--jobs", type=int, default=1)
     parser.add_argument("--libraries", default=TOP)
     given = parser.parse_args()
     rows = read_table()
+    if given.write and not given.names and given.turn is None:
+        for row in rows:
+            row["public"] = public_column(row)
+        write_table(rows)
     bad = misfits(rows)
     if not given.names:
         bad += ["%s/%s: no reason says why it is not refused" % (it["crate"], it["edit"]) for it in rows if it["answer"] != REFUSED and not it["why"]]
@@ -368,12 +462,19 @@ def main():
     if bad:
         print("%d rows, %d do not fit" % (len(rows), len(bad)))
         sys.exit(1)
-    mine = turn_of(rows) if given.turn else chosen(rows, given.names)
+    if given.turns:
+        print_turns(rows)
+        return
+    number = commit.number() if given.turn == -1 else given.turn
+    mine = chosen(rows, given.names) if number is None else turn_of(rows, number)
+    if number is not None:
+        print("the sample of commit %d: %s; again by --turn %d" % (number, " ".join(sorted({row["crate"] for row in mine})), number), flush=True)
     worse = []
 
     def each(row, came, said, seconds, proofs):
         differs = came != row["answer"] or came == NOT_TRIED
-        is_worse = row["answer"] == REFUSED and row["text"] == text_of(row["crate"]) and came in (LET_THROUGH, BAD)
+        is_same_text = row["text"] == text_of(row["crate"])
+        is_worse = row["answer"] == REFUSED and (came == LET_THROUGH or came == BAD and is_same_text)
         worse.extend([row] * is_worse)
         mark = "WORSE " if is_worse else "other " if differs else ""
         print("%s%s/%s: %s, %d s%s" % (mark, row["crate"], row["edit"], came, seconds, ": " + said[:300] if said else ""), flush=True)
@@ -381,7 +482,7 @@ def main():
             put(row, came, said, seconds, proofs)
 
     try_rows(mine, os.path.abspath(given.libraries), given.jobs, each)
-    print("%d wrong bodies: %d tried, %d other than in the table for the worse" % (len(rows), len(mine), len(worse)))
+    print("%d mutants: %d tried, %d worse than in the table" % (len(rows), len(mine), len(worse)))
     sys.exit(bool(worse) and not given.write)
 
 

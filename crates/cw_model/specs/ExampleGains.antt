@@ -3,13 +3,13 @@ use Rattle.std.specs.Prelude.{◌≡◌, ℕ, Bool, false, ◌==◌, List, [], �
 use Rattle.cw_model.specs.declared.limits.TheConstants.{USUAL_LIMIT}
 use Rattle.cw_model.specs.declared.syntax.Operator.TheVariants.{Less}
 use Rattle.cw_model.specs.declared.trap.Trap.TheVariants as trap
-use Rattle.cw_model.specs.Burdens.{no_burden, on_spawns}
+use Rattle.cw_model.specs.Burdens.{no_burden, on_spawns, on_both}
 use Rattle.cw_model.specs.Syntax.{Variable, Binary, If, Region, Print, For, End, Program}
 use Rattle.cw_model.specs.Answers.{Answer, Ended, TrappedAt, OverLimit}
 use Rattle.cw_model.specs.Sites.{sites_of}
 use Rattle.cw_model.specs.Freed.{span_if_free, is_site_of}
 use Rattle.cw_model.specs.Report.{Gain, report_text, gain_header}
-use Rattle.cw_model.specs.Examples.{serial, lines}
+use Rattle.cw_model.specs.Examples.{serial, lines, ScalesBoth}
 use Rattle.cw_model.specs.ExamplePrograms.{f, g, h, i, n, p, t, main, number, minus, int_param, int_function}
 use Rattle.cw_model.specs.ExamplePrograms.{void_function, of_functions, on_line, block, give, call, spawn, main_of, alone}
 
@@ -17,6 +17,11 @@ use Rattle.cw_model.specs.ExamplePrograms.{void_function, of_functions, on_line,
 abbrev pub Gains : (top : ℕ) → Program → (args : List ℕ) → (burden : ℕ) → List (List ℕ) → Type 0
 Gains top program args burden rows =
     report_text (Gain top) program (on_spawns burden) (serial program args USUAL_LIMIT) ≡ gain_header ++ lines rows
+
+-- with the burden on both kinds of edges the gain report has these rows
+abbrev pub GainsBoth : (top : ℕ) → Program → (args : List ℕ) → (burden : ℕ) → List (List ℕ) → Type 0
+GainsBoth top program args burden rows =
+    report_text (Gain top) program (on_both burden) (serial program args USUAL_LIMIT) ≡ gain_header ++ lines rows
 
 -- if these sites were free, the span would be this
 abbrev pub SpansIfFree : (ℕ → Bool) → Program → (args : List ℕ) → ℕ → Type 0
@@ -58,6 +63,18 @@ loop_in_region_program = of_functions (
     ∷ main_of (Region t (block (For i i i (number 0) (number 2) 1 [] (block (call 1 p [] ∷ [])) ∷ [])) ∷ give (number 0) ∷ [])
     ∷ [])
 
+-- a loop in a region, of two iterations, each a leaf, of which the first one calls a function
+abbrev pub first_iteration_program : Program
+first_iteration_program = of_functions (
+    void_function p [] (block (Print (number 1) ∷ []))
+    ∷ main_of (
+    Region t (block (
+    For i i i (number 0) (number 2) 1 []
+    (block (If (Binary Less (Variable i) (number 1)) (block (call 1 p [] ∷ [])) ∷ []))
+    ∷ []))
+    ∷ give (number 0) ∷ [])
+    ∷ [])
+
 -- two functions of the same instructions, called one after another, the second one first
 abbrev pub same_own_span_program : Program
 same_own_span_program = of_functions (
@@ -81,6 +98,17 @@ pub record GainExamples : Type 0 where
   -- a leaf costs 26 beside its call: 1 + 3 + 17 + (3 + 27) + 1 + 1 + 2
   pub loop_in_region : Gains 10 loop_in_region_program [] 10
       (codes ",0,0,82,55,55,1.490,65" ∷ codes "main,1,1,80,54,1,82.000,11" ∷ codes "p,1,2,2,1,54,1.518,64" ∷ [])
+  -- the child is charged, too: 1 + (10 + 9 beside 10 + 1 + 5 + 1) + 1; without f 1 + (10 beside 17) + 1, and without
+  -- main (10 + 9 beside 10 + 5)
+  pub both_edges : GainsBoth 10 near_tie_program [] 10
+      (codes ",0,0,18,11,11,1.636,21" ∷ codes "f,1,1,9,9,9,2.000,19" ∷ codes "main,1,1,4,2,9,2.000,19" ∷ [])
+  -- the first leaf costs 25 + 4 + 1 + 3, the second one 25 + 4 after the 3 of its call: 1 + 3 + 17 + (33 beside 32) + 1 +
+  -- 1 + 2, of which the tag has all but 1 + 1 + 2
+  pub loop_of_both_edges : ScalesBoth first_iteration_program [] 10
+      (codes ",90,58,1.551,68,1.323" ∷ codes "t,86,54,1.592,64,1.343" ∷ [])
+  -- without p it is 25 + (10 + 30 beside 10 + 32), without main (10 + 3 beside 10)
+  pub loop_gain_of_both_edges : GainsBoth 10 first_iteration_program [] 10
+      (codes ",0,0,90,58,58,1.551,68" ∷ codes "main,1,1,87,55,3,30.000,13" ∷ codes "p,1,1,3,3,57,1.578,67" ∷ [])
   -- of equal own spans the first one by place
   pub same_own_span : Gains 10 same_own_span_program [] 0
       (codes ",0,0,10,10,10,1.000,10" ∷ codes "main,1,1,4,4,6,1.666,6" ∷ codes "f,1,1,3,3,7,1.428,7"
