@@ -10,7 +10,7 @@ one_more_time count times = ap (λ (x : ℕ). x * times) (add-one count) ∙ suc
 pub max_regroup : (v w u : ℤ) → int_max (int_max v w) u ≡ int_max v (int_max w u)
 max_regroup v w u = omega (arith, ints, clamps)
 
--- an integer in the range of 32 bits is in the range of 64 bits, and conversion does not change it
+-- an integer in the range of 32 or 16 bits is in the range of 64 bits, and conversion does not change it
 wide : (z : ℤ) → FitsSigned w32 z → FitsSigned w64 z
 wide (pos n) h = omega (arith, h)
 wide (negsuc n) h = omega (arith, h)

@@ -99,7 +99,7 @@ impl FreedMeter {
         Ok(())
     }
 
-    // Begins a part in the current block, like `stack`, if there is room.
+    // Begins a part in the current block, like `stack`. There must be room for it.
     #[inline(always)]
     fn stack_within(&mut self, child: bool, spawned: bool, free: bool)
         requires { vec_len self.old.parts < vec_capacity self.old.parts }
@@ -138,7 +138,7 @@ impl FreedMeter {
         self.spawn_apart(count, free)
     }
 
-    // Begins a spawned call, like `spawn`, if `is_ready`.
+    // Begins a spawned call, like `spawn`. The meter must be ready (`is_ready`).
     #[inline(always)]
     fn spawn_ready(&mut self, count: u64, free: bool)
         requires { IsReady self.old }

@@ -29,7 +29,7 @@ fn spawn_beside(path: &mut BurdenedPath, counted: u64, first: bool) -> Result<()
     Ok(())
 }
 
-// Begins the first spawned part of a block since its last join on one path, if there is room.
+// Begins the first spawned part of a block since its last join on one path. There must be room for it.
 #[inline(always)]
 fn spawn_first_beside(path: &mut BurdenedPath, counted: u64)
     requires { HasRoomForBlock path.old }
@@ -91,7 +91,7 @@ impl Paths {
         self.plain.has_room() && self.burdened.has_room()
     }
 
-    /// Begins the first spawned part of a block since its last join, if there is room.
+    /// Begins the first spawned part of a block since its last join. There must be room for it.
     #[inline(always)]
     pub fn spawn_first(&mut self, counted: u64)
         requires { HaveRoom self.old }

@@ -81,7 +81,7 @@ impl BurdenedPath {
         self.blocks.len() < self.blocks.capacity()
     }
 
-    /// Begins the first spawned part of a block since its last join, if there is room for a block.
+    /// Begins the first spawned part of a block since its last join. There must be room for a block.
     #[inline(always)]
     pub fn spawn_within(&mut self, count: u64)
         requires { HasRoomForBlock self.old }
@@ -217,7 +217,7 @@ impl BurdenedPath {
         Ok(())
     }
 
-    // Begins the first spawned part of a block since its last join, if there is room for a block.
+    // Begins the first spawned part of a block since its last join. There must be room for a block.
     #[inline(always)]
     fn begin_within(&mut self)
         requires { HasRoomForBlock self.old }

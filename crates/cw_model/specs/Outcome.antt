@@ -1,4 +1,4 @@
--- The outcome of a piece of a run within a budget of instructions. The meanings of source, code and jobs use it.
+-- The outcome of a piece of a run within a budget of instructions. The meanings of source, code and jobs share it.
 use Rattle.std.specs.Prelude.{ℕ, ◌-◌, ℤ, if◌then◌else◌, nat_lt, List, [], ◌∷◌, ◌++◌}
 use Rattle.cw_model.specs.declared.trap.Trap.{Trap}
 use Rattle.cw_model.specs.Syntax.{Name}

@@ -1,5 +1,4 @@
--- Ownership: the names taken by spawns and cuts, the names that spawns only read, and the lines that may not use
--- them.
+-- Ownership: the names taken by spawns and cuts, the names that spawns only read, and the lines that break a rule.
 use Rattle.std.specs.Prelude.{◌≡◌, ℕ, ◌+◌, ◌==◌, Bool, true, false, not, ◌&&◌, ◌||◌, if◌then◌else◌, List, [], ◌∷◌}
 use Rattle.std.specs.Prelude.{◌++◌, Option, Some, None, map, filter, flat_map, Contains}
 use Rattle.std.specs.List.{list_any, list_all}

@@ -155,7 +155,7 @@ impl Paths {
         self.weight = self.weight.wrapping_add(count);
     }
 
-    /// Adds `count` instructions of a site as new steps, if there is room. Returns their place.
+    /// Adds `count` instructions of a site as new steps, for which there must be room. Returns their place.
     #[inline(always)]
     pub fn put(&mut self, site: u32, count: u64) -> usize
         requires { HasRoom self.old }
@@ -239,7 +239,7 @@ impl Paths {
         self.blocks.len() < self.blocks.capacity()
     }
 
-    /// Begins the first spawned part of a block since its last join, like `begin`, if there is room for a block.
+    /// Begins the first spawned part of a block since its last join, like `begin`. There must be room for a block.
     #[inline(always)]
     pub fn begin_within(&mut self)
         requires { HasRoomForBlock self.old }
@@ -355,7 +355,7 @@ impl Paths {
         }
     }
 
-    /// Ends the current spawned child, like `end`, if no step is between the block's base and the child.
+    /// Ends the current spawned child, like `end`. No step may be between the block's base and the child.
     #[inline(always)]
     pub fn end_first(&mut self)
         requires { HasFirstChild self.old }
@@ -372,7 +372,7 @@ impl Paths {
         }
     }
 
-    // Makes the current child the longest of this block, like `take`, if the block's base ends where the child
+    // Makes the current child the longest of this block, like `take`. The block's base must end where the child
     // begins.
     #[inline(always)]
     fn take_first(&mut self, f: Block)
@@ -446,7 +446,8 @@ impl Paths {
         Ok(mid)
     }
 
-    // Extends the base of this block, like `gather`, if there are steps between the base and the current child.
+    // Extends the base of this block up to the current child, also if there are steps between them. Returns the place
+    // where the base ends.
     #[inline(never)]
     fn gather_steps(&mut self, f: Block) -> Result<usize, AllocError>
         ensures all { IfOk result (λ mid. GathersBase self.old self.new f mid) }

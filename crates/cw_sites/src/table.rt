@@ -146,8 +146,8 @@ impl SiteTable {
         false
     }
 
-    // Attributes the instructions since the last call, like `flush`, if the site has a row in the vector and its
-    // steps are at this place in the current path.
+    // Attributes the instructions since the last call, like `flush`. The site must have a row in the vector, and its
+    // steps must be at this place in the current path.
     #[inline(always)]
     fn flush_to(&mut self, place: usize, count: u64)
         requires there { self.old.here < length self.old.rows.by_site.items }
@@ -165,8 +165,8 @@ impl SiteTable {
         self.noted = count;
     }
 
-    // Attributes the instructions since the last call, like `flush`, if the site has a row in the vector and there is
-    // room for its steps.
+    // Attributes the instructions since the last call, like `flush`. The site must have a row in the vector, and
+    // there must be room for its steps.
     #[inline(always)]
     fn flush_behind(&mut self, count: u64)
         requires there { self.old.here < length self.old.rows.by_site.items }
@@ -372,9 +372,8 @@ impl SiteTable {
         false
     }
 
-    /// Ends the innermost invocation, like `end_child`, if this needs no memory and its site has a row in the vector,
-    /// and if no step is between the block's base and the child. Returns whether this is so; if not, nothing is
-    /// changed.
+    /// Ends the innermost invocation, like `end_child`, if this needs no memory and its site has a row in the vector.
+    /// No step may be between the block's base and the child. Returns whether this is so; if not, nothing is changed.
     #[inline(always)]
     pub fn end_child_ready(&mut self, count: u64, outer: u32) -> bool
         requires { HasFirstChild self.old.paths }
@@ -406,7 +405,7 @@ impl SiteTable {
         self.flush_within(count)
     }
 
-    /// Joins a block that has spawned since its last join, like `join`, if all instructions are included.
+    /// Joins a block that has spawned since its last join, like `join`. All instructions must be included.
     #[inline(always)]
     pub fn join_noted(&mut self)
         ensures told { JoinsNoted self.old self.new }
