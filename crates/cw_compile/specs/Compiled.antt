@@ -11,8 +11,7 @@ use Rattle.cw_gen.specs.Generates.{Generates}
 use Rattle.cw_compile.specs.Sources.{Compiles}
 use Rattle.cw_compile.specs.declared.compiling.Compiled.{Compiled}
 
--- `code` is the code of the program that the bytes are a source of: it computes what the serial elision of that program
--- computes
+-- `code` computes what the serial elision of the program computes that the bytes are a source of
 pub record IsCompiled (bytes : List ℕ) (code : Code) : Type 0 where
   pub program : Program
   pub compiles : Compiles bytes program

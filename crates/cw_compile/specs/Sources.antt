@@ -62,8 +62,7 @@ pub record IsDisowned (bytes : List ℕ) (line : ℕ) : Type 0 where
   pub typed : type_faults program ≡ []
   pub least : IsLeastLine (ownership_faults program) line
 
--- the first exceeded limit in the order of the stages: bytes, a name, tokens, the parts of the program, its loops, and
--- its code
+-- the first exceeded limit by stage: bytes, a name, tokens, the parts of the program, its loops, and its code
 pub data PassesLimit (bytes : List ℕ) (line : ℕ) : Type 0 where
   length : IsTooLong bytes line → PassesLimit bytes line
   name : IsSourceText bytes → HasNameFault bytes line → PassesLimit bytes line
@@ -75,8 +74,7 @@ pub data PassesLimit (bytes : List ℕ) (line : ℕ) : Type 0 where
   code : (program : Program) → IsAccepted bytes program → loop_faults program ≡ []
       → IsLeastLine (program_faults program) line → PassesLimit bytes line
 
--- the condition that the bytes satisfy if compiling them returns this fault: the first stage that rejects them, with
--- its line
+-- the condition that the bytes satisfy if compiling them returns this fault: the first stage that rejects them
 abbrev pub IsRefused : List ℕ → Fault → Type 0
 IsRefused bytes (fault.Lexical p) = IsLexicallyRefused bytes p.line
 IsRefused bytes (fault.Syntax p) = IsSyntacticallyRefused bytes p.line

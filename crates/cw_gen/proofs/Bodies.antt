@@ -87,7 +87,7 @@ module _ (code : Code) (fs : List Function) (lists : Lists) (small : length code
       (λ v g arrays l' u may gives le'. backs v g arrays l' u may gives le' ∙ ap (next (ByReturn v g) l') (sym (joined_quiet u)))
       ∙ sym (resume_then t (run_all b fs calls frame l) (λ way. onward way (λ g. going (leave frame g))) next)
 
-  -- an inner sync block: the instruction that opens it, the block, and its end
+  -- the code of an inner sync block executes it: the instruction that opens it, the block, and its end
   pub inside_block : (around : List Around) (returns : Returns) (level : ℕ) (locals : Locals) (taken' : Taken) (b : Block) (kind : BlockKind)
       (tag : Option Name) (pc : ℕ) (size : Room) (store : Store) (outer : Outside) (frame : Frame) (t : Trace) (left : ℕ)
       (next : Completion → ℕ → Trace → RunOutcome) →
@@ -143,7 +143,7 @@ module _ (code : Code) (fs : List Function) (lists : Lists) (small : length code
       ∙ sym (resume_then (ticked t) (joined_up part (piece l)) (λ way. onward way ends) next))
       ∙ sym (resume_then t (pay 1 left) (λ _ l. then_do (joined_up part (piece l)) (λ way. onward way ends)) next)
 
-  -- a cut, the block in which its parts are known, and its end
+  -- the code of a cut executes it: the cut, the block in which its parts are known, and its end
   pub cut_runs : (around : List Around) (level : ℕ) (locals : Locals) (taken' : Taken) (x y z : Name) (e : Expr) (b : Block) (line pc : ℕ)
       (size : Room) (store : Store) (outer : Outside) (frame : Frame) (t : Trace) (left : ℕ) (next : Completion → ℕ → Trace → RunOutcome) →
       level ≡ suc (length outer) → HasAt code.instrs pc (stmt_code (first_list code.sites) marks lists locals line (Cut x e y z b)) →
@@ -266,7 +266,7 @@ module _ (code : Code) (fs : List Function) (lists : Lists) (small : length code
   pub in_reach : (pc : ℕ) (a b : List Instr) (i : Instr) → HasAt code.instrs pc (a ++ i ∷ b) → distance (length b) ≡ length b
   in_reach pc a b i has = distance_is (length b) (omega (arith, length_within code.instrs pc (a ++ i ∷ b) has, small, length-append a (i ∷ b)))
 
-  -- the iterations of a `while`
+  -- the code of a `while` executes its iterations
   pub while_runs : (n : ℕ) (around : List Around) (returns : Returns) (level : ℕ) (locals : Locals) (taken' : Taken) (e : Expr) (b : Block)
       (line pc : ℕ) (size : Room) (outer : Outside) (left : ℕ) → has_no_half_in b ≡ true →
       HasAt code.instrs pc (stmt_code (first_list code.sites) marks lists locals line (While e b)) → ExprFine locals (held_after fs level (While e b) taken') e →

@@ -66,7 +66,7 @@ pub record Hands (marks : Marks) (locals : Locals) (taken' : Taken) (frame : Fra
   pub back : (g : Frame) → returned g ≡ with_arrays frame (put_backs names (left g) frame.arrays)
 
 module _ (code : Code) (fs : List Function) (lists : Lists) where
-  -- the calls from this depth, with less fuel than the bound
+  -- calls from this depth, with less fuel than the bound, execute their functions
   pub record CallsRun (bound depth : ℕ) (calls : Calls) : Type 0 where
     pub enters : (entry : Entry) → nat_lt MOST_DEPTH (depth_of entry depth) ≡ false → (f : Function) (fn : Func) → Compiled code fs lists f fn →
         (vs : List ℤ) (xss : List (List ℤ)) (given : Frame) → length vs ≡ fn.params → length xss ≡ fn.array_params + fn.readers → Bound f.params vs xss no_frame given →
@@ -320,7 +320,7 @@ module _ (code : Code) (fs : List Function) (lists : Lists) where
         ∙ ap (λ ls. On (record first { arrays = ls; readers = read })) (sym (owned_full callee xss more (short f fn compiled xss m)))
         ∙ ap (λ ls. On (record first { readers = ls })) (sym (read_full callee xss more (short f fn compiled xss m)))
 
-    -- a call, from the start of its function on
+    -- the code executes a call, from the start of its function on
     module _ (bound : ℕ) (calls : Calls) (run_calls : CallsRun bound depth calls) where
       pub inside_runs : (around : List Around) (locals : Locals) (taken' : Taken) (level : ℕ) (kind : CallKind) (entry : Entry) (mark : Option ℕ)
           (target : Option Name) (line pc : ℕ) (size : Room) (f : Function) (fn : Func) (frame : Frame) (h : Hands marks locals taken' frame f fn)

@@ -200,7 +200,7 @@ MayGive Nowhere v = ⊥
 MayGive WithInt v = is_none v ≡ false
 MayGive Alone v = is_none v ≡ true
 
--- the arrays that a call returns at its end
+-- the arrays that a call returns at its end are the arrays of its frame
 pub gives_back : (marks : Marks) (room : Room) (locals : Locals) (taken' : Taken) (frame : Frame) (store : Store) (outer : Outside) → outer ≡ []
     → Begins room.given locals.arrays → Agrees locals taken' frame store outer → AllOwn marks store.arrived
     → GivesBack marks room.given frame (settled (told_at marks store.arrived) (owned marks store.arrays))

@@ -32,7 +32,7 @@ pub record IsWritable (marks : Marks) (names : List Name) (taken : Taken) (x : N
   pub loose : is_held taken x ≡ false
   pub own : IsOwn marks (slot_of x names)
 
--- an expression uses only such integers and arrays
+-- an expression uses only known integers and arrays that are not taken
 abbrev pub ExprFine : Locals → Taken → Expr → Type 0
 ExprFine locals taken (Number n) = Unit {0}
 ExprFine locals taken (Variable x) = IsUsable locals.ints taken x

@@ -77,7 +77,7 @@ as_many_lent marks locals taken (p ∷ ps) (e ∷ es) fine = one p.kind e fine.0
     one Const (Variable a) h more = ap suc more
     one Const _ h more = absurd h
 
--- arrays that a spawn takes
+-- the row after a spawn covers the row before it without the arrays that the spawn takes
 pub gone_covered : (size : Room) (depth : ℕ) (names given : List Name) (taken taken' : Taken) → length names ≤ size.arrays
     → AllUsable names taken given → OwnSlots size.marks (slots_for names given) → ((y : Name) → holds false depth y taken ≡ true → holds false depth y taken' ≡ true) →
     ((y : Name) → is_among y given ≡ true → holds false depth y taken' ≡ true)
@@ -87,7 +87,7 @@ gone_covered size depth names (a ∷ given) taken taken' le us own more is =
     covers_array size depth names a (with_gone (numbers_at size.marks (slots_for names given)) (array_row size depth names taken)) taken' le own.0
     (gone_covered size depth names given taken taken' le us.1 own.1 more (λ y h. is y (later_among y a given h))) (is a (front_among a given)) us.0.declared
 
--- arrays that a spawn only reads: those in slots are frozen
+-- the row of frozen arrays after a spawn covers the row before it with the arrays in slots that the spawn reads
 pub lent_covered : (size : Room) (depth : ℕ) (names reads : List Name) (taken : Taken) (cold cold' : Taken) → length names ≤ size.arrays
     → AllUsable names taken reads → ((y : Name) → holds false depth y cold ≡ true → holds false depth y cold' ≡ true) →
     ((y : Name) → is_among y reads ≡ true → holds false depth y cold' ≡ true)
@@ -139,7 +139,7 @@ pub spawn_reads : (depth : ℕ) (names reads : List Name) (taken : Taken) (y : N
 spawn_reads depth names reads taken y h = ap (holds false depth y) (frozen_is depth names reads taken) ∙ held_by_spawn false depth y reads (frozen_of taken) h
 
 module _ (setting : Setting) where
-  -- an array that is not one of these names
+  -- an array that is not one of these names has another number
   none_of_them : (locals : Locals) (taken : Taken) (a : Name) → is_among a locals.arrays ≡ true → IsOwn setting.marks (slot_of a locals.arrays)
       → (bs : List Name) → AllWritable setting.marks locals.arrays taken bs → is_among a bs ≡ false →
       is_none_of (array_at setting.marks (slot_of a locals.arrays)) (numbers_at setting.marks (slots_for locals.arrays bs)) ≡ true
@@ -153,7 +153,7 @@ module _ (setting : Setting) where
       (none_of_them locals taken a declared own bs us.1 other.1)
 
   module _ (opened : Opened) (locals : Locals) (taken : Taken) (room : HasRoom setting locals) (cuts : CutsOpen setting.marks opened locals taken) where
-    -- the array slots that a call names
+    -- the array slots that a call refers to are valid
     pub slots_named_well : (given : List Name) → AllWritable setting.marks locals.arrays taken given → differ given ≡ true
         → names_arrays setting.f.arrays (numbers_at setting.marks (slots_for locals.arrays given)) ≡ true
     slots_named_well [] us apart = refl

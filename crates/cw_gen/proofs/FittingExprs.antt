@@ -101,7 +101,7 @@ module _ (setting : Setting) where
         expr_enters d place n ((expr_shapes here (n + 1) e ++ Some (here (n + 1 + 1)) ∷ []) ++ more) fine.0
         (subst (λ ss. StandsAt setting.tab place ss) (append_assoc (expr_shapes here n d) (expr_shapes here (n + 1) e ++ Some (here (n + 1 + 1)) ∷ []) more) h)
 
-    -- an expression leaves one more operand
+    -- the code of an expression is well formed, and leaves one more operand
     pub expr_fits : (e : Expr) (line place n : ℕ) → ExprFine locals taken e → StandsAt setting.tab place (expr_shapes here n e)
         → FlowsInto (table setting) (place + length (expr_code setting.marks locals line e)) (here (n + 1))
         → AllFit setting place (expr_shapes here n e) (expr_code setting.marks locals line e)
@@ -205,7 +205,7 @@ module _ (setting : Setting) where
         one rest false fine' h k = expr_enters e place n (args_shapes here (n + 1) ps es ++ more) fine'.0
             (subst (λ ss. StandsAt setting.tab place ss) (append_assoc (expr_shapes here n e) (args_shapes here (n + 1) ps es) more) h)
 
-    -- arguments leave one operand for each integer
+    -- the code of arguments is well formed, and leaves one operand for each integer
     pub args_fit : (ps : List Param) (es : List Expr) (line place n : ℕ) → ArgsFine setting.marks locals taken ps es
         → StandsAt setting.tab place (args_shapes here n ps es) → FlowsInto (table setting)
         (place + length (args_code setting.marks locals line ps es)) (here (args_after n ps es))

@@ -279,6 +279,6 @@ module _ (gs : List Function) (name : Name) (line : ℕ) (x : Name) (grain : ℕ
     (λ y o. nothing_taken (held_after_all gs 1 (in_cuts line over (both_halves line name lefts rights)) []) (cuts_leave over refl) y),
   )
 
-  -- the body of a loop's function
+  -- no taken name is used in the body of a loop's function
   pub loop_free : BlockFree gs 1 [] (loop_function name line x grain ints over body).body
   loop_free = ((refl, leaf_free, node_free), tt)

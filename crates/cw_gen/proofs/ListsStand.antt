@@ -251,7 +251,7 @@ past_source (f ∷ fs) made k j h =
 
 -- the lists of the calls of a loop's function have three numbers that no other list has
 module _ (first : ℕ) (names : List Name) (key sources : ℕ) where
-  -- the first of these numbers
+  -- the first of the three numbers of a loop's function
   abbrev start : (j : ℕ) → ℕ
   start j = first + 3 * (sources + j)
 

@@ -154,7 +154,7 @@ apart_reducers program typed =
     let repeats = left_none (repeated reducers []) _ (right_none (repeated functions []) _ (left_none (repeated_names program) _ behind_main)) in
     ap fits.are_apart (reducer_names_are program.reducers) ∙ reducers_apart reducers [] repeats
 
--- the conditions on the code of a lowered program
+-- the code of a lowered program satisfies its conditions
 pub program_fine : (program : Program) → IsOwnedSource program → are_numbered 0 (call_sites program) ≡ true →
     AllFunctionsKnown (lowered program).functions (lowered program).functions → AllFree (lowered program).functions (lowered program).functions →
     AllPass (lowered_lists program) (tables_in (code_of program)) (lowered program).functions → ProgramFine (lowered program) (lowered_lists program) (tables_in (code_of program))

@@ -114,7 +114,7 @@ set_owned (false ∷ marks) (suc s) x [] h = refl
 set_owned (true ∷ marks) (suc s) x (y ∷ xs) h = set_owned marks s x xs h ∙ ap (λ n. slice_set (owned marks xs) n x) (sym (at_read marks s h))
 set_owned (false ∷ marks) (suc s) x (y ∷ xs) h = ap (λ l. y ∷ l) (set_owned marks s x xs h) ∙ ap (λ n. slice_set (y ∷ owned marks xs) n x) (sym (at_own marks s h))
 
--- writing such a slot keeps the slots that are only read
+-- writing a slot that is not only read keeps the slots that are only read
 pub set_lent : {X : Type 0} (marks : Marks) (s : ℕ) (x : X) (xs : List X) → IsOwn marks s → lent marks (slice_set xs s x) ≡ lent marks xs
 set_lent [] s x xs h = refl
 set_lent (true ∷ marks) zero x xs h = cc

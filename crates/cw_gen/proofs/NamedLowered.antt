@@ -63,7 +63,7 @@ module _ (lists : Lists) (tables : Tables) where
       (((tt, ((h, (tt, tt)), tt)), (tt, halves)), tt)
 
   mutual
-    -- the functions of loops in a statement
+    -- the functions of the loops in a statement refer to existing items
     made_listed : (line k : ℕ) (s : Stmt) → NamedStmt lists tables s → AllListed lists tables (made_by line k s)
     made_listed line k (If e b) h = made_listed_in k b h
     made_listed line k (IfElse e b c) h = listed_both (made_in k b) (made_in (k + loop_count_in b) c) (made_listed_in k b h.0) (made_listed_in (k + loop_count_in b) c h.1)
@@ -80,12 +80,12 @@ module _ (lists : Lists) (tables : Tables) where
     made_listed_in k End h = tt
     made_listed_in k (Then line s b) h = listed_both (made_by line k s) (made_in (k + loop_count s) b) (made_listed line k s h.0) (made_listed_in (k + loop_count s) b h.1)
 
-  -- the functions of the source
+  -- the functions of the source refer to existing items
   lowered_listed : (k : ℕ) (fs : List Function) → AllNamed lists tables fs → AllListed lists tables (lower_functions k fs)
   lowered_listed k [] h = tt
   lowered_listed k (f ∷ fs) h = (block_listed [] k f.body h.0, lowered_listed (k + loop_count_in f.body) fs h.1)
 
-  -- the functions of the loops of the source
+  -- the functions of the loops of the source refer to existing items
   loops_listed : (k : ℕ) (fs : List Function) → AllNamed lists tables fs → AllListed lists tables (made_of k fs)
   loops_listed k [] h = tt
   loops_listed k (f ∷ fs) h = listed_both (made_in k f.body) (made_of (k + loop_count_in f.body) fs) (made_listed_in k f.body h.0) (loops_listed (k + loop_count_in f.body) fs h.1)

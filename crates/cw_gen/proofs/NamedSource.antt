@@ -164,7 +164,7 @@ tags_of_program program =
     subst (λ names. Each (λ tag. IsListed names tag) all) (sym (tags_are_told program))
     (tags_listed (λ tag. IsListed (new_names all []) tag) all [] (λ x h. listed_there x (new_names all []) h) (λ x h. cc))
 
--- a well-typed program whose sites are at their numbers
+-- if the sites of a well-typed program are at their numbers, all items that it refers to exist
 pub source_named : (program : Program) (lists : Lists) (tables : Tables) → lists.reducers ≡ reducer_names program.reducers → lists.tags ≡ tags_of program →
     ((f : Name) → is_among f (function_names program.functions) ≡ true → slot_of f lists.functions ≡ slot_of f (function_names program.functions)) →
     type_faults program ≡ [] → Each (StandsAtItsNumber tables.sites) (emitted_sites_of (resolved program).functions) → AllNamed lists tables program.functions

@@ -138,7 +138,7 @@ values_split zero es = refl
 values_split (suc n) [] = refl
 values_split (suc n) (e ∷ es) = ap (λ l. e.1 ∷ l) (values_split n es)
 
--- held names stay held if each name and each holder stays
+-- a held name of `names` is among `names'` with the same slot, and it stays held
 pub record Keeps (cuts : Bool) (names names' : List Name) (taken taken' : Taken) (depth : ℕ) : Type 0 where
   pub name : (x : Name) → is_among x names ≡ true → holds cuts depth x taken ≡ true → (is_among x names' ≡ true) × (slot_of x names' ≡ slot_of x names)
   pub hold : (x : Name) → is_among x names ≡ true → holds cuts depth x taken ≡ true → holds cuts depth x taken' ≡ true
@@ -408,7 +408,7 @@ module _ (cuts : Bool) {A : Type 0} where
       behind (x ∷ xs) rest zero h = absurd (omega (arith, h))
       behind (x ∷ xs) rest (suc i) h = let e : i - length xs ≡ suc i - suc (length xs) = omega arith in ap (λ l. x ∷ l) (behind xs rest i (omega (arith, h)) ∙ ap (λ n. xs ++ slice_set rest n v) e)
 
-  -- writes a value to the slot whose result no longer waits
+  -- at the end of a cut the slot of its array has a new value, and no result waits for it
   pub put_back : (names : List Name) (taken : Taken) (x : Name) (v w : A) (entries : Entries A) (slots : Slots A) (results : Results A)
       (outer : List (Results A)) → is_among x names ≡ true → NotAwaited (slot_of x names) (all_of (results ∷ outer)) →
       AgreesOf names taken entries slots (((slot_of x names, w) ∷ results) ∷ outer)

@@ -235,7 +235,7 @@ backs names [] vs = []
 backs names (a ∷ given) [] = []
 backs names (a ∷ given) (v ∷ vs) = (slot_of a names, v) ∷ backs names given vs
 
--- none of these slots is only read
+-- no slot of a returned array is only read
 pub backs_own : (marks : Marks) (names : List Name) (taken : Taken) (given : List Name) (vs : List (List ℤ)) → AllWritable marks names taken given → AllOwn marks (backs names given vs)
 backs_own marks names taken [] vs h = tt
 backs_own marks names taken (a ∷ given) [] h = tt
@@ -286,7 +286,7 @@ returned_are marks locals taken (p ∷ ps) (e ∷ es) g frame fine = returned_ar
         with_arrays f (put_backs (arrays_given ps es) (left_in g (taken_params ps)) f.arrays)) is
     one false is _ h = refl
 
--- the slots of a call that ends, by the names of its parameters
+-- the arrays that a call returns are the arrays of its frame, by the names of its parameters
 pub firsts : (names : List Name) (given qs more : List Name) (g : Frame) (entries : Entries (List ℤ)) (rest : List (List ℤ))
     → length given ≡ length qs → holding.names_in entries ≡ qs ++ more → differ qs ≡ true → ((q : Name) → is_among q qs ≡ true → array_of g q ≡ find [] q entries) →
     given_back (map (λ a. Whole a) (slots_for names given)) (full (values_in entries ++ rest)) ≡ Some (backs names given (left_in g qs))

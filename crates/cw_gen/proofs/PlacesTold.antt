@@ -29,7 +29,7 @@ behind_own : (a r : ℕ) (l : Loan) → place_behind (suc a) r l ≡ place_behin
 behind_own a r (loan.Array n) = array_eq (omega arith)
 behind_own a r (loan.Reader n) = refl
 
--- a place in the table
+-- a place in the table is the place of its slot
 found_from : (a r : ℕ) (marks : Marks) (s : ℕ) → s < length marks → slice_get (places_from a r marks) s ≡ Some (place_behind a r (place_of marks s))
 found_from a r [] s h = absurd (omega (arith, h))
 found_from a r (true ∷ marks) zero h = ap Some (reader_eq (omega arith))

@@ -105,7 +105,7 @@ module _ (code : Code) (fs : List Function) (lists : Lists) (marks : Marks) wher
         inside_runs code fs lists marks depth bound calls run_calls around locals taken' level kind Deeper
         (Some site) target line pc size f fn frame h store outer read u l next shallow at_level compiled target_fine agrees m below on
 
-    -- the instruction of a call statement
+    -- the instruction of a call statement executes the call
     pub call_runs : (around : List Around) (locals : Locals) (taken' : Taken) (level : ℕ) (kind : CallKind) (site line pc : ℕ) (size : Room)
         (target : Option Name) (name : Name) (es : List Expr) (fn : Func) (vs : List ℤ) (given_frame : Frame) (store : Store) (outer : Outside)
         (frame : Frame) (u : Trace) (left : ℕ) (next : Completion → ℕ → Trace → RunOutcome) →
@@ -175,7 +175,7 @@ module _ (code : Code) (fs : List Function) (lists : Lists) (marks : Marks) wher
         ∙ sym (resume_then (ticked u) (joined_up (call_event kind site) (calls Deeper f given_frame line l)) (leaves target f.params es frame) next))
         ∙ sym (resume_then u (pay 1 left) (λ _ left'. then_do (joined_up (call_event kind site) (calls Deeper f given_frame line left')) (leaves target f.params es frame)) next)
 
-    -- the instruction of a call on one half: it has the depth of its caller and no site
+    -- the instruction of a call on one half executes the call, at the depth of its caller and without a site
     pub recur_runs : (around : List Around) (locals : Locals) (taken' : Taken) (level : ℕ) (kind : CallKind) (first line pc : ℕ) (size : Room)
         (name : Name) (es : List Expr) (fn : Func) (vs : List ℤ) (given_frame : Frame) (store : Store) (outer : Outside) (frame : Frame) (u : Trace)
         (left : ℕ) (next : Completion → ℕ → Trace → RunOutcome) →

@@ -76,7 +76,7 @@ covers_none [] (suc n) e = absurd (omega (arith, e))
 covers_none (b ∷ r) zero e = absurd (omega (arith, e))
 covers_none (b ∷ r) (suc n) e = (λ h. refl, covers_none r n (omega (arith, e)))
 
--- rows if more is held, and fewer names are known, where none of the other names is held
+-- a row covers the row with more names, if more is held and none of the other names is held
 pub covers_held : (n depth : ℕ) (names more : List Name) (taken taken' : Taken)
     → ((x : Name) → is_among x names ≡ true → holds false depth x taken ≡ true → holds false depth x taken' ≡ true)
     → ((x : Name) → is_among x more ≡ true → holds false depth x taken ≡ false) →
@@ -93,18 +93,18 @@ covers_held (suc n) depth (y ∷ names) more taken taken' h k = (λ e. back (hol
     back true e e' = absurd (true≢false (sym (h y (ap (λ c. if c then true else is_among y names) ((bytes_eq-Decides y y).1 refl)) e) ∙ e'))
     back false e e' = refl
 
--- a row with a new name
+-- the row with a new name covers the row without it
 pub covers_declared : (n depth : ℕ) (names : List Name) (x : Name) (taken : Taken) → Covers (row n depth (names ++ x ∷ []) taken) (row n depth names taken)
 covers_declared zero depth names x taken = tt
 covers_declared (suc n) depth [] x taken = (λ e. refl, covers_itself (row n depth [] taken))
 covers_declared (suc n) depth (y ∷ names) x taken = (λ e. e, covers_declared n depth names x taken)
 
--- a row if more is held
+-- a row covers the row in which less is held
 pub row_more : (n depth : ℕ) (names : List Name) (taken taken' : Taken)
     → ((x : Name) → holds false depth x taken ≡ true → holds false depth x taken' ≡ true) → Covers (row n depth names taken') (row n depth names taken)
 row_more n depth names taken taken' h = subst (λ ns. Covers (row n depth names taken') (row n depth ns taken)) (append-nil names) (covers_held n depth names [] taken taken' (λ x a. h x) (λ x a. cc))
 
--- setting a slot that is empty in the first row
+-- a row covers another one with a slot set that is empty in the first
 covers_raise : (s r : Row) (i : ℕ) → slice_get s i ≡ Some true → Covers s r → Covers s (slice_set r i true)
 covers_raise [] r i e h = cc
 covers_raise (a ∷ s) [] i e h = absurd h
@@ -130,7 +130,7 @@ row_of (suc n) depth (y ∷ names) taken x below h free = test (row_of n depth n
     test more true e below' h' = ap (λ z. is_full_in (Some (holds false depth z taken))) (sym ((bytes_eq-Decides x y).0 e)) ∙ ap (λ b. is_full_in (Some b)) free
     test more false e below' h' = more (omega (arith, below')) h' free
 
--- clearing a slot in the second row
+-- a row covers another one with a slot cleared
 pub covers_lower : (r s : Row) (i : ℕ) → Covers r s → Covers r (slice_set s i false)
 covers_lower [] [] zero h = tt
 covers_lower [] [] (suc i) h = tt
@@ -234,7 +234,7 @@ KeepsHeld taken taken' depth = (d : ℕ) (x : Name) → d ≤ depth → holds fa
 abbrev pub NoneHeld : List Name → Taken → ℕ → Type 0
 NoneHeld names taken depth = (d : ℕ) (x : Name) → d ≤ depth → is_among x names ≡ true → holds false d x taken ≡ false
 
--- the outer rows if more is held, and fewer names are known, where none of the other names is held
+-- the outer rows cover the outer rows with more names, if more is held and none of the other names is held
 pub outers_held : (size : Room) (opened : Opened) (locals : Locals) (ints arrays : List Name) (taken taken' : Taken)
     → KeepsHeld taken taken' (length opened) → KeepsHeld (frozen_of taken) (frozen_of taken') (length opened) →
     NoneHeld ints taken (length opened) → NoneHeld arrays taken (length opened) → NoneHeld arrays (frozen_of taken) (length opened)
@@ -275,7 +275,7 @@ over_more size opened locals taken taken' n m h f =
       outers_more size opened locals taken taken' (λ d x le. h d x) (λ d x le. f d x),
     )
 
--- one more name of a kind
+-- the outer rows with a new name cover the outer rows without it
 pub outers_int : (size : Room) (opened : Opened) (locals : Locals) (x : Name) (taken : Taken) → CoversEach (outers size opened (with_int x locals) taken) (outers size opened locals taken)
 outers_int size [] locals x taken = tt
 outers_int size (c ∷ opened) locals x taken = (
@@ -286,7 +286,7 @@ outers_int size (c ∷ opened) locals x taken = (
   outers_int size opened locals x taken,
 )
 
--- one more array in a row
+-- a row of arrays with a new array covers the row without it
 pub array_declared : (size : Room) (depth : ℕ) (names : List Name) (x : Name) (taken : Taken) → Covers (array_row size depth (names ++ x ∷ []) taken) (array_row size depth names taken)
 array_declared size depth names x taken = array_covers size depth depth (names ++ x ∷ []) names taken taken (covers_declared size.arrays depth names x taken)
 
@@ -433,7 +433,7 @@ full_at : (size : Room) (depth : ℕ) (names : List Name) (taken : Taken) (s : �
     → is_full_in (slice_get (row size.arrays depth names taken) s) ≡ true → is_full_in (slice_get (array_row size depth names taken) (array_at size.marks s)) ≡ true
 full_at size depth names taken s own h = ap is_full_in (get_owned size.marks s (row size.arrays depth names taken) own) ∙ h
 
--- the rows of arrays around the innermost sync block
+-- a slot that is full in each row of arrays is full in the rows around the innermost sync block
 pub outside_full : (size : Room) (opened : Opened) (locals : Locals) (taken : Taken) (i : ℕ) → IsOwn size.marks i → OwnCuts size.marks opened
     → NotCut i opened → ((d : ℕ) → d ≤ length opened → is_full_in (slice_get (row size.arrays d locals.arrays taken) i) ≡ true) →
     full_in_all (gone_rows (outers size opened locals taken)) (array_at size.marks i) ≡ true
@@ -450,7 +450,7 @@ outside_full size (Some c ∷ opened) locals taken i own cuts apart h =
     ∙ full_at size (depth_in opened) locals.arrays taken i own (h (depth_in opened) (omega arith)))
     (outside_full size opened locals taken i own cuts.1 apart.1 (λ d le. h d (omega (arith, le))))
 
--- the rows of frozen arrays around the innermost sync block
+-- a slot that is not frozen in each row is not frozen in the rows around the innermost sync block
 pub outside_thawed : (size : Room) (opened : Opened) (locals : Locals) (taken : Taken) (i : ℕ) → IsOwn size.marks i
     → ((d : ℕ) → d ≤ length opened → is_full_in (slice_get (row size.arrays d locals.arrays (frozen_of taken)) i) ≡ true) →
     full_in_all (frozen_rows (outers size opened locals taken)) (array_at size.marks i) ≡ true

@@ -45,7 +45,7 @@ module _ (code : Code) (marks : Marks) (depth : ℕ) where
       (v : Option ℤ) (frame : Frame) (arrays : Slots (List ℤ)) (l : ℕ) (u : Trace) → MayGive returns v → GivesBack marks size.given frame arrays
       → l ≤ left → go_on (back around v arrays u) l (λ s. steps code l s) ≡ next (ByReturn v frame) l u
 
-  -- an expression and a store
+  -- the code of an expression and a store executes both
   pub store_runs : (around : List Around) (locals locals' : Locals) (taken' : Taken) (e : Expr) (line pc a : ℕ) (size : Room) (store : Store)
       (outer : Outside) (frame : Frame) (made : ℤ → Frame) (t : Trace) (left : ℕ) (next : Completion → ℕ → Trace → RunOutcome) →
       HasAt code.instrs pc (expr_code marks locals line e ++ instr.Store a ∷ []) → ExprFine locals taken' e → Agrees locals taken' frame store outer → Fills marks store size →
@@ -66,7 +66,7 @@ module _ (code : Code) (marks : Marks) (depth : ℕ) where
       ∙ on (made v) (with_slot a (Some v) store) l' (ticked u) (made_agrees v) (fills_slot marks a (Some v) store size n) (omega arith)))
       ∙ sym (resume_then t (pay_for (evaluate e frame) line left) (λ v left'. then_do (pay 1 left') (λ _. going (made v))) next)
 
-  -- an expression and the instruction that records its value
+  -- the code of an expression and an instruction that records its value executes both
   pub tells_runs : (around : List Around) (locals : Locals) (taken' : Taken) (e : Expr) (line pc : ℕ) (size : Room) (i : Instr) (store : Store)
       (outer : Outside) (frame : Frame) (told : ℤ → Trace) (t : Trace) (left : ℕ) (next : Completion → ℕ → Trace → RunOutcome) →
       HasAt code.instrs pc (expr_code marks locals line e ++ i ∷ []) → ExprFine locals taken' e → Agrees locals taken' frame store outer → Fills marks store size →
@@ -98,7 +98,7 @@ module _ (code : Code) (marks : Marks) (depth : ℕ) where
       ap (λ l. On (record (at around pc [] store t) { arrays = l })) (sym (set_owned marks a (Some xs) store.arrays own))
       ∙ ap (λ l. On (record (at around pc [] store t) { arrays = owned marks (slice_set store.arrays a (Some xs)); readers = l })) (sym (set_read marks a (Some xs) store.arrays own))
 
-  -- an expression, and a new array of its value
+  -- the code of an expression and an instruction that sets an array from its value executes both
   pub value_runs : (around : List Around) (locals locals' : Locals) (taken' : Taken) (e : Expr) (line pc a : ℕ) (ops : List ℤ) (size : Room)
       (i : Instr) (store : Store) (outer : Outside) (frame : Frame) (make : ℤ → List ℤ) (op : ℤ → Result) (made : ℤ → Frame) (t : Trace) (left : ℕ)
       (next : Completion → ℕ → Trace → RunOutcome) →
@@ -134,7 +134,7 @@ module _ (code : Code) (marks : Marks) (depth : ℕ) where
   either around true far near store zero_way other_way l u next h k = h
   either around false far near store zero_way other_way l u next h k = k
 
-  -- an expression and a test
+  -- the code of an expression and a test executes both
   pub test_runs : (around : List Around) (locals : Locals) (taken' : Taken) (e : Expr) (line pc n : ℕ) (store : Store) (outer : Outside)
       (frame : Frame) (go : ℤ → ℕ → Outcome Completion) (t : Trace) (left : ℕ) (next : Completion → ℕ → Trace → RunOutcome) →
       HasAt code.instrs pc (expr_code marks locals line e ++ instr.SkipIfZero n ∷ []) → ExprFine locals taken' e → Agrees locals taken' frame store outer →

@@ -54,7 +54,7 @@ LoopBound ps =
     (vs : List ℤ) (xss : List (List ℤ)) (g : Frame) → ints_first ps ≡ true → length vs ≡ length (locals_of ps).ints
     → length xss ≡ length (locals_of ps).arrays → Bound ps vs xss g (loop_frame ps vs xss g)
 
--- the frame of a loop's function
+-- the frame of a loop's function binds its parameters
 pub bound_loop : (ps : List Param) (vs : List ℤ) (xss : List (List ℤ)) (g : Frame) → ints_first ps ≡ true → length vs ≡ length (locals_of ps).ints
     → length xss ≡ length (locals_of ps).arrays → Bound ps vs xss g (loop_frame ps vs xss g)
 bound_loop [] [] [] g order n m = bound_none g
@@ -94,7 +94,7 @@ pub slices_are : (from n : ℕ) (frame : Frame) (over : List Name) → map (λ x
 slices_are from n frame [] = refl
 slices_are from n frame (a ∷ over) = ap (λ l. take n (drop from (array_of frame a)) ∷ l) (slices_are from n frame over)
 
--- the slots of a loop's function that ends return to their arrays
+-- the slices that a loop's function returns are part of their arrays again
 pub slices_found : (names over more : List Name) (from : ℕ) (frame g : Frame) (entries : Entries (List ℤ)) (rest : List (List ℤ))
     → holding.names_in entries ≡ over ++ more → differ over ≡ true → ((q : Name) → is_among q over ≡ true → array_of g q ≡ find [] q entries) →
     given_back (parts_of from (slots_for names over) (map (λ a. array_of frame a) over)) (full (values_in entries ++ rest)) ≡ Some (backs names over (sliced_back frame from g over))

@@ -16,7 +16,7 @@ use Rattle.cw_gen.proofs.Texts.{code_of}
 
 module _ (lists : Lists) where
   mutual
-    -- the call sites of a statement are its call statements, including those in its loops
+    -- the call sites of a statement are its call statements, including the call statements in its loops
     told_stmt : (locals : Locals) (line : ℕ) (s : Stmt) → map (λ q. q.told) (emitted_sites line (resolved_stmt lists locals s)) ≡ sites_in line s
     told_stmt locals line (Declare x e) = refl
     told_stmt locals line (DeclareArray x e) = refl

@@ -42,7 +42,7 @@ module _ (code : Code) where
   syncs a s u (suc l) next h =
       h l (omega arith) ∙ sym (ap (λ o. resume u (after (shows (Join ∷ [])) (then_do o (λ _. gives a))) next) (paid_one tt l (shows (works 1))))
 
-  -- the instruction of an operator
+  -- the instruction of an operator computes its result or traps
   pub operates : (s : State) (line : ℕ) (rest : List ℤ) (r : Result) (i : Instr) (left : ℕ) (next : ℤ → ℕ → Trace → RunOutcome) →
       slice_get code.instrs s.place ≡ Some i → act code s (Some i) ≡ operated s line rest r →
       ((v : ℤ) (l : ℕ) → l < left → steps code l (record s { place = s.place + 1; operands = v ∷ rest; trace = ticked s.trace }) ≡ next v l (ticked s.trace)) →
@@ -59,7 +59,7 @@ module _ (code : Code) where
       over_int : Outcome ℤ
       over_int = Over
 
-  -- an instruction that traps or continues with a value
+  -- an instruction computes a value or traps
   pub does : (s : State) (line : ℕ) (r : Result) (i : Instr) (left : ℕ) (next : ℤ → ℕ → Trace → RunOutcome) (go : ℤ → Transition) →
       slice_get code.instrs s.place ≡ Some i → ((v : ℤ) → r ≡ Value v → act code s (Some i) ≡ go v) → ((trap' : Trap) → r ≡ Fails trap' → act code s (Some i) ≡ Stops trap' line s.trace.lines) →
       ((v : ℤ) (l : ℕ) → l < left → go_on (go v) l (λ s'. steps code l s') ≡ next v l (ticked s.trace)) →

@@ -55,8 +55,7 @@ abbrev pub length_at : Loan → Instr
 length_at (loan.Array a) = instr.Length a
 length_at (loan.Reader r) = instr.ReadLength r
 
--- the instructions of an expression in a line, with operands from left to right; `marks` gives the array slots that are
--- only read
+-- the instructions of an expression, with operands from left to right; `marks` gives the read-only array slots
 abbrev pub emitted_expr : Marks → (line : ℕ) → Expr → List Instr
 emitted_expr marks line (Number n) = instr.Push n ∷ []
 emitted_expr marks line (Variable u) = instr.Load u ∷ []

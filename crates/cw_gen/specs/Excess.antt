@@ -6,8 +6,7 @@ use Rattle.cw_model.specs.Syntax.{Program}
 use Rattle.cw_gen.specs.declared.excess.Excess.{Excess}
 use Rattle.cw_gen.specs.declared.excess.Excess.TheVariants as excess
 
--- for `CallStatements` the number of call statements is the given one and exceeds the limit; for `Instructions` it
--- keeps the limit
+-- `CallStatements` has the number of call statements, above the limit; for `Instructions` it keeps the limit
 abbrev pub IsExcess : Program → Excess → Type 0
 IsExcess program (excess.CallStatements count) = (count ≡ call_count program) × (MOST_CALL_STATEMENTS < count)
 IsExcess program excess.Instructions = call_count program ≤ MOST_CALL_STATEMENTS

@@ -49,7 +49,7 @@ use Rattle.cw_gen.specs.Emit.{put_lists, put_loans, put_loans_in}
 abbrev pub Adds : {A R E : Type 0} → (old new : Vec A) → List A → Result R E → Type 0
 Adds old new more r = OnOk r (new.items ≡ old.items ++ more)
 
--- represents lists of the code, and bodies as blocks
+-- the abstraction of lists, and of bodies as blocks
 abbrev pub lists_of : {A : Type 0} → List (Vec A) → List (List A)
 lists_of lists = map (λ slots. slots.items) lists
 
@@ -60,7 +60,7 @@ blocks_of bodies = map (λ b. block_of b.items) bodies
 abbrev pub Puts : {A R E : Type 0} → (old new : Vec (Vec A)) → (List (List A) → List (List A)) → Result R E → Type 0
 Puts old new change r = OnOk r (lists_of new.items ≡ change (lists_of old.items))
 
--- represents call sites
+-- the abstraction of call sites
 abbrev pub seen_sites : List Site → List CodeSite
 seen_sites sites = map site_view sites
 
@@ -75,7 +75,7 @@ sites_of functions = emitted_sites_of (map function_of functions)
 abbrev pub call_site : (line : ℕ) → code_call.Call → CodeSite
 call_site line c = site_of line c.kind c.site (listed_of c.callee)
 
--- represents the reducers of the code
+-- the abstraction of the reducers of the code
 abbrev pub kept_reducers : List Reducer → List code_reducer.Reducer
 kept_reducers reducers = coded_reducers (map reducer_of reducers)
 

@@ -25,7 +25,7 @@ pub assign_runs : (y : Name) (e : Expr) (v : ℤ) (k line left : ℕ) (fs : List
     run (Assign y e) line fs calls frame left ≡ then_do (pay (k + 1) left) (λ _ l. Done (Normal (set_int y v frame)) l quiet)
 assign_runs y e v k line left fs calls frame h = value_and_pay (evaluate e frame) v k line left (λ v l. Done (Normal (set_int y v frame)) l quiet) h
 
--- the last statement of a block
+-- a block of one statement executes the statement
 pub one_line : (line : ℕ) (s : Stmt) (fs : List Function) (calls : Calls) (frame : Frame) (left : ℕ) → run_all (on_line line s) fs calls frame left ≡ run s line fs calls frame left
 one_line line s fs calls frame left = go (run s line fs calls frame left)
   where

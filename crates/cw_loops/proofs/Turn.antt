@@ -165,7 +165,7 @@ module _ (functions0 : List Function) (i0 : List (Name × ℤ)) (outer0 arrays0 
     there : (a : Name) → is_among a over ≡ true → is_among a (keys frame.arrays) ≡ true
     there a o = ap (λ ks. is_among a ks) agrees.names ∙ known a o
 
-    -- an array of the range, and its slice
+    -- the slice of an array of the range
     slot_is : (fa ga : List (Name × List ℤ)) (slot : Slot' fa ga) (a : Name) → is_among a over ≡ true → find [] a fa ≡ with_slice (find [] a frame.arrays) (natural lo) (slot.slices a)
     slot_is fa ga slot a o = ap (λ t. find [] a t) slot.put'.arrays ∙ find_mapped over (λ a xs. with_slice xs (natural lo) (slot.slices a)) frame.arrays a distinct o (there a o)
 

@@ -12,7 +12,7 @@ use Rattle.cw_tree.specs.ResolvedView.{block_of, function_of, stmt_of}
 abbrev pub lines_in_block : List Line → List ℕ
 lines_in_block lines = loops_in_block (plain_block (block_of lines))
 
--- the lines of the loops in a statement of a line
+-- the lines of the loops in a statement in this line
 abbrev pub lines_in : (line : ℕ) → Stmt → List ℕ
 lines_in line s = loops_in line (plain_stmt (stmt_of s))
 

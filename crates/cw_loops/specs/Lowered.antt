@@ -144,8 +144,7 @@ abbrev mutual
   loop_count_in (Then line s b) = loop_count s + loop_count_in b
 
 abbrev mutual
-  -- a lowered statement in a loop over these arrays; its loops are numbered from `k` on, each after the loops in its
-  -- body
+  -- a lowered statement in a loop over these arrays; its loops have numbers from `k` on, inner loops first
   pub lower_stmt : List Name → ℕ → Stmt → Stmt
   lower_stmt over k (Declare x e) = Declare x (lower_expr over e)
   lower_stmt over k (DeclareArray a e) = DeclareArray a (lower_expr over e)

@@ -21,8 +21,7 @@ abbrev pub arrays_from : ℕ → List Param → ℕ
 arrays_from n [] = n
 arrays_from n (p ∷ ps) = arrays_from (if wants_array p then slot (n + 1) else n) ps
 
--- the lowered bodies of functions; their loops are appended to these loops, and `functions` is the number of source
--- functions
+-- the lowered bodies of functions, with their loops after these loops; `functions` counts the source functions
 abbrev pub made_bodies : (functions : ℕ) → List Loop → List source.Function → Bodies
 made_bodies n loops [] = record { blocks = []; loops = loops }
 made_bodies n loops (f ∷ fs) =
@@ -37,6 +36,6 @@ made_of functions = made_bodies (slot (length functions)) [] functions
 abbrev pub made_of_tree : source.Resolved → Bodies
 made_of_tree tree = made_of tree.functions
 
--- represents the bodies and loops of the code
+-- the abstraction of the bodies and loops of the code
 abbrev pub bodies_of : Tree → Bodies
 bodies_of tree = record { blocks = map (λ b. block_of b.items) tree.bodies.items; loops = map loop_of tree.loops.items }

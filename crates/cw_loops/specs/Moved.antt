@@ -36,8 +36,7 @@ nothing_moved = record { ints_before = 0; captured = []; first_int = 0; arrays_b
 abbrev pub slots_of : List Use → List ℕ
 slots_of uses = map (λ u. u.slot) uses
 
--- the mapping for the body of a loop, if this number of arrays is known before its head; the ends of the range have the
--- slots 0 and 1
+-- the mapping for a loop's body, with this number of arrays before its head; slots 0 and 1 are the range's ends
 abbrev pub moves_of : source.Head → ℕ → Moves
 moves_of head arrays = record {
   ints_before = head.variable.slot;
@@ -182,8 +181,7 @@ abbrev pub followed : ℕ → Stmt → MadeAll → MadeAll
 followed line s rest = record { block = Then line s rest.block; loops = rest.loops }
 
 abbrev mutual
-  -- lowers a statement; the arguments are the number of source functions, the mapping, the number of known arrays, and
-  -- the loops so far
+  -- lowers a statement, given the number of source functions, the mapping, the known arrays and the loops so far
   pub made_stmt : (functions : ℕ) → Moves → (arrays : ℕ) → List Loop → (line : ℕ) → source.Stmt → Made
   made_stmt n m arrays loops line (source.If e b) = around_one (If (moved_expr m e)) (made_block n m arrays loops b)
   made_stmt n m arrays loops line (source.IfElse e b c) =

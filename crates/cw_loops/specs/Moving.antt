@@ -6,11 +6,11 @@ use Rattle.cw_tree.specs.ResolvedView.{use_of}
 use Rattle.cw_loops.specs.declared.moves.Moves.{Moves}
 use Rattle.cw_loops.specs.Moved as spec
 
--- represents uses
+-- the abstraction of uses
 abbrev pub uses_of : List code_use.Use → List source.Use
 uses_of uses = map use_of uses
 
--- represents the mapping
+-- the abstraction of the mapping
 abbrev pub moves_view : Moves → spec.Moves
 moves_view m = record {
   ints_before = m.ints_before;

@@ -17,8 +17,7 @@ abbrev pub AreSmallLoops : List Loop → Type 0
 AreSmallLoops [] = Unit {0}
 AreSmallLoops (l ∷ loops) = IsSmallLoop l × AreSmallLoops loops
 
--- there is a body for each function of the source, and the numbers of functions and of loops and the numbers of each
--- loop keep the limits
+-- a body for each source function; the numbers of functions, of loops and of each loop keep the limits
 pub record IsSmallTree (source : source_code.Tree) (tree : Tree) : Type 0 where
   pub bodies : length (bodies_of tree).blocks ≡ length (resolved_of source).functions
   pub functions : length (resolved_of source).functions ≤ MOST_FUNCTIONS

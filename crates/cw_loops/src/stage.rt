@@ -27,7 +27,7 @@ use std::alloc::{AllocError, Global};
 /// # Errors
 ///
 /// Returns `Size` exactly if the program has more than 4,096 loops, at the line of the 4,097th by place, before it
-/// lowers anything, and `Memory` if memory runs out. Drops the program then.
+/// lowers anything, and `Memory` if memory runs out. Drops the program in each of these cases.
 pub fn lower(alloc: Global, owned: Owned) -> Result<Core, Fault>
     ensures { MatchResult result (IsCoreOf owned) (WhyNotLowered (program_of owned.typed.tree)) }
 {

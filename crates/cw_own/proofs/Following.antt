@@ -314,7 +314,7 @@ holds_left locals depth outside here taken inner cuts steady h p =
     (p CutOf) (cuts k) (depth + 1 == depth + 1) (equal (depth + 1) (depth + 1) refl)))
     (h left))
 
--- the set after a name is added to the known locals
+-- the agreement holds after a name is added to the known locals
 pub holds_push_int : (locals : Locals) (depth : ℕ) (outside : (Holder → Bool) → Row) (taken : Taken) (here : Held) (cuts : Slots) (y : Name) →
     Holds locals depth outside taken here cuts → Holds (spec.with_int y locals) depth outside taken here cuts
 holds_push_int locals depth outside taken here cuts y h p = shows_push_int locals y (held p taken) (all_of p depth outside here cuts) (h p)

@@ -192,6 +192,6 @@ mutual
   no_more_all End cuts k h = h
   no_more_all (Then line s b) cuts k h = no_more s cuts k (no_more_all b (cuts_after s cuts) k h)
 
--- a path without new cuts leaves the cuts of the other path
+-- after a block no array is cut that was not cut before it
 pub cuts_stay : (b : Block) (cuts : Slots) (k : ℕ) → (cuts_after_all b cuts k || cuts k) ≡ cuts k
 cuts_stay b cuts k = implied (cuts_after_all b cuts k) (cuts k) (no_more_all b cuts k)

@@ -93,7 +93,7 @@ named_is known locals (x ∷ xs) seen set k h s =
 pub differ_named : (known : Known) (locals : Locals) (xs : List Name) → Knows known locals → list_all (λ a. is_array known a) xs ≡ true → differ xs ≡ named_once no_slot (map (use_of locals.arrays) xs)
 differ_named known locals xs k h = differ_is xs ∙ named_is known locals xs [] no_slot k h (shows_none locals)
 
--- the arrays of a loop
+-- the rule for the arrays of a loop agrees by names and by slots
 pub over_same : (known : Known) (locals : Locals) (around : Around) (l : Option Loop) (taken : Taken) (t : rows.Taken) (xs : List Name)
     → Knows known locals → list_all (λ a. is_array known a) xs ≡ true → Rounds locals around l → Sees locals taken t →
     may_write around taken xs ≡ list_all (λ (u : spec.Use). rules.may_pass l t u.slot) (map (use_of locals.arrays) xs)
@@ -114,7 +114,7 @@ lent_of kind e = if is_const_kind kind then names_in e else []
 inner_more : (around : Around) (x : Name) (xs : List Name) → are_inner around (x ∷ xs) ≡ (not (is_outer around x) && are_inner around xs)
 inner_more around x xs = not_either (is_outer around x) (list_any (λ y. is_outer around y) xs)
 
--- arguments that are read, given away or only read
+-- the rules for arguments that are read, given away or only read agree by names and by slots
 args_same : (known : Known) (locals : Locals) (around : Around) (l : Option Loop) (taken : Taken) (t : rows.Taken) (ps : List Param) (es : List Expr)
     → Knows known locals → are_arguments known ps es ≡ true → Rounds locals around l → Sees locals taken t →
     ((list_all (λ e. may_read around taken e) es && may_write around taken (arrays_given ps es)) && are_inner around (arrays_lent ps es))
@@ -192,7 +192,7 @@ args_same known locals around l taken t (p ∷ ps) (e ∷ es) k h r s =
     by name_kind.Const (Not e) f more = cc
     by name_kind.Const (Binary o d e) f more = cc
 
--- no array is given away twice
+-- the rule that no array is given away twice agrees by names and by slots
 passed_is : (known : Known) (locals : Locals) (ps : List Param) (es : List Expr) (seen : List Name) (set : Slots) → Knows known locals
     → are_arguments known ps es ≡ true → Shows locals (λ x. is_among x seen) (arrays_row set) →
     once seen (arrays_given ps es) ≡ passed_once set (resolved_arguments locals ps es)
@@ -275,7 +275,7 @@ away_shown known locals (p ∷ ps) (e ∷ es) P set k h s =
     by name_kind.Const (Not e) f more = cc
     by name_kind.Const (Binary o d e) f more = cc
 
--- none of them is only read
+-- the rule that no array that is given away is only read agrees by names and by slots
 read_is : (known : Known) (locals : Locals) (ps : List Param) (es : List Expr) (away : List Name) (set : Slots) → Knows known locals
     → are_arguments known ps es ≡ true → Shows locals (λ x. is_among x away) (arrays_row set) →
     not (list_any (λ a. is_among a away) (arrays_lent ps es)) ≡ none_read set (resolved_arguments locals ps es)

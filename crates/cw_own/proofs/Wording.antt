@@ -33,7 +33,7 @@ pub record Sees (locals : Locals) (taken : Taken) (t : rows.Taken) : Type 0 wher
   pub taken_so : Shows locals (is_taken taken) (row_of_taken t)
   pub held_so : Shows locals (is_held taken) (row_of_held t)
 
--- an integer and an array that the types know
+-- a known integer, and a known array, is taken by names exactly if it is taken by slots
 int_free : (known : Known) (locals : Locals) (taken : Taken) (t : rows.Taken) (x : Name) → Knows known locals → is_int known x ≡ true
     → Sees locals taken t → is_taken taken x ≡ int_taken t (slot_of x locals.ints)
 int_free known locals taken t x k h s = int_shown locals (is_taken taken) (row_of_taken t) x (k.apart x (k.ints x h)) s.taken_so
@@ -194,7 +194,7 @@ pass_same known locals around l taken t x k h r s =
     ∙ ap (λ b. not b && not (is_outer around x)) (array_loose known locals taken t x k h s)
     ∙ ap (λ b. not (array_held t (slot_of x locals.arrays)) && not b) (outer_array known locals around l x k h r)
 
--- an array that a call only reads
+-- the rule for an array that a call only reads agrees by names and by slots
 pub lend_same : (known : Known) (locals : Locals) (around : Around) (l : Option Loop) (taken : Taken) (t : rows.Taken) (x : Name)
     → Knows known locals → is_array known x ≡ true → Rounds locals around l → Sees locals taken t →
     (not (is_taken taken x) && not (is_outer around x)) ≡ rules.may_lend l t (slot_of x locals.arrays)

@@ -95,8 +95,7 @@ held_by u how (Some h) = Some (Held u how h)
 abbrev pub outside : Turn → Touch → Use → Reason
 outside t how u = if t.over u.slot then OtherElement u how t.variable t.head else OuterArray u how t.head
 
--- the reason if an array is indexed: an outer array may be indexed only by the loop's variable, and only if the loop is
--- over it
+-- the reason if an array is indexed; an outer array may be indexed by the loop's variable if the loop is over it
 abbrev pub why_index : Option Turn → Touch → Use → Expr → Option Reason
 why_index None how u e = None
 why_index (Some t) how u e =
@@ -265,8 +264,7 @@ abbrev pub left_reasons : Taken → Block → List (ℕ × Reason)
 left_reasons taken End = []
 left_reasons taken (Then line s b) = reasons_at line (why_left taken s) ++ left_reasons taken b
 
--- the lines of the declarations of a block whose names are held at its end, if it begins with these known and held
--- locals
+-- the lines of the declarations whose names are held at the end of a block that begins with these locals
 abbrev pub ending_reasons : Closing → (known : Row) → Taken → Block → List (ℕ × Reason)
 ending_reasons closing known taken b = left_reasons (at_end closing (taken_after_all known b taken)) b
 
@@ -293,8 +291,7 @@ abbrev mutual
       reasons_in around known (inside taken) b ++ ending_reasons Joins known (inside taken) b
   reasons_within around known taken line _ = []
 
-  -- the lines of the statements of a block and of their inner blocks that break a rule, each with the first rule that
-  -- it breaks
+  -- the lines of a block, including its inner blocks, that break a rule, each with the first rule that it breaks
   pub reasons_in : Option Turn → (known : Row) → Taken → Block → List (ℕ × Reason)
   reasons_in around known taken End = []
   reasons_in around known taken (Then line s b) =

@@ -13,8 +13,7 @@ use Rattle.cw_own.specs.declared.taken.Taken as code
 use Rattle.cw_own.specs.Sets.{Slots, no_slot, with_slot, without_slot, either, both, slots_of, Row, with_int}
 use Rattle.cw_own.specs.Sets.{with_array}
 
--- the locals that the spawns of a sync block hold: the integers and the arrays that they took, and the arrays that they
--- only read
+-- the locals that the spawns of a sync block took, and the arrays that they only read
 pub record Held : Type 0 where
   pub ints : Slots
   pub arrays : Slots
@@ -52,8 +51,7 @@ held_within known h = record {
   frozen = both known.arrays h.frozen;
 }
 
--- the locals that spawns outside the innermost sync block hold, those that spawns inside it hold, and the arrays that
--- are cut
+-- the locals held by spawns outside the innermost sync block and inside it, and the arrays that are cut
 pub record Taken : Type 0 where
   pub outer : Held
   pub here : Held
@@ -108,8 +106,7 @@ with_arrays (Int e ∷ es) held = with_arrays es held
 with_arrays (Array u ∷ es) held = with_arrays es (taking_array u.slot held)
 with_arrays (Shared u ∷ es) held = with_arrays es (freezing u.slot held)
 
--- a spawn takes its target and the arrays that are given away, and freezes those that it only reads; a plain call
--- returns all arrays
+-- a spawn takes its target and given arrays and freezes the arrays that it only reads; a plain call keeps none
 abbrev pub taken_by_call : CallKind → Option Use → List Argument → Held → Held
 taken_by_call Plain target es here = here
 taken_by_call Spawned target es here = with_arrays es (with_target target here)
@@ -209,7 +206,7 @@ with_params ints arrays (p ∷ ps) known =
     if wants_array p then with_params ints (arrays + 1) ps (with_array arrays known)
     else with_params (ints + 1) arrays ps (with_int ints known)
 
--- represents what a value of the code holds
+-- the abstraction of the locals that a value of the code holds
 abbrev pub held_of : code_held.Held → Held
 held_of h = record {
   ints = slots_of h.taken.ints.words;
@@ -217,6 +214,6 @@ held_of h = record {
   frozen = slots_of h.frozen.words;
 }
 
--- represents what is taken, frozen and cut
+-- the abstraction of the held locals and of the cut arrays
 abbrev pub taken_of : code.Taken → Taken
 taken_of t = record { outer = held_of t.outer; here = held_of t.here; cuts = slots_of t.cuts.words }

@@ -35,15 +35,15 @@ use Rattle.cw_own.specs.Reasons.{Reason, Held as IsHeld, EndsHeld, GivenTwice, G
 use Rattle.cw_own.specs.Reasons.{OuterArray, OtherElement, Turn, turn_in, why_call, left_reasons, reasons_within, reasons_in}
 use Rattle.cw_own.specs.Reasons.{block_reasons, function_reasons, line_in, ownership_reasons}
 
--- represents a set of slots
+-- the abstraction of a set of slots
 abbrev pub set_of : code_bits.Bits → Slots
 set_of bits = slots_of bits.words
 
--- represents what the rows hold, in order
+-- the abstraction of the locals that the rows hold, in order
 abbrev pub rows_of : List code_held.Held → List Held
 rows_of rows = map held_of rows
 
--- represents a broken rule
+-- the abstraction of a broken rule
 abbrev pub reason_of : code_reason.Disowned → Reason
 reason_of (reason.Held u how holder since) = IsHeld (use_of u.now) how holder
 reason_of (reason.EndsHeld u holder since) = EndsHeld (use_of u.now) holder
@@ -54,7 +54,7 @@ reason_of (reason.OuterWritten u line) = OuterWritten (use_of u.now) line
 reason_of (reason.OuterArray u how line) = OuterArray (use_of u.now) how line
 reason_of (reason.OtherElement u how variable line) = OtherElement (use_of u.now) how (use_of variable.now) line
 
--- represents a broken rule, if there is one
+-- the abstraction of a broken rule, if there is one
 abbrev pub told_of : Option code_reason.Disowned → Option Reason
 told_of found = option_map reason_of found
 
@@ -62,19 +62,19 @@ told_of found = option_map reason_of found
 abbrev pub Finds : (before after : Option code_reason.Disowned) → (found : Option Reason) → Type 0
 Finds before after found = told_of after ≡ option_or (told_of before) found
 
--- represents a line with the rule that it breaks
+-- the abstraction of a line with the rule that it breaks
 abbrev pub line_and_reason : At code_reason.Disowned → ℕ × Reason
 line_and_reason at = (at.line, reason_of at.reason)
 
--- represents the lines of these places, each with the rule that it breaks
+-- the abstraction of the lines of these places, each with the rule that it breaks
 abbrev pub told_at : List (Option (At code_reason.Disowned)) → List (Option (ℕ × Reason))
 told_at places = map (option_map line_and_reason) places
 
--- represents the recorded lines
+-- the abstraction of the recorded lines
 abbrev pub places_told : code_told.Told → List (Option (ℕ × Reason))
 places_told told = told_at told.reasons.places
 
--- represents a loop
+-- the abstraction of a loop
 abbrev pub turn_of : code_loop.Loop → Turn
 turn_of l = record {
   outer = row_of l.outer;
@@ -84,15 +84,15 @@ turn_of l = record {
   head = l.line;
 }
 
--- represents the enclosing loop, if there is one
+-- the abstraction of the enclosing loop, if there is one
 abbrev pub around_of : Option code_loop.Loop → Option Turn
 around_of around = option_map turn_of around
 
--- represents a use, if there is one
+-- the abstraction of a use, if there is one
 abbrev pub used : Option code_use.Use → Option Use
 used target = option_map use_of target
 
--- represents an expression, if there is one
+-- the abstraction of an expression, if there is one
 abbrev pub returned : Option code_expr.Expr → Option Expr
 returned e = option_map expr_of e
 
@@ -104,7 +104,7 @@ for_of head lines = For (head_of head) (block_of lines)
 abbrev pub cut_of : code_cut.Cut → List code_line.Line → Stmt
 cut_of cut lines = Cut (parts_of cut) (block_of lines)
 
--- what the spawns of a sync block hold after a call
+-- the locals that the spawns of a sync block hold after a call
 abbrev pub after_call : code_call.Call → code_held.Held → Held
 after_call call here =
     taken_by_call call.kind (used call.target) (map argument_of call.arguments.items) (held_of here)

@@ -5,8 +5,8 @@ ghost use Rattle.cw_model.specs.declared.limits.TheConstants.{MOST_DECLARED};
 ghost use Rattle.cw_own.specs.Sets.{no_slot, with_slot, without_slot, either, both};
 ghost use Rattle.cw_own.specs.Views.{set_of};
 
-/// Represents a set of slots below 256, the maximum number of names that a function declares: slot `s` is bit `s %
-/// 64` of word `s / 64`.
+/// Represents a set of slots below 256, the maximum number of names that a function declares: slot `s` is bit
+/// `s % 64` of word `s / 64`.
 #[derive(Clone, Copy)]
 pub struct Bits {
     pub words: [u64; 4],

@@ -1,4 +1,9 @@
 //! Computes the locals that one iteration of each `while` holds.
+//!
+//! The locals held after a statement are those held before it, minus those that the statement frees, plus those that
+//! it takes and freezes. So any number of iterations holds the locals held before the loop, and those that one
+//! iteration holds if it begins with nothing held. Therefore each body is traversed once to compute these, and once
+//! more to find its faults.
 
 ghost use Rattle.std.specs.Prelude.{◌≡◌, ◌∷◌, [], length, slice_set, map, true};
 ghost use Rattle.std.specs.List.{list_all};

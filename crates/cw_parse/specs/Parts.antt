@@ -232,8 +232,7 @@ printed text n site ts =
     v.1 >>= λ w.
     Ok ((tree.Print e.0, site), w.1)
 
--- reads a statement without a block, after a first token of this kind; also returns the number of the next call
--- statement
+-- reads a statement without a block, after a first token of this kind; also returns the next call number
 unfoldable pub simple : List ℕ → ℕ → ℕ → Token → Kind → Reader (Stmt × ℕ)
 simple text n site t kind.Int ts = declared text n site ts
 simple text n site t kind.Name ts = by_first (named_stmt text n site t) ts

@@ -30,8 +30,7 @@ abbrev pub Gives : {X Y : Type 0} → (X → Y) → Result X Stop → Result Y �
 Gives view (Ok x) read = read ≡ Ok (view x)
 Gives view (Err e) read = Fails e read
 
--- the part that a function returned, under a view, with the tokens after it is the result of the reader, unless memory
--- ran out
+-- the part that a function returned and the tokens after it are the result of the reader, unless memory ran out
 abbrev pub Parses : {X Y : Type 0} → (X → Y) → Result (X × Bor (List Token)) Stop → Read Y → Type 0
 Parses view result read = Gives (λ x. (view x.0, x.1.now)) result read
 

@@ -13,7 +13,7 @@ use Rattle.cw_parse.specs.declared.item.Item.TheVariants as item
 use Rattle.cw_tree.specs.SyntaxView.{expr_of, function_of, reducer_of}
 use Rattle.cw_parse.specs.Parts as part
 
--- represents the head of a loop
+-- the abstraction of the head of a loop
 abbrev pub head_of : code.Head → Head
 head_of h =
     record {
@@ -26,7 +26,7 @@ head_of h =
       over = h.over.items;
     }
 
--- represents the opening of a block
+-- the abstraction of the opening of a block
 abbrev pub opening_of : Opening → part.Opening
 opening_of (opening.If e) = part.If (expr_of e)
 opening_of (opening.While e) = part.While (expr_of e)
@@ -35,16 +35,16 @@ opening_of opening.Scope = part.Scope
 opening_of (opening.Cut c) = part.Cut c.value.array (expr_of c.value.at) c.value.left c.value.right
 opening_of (opening.Region tag) = part.Region tag
 
--- represents a reducer or a function
+-- the abstraction of a reducer or a function
 abbrev pub item_of : Item → part.Item
 item_of (item.Total r) = part.Total (reducer_of r)
 item_of (item.Code f) = part.Code (function_of f)
 
--- represents a name and an expression
+-- the abstraction of a name and an expression
 abbrev pub named_expr_of : Name × Expr → Name × model.Expr
 named_expr_of x = (x.0, expr_of x.1)
 
--- represents the items of a source
+-- the abstraction of the items of a source
 abbrev pub items_of : Ast → part.Items
 items_of ast = (map reducer_of ast.reducers.items, map function_of ast.functions.items)
 

@@ -7,8 +7,7 @@ use Rattle.cw_text.specs.declared.least.LeastLine.{LeastLine}
 abbrev pub Noted : List ℕ → (before after : LeastLine) → Type 0
 Noted lines before after = after.line ≡ lowest before.line lines
 
--- a limit leaves room for `room` entries; of `lines`, the entries past that room are recorded, and room for `left` more
--- remains
+-- the entries of `lines` past the first `room` are recorded, and room for `left` more entries remains
 abbrev pub TakesRoom : (room left : ℕ) → List ℕ → (before after : LeastLine) → Type 0
 TakesRoom room left lines before after =
     (more : List ℕ) → lowest after.line (drop left more) ≡ lowest before.line (drop room (lines ++ more))

@@ -52,7 +52,7 @@ pub enum Fault {
     Memory,
     /// A write that failed.
     Write,
-    /// Invalid arguments, limit or burden.
+    /// Arguments, a limit or a burden that are not as required.
     Arguments,
     /// A run with this number of strands, more than the limit for a schedule; 2^64 - 1 if the number is that or
     /// larger.

@@ -3,9 +3,10 @@
 -- How later stages use this: a `Typed` holds its tree. `View.resolved_of` is the `Resolved` that the tree represents,
 -- and `View.program_of` is this `Resolved` without slots and indices, which is the program of the source. A stage
 -- states its result as a function of the resolved tree only, by the slot of each use and the index of each callee, so
--- it looks up no name. The type guarantees that slots and indices are correct: `Typed` holds `is_resolved (resolved_of
--- tree) ≡ true`, and the law `slots_are_right` derives `resolved_of tree ≡ resolved (program_of tree)`: the slot of a
--- name is its position among the integers or the arrays that are known there.
+-- it looks up no name. The type guarantees that slots and indices are correct: `Typed` holds
+-- `is_resolved (resolved_of tree) ≡ true`, and the law `slots_are_right` derives
+-- `resolved_of tree ≡ resolved (program_of tree)`: the slot of a name is its position among the integers or the arrays
+-- that are known there.
 use Rattle.std.specs.Prelude.{ℕ, suc, ℤ, ◌==◌, max, nat_lt, Bool, false, not, ◌&&◌, if◌then◌else◌, List, [], ◌∷◌, ◌++◌}
 use Rattle.std.specs.Prelude.{length, drop, map, filter, Option, Some, None, option_map}
 use Rattle.std.specs.List.{list_any}
@@ -98,8 +99,7 @@ pub record Function : Type 0 where
   pub arrays : ℕ
   pub body : Block
 
--- a program: its reducers and functions in order, its distinct tags in the order of their first occurrences, and the
--- index of main
+-- a program: its reducers and functions, its distinct tags in the order of first occurrence, and the index of main
 pub record Resolved : Type 0 where
   pub reducers : List Reducer
   pub functions : List Function

@@ -11,7 +11,7 @@ use Rattle.cw_tree.specs.declared.syntax.Reducer.{Reducer}
 use Rattle.cw_tree.specs.declared.syntax.Ast.{Ast}
 use Rattle.cw_model.specs.Syntax as model
 
--- represents an expression
+-- the abstraction of an expression
 abbrev pub expr_of : Expr → model.Expr
 expr_of (Number n) = model.Number n
 expr_of (Variable x) = model.Variable x
@@ -21,7 +21,7 @@ expr_of (Negative' p e) = model.Negative (expr_of e)
 expr_of (Not' p e) = model.Not (expr_of e)
 expr_of (Binary' o p d q e) = model.Binary o (expr_of d) (expr_of e)
 
--- represents expressions
+-- the abstraction of expressions
 abbrev pub exprs_of : List Expr → List model.Expr
 exprs_of es = map expr_of es
 
@@ -30,7 +30,7 @@ abbrev pub block_from : List (ℕ × model.Stmt) → model.Block
 block_from [] = model.End
 block_from (l ∷ ls) = model.Then l.0 l.1 (block_from ls)
 
--- represents one level of a statement, whose inner statements are already represented
+-- the abstraction of one level of a statement, given the abstractions of its inner statements
 abbrev pub stmt_step : Stmt-F model.Stmt (ℕ × model.Stmt) → model.Stmt
 stmt_step (Stmt-F.Declare x e) = model.Declare x (expr_of e)
 stmt_step (Stmt-F.DeclareArray x e) = model.DeclareArray x (expr_of e)
@@ -53,19 +53,19 @@ stmt_step (Stmt-F.Region tag b) = model.Region tag (block_from b.items)
 stmt_step (Stmt-F.Print e) = model.Print (expr_of e)
 stmt_step (Stmt-F.Return e) = model.Return (option_map expr_of e)
 
--- a statement that is already represented, with its line
+-- a line, given the abstraction of its statement
 abbrev pub line_step : Line-F model.Stmt (ℕ × model.Stmt) → ℕ × model.Stmt
 line_step l = (l.line, l.stmt)
 
--- represents a statement
+-- the abstraction of a statement
 abbrev pub stmt_of : Stmt → model.Stmt
 stmt_of = fold-Stmt model.Stmt (ℕ × model.Stmt) stmt_step line_step
 
--- represents a statement with its line
+-- the abstraction of a statement with its line
 abbrev pub line_of : Line → ℕ × model.Stmt
 line_of = fold-Line model.Stmt (ℕ × model.Stmt) stmt_step line_step
 
--- represents lines as a block
+-- the abstraction of lines: a block
 abbrev pub block_of : List Line → model.Block
 block_of ls = block_from (map line_of ls)
 
@@ -73,11 +73,11 @@ block_of ls = block_from (map line_of ls)
 abbrev pub numbered : {X Y : Type 0} → (X → Y) → X × ℕ → Y × ℕ
 numbered view x = (view x.0, x.1)
 
--- represents a parameter
+-- the abstraction of a parameter
 abbrev pub param_of : Param → model.Param
 param_of p = record { name = p.name; kind = p.kind }
 
--- represents a function
+-- the abstraction of a function
 abbrev pub function_of : Function → model.Function
 function_of f =
     record {
@@ -88,7 +88,7 @@ function_of f =
       body = block_of f.body.items;
     }
 
--- represents a reducer
+-- the abstraction of a reducer
 abbrev pub reducer_of : Reducer → model.Reducer
 reducer_of r = record { name = r.name; how = r.how; line = r.line }
 

@@ -22,7 +22,7 @@ resolved_head locals h body = spec.head_with locals h.variable (expr_of h.from) 
 abbrev pub resolved_cut : spec.Locals → Cut → spec.Parts
 resolved_cut locals c = spec.parts_of locals c.array (expr_of c.at) c.left c.right
 
--- represents a resolved call of the code
+-- the abstraction of a resolved call of the code
 abbrev pub call_of : Made → spec.Stmt
 call_of c =
     spec.Call c.kind c.site (option_map use_of c.target) (listed_of c.callee) (map argument_of c.arguments.items)

@@ -5,7 +5,7 @@ use Rattle.cw_types.specs.declared.lists.Lists.{Lists}
 use Rattle.cw_tree.specs.Resolved as spec
 use Rattle.cw_tree.specs.SyntaxView.{function_of}
 
--- represents the known locals
+-- the abstraction of the known locals
 abbrev pub locals_view : Locals → spec.Locals
 locals_view l = record { ints = l.ints; arrays = l.arrays }
 
@@ -13,7 +13,7 @@ locals_view l = record { ints = l.ints; arrays = l.arrays }
 abbrev pub locals_count : Locals → ℕ
 locals_count l = length l.ints + length l.arrays
 
--- represents the lists of a program
+-- the abstraction of the lists of a program
 abbrev pub lists_view : Lists → spec.Lists
 lists_view l = record {
   callees = map function_of l.callees.now;

@@ -41,8 +41,7 @@ tags_past regions = lines_beyond MOST_TAGS (map (λ d. d.1) (first_places region
 abbrev pub places_behind : List Declared → List (Name × ℕ) → List ℕ
 places_behind seen regions = map (λ d. d.1) (first_places regions (known_names (kinds seen)))
 
--- this region is recorded, with room for `room` new tags: its line if its tag is new and past the room; room for `left`
--- new tags remains
+-- this region is recorded if its tag is new and past the room for `room` new tags; room for `left` remains
 abbrev pub TakesTag : (room : ℕ) → Marked → (seen after_seen : List Declared) → (before after : LeastLine) → (left : ℕ) → Type 0
 TakesTag room region seen after_seen before after left =
     (more : List (Name × ℕ)) →

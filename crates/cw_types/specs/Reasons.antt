@@ -78,8 +78,7 @@ IsUsing program locals used Else r = IsPart program locals used [] (Else r) r
 abbrev pub IsNaming : Program → List Declared → (used : List Use) → (declared : List Name) → IllTyped → Type 0
 IsNaming program locals used declared r = IsPart program locals used declared ⊥ r
 
--- the reason explains why this name does not fit the reduction: no reducer has it, or the first reducer with it, in
--- this line, has another reduction
+-- why this name is wrong: no reducer has it, or the first reducer with it, in this line, has another reduction
 abbrev pub IsNoReducer : Program → Reduction → Name → IllTyped → Type 0
 IsNoReducer program how s (reason.NotReducer word told) =
     (word.now ≡ s) × (told ≡ how) × (reducer_called s program.reducers ≡ None)

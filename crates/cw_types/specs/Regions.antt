@@ -7,11 +7,11 @@ use Rattle.cw_tree.specs.declared.syntax.Function.{Function}
 use Rattle.cw_tree.specs.SyntaxView.{function_of}
 use Rattle.cw_types.specs.declared.regions.Marked.{Marked}
 
--- represents a region by its tag and its line
+-- the abstraction of a region: its tag and its line
 abbrev pub region_of : Marked → Name × ℕ
 region_of m = (m.tag.now, m.line)
 
--- represents regions
+-- the abstraction of regions
 abbrev pub regions_of : List Marked → List (Name × ℕ)
 regions_of ms = map region_of ms
 

@@ -5,7 +5,7 @@ use Rattle.cw_model.specs.Typing as rule
 use Rattle.cw_types.specs.declared.rules.Returns.{Returns}
 use Rattle.cw_types.specs.declared.rules.Returns.TheVariants as returns
 
--- represents the kind of `return` that a block may contain
+-- the abstraction of the kind of `return` that a block may contain
 abbrev pub returns_of : Returns → rule.Returns
 returns_of returns.Nowhere = rule.Nowhere
 returns_of returns.WithInt = rule.WithInt

@@ -91,7 +91,7 @@ pub count_stays : (k : ℕ) (fs : List Function) → length (lower_functions k f
 count_stays k [] = refl
 count_stays k (f ∷ fs) = ap suc (count_stays (k + loop_count_in f.body) fs)
 
--- the slot of such a function is its position
+-- the slot of a numbered function is its position
 pub numbered_slot : (made : List Function) (j i : ℕ) → Numbered j made → i < length made → slot_of (loop_name (j + i)) (function_names made) ≡ i
 numbered_slot [] j i h less = absurd (omega (arith, less))
 numbered_slot (f ∷ made) j zero h less =
