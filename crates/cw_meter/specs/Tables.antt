@@ -76,5 +76,6 @@ TakesIn old rest new =
     → AreTold burden tags (Rest (here_in (base_of from) os)) cost [] fs rest
     → AreTold burden tags from (count + cost) os (es ++ fs) new
 
+-- the record of an open part
 abbrev pub part_of : PartKind → (site : ℕ) → (spawned : Bool) → Part
 part_of kind site spawned = record { kind = kind; site = site; spawned = spawned }

@@ -4,6 +4,7 @@ use Rattle.cw_greedy.specs.Greedy.{if_done}
 use Rattle.cw_greedy.specs.Slots.{Slots, ready_slots, run_slots, EachLeft, RoomFor}
 use Rattle.cw_schedule.specs.declared.board.Board.{Board}
 
+-- the slot at a place: the number of instructions that its strand has left, or `None` if the strand is not ready
 abbrev pub left_at : Slots → ℕ → Option ℕ
 left_at slots k = slice_index_or slots k None
 
@@ -21,6 +22,7 @@ lowered by [] = []
 lowered by (None ∷ xs) = None ∷ lowered by xs
 lowered by (Some k ∷ xs) = Some (k - by) ∷ lowered by xs
 
+-- an optional number, decreased
 abbrev pub minus : Option ℕ → ℕ → Option ℕ
 minus None by = None
 minus (Some k) by = Some (k - by)
@@ -84,6 +86,7 @@ pub record Full (processors : ℕ) (board : Board) : Type 0 where
   pub few : board.count ≤ processors
   pub all : board.count < processors → ready_slots board.waiting ≡ 0
 
+-- 1 for `None`, otherwise 0
 abbrev pub one_if_none : Option ℕ → ℕ
 one_if_none None = 1
 one_if_none (Some k) = 0

@@ -9,6 +9,7 @@ use Rattle.cw_schedule.specs.declared.plan.Open.{Open}
 use Rattle.cw_schedule.specs.declared.plan.Planning.{Planning}
 use Rattle.cw_schedule.specs.Reading.{Frame, InChild, InRest, joined, read}
 
+-- a strand with this number of instructions and this start
 abbrev pub strand : (weight : ℕ) → Begins → Strand
 strand k begins = record { weight = k; begins = begins }
 
@@ -42,10 +43,12 @@ strands_before (InChild first before ∷ frames) = strands_before frames ++ stra
 strands_before (InRest first before child ∷ frames) =
     strands_before frames ++ (strands_of (begins_of frames) before ++ strands_of (Child (size child)) child)
 
+-- the open spawn is the first one of its sync block
 abbrev pub is_first : Frame → Bool
 is_first (InChild first before) = first
 is_first (InRest first before child) = first
 
+-- the record of an open spawn
 abbrev pub open_at : (at : ℕ) → Bool → Open
 open_at at first = record { at = at; first = first }
 

@@ -27,6 +27,7 @@ joined (InChild first before ∷ frames) rest = None
 joined (InRest true before child ∷ frames) rest = Some (frames, fork_at_end before child rest)
 joined (InRest false before child ∷ frames) rest = joined frames (fork_at_end before child rest)
 
+-- continues after a join, if it succeeded
 abbrev pub after_join : (List Frame → Block → Option Block) → Option (List Frame × Block) → Option Block
 after_join f None = None
 after_join f (Some state) = f state.0 state.1

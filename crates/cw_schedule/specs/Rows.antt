@@ -15,10 +15,12 @@ pub record Leasts (xs above : Slots) : Type 0 where
   pub fewer : length above < length xs
   pub least : (g : ℕ) → left_at above g ≡ least_slot (group xs g)
 
+-- the numbers of the lowest row
 abbrev pub numbers_of : Row → Slots
 numbers_of (Few row) = row.items
 numbers_of (Many row above) = row.items
 
+-- the invariant of rows: the rows above, if there are any, hold the minimum of each group
 abbrev pub IsRows : Row → Type 0
 IsRows (Few row) = Unit {0}
 IsRows (Many row above) = Leasts row.items above.value

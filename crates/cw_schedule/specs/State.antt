@@ -14,9 +14,11 @@ use Rattle.cw_schedule.specs.Boards.{left_at}
 use Rattle.cw_schedule.specs.Planned.{strand, strands_of}
 use Rattle.cw_schedule.specs.Shown.{Shows, join_of}
 
+-- the strand at an index
 abbrev pub strand_at : List Strand → ℕ → Strand
 strand_at strands k = slice_index_or strands k (strand 0 w.Start)
 
+-- the flag at an index: one side of the join with this index is done
 abbrev pub flag_at : List Bool → ℕ → Bool
 flag_at flags k = slice_index_or flags k false
 

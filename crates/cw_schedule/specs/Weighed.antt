@@ -15,6 +15,7 @@ path_of (Fork k child rest after) = k + (max (path_of child) (path_of rest) + pa
 abbrev pub counted : ℕ → ℕ
 counted n = min n (2 ^ 64 - 1)
 
+-- the record of a spawn with these weights
 abbrev pub spawn : (before child : ℕ) → Bool → Spawn
 spawn before child first = record { before = before; child = child; first = first }
 
@@ -23,6 +24,7 @@ abbrev pub spawn_of : Frame → Spawn
 spawn_of (InChild first before) = spawn (counted (path_of before)) 0 first
 spawn_of (InRest first before child) = spawn (counted (path_of before)) (counted (path_of child)) first
 
+-- the records of the open spawns
 abbrev pub spawns_of : List Frame → List Spawn
 spawns_of [] = []
 spawns_of (frame ∷ frames) = spawns_of frames ++ spawn_of frame ∷ []

@@ -39,6 +39,7 @@ use Rattle.cw_strand.specs.Levels.{Level, levels_of, IsBackAt, waiting_over}
 abbrev pub its_job : Strand → Job
 its_job self = self.of.value
 
+-- the jobs that a strand has out, the newest first
 abbrev pub outs : Strand → List Job
 outs self = map (λ l. l.job.value) (reverse self.lent.items)
 
@@ -46,6 +47,7 @@ outs self = map (λ l. l.job.value) (reverse self.lent.items)
 abbrev pub its_parts : Strand → Parts
 its_parts self = (its_job self).parts.value
 
+-- the code of the job of a strand
 abbrev pub its_code : Strand → Verified
 its_code self = code_of (its_parts self)
 
@@ -58,6 +60,7 @@ abbrev pub floor_in : List Lent → ℕ
 floor_in [] = 0
 floor_in (h ∷ lent) = h.home.floor
 
+-- the floor of the run of a strand
 abbrev pub floor_of : Strand → ℕ
 floor_of self = floor_in (reverse self.lent.items)
 
@@ -187,6 +190,7 @@ pub record Stands (self : Strand) (is : IsFit (its_code self)) (j : jobs.Job)
   pub lends : Lends (its_code self) is (its_parts self) g.base levels outs (reverse self.lent.items)
   pub remains : Remains (its_code self) (ok_with g outs) self.run.machine
 
+-- a strand in memory in this mode represents this strand of the definitions
 abbrev pub HeldIn : (self : Strand) (is : IsFit (its_code self)) (j : jobs.Job)
     → Ground (its_code self) is (its_parts self) j → Mode → strands.Strand → Type 0
 HeldIn self is j g mode.Going (Going s count jobs_out) = Ongoing self is j g s count jobs_out
@@ -227,6 +231,7 @@ pub record IsRest (v : Verified) (h : Lent) : Type 0 where
   pub code : code_of (lent_parts h) ≡ v
   pub joins : (lent_parts h).extent ≡ extent.ToJoin
 
+-- each job that is out has a share of the strand's code, and is the continuation of a block
 abbrev pub AreRests : Strand → Type 0
 AreRests self = (k : ℕ) (h : Lent) → slice_get (reverse self.lent.items) k ≡ Some h → IsRest (its_code self) h
 
@@ -242,9 +247,11 @@ pub record IsRunning (self : Strand) : Type 0 where
 abbrev pub IsGoing : Strand → Type 0
 IsGoing self = self.mode ≡ mode.Going
 
+-- the strand waits for the newest job out
 abbrev pub IsWaiting : Strand → Type 0
 IsWaiting self = self.mode ≡ mode.Waiting
 
+-- a strand in this mode has stopped
 abbrev pub stops : Mode → Bool
 stops mode.Going = false
 stops mode.Waiting = false
@@ -276,11 +283,14 @@ abbrev pub is_lost : Mode → Bool
 is_lost mode.Memory = true
 is_lost _ = false
 
+-- the strand has stopped, also because memory ran out or because it was given up
 abbrev pub HasStopped : Strand → Type 0
 HasStopped self = stops self.mode ≡ true
 
+-- memory ran out, or the strand was given up
 abbrev pub HasFailed : Strand → Type 0
 HasFailed self = has_failed self.mode ≡ true
 
+-- the strand is not running
 abbrev pub IsAtSync : Strand → Type 0
 IsAtSync self = self.mode ≢ mode.Going

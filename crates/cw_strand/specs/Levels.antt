@@ -9,6 +9,7 @@ pub record Level : Type 0 where
   pub waiting : Waiting
   pub around : List Around
 
+-- adds a level if the call was spawned
 abbrev pub level_if : CallKind → Level → List Level → List Level
 level_if Plain l levels = levels
 level_if Spawned l levels = l ∷ levels
