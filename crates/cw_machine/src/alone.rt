@@ -73,7 +73,7 @@ pub fn run_alone(
 
 // Executes a whole run of code on these arguments within `n` instructions, and records what `detail` says. Returns
 // the value with which it ended, if it returns one, and what it has printed, counted and recorded. The errors are
-// those of `run_alone`.
+// the errors of `run_alone`.
 pub(crate) fn run_whole(
     alloc: Global,
     code: &Verified,

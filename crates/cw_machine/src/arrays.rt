@@ -36,7 +36,7 @@ fn new_length(n: i64) -> Result<usize, Trap>
     Ok(n as usize)
 }
 
-// Returns the index at which an array of length `len` is cut, or the trap if the operand is no such index.
+// Returns the index at which an array of length `len` is cut, or the trap if the operand is out of range.
 #[inline(always)]
 fn cut_place(k: i64, len: usize) -> Result<usize, Trap>
     ensures { arrays.IsCutPlace k len result }
@@ -75,7 +75,7 @@ impl Machine {
         self.blocks[block].get(k)
     }
 
-    // Writes an element that a block holds and of which no share is out.
+    // Writes an element of a block. The block must hold the element, with no share of it out.
     #[inline(always)]
     fn set_at(&mut self, block: usize, k: usize, x: i64)
         requires there { (y : ℤ) × arrays.found self.old.blocks.items block k ≡ Some y }

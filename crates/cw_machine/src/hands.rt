@@ -52,8 +52,8 @@ fn is_lent(a: usize, lent: &[Loan]) -> bool
     false
 }
 
-// Whether a slice of a continuation is a share: a share of an array that its call reads, whose index is `slots` or
-// larger, or of an array that the spawned call was lent.
+// Whether slice `a` of a continuation is a share: `a` is at least `slots`, so the call only reads the array, or the
+// array in slot `a` was lent to the spawned call.
 #[inline(always)]
 pub(crate) fn is_shared(a: usize, slots: usize, lent: &[Loan]) -> bool
     ensures { result ≡ arrays.shares_slice slots (slots_lent lent.now) a }

@@ -2,9 +2,9 @@
 
 ghost use Rattle.cw_machine.specs.Unwinding.{OutsLieApart, RestsAreKept, ShownRemain};
 
-/// States three laws. The blocks of a machine that represents a state remain as they must be in a machine that
-/// stopped. The parts that are out of outer calls are below. If nothing is out, everything that a run was given is
-/// where it was.
+/// States three laws. The blocks of a machine that represents a state satisfy what is required of the blocks of a
+/// machine that stopped. Arrays that are out of an outer call are below arrays that are out of an inner one. If nothing
+/// is out, everything that a run was given is where it was.
 pub fn machines_that_stop_remain()
     ensures remain { ShownRemain }
     ensures apart { OutsLieApart }

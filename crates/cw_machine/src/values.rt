@@ -28,7 +28,7 @@ pub struct Values {
 ///
 /// # Errors
 ///
-/// The errors of `run_alone`. The burden matters for these alone.
+/// The errors of `run_alone`. The burden is used only to check for these errors.
 pub fn values_alone(
     alloc: Global,
     code: Arc<Verified>,

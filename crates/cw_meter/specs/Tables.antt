@@ -35,7 +35,7 @@ Settles old new count =
 abbrev pub opened : (spawned : Bool) → Option Mark → List Event → List Open → List Open
 opened spawned mark es os = record { spawned = spawned; mark = mark; outer = es } ∷ os
 
--- a part that is no region begins after these events, if the numbers are those of a run
+-- a part that is no region begins after these events, if the numbers are the numbers of a run
 abbrev pub Opens : (old new : Tables) → (count : ℕ) → (spawned : Bool) → Option Mark → Type 0
 Opens old new count spawned mark =
     (burden : Burden) (tags : Tags) (from : Origin) (os : List Open) (es : List Event)

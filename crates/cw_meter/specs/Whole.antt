@@ -41,7 +41,7 @@ pub record HasNames (tags : Tags) (names : List Name) : Type 0 where
   pub count : tags.count ≡ length names
   pub are : (k : ℕ) (tag : Name) → slice_get names k ≡ Some tag → tags.name k ≡ tag
 
--- the measures are those of a tree
+-- all measures are the measures of a tree
 pub record AreMeasures (burden : Burden) (count : ℕ) (names : List Name) (t : Tree) (all : Measures) : Type 0 where
   pub measure : AreReadings burden t all.measure
   pub sites : AreSiteRows count t all.sites.items

@@ -104,7 +104,7 @@ impl Meter {
         self.tables.sites.here
     }
 
-    /// Whether no part is open, as in a continuation outside of each call and sync block that it has begun.
+    /// Returns whether no part is open, as in a continuation outside of each call and sync block that it has begun.
     #[inline(always)]
     pub fn is_outside(&self) -> bool
         ensures { IsOutside self.now result }
@@ -115,7 +115,7 @@ impl Meter {
         self.parts.len() == 0
     }
 
-    /// Whether only values are computed.
+    /// Returns whether only values are computed.
     #[inline(always)]
     pub fn keeps_values(&self) -> bool
         ensures { result ≡ details.keeps_values self.now.detail }
@@ -127,7 +127,7 @@ impl Meter {
         }
     }
 
-    /// Whether all measures are counted.
+    /// Returns whether all measures are counted.
     #[inline(always)]
     pub fn is_counted(&self) -> bool
         ensures { result ≡ details.is_counted self.now.detail }
@@ -181,8 +181,8 @@ impl Meter {
     {}
 
     /// Appends, after `count` instructions, the measures of the continuation of the current block: `cost`
-    /// instructions up to the block's join, which another meter counted while this one counted the spawned call.
-    /// Later counts include the instructions of both.
+    /// instructions up to the block's join, which another meter counted while the spawned call was executed. Later
+    /// counts include the instructions of both.
     ///
     /// # Errors
     ///

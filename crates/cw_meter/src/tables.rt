@@ -450,7 +450,7 @@ impl Tables {
     pub fn site_rows(&self, alloc: Global, count: usize) -> Result<Vec<SiteRow>, AllocError>
         ensures { IfOk result (λ rows. ListsSites self.now count rows.items) }
     {
-        // Memory cannot hold as many rows as exceed a number of 32 bits.
+        // Memory cannot hold 2^32 rows or more.
         let Ok(end) = u32::try_from(count) else {
             return Err(AllocError);
         };
@@ -471,7 +471,7 @@ impl Tables {
     pub fn region_rows(&self, alloc: Global, count: usize) -> Result<Vec<RegionRow>, AllocError>
         ensures { IfOk result (λ rows. ListsRegions self.now count rows.items) }
     {
-        // Memory cannot hold as many rows as exceed a number of 32 bits.
+        // Memory cannot hold 2^32 rows or more.
         let Ok(end) = u32::try_from(count) else {
             return Err(AllocError);
         };

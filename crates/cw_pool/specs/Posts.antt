@@ -52,7 +52,7 @@ Lacks y p newest =
 abbrev pub Begins : Job → Post → Type 0
 Begins job p = (its_job p.strand ≡ job) × ((y : Yard) → Works y p)
 
--- the strand of the post has reached this end, and the post has exactly the jobs that are out, which are none
+-- the strand of the post has reached this end, and the post has exactly the jobs that are out; there is no such job
 abbrev pub Ends : Post → End → Type 0
 Ends p e = EndsAt e p.strand × (kept_jobs p.kept.items ≡ map (λ j. Some j) (outs p.strand))
 

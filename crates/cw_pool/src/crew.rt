@@ -40,7 +40,7 @@ impl<G: Gate + Drop> Helper<G> {
 /// The work of a worker's thread with its helper. It never changes the result of a run: if a body returns at once,
 /// the other workers do its work.
 pub trait Body<G> {
-    /// Uses the helper. The thread ends when this function returns.
+    /// Does the work of the thread, which ends when this function returns.
     fn begin(self, helper: Helper<G>);
 }
 

@@ -9,7 +9,7 @@ pub enum Moment {
     Stolen,
     /// The worker left the effect of a stolen job for the worker that offered the job.
     Settled,
-    /// The worker is at a join, and looks next for the newest job out there. Reported at each such look.
+    /// The worker is at a join, and checks next what became of the newest job out there. Reported at each such check.
     AtJoin,
 }
 

@@ -65,7 +65,7 @@ first-append (suc p) (Some k ∷ xs) ys =
     ap (lesser (Some k)) (first-append q xs ys ∙ ap (λ m. lesser (least_first q xs) (least_first m ys)) e)
     ∙ sym (lesser-regroup (Some k) (least_first q xs) (least_first (suc p - (1 + ready_slots xs)) ys))
 
--- at most as many strands are ready as run
+-- the number of ready strands is at most the number of strands that run
 pub first-all : (p : ℕ) (xs : Slots) → ready_slots xs ≤ p → least_first p xs ≡ least_slot xs
 first-all p [] h = refl
 first-all p (None ∷ xs) h = first-all p xs h

@@ -57,7 +57,7 @@ counted_sum a b = omega arith
 counted_join : (before child rest : ℕ) → counted (counted before + max (counted child) (counted rest)) ≡ counted (before + max child rest)
 counted_join before child rest = omega arith
 
--- after more instructions, the paths will still be those of the block
+-- after more instructions, the paths will still be the paths of the block
 pub weighs_work : (block : Block) (n : ℕ) (codes : List Code) (w w' : Ways) → WillWeigh block (Instructions n ∷ codes) w
     → w'.path ≡ counted (w.path + n) → w'.spawns.items ≡ w.spawns.items → WillWeigh block codes w'
 weighs_work block n codes w w' h e f = record {
@@ -163,7 +163,7 @@ weighs_join block codes w w' h f =
       reads = r.1.1;
     }
 
--- with all codes read, the paths are those of the block
+-- with all codes read, the paths are the paths of the block
 whole : (block : Block) (w : Ways) (frames : List Frame) (begun : Block) → Weighs frames begun w → read [] frames begun ≡ Some block
     → w.path ≡ counted (path_of block)
 whole block w [] begun h e = h.path ∙ ap (λ b. counted (path_of b)) (same_Some begun block e)

@@ -34,7 +34,7 @@ pub record Weighs (frames : List Frame) (block : Block) (w : Ways) : Type 0 wher
   pub path : w.path ≡ counted (path_of block)
   pub spawns : w.spawns.items ≡ spawns_of frames
 
--- with the remaining codes, the paths will be those of this block
+-- after the remaining codes, the paths will be the paths of this block
 pub record WillWeigh (block : Block) (codes : List Code) (w : Ways) : Type 0 where
   pub frames : List Frame
   pub begun : Block

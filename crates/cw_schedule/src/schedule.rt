@@ -114,7 +114,7 @@ fn count_all(strands: &[Strand], flags: &mut [bool], board: &mut Ready, processo
 ///
 /// The time is proportional to the number of strands times its logarithm, and does not depend on their instructions.
 /// On one processor the length is the work, and on more processors than there are spawns it is the span; these two
-/// are computed by addition alone.
+/// are computed by additions only.
 ///
 /// # Errors
 ///

@@ -91,8 +91,8 @@ pub fn schedule_of_run(
     })
 }
 
-/// Whether the number of arguments is the number of `main`'s parameters, and the limit and the number of processors
-/// are in their ranges.
+/// Returns whether the number of arguments is the number of `main`'s parameters, and the limit and the number of
+/// processors are in their ranges.
 pub fn is_asked(code: &Verified, args: &[i64], n: u64, processors: u64) -> bool
     ensures { result ≡ schedules.is_asked (code_view code.now.code) args.now n processors }
 {

@@ -142,7 +142,7 @@ module _ (self : Strand) (job : Job) (others : List Job) (newest : Newest self j
               }))
               home.of home.parts home.spares
 
-          -- because of the cost of the continuation
+          -- the strand stops because the cost of the continuation exceeds its limit
           pub passes_runs : new.mode ≡ mode.Over → (cost : ℕ) → CostsAs e cost → passes_limit self cost ≡ true → IsRunning new
           passes_runs over cost costs passes = over_runs over (λ is j g h m.
               let jo = out self job others newest is j g h in
@@ -154,13 +154,13 @@ module _ (self : Strand) (job : Job) (others : List Job) (newest : Newest self j
               let w = running.keeps.within in
               gave_over code (keep code) j jo h.state h.count (rests self job others newest is j g h) (waits self job others newest is j g h) m.effect m.means (omega (arith, lt, c, n, jl, jb, w)))
 
-          -- or because the continuation had exceeded it
+          -- the strand stops because the continuation has exceeded the limit
           pub limit_runs : new.mode ≡ mode.Over → IsOver e → IsRunning new
           limit_runs over is_over = over_runs over (λ is j g h m.
               let jo = out self job others newest is j g h in
               gave_limit code (keep code) j jo h.state h.count (rests self job others newest is j g h) (waits self job others newest is j g h) m.effect (over_in v is q jo e is_over m) m.means)
 
--- the result of a return, whatever the mode is afterwards
+-- the arrays that returned, for every mode of the strand afterwards
 pub mode_back : (self : Strand) (back : List Placed) (replaced : List (Option Placed)) (popped : Strand) → HasPoppedHome self back replaced popped
     → HasPoppedHome self back replaced (record popped { mode = self.mode })
 mode_back self back replaced popped home = record {

@@ -58,7 +58,7 @@ module _ (keep : (code : Code) → CallsKeep code) (apart : OutsLieApart) (old m
     o = out_of (length (beneath c.ground.base c.state.around)) x.home.lender.first old.run.machine.first_array
         (length (waiting_over c.ground.base s.waiting c.state.around).arrays) (slots_lent (loans_of v spawn.lent)) (lent_parts x).rest.slices.items
 
-    -- the machine has as many frames as calls wait in the spawned call
+    -- the number of the machine's frames is the number of calls that wait in the spawned call
     calls_here : length old.run.machine.frames.items ≡ suc (calls_in (beneath c.ground.base c.state.around))
     calls_here =
         frames_are v (ok_with c.ground c.outs) old.run.machine (under c.ground.base c.at.1.next) c.at.1.shows.shows

@@ -95,7 +95,7 @@ calls_block b o (a ∷ around) = refl
 pub frames_are : (v : Verified) (ok : Ok v) (m : Machine) (s : State) → Shows v ok m s → length m.frames.items ≡ calls_in s.around
 frames_are v ok m s h = sym (length-reverse m.frames.items) ∙ frames_many v ok m.cells.items m.first (length s.slots) (reverse m.frames.items) s.around h.holds.round
 
--- at most as many calls wait at the floor as at the state
+-- the number of calls that wait at the floor is at most the number that wait at the state
 floor_round : (base : State) (floor bottom : ℕ) (around : List Around) → IsFloor base floor bottom around → floor ≤ calls_in (beneath base around)
 floor_round base floor bottom [] h = let e = h.0 in omega (arith, e)
 floor_round base floor bottom (Block o ∷ around) h = let le = floor_round base floor bottom around h in let e = calls_block base o around in omega (arith, le, e)
@@ -160,7 +160,7 @@ outs_above v is p base around jobs_out levels outs lent are h = λ k o e.
 
 -- the newest spawned call, which has returned, is the floor
 module _ (v : Verified) (is : IsFit v) (p : Parts) (base : State) (l : Level) (outs : List Out) where
-  -- its continuation is out if as many calls wait in it as the floor says
+  -- its continuation is out if the number of calls that wait in it is the floor
   pub is_back : (jobs_out : List jobs.Job) (levels : List Level) (lent : List Lent) → Lends v is p base levels outs lent
       → floor_in lent ≡ suc (calls_in (beneath base l.around)) → AreOut p (l ∷ levels_of l.around) jobs_out levels lent
       → AreBack p l (levels_of l.around) jobs_out levels lent

@@ -172,7 +172,7 @@ pub record Ongoing (self : Strand) (is : IsFit (its_code self)) (j : jobs.Job)
   pub runs : Runs self is j g levels s count
   pub are : AreOut (its_parts self) (levels_of s.around) jobs_out levels (reverse self.lent.items)
 
--- a spawned call has returned to its block, whose continuation is the newest job out
+-- a spawned call has returned to its block, and the continuation of this block is the newest job out
 pub record Waited (self : Strand) (is : IsFit (its_code self)) (j : jobs.Job)
     (g : Ground (its_code self) is (its_parts self) j) (s : State) (count : ℕ) (jobs_out : List jobs.Job) : Type 0 where
   pub level : Level

@@ -27,7 +27,7 @@ use Rattle.cw_words.specs.declared.verb.Verb.TheVariants as verb
 abbrev pub at : Waiting → ℕ → Held → Walk
 at waiting position h = record { held = h; waiting = waiting; position = position; is_trailing = false; stopped = None }
 
--- such a word is neither `--` nor a flag
+-- a word that does not begin with a hyphen is neither `--` nor a flag
 no_hyphen : (word : Text) → IsPlain word → (bytes_eq word (45 ∷ 45 ∷ []) ≡ false) × (long_of word ≡ None) × (short_of word ≡ None)
 no_hyphen [] plain = (refl, refl, refl)
 no_hyphen (x ∷ xs) plain = let e : (x == 45) ≡ false = ne_eqb x 45 (λ is. plain (ap Some is)) in (rw e refl, rw e refl, rw e refl)

@@ -12,7 +12,7 @@ asks_explain [] = false
 asks_explain (word ∷ words) =
     if bytes_eq word (codes "--") then false else if bytes_eq word (codes "--explain") then true else asks_explain words
 
--- the words without each such word
+-- the words without each `--explain` before the first `--`
 abbrev pub without_explain : List Text → List Text
 without_explain [] = []
 without_explain (word ∷ words) =
