@@ -45,9 +45,10 @@ const MOST_READ: u64 = MOST_SOURCE_BYTES as u64 + 1;
 /// 2^64 - 1 writes to each sink failed before.
 ///
 /// If a read of the source fails for another reason than that memory runs out, the line is `file` and the status 5,
-/// and nothing is written to `out`. If memory runs out for the bytes or in a read, the line is `memory` and the status
-/// 6. For a reader that does not reveal its bytes, such as a file, the contract holds for some bytes. If the source was
-/// read and the crew has more than 63 bodies, the line is `arguments` and the status 5, and nothing is written to `out`.
+/// and nothing is written to `out`. If memory runs out for the bytes or in a read, the line is `memory` and the
+/// status 6. For a reader that does not reveal its bytes, such as a file, the contract holds for some bytes. If the
+/// source was read and the crew has more than 63 bodies, the line is `arguments` and the status 5, and nothing is
+/// written to `out`.
 pub fn tool<
     D: Input,
     W: Sink,

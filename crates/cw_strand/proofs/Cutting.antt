@@ -32,7 +32,7 @@ use Rattle.cw_strand.proofs.Levels.{HasSpawned, LevelsAfter, levels_move}
 use Rattle.cw_strand.proofs.WhichOut.{outs_above}
 use Rattle.cw_strand.proofs.RunsOn.{sound_of}
 
--- the call that waits, with the enclosing blocks and calls of a run, is the same call
+-- `beneath` places a waiting call over a state as `waiting_over` does
 over_is : (b : State) (w : Waiting) (around : List Around) → beneath b (Caller w ∷ around) ≡ Caller (waiting_over b w around) ∷ beneath b around
 over_is b w [] = refl
 over_is b w (a ∷ around) = refl

@@ -85,7 +85,7 @@ out_alone s f shape none g =
 same_func : (code : Code) (k l : ℕ) (f g : Func) → slice_get code.funcs k ≡ Some f → slice_get code.funcs l ≡ Some g → k ≡ l → f ≡ g
 same_func code k l f g e e' same = let q : Some f ≡ Some g = sym e ∙ ap (slice_get code.funcs) same ∙ e' in cc
 
--- the continuation that is out begins well over the state in which its block continues
+-- the start of the continuation that is out, placed over the state in which its block continues, is a good state
 out_starts : (code : Code) (fits : Fits code) (s : State) (limit before : ℕ) → s.operands ≡ [] → GoodState code fits s → GoodState code fits (under s (job_start (rest_at s limit before)))
 out_starts code fits s limit before none g = record { seat = g.seat; call = out_alone s g.seat.func g.seat.shape none g.call; others = g.others }
 

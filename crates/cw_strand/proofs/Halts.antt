@@ -240,7 +240,7 @@ gives_up keep remain self goes h = record {
   });
 }
 
--- if memory ran out, the rest of the strand is unchanged
+-- a strand in which memory ran out, and of which only the spares changed, is a strand of its job
 pub spared_runs : ((code : Code) → CallsKeep code) → (old new : Strand) (limit : ℕ) (to : Stop) → HasCome old limit to → HasSpared old new → IsRunning (record new { mode = mode.Memory })
 spared_runs keep old new limit to h same = subst IsRunning
     (same_strand (record old { lent = new.lent; spares = new.spares; mode = mode.Memory }) (record new { mode = mode.Memory }) same.of same.parts same.run same.count refl refl refl)

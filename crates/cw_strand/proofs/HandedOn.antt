@@ -173,7 +173,7 @@ module _ (keep : (code : Code) → CallsKeep code) (apart : OutsLieApart) (old m
       holds = λ is j job. ∥∥₁_map (h.comes is j job) (λ c. lent_holds is j h.keeps c lent same h.going);
     }
 
-    -- it is a strand of its job if its parts are given separately
+    -- a strand with these parts is a strand of its job
     pub goes_as : (new : Strand) → new.of ≡ old.of → new.parts ≡ old.parts → new.run ≡ mid.run → new.count ≡ old.count → new.lent ≡ lent.lent
         → new.spares ≡ lent.spares → new.mode ≡ old.mode → IsRunning new
     goes_as new a b r n l p m = subst IsRunning (

@@ -39,7 +39,7 @@ stopped_lost mode.Over s t o g = absurd (o refl)
 stopped_lost mode.Memory s t o g = refl
 stopped_lost mode.GivenUp s t o g = absurd (g refl)
 
--- a strand in another mode was not given up
+-- a strand that is running, waits or has stopped for another reason was not given up
 pub going_not_up : (m : Mode) → m ≡ mode.Going → m ≡ mode.GivenUp → ⊥
 going_not_up m going up = true≢false (sym (ap has_failed up) ∙ ap has_failed going)
 

@@ -145,7 +145,7 @@ module _ (self : Strand) (job : Job) (others : List Job) (newest : Newest self j
       holds = λ is j isj. ∥∥₁_map (running.holds is j isj) (λ d. taken is j d.ground (waiting_of self is j waits d) keep m takes new left);
     }
 
-    -- the strand takes the job back, if its parts are given separately
+    -- a strand with these parts is a strand of its job
     pub takes_back_to : (mid : Strand) → mid ≡ record self { run = record self.run { machine = m }; lent = mid.lent; mode = mode.Going }
         → reverse mid.lent.items ≡ newest.rest → HasSpared mid new → IsRunning new
     takes_back_to mid e rest spared =

@@ -48,7 +48,7 @@ module _ (p : Parts) where
   out_under (Caller w ∷ around) jobs_out levels lent h = caller_under w.kind (record { waiting = w; around = around }) (levels_of around) (out_under around) jobs_out levels lent h
 
   module _ (base : State) (l : Level) (levels : List Level) (x : Lent) (lent : List Lent) where
-    -- the continuations before the newest belong to calls around the newest one's call
+    -- the older continuations belong to calls around the call of the newest one
     caller_tail : (kind : CallKind) (w : Waiting) (around : List Around)
         → ((jobs_out : List jobs.Job) → AreOut p (levels_of around) jobs_out (l ∷ levels) (x ∷ lent) → AllUnder levels (length l.around))
         → (jobs_out : List jobs.Job) → AreOut p (level_if kind (record { waiting = w; around = around }) (levels_of around)) jobs_out (l ∷ levels) (x ∷ lent) → AllUnder levels (length l.around)
@@ -125,7 +125,7 @@ lends_above v is p base (l ∷ levels) (o ∷ outs) (x ∷ lent) n u h = all_abo
     (let level = h.0.level in let many = round_many base l.around in let a = u.0 in omega (arith, level, many, a))
     (lends_above v is p base levels outs lent n u.1 h.2)
 
--- THE FLOOR OF A STRAND'S RUN; everything that is out is below it
+-- THE FLOOR OF A STRAND'S RUN; everything that is out belongs to calls that fewer blocks and calls enclose
 pub record HasFloor (base : State) (around : List Around) (outs : List Out) (lent : List Lent) : Type 0 where
   pub bottom : ℕ
   pub ends : IsFloor base (floor_in lent) bottom around
@@ -149,7 +149,7 @@ floor_is v is p base around jobs_out (l ∷ levels) (o ∷ outs) (x ∷ lent) ar
       omega (arith, lt, many)));
 }
 
--- everything that is out is below a state
+-- everything that is out belongs to calls that fewer blocks and calls enclose than a state
 pub outs_above : (v : Verified) (is : IsFit v) (p : Parts) (base : State) (around : List Around) (jobs_out : List jobs.Job) (levels : List Level)
     (outs : List Out) (lent : List Lent) → AreOut p (levels_of around) jobs_out levels lent → Lends v is p base levels outs lent
     → AllAbove outs (length (beneath base around))
