@@ -73,7 +73,7 @@ pub fn answer(alloc: Global, code: &Verified, effect: Effect) -> Result<Ended, F
     Ok(ended)
 }
 
-/// Converts the effect of the job of a whole run, whatever the run recorded, to the result that `values_alone`
+/// Converts the effect of the job of a whole run, with any detail recorded, to the result that `values_alone`
 /// returns.
 ///
 /// # Errors

@@ -225,11 +225,11 @@ impl Machine {
         self.hand_each(lender, passed, lent, slices);
     }
 
-    /// Hands out the continuation of the block that has just spawned a call: copies the slots and arrays of the
-    /// newest waiting call into `rest`, whose vectors are reused, whatever it held. `passed` lists the array slots
-    /// that the spawn took, and `lent` lists what the spawned call only reads. The continuation gets shares of these
-    /// arrays, and of the arrays that the waiting call reads. The machine continues unchanged while the arrays are
-    /// out; `take_back` returns them. Returns the call whose continuation was handed out.
+    /// Hands out the continuation of the block that has just spawned a call: puts the slots and arrays of the newest
+    /// waiting call into `rest`. The vectors of `rest` are reused, and their contents are replaced. `passed` lists the
+    /// array slots that the spawn took, and `lent` lists what the spawned call only reads. The continuation gets
+    /// shares of these arrays, and of the arrays that the waiting call reads. The machine continues unchanged while
+    /// the arrays are out; `take_back` returns them. Returns the call whose continuation was handed out.
     ///
     /// # Errors
     ///

@@ -40,7 +40,7 @@ then-Writes a b c xs ys (Ok x) p q = record { bytes = then-Appends a.bytes b.byt
 then-Writes a b c xs ys (Err e) p q =
     (q.0, record { bytes = after-AppendsPart a.bytes b.bytes c.bytes xs ys p.bytes q.1.bytes; failed = q.1.failed ∙ ap (λ n. n + 1) p.failed })
 
--- if a text was not written, no text after it was written
+-- a text that was written only partly is a partly written start of a longer text
 longer-WritesPart : (a b : Seen) (xs ys : List ℕ) → WritesPart a b xs → WritesPart a b (xs ++ ys)
 longer-WritesPart a b xs ys p = record { bytes = longer-AppendsPart a.bytes b.bytes xs ys p.bytes; failed = p.failed }
 

@@ -1,5 +1,5 @@
--- The recorded paths have the weights of the block that codes represent, and the block's path weighs as much as the
--- span of its tree.
+-- The recorded paths have the weights of the block that codes represent. The weight of the block's path is the span of
+-- its tree.
 use Rattle.std.proofs.Common.{◌≡◌, ℕ, ◌+◌, Bool, true, false, List, [], ◌∷◌, ◌++◌, Some, length, length-append, arith, refl, ap, ap₂, sym, ◌∙◌, subst}
 use Rattle.std.specs.Prelude.{max}
 use Rattle.std.proofs.lemmas.List.{same_from_push}
@@ -22,7 +22,7 @@ span_fork c r =
     let rest : 0 + span r ≡ span r = omega arith in
     ap₂ (λ (m n : ℕ). max m n) child rest
 
--- the heaviest path through a block weighs as much as the span of its tree
+-- the weight of the heaviest path through a block is the span of its tree
 path_before : (k : ℕ) (b : Block) → path_of (add_before k b) ≡ k + path_of b
 path_before k (Last n) = refl
 path_before k (Fork n c r a) = omega arith

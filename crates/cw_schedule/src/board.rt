@@ -171,7 +171,7 @@ impl Board {
         }
     }
 
-    // Starts strands until as many run as there are processors, or until no strand waits.
+    // Starts strands until every processor runs one, or until no strand waits.
     fn start_others(&mut self, processors: u64)
         requires keeps { Keeps self.old }
         requires count { self.old.count ≤ processors }

@@ -166,7 +166,7 @@ module _ (self : Strand) (job : Job) (others : List Job) (newest : Newest self j
         (stay code is.fits out b seat.index seat.func frame t cost refl out_is.good seat.is_func start means) in
         lies.one frame.place seat.index seat.func seat' seat.is_func at
 
-    -- the frame reads as many arrays as the call
+    -- the frame and the call read the same number of arrays
     reads_as_many : length frame.readers ≡ length s.readers
     reads_as_many =
         let a = came in

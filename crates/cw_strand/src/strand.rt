@@ -96,7 +96,7 @@ pub enum Event {
     AtSync,
     /// The strand has ended; its effect is made from this end.
     AtEnd(End),
-    /// None of these: the strand executed as many instructions as the caller asked for, and can continue.
+    /// None of these: the strand executed the number of instructions that the caller asked for, and can continue.
     Ran,
 }
 
