@@ -27,8 +27,8 @@ impl Strand {
         Step::AtSync
     }
 
-    // Returns the result of an instruction that led the strand to this end. The strand is at the end of its call
-    // already, and will reach every other end next.
+    // Returns the result of an instruction that led the strand to this end. The strand has already reached the end of
+    // its call; any other end it reaches next.
     fn reach(&mut self, end: End) -> Advance
         requires { EndsAt end self.old }
         ensures of { self.new.of ≡ self.old.of }

@@ -114,7 +114,7 @@ pub enum Advance {
 pub struct Strand {
     /// Its job, for the proof only.
     pub(crate) of: Snapshot<Job>,
-    /// The rest of the job: everything except its arrays, which are in the run.
+    /// The remaining parts of the job: everything except its arrays, which are in the run.
     pub(crate) parts: Box<Parts>,
     /// The run of the job.
     pub(crate) run: Run,
