@@ -1,4 +1,4 @@
--- A strand has gone on by one instruction.
+-- A strand that advanced by one instruction.
 use Rattle.std.proofs.Common.{◌≡◌, ◌≢◌, Bool, true, ◌+◌, ◌<◌, ℕ, ℤ, Option, ◌∷◌, refl, sym, ap, subst, ◌∙◌, inl, inr, arith}
 use native.Mathlib.Nat.{ℕ_set}
 use Rattle.std.proofs.Math.Logic.{∥∥₁_elim}
@@ -22,12 +22,12 @@ use Rattle.cw_strand.specs.Moves.{HasCome, hands_out, HandsOutAt, ComesOr, Comes
 use Rattle.cw_strand.proofs.Losing.{comes_from}
 use Rattle.cw_strand.proofs.RunsOn.{sound_of, join_goes, over_goes}
 
--- a run that stopped for its limit has done as many instructions
+-- a run that stopped at its limit has executed that number of instructions
 pub over_count : (self : Strand) (limit : ℕ) → HasCome self limit stop.Over → self.count ≡ limit
 over_count self limit h =
     ∥∥₁_elim (sound_of self) (ℕ_set _ _) (λ s. ∥∥₁_elim (h.comes s.ok s.job s.is) (ℕ_set _ _) (λ c. c.at.1))
 
--- from before an instruction, with room for one, it was done
+-- a run before an instruction, with room for one, executes it
 stirs : (old new : Strand) (stops : Bool) (to : Stop) → RunsOn old new (old.count + 1) stops to → IsBefore old → HasCome new (old.count + 1) to → new.count ≡ old.count → ⊥
 stirs old new stops (stop.Spawned spawn) ran before came same = ran.still same
 stirs old new stops stop.CameBack ran before came same = ran.still same
@@ -47,7 +47,7 @@ one_done old new stops to ran before came =
 pub stays : (old new : Strand) (stops : Bool) (to : Stop) → RunsOn old new old.count stops to → new.count ≡ old.count
 stays old new stops to ran = let from = ran.from in let within = ran.within in omega (arith, from, within)
 
--- with room for none, and not at the join, it stopped for its limit
+-- a run with room for no instruction, and not at the join, stops at its limit
 pub over_of : (old new : Strand) (stops : Bool) (to : Stop) → RunsOn old new old.count stops to → to ≢ stop.Joined → to ≡ stop.Over
 over_of old new stops (stop.Spawned spawn) ran not = absurd (ran.still (stays old new stops (stop.Spawned spawn) ran))
 over_of old new stops stop.CameBack ran not = absurd (ran.still (stays old new stops stop.CameBack ran))
@@ -57,7 +57,7 @@ over_of old new stops (stop.Trapped c l) ran not = absurd (ran.still (stays old 
 over_of old new stops stop.Over ran not = refl
 over_of old new stops stop.NoMemory ran not = absurd (ran.still (stays old new stops stop.NoMemory ran))
 
--- an effect that is not that of a whole call
+-- an effect that is not the effect of a whole call
 pub still_counts : (e : Effect) (n : ℕ) → EndsStill e n → EndsAfter e n
 still_counts (effect.Ended value shown) n h = absurd h
 still_counts (effect.Joined frame replaced shown) n h = h
@@ -66,13 +66,13 @@ still_counts (effect.OverLimit back) n h = h
 still_counts (effect.Memory back) n h = h
 still_counts (effect.GivenUp back) n h = h
 
--- at any end but that of its call a strand goes on to its effect by no other one
+-- at every end except the end of its call, a strand proceeds to its effect without an instruction
 pub end_goes : (e : End) (self : Strand) → EndsAt e self → ((value : Option ℤ) (limit : ℕ) → e ≢ end.Gave value limit) → IsRunning self
 end_goes end.Stopped self h not = h.0
 end_goes (end.Joined limit) self h not = join_goes self limit h
 end_goes (end.Gave value limit) self h not = absurd (not value limit refl)
 
--- an advance of a strand that was as far, told of how it was before
+-- an advance of a strand at the same point, stated for the strand before
 pub advances_from : (a : Advance) (old mid new : Strand) → mid.of ≡ old.of → outs mid ≡ outs old → mid.count ≡ old.count → AdvancesBy a mid new → AdvancesBy a old new
 advances_from advance.Ran old mid new of same still h = (h.0, h.1 ∙ same, h.2 ∙ ap (λ n. n + 1) still)
 advances_from (advance.Came (step.Spawned job)) old mid new of same still h = ((h.0.0, h.0.1 ∙ ap (λ l. job ∷ l) same), h.1 ∙ ap (λ n. n + 1) still)
@@ -92,11 +92,11 @@ leaves_from (advance.Came step.AtSync) old mid new going not h = inl (going, not
     not_after (inr same) = λ up. not (sym same ∙ up)
 leaves_from (advance.Came (step.Ended e)) old mid new going not h = comes_from e old mid (inl (going, not)) h
 
--- what a strand that went on behind an instruction came to, beside its end
+-- the event of a strand that continued after an instruction, except for its end
 pub came_on : (reason : Type 0) (old mid new : Strand) → outs mid ≡ outs old → mid.count ≡ old.count + 1 → new.count ≡ mid.count → ComesOr reason event.AtSync mid new → AdvancesBy advance.Ran old new
 came_on reason old mid new same one still h = (h.0, h.1 ∙ same, still ∙ one)
 
--- what came of a strand that went on up to there
+-- the event of a strand that continued up to this stop
 pub comes_within : (most to end : ℕ) (s : Stop) (e : Event) (old mid new : Strand) → outs mid ≡ outs old → (to < end → to ≡ old.count + most)
     → HasCome mid to s → (spawns : Spawns) → RunsOn old mid to (hands_out spawns) s → HandsOutAt s e → ComesOr ((to < end) × (s ≡ stop.Over)) e mid new
     → ComesWithin most spawns e old new
