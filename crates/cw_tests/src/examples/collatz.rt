@@ -5,8 +5,8 @@ use std::test::Fail;
 
 const EXAMPLE: Example = Example {
     words: "collatz.cilk 5",
-    source: "// For each number from 1 to n, counts the steps that halving and tripling take to reach 1. Prints the steps of each
-// number in the order of the numbers, whatever runs in parallel.
+    source: "// For each number from 1 to n, the steps that halving and tripling take to reach 1; prints the steps of each
+// number, in the order of the numbers, whatever runs beside what.
 // cilkwork run collatz.cilk 5
 // 1: 0 steps; 2: 1; 3, 10, 5, 16, 8, 4, 2, 1: 7; 4: 2; 5, 16, 8, 4, 2, 1: 5.
 

@@ -6,8 +6,8 @@ use std::test::Fail;
 const EXAMPLE: Example = Example {
     words: "dot.cilk 2000",
     source: "// Two sums of products: of n numbers with themselves, and with the same numbers in reverse. An array that is only read is
-// not cut: each half is a range of its numbers, and both halves read the whole array. One array is passed for both
-// parameters, and a spawned call reads it in parallel with the rest of main.
+// not cut: each half is a range of its numbers, and both halves read the whole. One array stands for both arguments, and
+// a spawned call reads it beside the rest of main.
 // cilkwork run dot.cilk 2000
 // The numbers are those from 1 to n, so the first sum is n(n + 1)(2n + 1) / 6, for 2000 that is 2668667000, and the second
 // one, of i(n + 1 - i), is n(n + 1)(n + 2) / 6, 1335334000. For n = 3 they are 1 + 4 + 9 = 14 and 3 + 4 + 3 = 10.

@@ -5,8 +5,8 @@ use std::test::Fail;
 
 const EXAMPLE: Example = Example {
     words: "fib.cilk 20",
-    source: "// The n-th Fibonacci number by recursion, where each call spawns one of its two calls, however small.
-// fib_cutoff.cilk does not spawn small calls.
+    source: "// The n-th Fibonacci number by recursion, where each call spawns one of its two calls, however little there is to do.
+// fib_cutoff.cilk spawns no small ones.
 // cilkwork run fib.cilk 20
 // With 0 and 1 as the first two, the 20th after 0 is 6765.
 

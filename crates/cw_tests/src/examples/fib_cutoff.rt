@@ -5,7 +5,7 @@ use std::test::Fail;
 
 const EXAMPLE: Example = Example {
     words: "fib_cutoff.cilk 20",
-    source: "// The n-th Fibonacci number as in fib.cilk, with a cut-off: a call below 14 continues without spawns.
+    source: "// The n-th Fibonacci number as in fib.cilk, with a cut-off: below 14 a call goes on without spawns.
 // cilkwork run fib_cutoff.cilk 20
 // With 0 and 1 as the first two, the 20th after 0 is 6765.
 

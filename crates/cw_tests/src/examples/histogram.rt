@@ -5,10 +5,10 @@ use std::test::Fail;
 
 const EXAMPLE: Example = Example {
     words: "histogram.cilk 1000",
-    source: "// How many of n numbers are below 10, from 10 to 29, from 30 to 59 and above: one reducer for each range.
+    source: "// How many of n numbers lie below 10, from 10 to 29, from 30 to 59 and above: a reducer for each range.
 // cilkwork run histogram.cilk 1000
 // The numbers are 21 * i + 63 mod 100 for i from 0 on. Since 21 and 100 have no common divisor, each hundred of them
-// has each remainder once, so a thousand numbers give 100, 200, 300 and 400.
+// has each remainder once: of a thousand there are 100, 200, 300 and 400.
 
 reducer sum least;
 reducer sum lower;

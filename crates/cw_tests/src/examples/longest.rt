@@ -5,12 +5,12 @@ use std::test::Fail;
 
 const EXAMPLE: Example = Example {
     words: "longest.cilk 1000",
-    source: "// Which number from 1 to n takes the most steps by halving and tripling to reach 1, and how high such a sequence goes:
-// two reducers that keep a maximum. A value has the steps in its high digits and the number in its low ones, so the
-// maximum includes its number.
+    source: "// Which number from 1 to n takes the most steps by halving and tripling to reach 1, and how high such a number goes: two
+// reducers that keep the greatest. The steps stand before the number in one value, so that the greatest has its place
+// with it.
 // cilkwork run longest.cilk 1000
-// Up to 1000 it is 871, with 178 steps; 703 goes highest, to 250504. Up to 10 it is 9, which goes through 28 and 14 to 7
-// and from there through 22, 11, 34, 17, 52, 26, 13, 40, 20, 10, 5, 16, 8, 4 and 2 to 1: 19 steps, and 52.
+// Up to 1000 it is 871, with 178 steps; 703 goes highest, to 250504. Up to 10 it is 9, which comes by 28 and 14 to 7 and
+// from there by 22, 11, 34, 17, 52, 26, 13, 40, 20, 10, 5, 16, 8, 4 and 2 to 1: 19 steps, and 52.
 
 reducer max longest;
 reducer max highest;

@@ -5,11 +5,11 @@ use std::test::Fail;
 
 const EXAMPLE: Example = Example {
     words: "matrix.cilk 16",
-    source: "// The product of two matrices of n by n numbers; each iteration of a loop computes one number. Prints the sum of the
-// diagonal of the product and its last number.
+    source: "// The product of two matrices of n by n numbers, a number of the product in each turn of a loop. Prints the sum of the
+// numbers on its diagonal and its last number.
 // cilkwork run matrix.cilk 16
-// With a(i, j) = i + j and b(i, j) = i - j the sum of the diagonal is the sum of (i + k)(k - i) = k * k - i * i over all
-// i and k, which is 0; the last number is the sum of (n - 1 + k)(k - n + 1), for 16 of k * k - 225: 1240 - 3600.
+// With a(i, j) = i + j and b(i, j) = i - j the diagonal has the sum of (i + k)(k - i) over all i and k, which is that of
+// k * k - i * i and so 0; the last number is the sum of (n - 1 + k)(k - n + 1), for 16 that of k * k - 225: 1240 - 3600.
 
 int main(int n) {
   int c[n * n];

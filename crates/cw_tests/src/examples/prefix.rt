@@ -5,8 +5,8 @@ use std::test::Fail;
 
 const EXAMPLE: Example = Example {
     words: "prefix.cilk 4000",
-    source: "// Prefix sums of n ones: computes the sums of both halves in parallel, and then adds the last sum of the left half to
-// each sum of the right half, again by halves. Parts of up to 256 numbers are not divided. Prints the last sum.
+    source: "// Prefix sums of n ones: the sums of both halves beside each other, and then the last sum of the left half is added to
+// each of the right half, by halves too. Parts of up to 256 numbers are not halved. Prints the last sum.
 // cilkwork run prefix.cilk 4000
 // The sum of n ones is n.
 

@@ -5,7 +5,7 @@ use std::test::Fail;
 
 const EXAMPLE: Example = Example {
     words: "primes.cilk 1000",
-    source: "// How many primes are below n: ranges are halved down to 16 numbers, and the first half is spawned.
+    source: "// How many primes lie below n: ranges are halved down to 16 numbers, and the first half is spawned.
 // cilkwork run primes.cilk 1000
 // There are 168 primes below 1000.
 

@@ -5,8 +5,8 @@ use std::test::Fail;
 
 const EXAMPLE: Example = Example {
     words: "primes_each.cilk 2000",
-    source: "// How many primes are below n, by a spawn for each number in a loop: each call is too small to be worth a spawn, and
-// one path runs through all spawns. primes_loop.cilk does the same work in a loop that is divided.
+    source: "// How many primes lie below n, by a spawn for each number, one after another: each of them is too small to be worth it,
+// and each stands behind all those before it. primes_loop.cilk has the same work in a loop that is halved.
 // cilkwork run primes_each.cilk 2000
 // There are 303 primes below 2000.
 

@@ -5,7 +5,7 @@ use std::test::Fail;
 
 const EXAMPLE: Example = Example {
     words: "primes_loop.cilk 2000",
-    source: "// How many primes are below n, as in primes_each.cilk, by a loop that is divided down to 125 numbers.
+    source: "// How many primes lie below n, as in primes_each.cilk, by a loop that is halved down to 125 numbers.
 // cilkwork run primes_loop.cilk 2000
 // There are 303 primes below 2000.
 

@@ -6,14 +6,14 @@ use std::test::Fail;
 const EXAMPLE: Example = Example {
     words: "product.cilk 24",
     source: "// The product of two matrices of n by n numbers, by rows: the result is cut into halves down to 3 rows or less, and the
-// halves are computed in parallel. All calls read both factors at the same time, because these are `const`.
+// halves are written side by side. Every call reads both factors, also while others read them, since they are `const`.
 // cilkwork run product.cilk 24
-// a is Pascal's triangle and b its transpose, a(i, j) = (i over j) and b(i, j) = (j over i). Their product has the
+// a is Pascal's triangle and b the same on its side, a(i, j) = (i over j) and b(i, j) = (j over i). Their product has the
 // sum of (i over k)(j over k) over all k at row i and column j, which is (i + j over i): each number is the sum of those
-// above it and on its left. So the last one is (2n - 2 over n - 1), for 24 (46 over 23) = 8233430727600, and the sum of
-// all of them is (2n over n) - 1, 32247603683099.
+// above it and on its left. So the last one is (2n - 2 over n - 1), for 24 that of 46 over 23, 8233430727600, and all of
+// them add up to (2n over n) - 1, 32247603683099.
 
-// computes the rows of a * b from row `from` on, as many as c has
+// the rows of a * b from this one on, as many as c has
 void rows(const int a[], const int b[], int c[], int n, int from) {
   int p = 0;
   int k = 0;

@@ -5,13 +5,13 @@ use std::test::Fail;
 
 const EXAMPLE: Example = Example {
     words: "quarters.cilk 32",
-    source: "// The product of two matrices of n * n numbers, n a power of two from 2 on, each stored by quarters: upper left, upper
-// right, lower left, lower right, and each quarter by its quarters in turn. Each quarter of a and b is needed by two
-// products. There are two phases, and each uses each quarter once, so no two parallel calls share a quarter.
+    source: "// The product of two matrices of n * n numbers, n a power of two from 2 on, each stored by its quarters: the upper left
+// one, the upper right one, the lower left one, the lower right one, each of them by its quarters in turn. Each quarter of
+// a and b is wanted by two products. In two phases each phase uses each quarter once, so that no two calls share one.
 // cilkwork run quarters.cilk 32
-// All numbers of a are 1, so those of c are sums of columns of b, whose numbers are their positions: the positions in the
-// first column have bits 1, 3, 5, 7 and 9 only, and each of 2, 8, 32, 128 and 512 is in 16 of the 32. So c begins with
-// 16 * 682 = 10912, and the sum of c is 32 * (1023 * 1024 / 2) = 16760832.
+// All numbers of a are 1, so those of c are sums of columns of b, whose numbers are their places: the places of the first
+// column have bits 1, 3, 5, 7 and 9 alone, and each of 2, 8, 32, 128 and 512 is in 16 of the 32. So c begins with
+// 16 * 682 = 10912, and all of it adds up to 32 * (1023 * 1024 / 2) = 16760832.
 
 reducer sum all;
 
@@ -39,7 +39,7 @@ void add_serially(int a[], int b[], int c[]) {
   } } } } } } } } }
 }
 
-// c = c + a * b, four products in parallel, and then the other four
+// c = c + a * b, four products side by side, and then the other four
 void add_product(int a[], int b[], int c[]) {
   if (len(a) <= 64) {
     add_serially(a, b, c);

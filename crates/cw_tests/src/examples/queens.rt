@@ -5,14 +5,14 @@ use std::test::Fail;
 
 const EXAMPLE: Example = Example {
     words: "queens.cilk 7",
-    source: "// How many ways there are to put n queens on a board of n by n squares so that none attacks another. The columns of
-// a row are halved, and both halves are searched in parallel, each on its own board; a reducer counts.
+    source: "// How many ways there are to put n queens on a board of n by n squares, none of them in reach of another. The columns of
+// a row are halved, and one half is searched beside the other, on a board of its own; the reducer counts.
 // cilkwork run queens.cilk 7
 // There are 40 ways for 7 queens.
 
 reducer sum ways;
 
-// whether no queen above attacks a queen in this row and column
+// whether a queen in this row and column is in reach of none above it
 int is_free(int board[], int row, int column) {
   int r = 0;
   while (r < row) {

@@ -5,8 +5,8 @@ use std::test::Fail;
 
 const EXAMPLE: Example = Example {
     words: "roots.cilk 4000",
-    source: "// The sum of the integer square roots of n numbers. One call makes the numbers, a parallel loop finds the roots, and
-// one call adds them up: both calls are serial, and roots_mended.cilk has neither.
+    source: "// The sum of the integer square roots of n numbers. The numbers are made by one call, the roots are found side by side,
+// and one call adds them up: both calls are serial, and roots_mended.cilk has neither.
 // cilkwork run roots.cilk 4000
 // The numbers are 421 * i + 1663 mod 7875. Python's math.isqrt gives the sum 234691 of 4000 of them.
 

@@ -5,8 +5,8 @@ use std::test::Fail;
 
 const EXAMPLE: Example = Example {
     words: "roots_mended.cilk 4000",
-    source: "// The sum of the integer square roots of n numbers, as in roots.cilk: each iteration computes the number that it needs,
-// and a reducer adds up the roots.
+    source: "// The sum of the integer square roots of n numbers, as in roots.cilk: each number is made in the turn that needs it, and
+// a reducer adds the roots up.
 // cilkwork run roots_mended.cilk 4000
 // The numbers are 421 * i + 1663 mod 7875. Python's math.isqrt gives the sum 234691 of 4000 of them.
 

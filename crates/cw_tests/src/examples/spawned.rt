@@ -5,7 +5,7 @@ use std::test::Fail;
 
 const EXAMPLE: Example = Example {
     words: "spawned.cilk",
-    source: "// A spawned call may run in parallel with what follows it, up to the sync.
+    source: "// A spawned call may run beside what follows it, up to the sync.
 // cilkwork run spawned.cilk
 
 int same(int v) {

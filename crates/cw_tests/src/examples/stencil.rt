@@ -6,14 +6,14 @@ use std::test::Fail;
 const EXAMPLE: Example = Example {
     words: "stencil.cilk 2000 20",
     source: "// Each of n numbers becomes the sum of its two neighbours, k times, with 0 beyond both ends. Halves of more than 500
-// numbers run in parallel: each part receives the old numbers at its edges, because it cannot read the other part.
+// numbers are done side by side: each part is handed the old numbers at its edges, since no other part can be read.
 // cilkwork run stencil.cilk 2000 20
-// One 1 among zeros becomes the binomial coefficients of k, at every other position: for k = 20 the middle one is
-// 184756, and their sum is 2 to the power of 20, which is 1048576.
+// One 1 among zeros becomes the binomial coefficients of k, spread over every other place: for k = 20 the middle one is
+// 184756, and all add up to 2 to the power of 20, which is 1048576.
 
 reducer sum all;
 
-// one step of a part whose neighbours on both sides have these old numbers
+// one step of a part, between these old numbers
 void step(int a[], int left, int right) {
   if (len(a) <= 500) {
     int before = left;
