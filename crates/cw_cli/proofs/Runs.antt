@@ -47,7 +47,7 @@ use Rattle.cw_cli.specs.Schedules.{HasTooManyStrands, IsScheduled, IsScheduledIn
 use Rattle.cw_cli.specs.Told.{HasTables, told_of}
 use Rattle.cw_cli.proofs.Rows.{scale_is, sites_are, gains_are}
 use Rattle.cw_code.specs.Heads.{head_view}
-use Rattle.cw_gains.specs.Gains.{Gains, GainsAsCode}
+use Rattle.cw_gains.specs.Gains.{Gains, HasNumberedSites}
 use Rattle.cw_code.specs.declared.head.Head as counted
 use Rattle.cw_gains.specs.declared.gains.Gains as declared
 use Rattle.cw_model.specs.SiteLaw.{SitesAreNumbered}
@@ -77,7 +77,13 @@ values_are program code burden e tree g =
     ap (λ part. flat_map value_line e.lines.items ++ (part ++ (codes "return " ++ value_line e.value)))
     (ap (λ reducers. totals_text reducers e.totals.items) g.reducers ∙ coded_lines program.reducers e.totals.items)
 
--- the report of measures that is asked for
+-- the call sites of code that is compiled are numbered
+pub sites_numbered : SitesAreNumbered → (bytes : List ℕ) (code : Code) → IsCompiled bytes code → HasNumberedSites code
+sites_numbered law bytes code compiled =
+    let source = compiled.compiles.accepted.source in
+    ap (are_numbered 0) compiled.generates.sites ∙ law bytes source.tokens compiled.program source.parsed.derived
+
+-- the report that is asked for of what is counted
 report_is : (m : Mode) (program : Program) (code : Code) (args : List ℤ) (n : ℕ) (burden : Burden) (e : run.Ended) (r : Runs code args n burden e) → HasTables m
     → Generates program code → are_numbered 0 (call_sites program) ≡ true
     → told_of m code (Ok e) ≡ analyses.text_in m program burden (Ended e.value e.lines.items e.totals.items r.tree)
@@ -312,14 +318,7 @@ module _ (bytes : List ℕ) (args : List ℤ) (words : list_all fits args ≡ tr
     strands = λ count. refl;
   }
 
-  -- the report of code whose call sites are numbered
-  pub told_as : SitesAreNumbered → (heads : List counted.Head) (top : ℕ) (gains : Result declared.Gains Fault) → GainsAsCode code heads args options.limit options.burden top gains
-      → MatchResult gains (Gains code heads args options.limit options.burden top) (IsFailure code args options.limit options.burden)
-  told_as law heads top gains h =
-      let source = compiled.compiles.accepted.source in
-      h (ap (are_numbered 0) compiled.generates.sites ∙ law bytes source.tokens compiled.program source.parsed.derived)
-
-  -- the schedule of a run on this number of processors, if the burden is in range
+  -- the schedule of a run on so many processors, where the burden is in range
   module _ (p : ℕ) (is : options.mode ≡ mode.Greedy p) (low : options.burden.charge ≤ MOST_BURDEN) where
     asked_may : is_asked code args options.limit p ≡ true → May
     asked_may h =

@@ -55,7 +55,32 @@ over_not_up e = cc
 pub memory_not_up : mode.Memory ≡ mode.GivenUp → ⊥
 memory_not_up e = cc
 
--- running out of memory is a failure
+-- one that is in another state has not exceeded its limit
+pub going_not_over : (m : Mode) → m ≡ mode.Going → m ≡ mode.Over → ⊥
+going_not_over m going over = true≢false (sym (ap stops over) ∙ ap stops going)
+
+pub failed_not_over : (m : Mode) → has_failed m ≡ true → m ≡ mode.Over → ⊥
+failed_not_over m failed over = true≢false (sym failed ∙ ap has_failed over)
+
+pub waiting_not_over : mode.Waiting ≡ mode.Over → ⊥
+waiting_not_over e = cc
+
+pub trapped_not_over : (m : Mode) (trap : Trap) (line : ℕ) → m ≡ mode.Trapped trap line → m ≡ mode.Over → ⊥
+trapped_not_over m trap line is over = differ (sym is ∙ over)
+  where
+    differ : mode.Trapped trap line ≡ mode.Over → ⊥
+    differ e = cc
+
+pub going_not_memory : (m : Mode) → m ≡ mode.Going → m ≡ mode.Memory → ⊥
+going_not_memory m going memory = true≢false (sym (ap stops memory) ∙ ap stops going)
+
+pub over_not_memory : mode.Over ≡ mode.Memory → ⊥
+over_not_memory e = cc
+
+pub over_not_going : mode.Over ≡ mode.Going → ⊥
+over_not_going e = cc
+
+-- memory that was wanting is a failure
 pub memory_fails : (e : Effect) → IsMemory e → TellsFailure e
 memory_fails (effect.Ended value shown) m = absurd m
 memory_fails (effect.Joined frame replaced shown) m = absurd m
