@@ -16,9 +16,9 @@ pub fn lowered_examples()
     ensures { LoweredExamples }
 {}
 
-/// States that lowering the loops of a program keeps its answer, for a list of 64-bit arguments as long as the
-/// parameter list of its main, and within each limit: value, printed lines, totals, tree, trap with its line, and
-/// over the limit.
+/// States that lowering the loops of a program keeps its answer, for one 64-bit argument for each parameter of its
+/// `main`, and within each limit: its value, printed lines, totals and tree, or its trap with the line, or that it
+/// exceeds the limit.
 pub fn lowered_answers_as_its_source()
     ensures { LoweredAnswersAsItsSource }
 {}

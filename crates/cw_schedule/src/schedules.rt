@@ -61,6 +61,12 @@ pub fn schedule_alone(
 
 /// Returns what `schedule_alone` returns, for a run of this code, by any workers, that recorded these strands or did
 /// not end.
+///
+/// # Errors
+///
+/// `Fault::Arguments` exactly if `schedule_alone` returns it; otherwise the fault in `ran`, if the run did not end;
+/// otherwise `Fault::Strands` if the run has more than 1,000,000 strands, with their number, and `Fault::Memory` if
+/// memory runs out.
 pub fn schedule_of_run(
     alloc: Global,
     code: &Verified,
