@@ -82,8 +82,9 @@ pub fn core_is_lowered(core: &Core)
     resolved_is_fitting();
 }
 
-/// States that a core has a body for each function of its source, at most 1,024 functions and 4,096 loops, that a
-/// leaf of a loop has at most 1,000,000 iterations, and that a loop captures at most 256 integers and 256 arrays.
+/// States that a core has a body for each function of its source, and that it is small: it has at most 1,024 functions
+/// and 4,096 loops; a leaf of a loop has at most 1,000,000 iterations; a loop captures at most 256 integers and 256
+/// arrays.
 pub fn core_is_small(core: &Core)
     ensures { IsSmallTree core.now.source.typed.tree core.now.tree }
 {}

@@ -39,8 +39,8 @@ pub fn sites_add_up()
     ensures { (count : ℕ) (t : Tree) → 0 < count → sites_below count t ≡ true → SitesAddUp count t }
 {}
 
-/// States that no burdened span becomes larger if sites cost nothing, for each burden (the span is one of them), and
-/// that the span falls by at most the own span of a function's sites if these sites cost nothing.
+/// States that, for each burden, the burdened span does not grow if sites cost nothing; the span is the case without a
+/// burden. If the sites of a function cost nothing, the span falls by at most the own span of these sites.
 pub fn freed_spans_are_bounded()
     ensures above { FreedIsNeverAbove }
     ensures below { FallsByOwnSpanAtMost }
