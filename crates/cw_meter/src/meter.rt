@@ -155,7 +155,7 @@ impl Meter {
         self.open_parts = self.open_parts.wrapping_sub(1);
     }
 
-    /// Begins a part of any kind, after any number of instructions. Only values may be computed.
+    /// Begins a part of any kind, after any number of instructions. Call it only in a run that records only values.
     #[inline(always)]
     pub fn open_any(&mut self)
         requires { details.keeps_values self.old.detail ≡ true }
@@ -164,7 +164,7 @@ impl Meter {
         self.count_part();
     }
 
-    /// Joins the innermost part, of any kind, and ends it. Only values may be computed.
+    /// Joins the innermost part, of any kind, and ends it. Call it only in a run that records only values.
     #[inline(always)]
     pub fn leave_any(&mut self)
         requires { details.keeps_values self.old.detail ≡ true }
@@ -173,7 +173,7 @@ impl Meter {
         self.leave_part();
     }
 
-    /// Joins the current block, which changes nothing in the meter. Only values may be computed.
+    /// Joins the current block, which changes nothing in the meter. Call it only in a run that records only values.
     #[inline(always)]
     pub fn sync_any(&self)
         requires { details.keeps_values self.now.detail ≡ true }

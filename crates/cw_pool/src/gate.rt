@@ -13,8 +13,8 @@ pub enum Moment {
     AtJoin,
 }
 
-/// An observer: it is called right after each such step, by the worker's own thread, which continues when the call
-/// returns. It never changes the result of a run.
+/// An observer: it is called right after each step that `Moment` lists, by the worker's own thread, which continues
+/// when the call returns. It never changes the result of a run.
 pub trait Gate {
     /// Observes a step. Worker 0 is the caller of a run, and the other workers are its bodies, in order.
     fn turn(&self, worker: usize, what: Moment);

@@ -196,6 +196,10 @@ impl Planning {
 }
 
 /// Returns the strands of the block that the entries of chunks represent, in serial order.
+///
+/// # Errors
+///
+/// `AllocError` if memory runs out.
 pub fn plan(alloc: Global, chunks: &[Vec<Entry>]) -> Result<Vec<Strand>, AllocError>
     requires fits { instructions (codes_of_chunks chunks.now) ≤ MOST_LIMIT }
     requires block { (block : Block)

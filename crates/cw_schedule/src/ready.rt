@@ -40,7 +40,11 @@ impl Model for Ready {
 }
 
 impl Ready {
-    /// Creates this number of places, for a schedule on this number of processors. No strand is ready.
+    /// Creates `places` places, for a schedule on this number of processors. No strand is ready.
+    ///
+    /// # Errors
+    ///
+    /// `AllocError` if memory runs out.
     pub fn new(alloc: Global, places: usize, processors: u64) -> Result<Ready, AllocError>
         requires { 1 ≤ places }
         ensures { IfOk result (λ r. r ≡ nones places) }

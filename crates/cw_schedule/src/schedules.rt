@@ -38,9 +38,12 @@ pub struct Schedule {
 /// # Errors
 ///
 /// `Fault::Arguments` exactly if the number of arguments is not the number of `main`'s parameters, or `n` is not in
-/// 1..=2^62, or `processors` is not in 1..=1,000,000. Otherwise `Fault::OverLimit` exactly if the run costs more than
-/// `n`, `Fault::Trap` exactly if it traps, with the line and the values printed before, `Fault::Strands` exactly if
-/// it ends with more than 1,000,000 strands, with their number, and `Fault::Memory` if memory runs out.
+/// 1..=2^62, or `processors` is not in 1..=1,000,000. Otherwise:
+///
+/// - `Fault::OverLimit` exactly if the run costs more than `n`;
+/// - `Fault::Trap` exactly if it traps, with the line and the values printed before;
+/// - `Fault::Strands` exactly if it ends with more than 1,000,000 strands, with their number;
+/// - `Fault::Memory` if memory runs out.
 pub fn schedule_alone(
     alloc: Global,
     code: Arc<Verified>,
@@ -61,6 +64,13 @@ pub fn schedule_alone(
 
 /// Returns what `schedule_alone` returns, for a run of this code, by any workers, that recorded these strands or did
 /// not end.
+///
+/// # Errors
+///
+/// - `Fault::Arguments` exactly if the arguments, `n` or `processors` are invalid, as for `schedule_alone`;
+/// - otherwise the fault in `ran`, if the run did not end;
+/// - otherwise `Fault::Strands` if the run has more than 1,000,000 strands, with their number;
+/// - `Fault::Memory` if memory runs out.
 pub fn schedule_of_run(
     alloc: Global,
     code: &Verified,

@@ -20,9 +20,9 @@ use std::alloc::{AllocError, Global};
 /// The weights of a strand tree, in instructions.
 #[derive(Clone, Copy, Debug, PartialEq, Eq)]
 pub struct Weights {
-    /// The work: all its strands.
+    /// The work: the sum over all strands.
     pub work: u64,
-    /// The span: the strands on a heaviest path.
+    /// The span: the sum over the strands on a heaviest path.
     pub span: u64,
 }
 
