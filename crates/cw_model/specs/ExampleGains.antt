@@ -98,15 +98,15 @@ pub record GainExamples : Type 0 where
   -- a leaf costs 26 beside its call: 1 + 3 + 17 + (3 + 27) + 1 + 1 + 2
   pub loop_in_region : Gains 10 loop_in_region_program [] 10
       (codes ",0,0,82,55,55,1.490,65" ∷ codes "main,1,1,80,54,1,82.000,11" ∷ codes "p,1,2,2,1,54,1.518,64" ∷ [])
-  -- the child is charged, too: 1 + (10 + 9 beside 10 + 1 + 5 + 1) + 1; without f 1 + (10 beside 17) + 1, and without
-  -- main (10 + 9 beside 10 + 5)
+  -- the child is charged, too: 1 + max (10 + 9) (10 + 1 + 5 + 1) + 1; without f it is 1 + max 10 17 + 1, and without
+  -- main max (10 + 9) (10 + 5)
   pub both_edges : GainsBoth 10 near_tie_program [] 10
       (codes ",0,0,18,11,11,1.636,21" ∷ codes "f,1,1,9,9,9,2.000,19" ∷ codes "main,1,1,4,2,9,2.000,19" ∷ [])
-  -- the first leaf costs 25 + 4 + 1 + 3, the second one 25 + 4 after the 3 of its call: 1 + 3 + 17 + (33 beside 32) + 1 +
-  -- 1 + 2, of which the tag has all but 1 + 1 + 2
+  -- the first leaf costs 25 + 4 + 1 + 3, the second one 25 + 4 after the 3 of its call: 1 + 3 + 17 + max (10 + 33) (10 + 32)
+  -- + 1 + 1 + 2, of which the tag has all but 1 + 1 + 2
   pub loop_of_both_edges : ScalesBoth first_iteration_program [] 10
       (codes ",90,58,1.551,68,1.323" ∷ codes "t,86,54,1.592,64,1.343" ∷ [])
-  -- without p it is 25 + (10 + 30 beside 10 + 32), without main (10 + 3 beside 10)
+  -- without p it is 25 + max (10 + 30) (10 + 32), without main max (10 + 3) 10
   pub loop_gain_of_both_edges : GainsBoth 10 first_iteration_program [] 10
       (codes ",0,0,90,58,58,1.551,68" ∷ codes "main,1,1,87,55,3,30.000,13" ∷ codes "p,1,1,3,3,57,1.578,67" ∷ [])
   -- of equal own spans the first one by place
